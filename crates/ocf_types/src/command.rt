@@ -1,0 +1,59 @@
+//! Commands and questions. `P` is the type of parameters.
+use crate::action::{Level, Task};
+use crate::event::Registration;
+use crate::numbers::Millis;
+use crate::params::Params;
+use crate::rsc_id::RscId;
+use std::alloc::Global;
+
+/// What an administrator or a cluster manager may ask to be changed.
+#[derive(Drop)]
+pub enum CommandOf<P> {
+    /// Register a resource.
+    Register(Registration<P>),
+    /// Remove a resource.
+    Unregister(RscId),
+    /// Replace all parameters of a resource.
+    SetParams { id: RscId, params: P },
+    /// Run an action once.
+    Exec {
+        id: RscId,
+        task: Task,
+        timeout: Millis,
+    },
+    /// Run a monitor again and again.
+    Recur {
+        id: RscId,
+        interval: Millis,
+        timeout: Millis,
+        level: Level,
+    },
+    /// Remove the recurring monitor of an interval.
+    Cancel { id: RscId, interval: Millis },
+    /// Forget the results of a resource.
+    Forget(RscId),
+}
+
+/// What changes nothing.
+#[derive(Drop)]
+pub enum Question {
+    /// Which resources there are.
+    List,
+    /// What a resource is, and what it does now.
+    Info(RscId),
+    /// The last results of a resource.
+    History(RscId),
+}
+
+/// What the executor is asked.
+#[derive(Drop)]
+pub enum RequestOf<P> {
+    Command(CommandOf<P>),
+    Question(Question),
+}
+
+/// A command whose parameters lie in memory of the allocator.
+pub type Command<A = Global> = CommandOf<Params<A>>;
+
+/// A request whose parameters lie in memory of the allocator.
+pub type Request<A = Global> = RequestOf<Params<A>>;

@@ -1,0 +1,44 @@
+//! Names, values, operations, events, commands and limits of an executor of OCF resource agents.
+#![tactic(auto)]
+
+mod action;
+mod agent;
+mod command;
+mod event;
+mod items;
+mod key;
+mod limits;
+mod names;
+mod numbers;
+mod operation;
+mod outcome;
+mod param_name;
+mod params;
+mod part;
+mod refusal;
+mod reply;
+mod rsc_id;
+mod values;
+
+pub use action::{Action, Level, Task};
+pub use agent::{AgentType, Provider};
+pub use command::{Command, CommandOf, Question, Request, RequestOf};
+pub use event::{Change, Event, EventOf, Registration, Step};
+pub use items::Items;
+pub use key::OpKey;
+pub use limits::{
+    BODY_LIMIT, DEFAULT_TIMEOUT, ENDED_KEPT, EVENT_LIMIT, KEY_LIMIT, LINE_LIMIT, METADATA_LIMIT,
+    NAME_LIMIT, NUM_MAX, PARAMS_LIMIT, PART_LIMIT, QUEUE_LIMIT, RECURRING_LIMIT, RESERVE,
+    RESOURCES_LIMIT, VALUE_LIMIT,
+};
+pub use names::BadName;
+pub use numbers::{CallId, Millis, Moment, RunId};
+pub use operation::{Ended, Op, Recur, Running};
+pub use outcome::{Outcome, RunEnd, StartFault};
+pub use param_name::ParamName;
+pub use params::Params;
+pub use part::Part;
+pub use refusal::Refusal;
+pub use reply::{Info, InfoOf, Notice, Reply, ReplyOf, TurnEnd};
+pub use rsc_id::RscId;
+pub use values::{ParamValue, ValueError};

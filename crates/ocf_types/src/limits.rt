@@ -1,0 +1,49 @@
+//! Limits of names, numbers, lists, the journal and the lines.
+
+/// The greatest moment, call id and run number. One that was drawn up to here is spent.
+pub const NUM_MAX: u64 = 9_007_199_254_740_991;
+
+/// The greatest length of a resource id, a provider, an agent's type and a parameter's name, in bytes.
+pub const NAME_LIMIT: usize = 64;
+
+/// The greatest length of a parameter's value, in bytes.
+pub const VALUE_LIMIT: usize = 1_024;
+
+/// How many parameters a resource has at most.
+pub const PARAMS_LIMIT: usize = 64;
+
+/// The timeout of an operation that names none, in milliseconds.
+pub const DEFAULT_TIMEOUT: u32 = 20_000;
+
+/// How many resources are registered at most.
+pub const RESOURCES_LIMIT: usize = 256;
+
+/// How many actions of one resource are queued at most.
+pub const QUEUE_LIMIT: usize = 32;
+
+/// How many recurring monitors one resource has at most.
+pub const RECURRING_LIMIT: usize = 8;
+
+/// How many results of one resource are kept: the last ones.
+pub const ENDED_KEPT: usize = 16;
+
+/// The greatest length of an operation's key, in bytes.
+pub const KEY_LIMIT: usize = 88;
+
+/// The greatest length of an event's spelling, and of a resource's spelled parameters, in bytes.
+pub const EVENT_LIMIT: usize = 16_384;
+
+/// The greatest length of a slot's body, in bytes.
+pub const BODY_LIMIT: usize = 32_768;
+
+/// The greatest length of a part, in bytes.
+pub const PART_LIMIT: u64 = 8_388_608;
+
+/// What stays free in a part after each slot but those of results and boots, in bytes.
+pub const RESERVE: u64 = 32_768;
+
+/// The greatest length of a command line without its newline, in bytes.
+pub const LINE_LIMIT: usize = 131_072;
+
+/// The greatest length of an agent's metadata, in bytes.
+pub const METADATA_LIMIT: usize = 65_536;

@@ -1,0 +1,50 @@
+//! Operations of a resource: queued, recurring, running and ended. Pacemaker Explained, resource operations.
+use crate::action::{Action, Level, Task};
+use crate::numbers::{CallId, Millis, Moment, RunId};
+use crate::outcome::Outcome;
+
+/// A one-time action that is queued.
+#[derive(Clone, Copy, Debug, PartialEq, Eq)]
+pub struct Op {
+    pub call: CallId,
+    pub task: Task,
+    pub timeout: Millis,
+}
+
+/// A recurring monitor.
+#[derive(Clone, Copy, Debug, PartialEq, Eq)]
+pub struct Recur {
+    pub call: CallId,
+    pub interval: Millis,
+    pub timeout: Millis,
+    pub level: Level,
+}
+
+/// The action that runs.
+#[derive(Clone, Copy, Debug, PartialEq, Eq)]
+pub struct Running {
+    pub call: CallId,
+    pub run: RunId,
+    pub task: Task,
+    pub timeout: Millis,
+    /// In milliseconds; 0 for a one-time action.
+    pub interval: u32,
+    /// When it began.
+    pub since: Moment,
+}
+
+/// The result of an action.
+#[derive(Clone, Copy, Debug, PartialEq, Eq)]
+pub struct Ended {
+    pub call: CallId,
+    /// The run number; 0 just where the action was dropped.
+    pub run: u64,
+    pub action: Action,
+    /// In milliseconds; 0 for a one-time action.
+    pub interval: u32,
+    /// When it began.
+    pub since: Moment,
+    /// When it ended.
+    pub at: Moment,
+    pub outcome: Outcome,
+}

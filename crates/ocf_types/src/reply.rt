@@ -1,0 +1,77 @@
+//! Replies to requests, notices of results, and ends of turns.
+ghost use Rattle.std.specs.Prelude.{◌≡◌};
+
+use crate::agent::{AgentType, Provider};
+use crate::items::Items;
+use crate::key::OpKey;
+use crate::limits::{QUEUE_LIMIT, RECURRING_LIMIT};
+use crate::numbers::CallId;
+use crate::operation::{Ended, Recur, Running};
+use crate::params::Params;
+use crate::refusal::Refusal;
+use crate::rsc_id::RscId;
+use arrayvec::ArrayVec;
+use std::alloc::Global;
+
+/// What a resource is, and what it does now. `P` is the type of parameters.
+#[derive(Drop)]
+pub struct InfoOf<P> {
+    pub id: RscId,
+    pub provider: Provider,
+    pub agent: AgentType,
+    pub params: P,
+    /// The call ids of the queued actions, in order.
+    pub queued: ArrayVec<CallId, { QUEUE_LIMIT }>,
+    pub running: Option<Running>,
+    pub recurring: ArrayVec<Recur, { RECURRING_LIMIT }>,
+}
+
+/// How a turn ended.
+#[derive(Clone, Copy, Debug, PartialEq, Eq)]
+pub enum TurnEnd {
+    /// Every running action was polled, and every action that could begin has begun.
+    Done,
+    /// The executor was closed; nothing was done.
+    Closed,
+    /// The children's book has too little room; nothing was done.
+    BookFull,
+    /// All run numbers are used up.
+    RunsSpent,
+    /// The journal has no room for a further begin.
+    Full,
+    /// A launch found no memory.
+    Memory,
+    /// The journal's device failed; the executor is closed.
+    Disk,
+}
+
+/// The reply to a request or a turn. `P` is the type of parameters, `I` that of the list of ids, `H` that of results.
+#[derive(Drop)]
+pub enum ReplyOf<P, I, H> {
+    /// The request was refused, and changed nothing.
+    Refused(Refusal),
+    /// The command's event is recorded.
+    Done,
+    /// The operation was accepted, under this call id and key.
+    Accepted { call: CallId, key: OpKey },
+    /// The ids of all resources, in order of registration.
+    List(I),
+    Info(InfoOf<P>),
+    /// The last results, oldest first.
+    History(H),
+    /// The end of a turn.
+    Turn(TurnEnd),
+}
+
+/// The result of one action of a resource.
+#[derive(Drop)]
+pub struct Notice {
+    pub id: RscId,
+    pub result: Ended,
+}
+
+/// An info whose parameters lie in memory of the allocator.
+pub type Info<A = Global> = InfoOf<Params<A>>;
+
+/// A reply whose lists lie in memory of the allocator.
+pub type Reply<A = Global> = ReplyOf<Params<A>, Items<RscId, A>, Items<Ended, A>>;

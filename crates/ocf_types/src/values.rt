@@ -1,0 +1,74 @@
+//! Values of parameters.
+ghost use Rattle.std.specs.Prelude.{◌≡◌, ◌==◌, ◌≤◌, not, length, IsTrue};
+ghost use Rattle.std.specs.List.{list_all};
+ghost use Rattle.ocf_types.specs.Values.{is_param_value, IsValueOrRefused};
+
+use crate::limits::VALUE_LIMIT;
+use std::alloc::{Allocator, Global};
+use std::marker::Model;
+use std::str::from_utf8;
+use thiserror::Error;
+
+/// Why a value was not made, or not taken in.
+#[derive(Clone, Copy, Debug, PartialEq, Eq, Error)]
+pub enum ValueError {
+    /// The text is no value, or there are 64 parameters of other names already.
+    #[error("not a value: at most 1,024 bytes of UTF-8 without NUL, in at most 64 parameters")]
+    BadValue,
+    /// A growth was refused.
+    #[error("out of memory")]
+    Memory,
+}
+
+fn has_no_nul(bytes: &[u8]) -> bool
+    ensures { result ≡ list_all (λ b. not (b == 0)) bytes.now }
+{
+    bytes.iter().all(|b| *b != 0)
+}
+
+/// The value of an instance parameter: at most 1,024 bytes of UTF-8 without NUL.
+#[derive(Drop)]
+pub struct ParamValue<A: Allocator = Global> {
+    text: String<A>,
+}
+
+impl<A: Allocator> Model for ParamValue<A> {
+    ghost use Rattle.std.specs.Prelude.{List, ℕ, IsTrue};
+    ghost use Rattle.std.specs.String.{string_bytes};
+    ghost use Rattle.ocf_types.specs.Values.{is_param_value};
+
+    ghost Value = { List ℕ };
+
+    ghost view = { λ v. string_bytes v.text };
+
+    ghost invariant = { λ v. IsTrue (is_param_value (string_bytes v.text)) };
+}
+
+impl<A: Allocator> ParamValue<A> {
+    /// The value that these bytes are. `BadValue` comes before any memory is asked for.
+    #[tactic(auto, using(crate::proofs::ValueLemmas::is_value, crate::proofs::ValueLemmas::is_no_value))]
+    pub fn new(alloc: A, bytes: &[u8]) -> Result<Self, ValueError>
+        ensures { IsValueOrRefused result bytes.now }
+    {
+        if bytes.len() > VALUE_LIMIT || !has_no_nul(bytes) {
+            return Err(ValueError::BadValue);
+        }
+        match from_utf8(bytes) {
+            Ok(text) => match String::from_str(alloc, text) {
+                Ok(text) => Ok(ParamValue { text }),
+                Err(_) => Err(ValueError::Memory),
+            },
+            Err(_) => Err(ValueError::BadValue),
+        }
+    }
+
+    /// The text of the value.
+    #[tactic(auto, using(crate::proofs::ValueLemmas::value_short))]
+    pub fn as_str(&self) -> &str
+        ensures bytes { result.now ≡ self.now }
+        ensures lawful { IsTrue (is_param_value result.now) }
+        ensures short { length result.now ≤ VALUE_LIMIT }
+    {
+        self.text.as_str()
+    }
+}
