@@ -5,3 +5,15 @@ pub mod Params
 pub mod Actions
 pub mod Outcomes
 pub mod Refusals
+pub mod Kinds
+pub mod Spelling
+pub mod Lawful
+pub mod Resource
+pub mod State
+pub mod Applies
+pub mod Boot
+pub mod Answer
+pub mod Due
+pub mod StateSpelling
+pub mod LawfulState
+pub mod Places

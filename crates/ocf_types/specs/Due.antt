@@ -1,0 +1,79 @@
+-- The due moments of recurring monitors, and the pick: what a resource begins now.
+use Rattle.std.specs.Prelude.{◌≡◌, ℕ, ◌+◌, ◌<◌, ◌≤◌, ◌⊎◌, ◌==◌, ◌&&◌, nat_lt, Bool, true, false, List, [], ◌∷◌, Option, Some, None, is_some, if◌then◌else◌, MatchOption, All, Contains, option_and_then, option_map}
+use Rattle.std.specs.List.{filter_map}
+use Rattle.std.specs.Option.{option_map_or}
+use Rattle.std.specs.Str.{bytes_eq}
+use Rattle.ocf_types.specs.Kinds.{Step, Change, Event}
+use Rattle.ocf_types.specs.Resource.{Resource, of_call}
+use Rattle.ocf_types.specs.State.{State, resource_at, after}
+use Rattle.ocf_types.specs.declared.operation.Op.{Op}
+use Rattle.ocf_types.specs.declared.operation.Recur.{Recur}
+use Rattle.ocf_types.specs.declared.operation.Running.{Running}
+use Rattle.ocf_types.specs.declared.event.Step.TheVariants as step
+use Rattle.ocf_types.specs.declared.event.Change.TheVariants as change
+
+-- the due moment of a monitor, by the id of its resource and its call
+abbrev pub Due : Type 0
+Due = List ℕ → ℕ → Option ℕ
+
+-- a resource has a monitor of this call
+abbrev pub is_monitor : State → List ℕ → ℕ → Bool
+is_monitor s id call = option_map_or (λ r. is_some (of_call call r.recurring)) (resource_at s id) false
+
+-- a run of a monitor was one of this call
+abbrev pub is_run_of : ℕ → Running → Bool
+is_run_of call x = x.call == call && nat_lt 0 x.interval
+
+-- the due moment that a step at a moment sets for a call: a new monitor's own moment, or the end of a run of it
+-- and the monitor's interval
+abbrev pub step_sets : Resource → ℕ → Step → ℕ → Option ℕ
+step_sets r at (step.Recur m) call = if m.call == call then Some at else None
+step_sets r at (step.Result run end) call =
+    option_and_then (λ x. if is_run_of call x then option_map (λ m. at + m.interval) (of_call call r.recurring) else None) r.history.running
+step_sets r at _ call = None
+
+-- the due moment that an event sets for a monitor
+abbrev pub sets : State → Event → List ℕ → ℕ → Option ℕ
+sets s e id call = sets_by e.change
+  where
+    sets_by : Change → Option ℕ
+    sets_by (change.Step other what) = if bytes_eq other id then option_and_then (λ r. step_sets r e.at what call) (resource_at s id) else None
+    sets_by _ = None
+
+-- the first of two that is there
+abbrev pub or_else : Option ℕ → Option ℕ → Option ℕ
+or_else None o = o
+or_else (Some n) o = Some n
+
+-- the due moments after an event: of the monitors that are there then, what it sets, else what was
+abbrev pub due_after : State → Due → Event → Due
+due_after s due e id call = if is_monitor (after s e) id call then or_else (sets s e id call) (due id call) else None
+
+-- the due moments after an opening: one moment for all monitors
+abbrev pub due_at : State → ℕ → Due
+due_at s at id call = if is_monitor s id call then Some at else None
+
+-- of two monitors the one that is due earlier, or at the same moment has the lower call, is before the other.
+-- A pair is (due moment, call)
+abbrev pub IsBefore : ℕ × ℕ → ℕ × ℕ → Type 0
+IsBefore x y = (x.0 < y.0) ⊎ ((x.0 ≡ y.0) × (x.1 ≤ y.1))
+
+-- the call of the least pair that is due, or none where none is due
+abbrev pub IsLeastDue : List (ℕ × ℕ) → ℕ → Option ℕ → Type 0
+IsLeastDue pairs now pick = MatchOption pick
+    (All (λ p. now < p.0) pairs)
+    (λ call. (due : ℕ) × Contains pairs (due, call) × (due ≤ now) × All (λ p. p.0 ≤ now → IsBefore (due, call) p) pairs)
+
+-- nothing while an action runs; the first queued call; else the least monitor that is due
+abbrev pub IsPickOf : Option Running → List Op → List (ℕ × ℕ) → ℕ → Option ℕ → Type 0
+IsPickOf (Some x) queue pairs now pick = pick ≡ None
+IsPickOf None (o ∷ os) pairs now pick = pick ≡ Some o.call
+IsPickOf None [] pairs now pick = IsLeastDue pairs now pick
+
+-- the monitors' due moments with their calls
+abbrev pub due_pairs : List Recur → (ℕ → Option ℕ) → List (ℕ × ℕ)
+due_pairs monitors due = filter_map (λ m. option_map (λ at. (at, m.call)) (due m.call)) monitors
+
+-- what a resource with these due moments begins at a moment
+abbrev pub IsPick : Resource → (ℕ → Option ℕ) → ℕ → Option ℕ → Type 0
+IsPick r due now pick = IsPickOf r.history.running r.history.queue (due_pairs r.recurring due) now pick

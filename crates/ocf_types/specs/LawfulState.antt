@@ -1,0 +1,84 @@
+-- Lawful states: those that have a spelling, and all that events lead to.
+use Rattle.std.specs.Prelude.{◌≡◌, ◌↔◌, ℕ, ◌<◌, ◌≤◌, ◌^◌, nat_eq, IsTrue, List, [], ◌∷◌, ◌++◌, map, length, Option, Some, None, ⊤}
+use Rattle.std.specs.List.{AllByRecursion, IsDistinct}
+use Rattle.std.specs.Map.{keys_of}
+use Rattle.std.specs.Str.{bytes_eq}
+use Rattle.ocf_types.specs.Names.{is_rsc_id, is_provider, is_agent_type}
+use Rattle.ocf_types.specs.Numbers.{IsMoment, IsDrawn, IsMillis}
+use Rattle.ocf_types.specs.Params.{AreParams}
+use Rattle.ocf_types.specs.Actions.{action_of}
+use Rattle.ocf_types.specs.Spelling.{spelled_params}
+use Rattle.ocf_types.specs.StateSpelling.{spelled_state}
+use Rattle.ocf_types.specs.Lawful.{IsLawfulOp, IsLawfulRecur, IsRunEnd}
+use Rattle.ocf_types.specs.Resource.{Resource, kept}
+use Rattle.ocf_types.specs.State.{State}
+use Rattle.ocf_types.specs.declared.action.Action.{Action}
+use Rattle.ocf_types.specs.declared.action.Action.TheVariants.{Monitor}
+use Rattle.ocf_types.specs.declared.operation.Op.{Op}
+use Rattle.ocf_types.specs.declared.operation.Recur.{Recur}
+use Rattle.ocf_types.specs.declared.operation.Running.{Running}
+use Rattle.ocf_types.specs.declared.operation.Ended.{Ended}
+use Rattle.ocf_types.specs.declared.outcome.Outcome.{Outcome}
+use Rattle.ocf_types.specs.declared.outcome.Outcome.TheVariants.{Run, Interrupted, Dropped}
+
+-- numbers that strictly ascend
+abbrev pub IsAscending : List ℕ → Type 0
+IsAscending [] = ⊤
+IsAscending (n ∷ ns) = AllByRecursion (λ m. n < m) ns × IsAscending ns
+
+-- an interval fits four bytes, and is 0 unless the action is a monitor
+abbrev pub IsIntervalOf : ℕ → Action → Type 0
+IsIntervalOf interval action = (interval < 2 ^ 32) × (0 < interval → action ≡ Monitor)
+
+-- what runs, below the next numbers and not after the clock
+abbrev pub IsLawfulRunning : ℕ → ℕ → ℕ → Option Running → Type 0
+IsLawfulRunning next_call next_run clock None = ⊤
+IsLawfulRunning next_call next_run clock (Some x) =
+    IsDrawn x.call × (x.call < next_call) × IsDrawn x.run × (x.run < next_run) × IsMillis x.timeout × IsIntervalOf x.interval (action_of x.task) × (x.since ≤ clock)
+
+abbrev pub IsOutcome : Outcome → Type 0
+IsOutcome (Run end) = IsRunEnd end
+IsOutcome _ = ⊤
+
+-- a result, below the next numbers and not after the clock; its run is 0 just where it was dropped
+pub record IsLawfulEnded (next_call next_run clock : ℕ) (e : Ended) : Type 0 where
+  pub drawn : IsDrawn e.call
+  pub call : e.call < next_call
+  pub run : e.run < next_run
+  pub dropped : (e.run ≡ 0) ↔ (e.outcome ≡ Dropped)
+  pub interval : IsIntervalOf e.interval e.action
+  pub since : e.since ≤ clock
+  pub at : e.at ≤ clock
+  pub outcome : IsOutcome e.outcome
+
+-- a resource, in a state with these next numbers and this clock
+pub record IsLawfulResource (next_call next_run clock : ℕ) (r : Resource) : Type 0 where
+  pub provider : IsTrue (is_provider r.provider)
+  pub agent : IsTrue (is_agent_type r.agent)
+  pub are_params : AreParams r.params
+  pub params_len : length (spelled_params r.params) ≤ 16384
+  pub queue_len : length r.history.queue ≤ 32
+  pub queue : AllByRecursion (λ o. IsLawfulOp o × (o.call < next_call)) r.history.queue
+  pub queue_ascends : IsAscending (map (λ o. o.call) r.history.queue)
+  pub running : IsLawfulRunning next_call next_run clock r.history.running
+  pub recurring_len : length r.recurring ≤ 8
+  pub recurring : AllByRecursion (λ m. IsLawfulRecur m × (m.call < next_call)) r.recurring
+  pub recurring_ascends : IsAscending (map (λ m. m.call) r.recurring)
+  pub intervals : IsDistinct nat_eq (map (λ m. m.interval) r.recurring)
+  pub ended_len : length r.history.ended ≤ kept
+  pub ended : AllByRecursion (IsLawfulEnded next_call next_run clock) r.history.ended
+
+-- a state: what the conditions of its spelling ask for
+pub record IsLawfulState (s : State) : Type 0 where
+  pub next_call : IsDrawn s.next_call
+  pub next_run : IsDrawn s.next_run
+  pub clock : IsMoment s.clock
+  pub at_most_256 : length s.resources ≤ 256
+  pub ids : IsDistinct bytes_eq (keys_of s.resources)
+  pub named : AllByRecursion (λ e. IsTrue (is_rsc_id e.0)) s.resources
+  pub resources : AllByRecursion (λ e. IsLawfulResource s.next_call s.next_run s.clock e.1) s.resources
+
+-- the bytes are the spelling of a lawful state
+pub record Spells (bytes : List ℕ) (s : State) : Type 0 where
+  pub lawful : IsLawfulState s
+  pub whole : bytes ≡ spelled_state s

@@ -1,0 +1,18 @@
+-- A state by places: its resources in order of registration, from 0.
+use Rattle.std.specs.Prelude.{ℕ, List, [], None, slice_index_or}
+use Rattle.ocf_types.specs.Resource.{Resource, no_history}
+use Rattle.ocf_types.specs.State.{State}
+
+-- what stands at no place
+abbrev pub no_entry : List ℕ × Resource
+no_entry = ([], record { provider = []; agent = []; params = []; history = no_history; recurring = [] })
+
+-- the id and the resource at a place
+abbrev pub entry_at : State → ℕ → List ℕ × Resource
+entry_at s place = slice_index_or s.resources place no_entry
+
+abbrev pub id_at : State → ℕ → List ℕ
+id_at s place = (entry_at s place).0
+
+abbrev pub at_place : State → ℕ → Resource
+at_place s place = (entry_at s place).1

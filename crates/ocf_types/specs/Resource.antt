@@ -1,0 +1,94 @@
+-- One resource, as plain lists, and what happens to it.
+use Rattle.std.specs.Prelude.{ℕ, ◌-◌, ◌==◌, Bool, ◌||◌, List, [], ◌∷◌, ◌++◌, map, length, drop, find, filter, not, nat_lt, Option, Some, None, option_map, option_to_list, is_some}
+use Rattle.ocf_types.specs.Params.{ParamList}
+use Rattle.ocf_types.specs.Actions.{action_of}
+use Rattle.ocf_types.specs.declared.action.Task.TheVariants.{Monitor}
+use Rattle.ocf_types.specs.declared.operation.Op.{Op}
+use Rattle.ocf_types.specs.declared.operation.Recur.{Recur}
+use Rattle.ocf_types.specs.declared.operation.Running.{Running}
+use Rattle.ocf_types.specs.declared.operation.Ended.{Ended}
+use Rattle.ocf_types.specs.declared.outcome.Outcome.{Outcome}
+use Rattle.ocf_types.specs.declared.outcome.Outcome.TheVariants.{Interrupted, Dropped}
+
+-- what is queued, what runs, and what has ended, oldest first
+pub record History : Type 0 where
+  pub queue : List Op
+  pub running : Option Running
+  pub ended : List Ended
+
+-- a registered resource: an instance of an agent, with its operations
+pub record Resource : Type 0 where
+  pub provider : List ℕ
+  pub agent : List ℕ
+  pub params : ParamList
+  pub history : History
+  pub recurring : List Recur
+
+-- how many results are kept
+abbrev pub kept : ℕ
+kept = 16
+
+-- the last ones
+abbrev pub last_ended : List Ended → List Ended
+last_ended results = drop (length results - kept) results
+
+-- the run of a queued action, begun at a moment
+abbrev pub run_of_op : ℕ → ℕ → Op → Running
+run_of_op run at o = record { call = o.call; run = run; task = o.task; timeout = o.timeout; interval = 0; since = at }
+
+-- the run of a recurring monitor, begun at a moment
+abbrev pub run_of_monitor : ℕ → ℕ → Recur → Running
+run_of_monitor run at m = record { call = m.call; run = run; task = Monitor m.level; timeout = m.timeout; interval = m.interval; since = at }
+
+-- the result of a run that ended at a moment
+abbrev pub ended_of : Outcome → ℕ → Running → Ended
+ended_of outcome at x = record { call = x.call; run = x.run; action = action_of x.task; interval = x.interval; since = x.since; at = at; outcome = outcome }
+
+-- the result of a queued action that was never begun
+abbrev pub dropped_of : ℕ → Op → Ended
+dropped_of at o = record { call = o.call; run = 0; action = action_of o.task; interval = 0; since = at; at = at; outcome = Dropped }
+
+abbrev pub no_history : History
+no_history = record { queue = []; running = None; ended = [] }
+
+-- something is queued or running
+abbrev pub is_busy : History → Bool
+is_busy h = nat_lt 0 (length h.queue) || is_some h.running
+
+-- an action goes to the end of the queue
+abbrev pub accepted : Op → History → History
+accepted o h = record h { queue = h.queue ++ o ∷ [] }
+
+-- the first queued action runs; with an empty queue, the recurring monitor
+abbrev pub begun_from : List Op → Option Recur → ℕ → ℕ → History → History
+begun_from [] monitor run at h = record h { running = option_map (run_of_monitor run at) monitor }
+begun_from (o ∷ os) monitor run at h = record h { queue = os; running = Some (run_of_op run at o) }
+
+abbrev pub begun : Option Recur → ℕ → ℕ → History → History
+begun monitor run at h = begun_from h.queue monitor run at h
+
+-- what ran has ended
+abbrev pub ended : Outcome → ℕ → History → History
+ended outcome at h = record h { running = None; ended = last_ended (h.ended ++ map (ended_of outcome at) (option_to_list h.running)) }
+
+-- what was queued is dropped, in order, and then what ran is interrupted
+abbrev pub booted : ℕ → History → History
+booted at h = record {
+  queue = [];
+  running = None;
+  ended = last_ended (h.ended ++ map (dropped_of at) h.queue ++ map (ended_of Interrupted at) (option_to_list h.running));
+}
+
+abbrev pub forgotten : History → History
+forgotten h = record h { ended = [] }
+
+-- the monitor of a call, and that of an interval
+abbrev pub of_call : ℕ → List Recur → Option Recur
+of_call call monitors = find (λ m. m.call == call) monitors
+
+abbrev pub of_interval : ℕ → List Recur → Option Recur
+of_interval interval monitors = find (λ m. m.interval == interval) monitors
+
+-- the monitors but that of an interval
+abbrev pub without_interval : ℕ → List Recur → List Recur
+without_interval interval monitors = filter (λ m. not (m.interval == interval)) monitors

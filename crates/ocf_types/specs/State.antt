@@ -1,0 +1,96 @@
+-- The state, and the state after an event.
+use Rattle.std.specs.Prelude.{ℕ, ◌+◌, List, [], ◌∷◌, ◌++◌, map, filter, fold, not, if◌then◌else◌, Option, Some, None}
+use Rattle.std.specs.Map.{lookup}
+use Rattle.std.specs.Str.{bytes_eq}
+use Rattle.ocf_types.specs.Kinds.{Registration, Step, Change, Event}
+use Rattle.ocf_types.specs.Resource.{History, Resource, no_history, accepted, begun, ended, booted, forgotten, of_call, without_interval}
+use Rattle.ocf_types.specs.declared.operation.Recur.{Recur}
+use Rattle.ocf_types.specs.declared.outcome.Outcome.TheVariants.{Run}
+use Rattle.ocf_types.specs.declared.event.Step.TheVariants as step
+use Rattle.ocf_types.specs.declared.event.Change.TheVariants as change
+
+-- the resources with their ids, in order of registration
+abbrev pub Registry : Type 0
+Registry = List (List ℕ × Resource)
+
+-- the next call id, the next run number, the moment of the last event, and the resources
+pub record State : Type 0 where
+  pub next_call : ℕ
+  pub next_run : ℕ
+  pub clock : ℕ
+  pub resources : Registry
+
+abbrev pub empty : State
+empty = record { next_call = 1; next_run = 1; clock = 0; resources = [] }
+
+-- the resource of an id
+abbrev pub resource_at : State → List ℕ → Option Resource
+resource_at s id = lookup (bytes_eq id) s.resources
+
+-- the resources but that of an id
+abbrev pub others : List ℕ → Registry → Registry
+others id rs = filter (λ e. not (bytes_eq id e.0)) rs
+
+-- the entries, with f of the one of an id
+abbrev pub at_id : {A : Type 0} → List ℕ → (A → A) → List (List ℕ × A) → List (List ℕ × A)
+at_id id f entries = map (λ e. (e.0, if bytes_eq id e.0 then f e.1 else e.1)) entries
+
+abbrev pub on_history : (History → History) → Resource → Resource
+on_history f r = record r { history = f r.history }
+
+abbrev pub on_recurring : (List Recur → List Recur) → Resource → Resource
+on_recurring f r = record r { recurring = f r.recurring }
+
+-- a resource after a step, at its moment
+abbrev pub stepped : ℕ → Step → Resource → Resource
+stepped at (step.SetParams ps) r = record r { params = ps }
+stepped at (step.Exec o) r = on_history (accepted o) r
+stepped at (step.Recur m) r = on_recurring (λ ms. ms ++ m ∷ []) r
+stepped at (step.Cancel interval) r = on_recurring (without_interval interval) r
+stepped at step.Forget r = on_history forgotten r
+stepped at (step.Begin call run) r = on_history (begun (of_call call r.recurring) run at) r
+stepped at (step.Result run end) r = on_history (ended (Run end) at) r
+
+-- the id and the resource of a registration, with what it does and its recurring monitors
+abbrev pub resource_of : Registration → History → List Recur → List ℕ × Resource
+resource_of r history recurring = (r.id, record { provider = r.provider; agent = r.agent; params = r.params; history = history; recurring = recurring })
+
+-- a resource as it is registered: all its lists are empty
+abbrev pub registered : Registration → List ℕ × Resource
+registered r = resource_of r no_history []
+
+-- the resources after a change
+abbrev pub changed : ℕ → Change → Registry → Registry
+changed at (change.Register r) rs = rs ++ registered r ∷ []
+changed at (change.Unregister id) rs = others id rs
+changed at (change.Step id s) rs = at_id id (stepped at s) rs
+changed at change.Boot rs = map (λ e. (e.0, on_history (booted at) e.1)) rs
+
+-- how many call ids, and how many run numbers, a change draws
+abbrev pub calls_drawn : Change → ℕ
+calls_drawn (change.Step id (step.Exec o)) = 1
+calls_drawn (change.Step id (step.Recur m)) = 1
+calls_drawn _ = 0
+
+abbrev pub runs_drawn : Change → ℕ
+runs_drawn (change.Step id (step.Begin call run)) = 1
+runs_drawn _ = 0
+
+-- the state after an event, and after a list of them
+abbrev pub after : State → Event → State
+after s e = record {
+  next_call = s.next_call + calls_drawn e.change;
+  next_run = s.next_run + runs_drawn e.change;
+  clock = e.at;
+  resources = changed e.at e.change s.resources;
+}
+
+abbrev pub after_all : State → List Event → State
+after_all s es = fold after s es
+
+-- the id of the resource that a change names; a boot names none
+abbrev pub named : Change → Option (List ℕ)
+named (change.Register r) = Some r.id
+named (change.Unregister id) = Some id
+named (change.Step id what) = Some id
+named change.Boot = None

@@ -1,0 +1,94 @@
+//! A state, seen number by number and item by item.
+ghost use Rattle.std.specs.Prelude.{◌≡◌, ◌<◌, ◌≤◌, length, Some, slice_get};
+ghost use Rattle.ocf_types.specs.State.{State};
+ghost use Rattle.ocf_types.specs.Places.{id_at, at_place};
+
+use crate::agent::{AgentType, Provider};
+use crate::numbers::{CallId, Moment, RunId};
+use crate::operation::{Ended, Op, Recur, Running};
+use crate::params::Params;
+use crate::rsc_id::RscId;
+use std::alloc::Allocator;
+
+/// Whatever contracts see as a state: its numbers, and its resources by place, in order of registration from 0.
+pub trait StateView {
+    /// Where the parameters lie.
+    type A: Allocator;
+
+    /// The state, as plain lists.
+    ghost plain: { Self → State };
+
+    /// The call id that is given next.
+    fn next_call(&self) -> CallId
+        ensures { result ≡ (plain self.now).next_call };
+
+    /// The run number that is given next.
+    fn next_run(&self) -> RunId
+        ensures { result ≡ (plain self.now).next_run };
+
+    /// The moment of the last event.
+    fn clock(&self) -> Moment
+        ensures { result ≡ (plain self.now).clock };
+
+    /// How many resources there are, at most 256.
+    fn len(&self) -> usize
+        ensures value { result ≡ length (plain self.now).resources }
+        ensures limit { result ≤ 256 };
+
+    fn id_at(&self, place: usize) -> &RscId
+        requires { place < length (plain self.now).resources }
+        ensures { result.now ≡ id_at (plain self.now) place };
+
+    fn provider_at(&self, place: usize) -> &Provider
+        requires { place < length (plain self.now).resources }
+        ensures { result.now ≡ (at_place (plain self.now) place).provider };
+
+    fn agent_at(&self, place: usize) -> &AgentType
+        requires { place < length (plain self.now).resources }
+        ensures { result.now ≡ (at_place (plain self.now) place).agent };
+
+    fn params_at(&self, place: usize) -> &Params<Self::A>
+        requires { place < length (plain self.now).resources }
+        ensures { result.now ≡ (at_place (plain self.now) place).params };
+
+    /// How many actions of a resource are queued, at most 32.
+    fn queue_len(&self, place: usize) -> usize
+        requires { place < length (plain self.now).resources }
+        ensures value { result ≡ length (at_place (plain self.now) place).history.queue }
+        ensures limit { result ≤ 32 };
+
+    /// A queued action.
+    fn queued_at(&self, place: usize, at: usize) -> Op
+        requires resource { place < length (plain self.now).resources }
+        requires item { at < length (at_place (plain self.now) place).history.queue }
+        ensures { slice_get (at_place (plain self.now) place).history.queue at ≡ Some result };
+
+    /// What a resource runs.
+    fn running_at(&self, place: usize) -> Option<Running>
+        requires { place < length (plain self.now).resources }
+        ensures { result ≡ (at_place (plain self.now) place).history.running };
+
+    /// How many recurring monitors a resource has, at most 8.
+    fn recurring_len(&self, place: usize) -> usize
+        requires { place < length (plain self.now).resources }
+        ensures value { result ≡ length (at_place (plain self.now) place).recurring }
+        ensures limit { result ≤ 8 };
+
+    /// A recurring monitor.
+    fn recurring_at(&self, place: usize, at: usize) -> Recur
+        requires resource { place < length (plain self.now).resources }
+        requires item { at < length (at_place (plain self.now) place).recurring }
+        ensures { slice_get (at_place (plain self.now) place).recurring at ≡ Some result };
+
+    /// How many results of a resource are kept, at most 16.
+    fn ended_len(&self, place: usize) -> usize
+        requires { place < length (plain self.now).resources }
+        ensures value { result ≡ length (at_place (plain self.now) place).history.ended }
+        ensures limit { result ≤ 16 };
+
+    /// A result, the oldest at 0.
+    fn ended_at(&self, place: usize, at: usize) -> Ended
+        requires resource { place < length (plain self.now).resources }
+        requires item { at < length (at_place (plain self.now) place).history.ended }
+        ensures { slice_get (at_place (plain self.now) place).history.ended at ≡ Some result };
+}
