@@ -29,4 +29,3 @@ both false b e = absurd cc
 
 pub value_short : (v : List ℕ) → is_param_value v ≡ true → length v ≤ 1024
 value_short v e = leb-true _ _ (both _ _ (both _ _ e).0).0
-

@@ -60,7 +60,10 @@ event_of s now c = first_of (tests s c (length (spelled_event (asked_event s now
 -- what a resource is, and what it does
 abbrev pub info_of : List ℕ → Resource → Info
 info_of id r = record {
-  id = id; provider = r.provider; agent = r.agent; params = r.params;
+  id = id;
+  provider = r.provider;
+  agent = r.agent;
+  params = r.params;
   queued = record { items = map (λ o. o.call) r.history.queue };
   running = r.history.running;
   recurring = record { items = r.recurring };

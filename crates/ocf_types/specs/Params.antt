@@ -1,5 +1,7 @@
 -- Which lists of names and values are parameters.
 use Rattle.std.specs.Prelude.{ℕ, ◌≤◌, ◌&&◌, Bool, true, List, [], ◌∷◌, ◌++◌, filter, Option, Some, None, length, IsTrue}
+use Rattle.std.specs.List.{list_any}
+use Rattle.std.specs.Str.{bytes_eq}
 use Rattle.std.specs.Ordering.{nat_cmp, is_lt}
 use Rattle.std.specs.Cmp.Lexicographic.{slice_cmp}
 use Rattle.ocf_types.specs.Names.{is_param_name}
@@ -32,6 +34,10 @@ pub record AreParams (ps : ParamList) : Type 0 where
 abbrev pub last_name : Option (List ℕ) → ParamList → Option (List ℕ)
 last_name before [] = before
 last_name before (p ∷ ps) = last_name (Some p.0) ps
+
+-- a parameter of this name is there
+abbrev pub has_param : List ℕ → ParamList → Bool
+has_param name ps = list_any (λ p. bytes_eq p.0 name) ps
 
 -- those of lesser names, this one, and those of greater names: one of the same name is replaced
 abbrev pub with_param : List ℕ → List ℕ → ParamList → ParamList

@@ -14,7 +14,10 @@ pub enum CommandOf<P> {
     /// Remove a resource.
     Unregister(RscId),
     /// Replace all parameters of a resource.
-    SetParams { id: RscId, params: P },
+    SetParams {
+        id: RscId,
+        params: P,
+    },
     /// Run an action once.
     Exec {
         id: RscId,
@@ -29,7 +32,10 @@ pub enum CommandOf<P> {
         level: Level,
     },
     /// Remove the recurring monitor of an interval.
-    Cancel { id: RscId, interval: Millis },
+    Cancel {
+        id: RscId,
+        interval: Millis,
+    },
     /// Forget the results of a resource.
     Forget(RscId),
 }

@@ -7,6 +7,7 @@ mod command;
 mod event;
 mod items;
 mod key;
+mod known;
 mod limits;
 mod names;
 mod numbers;

@@ -1,11 +1,42 @@
 //! Parameters, sorted by name.
-ghost use Rattle.std.specs.Prelude.{◌≡◌, ◌≤◌, ◌<◌, ◌++◌, [], ◌∷◌, None, length, OnOk, OnErr, IsTrue};
-ghost use Rattle.ocf_types.specs.Params.{AreParams, is_after, last_name};
+ghost use Rattle.std.specs.Prelude.{◌≡◌, ◌↔◌, ◌≤◌, ◌<◌, ◌++◌, [], ◌∷◌, None, true, false, length, count_by, slice_get, IsOk, OnOk, OnErr, IsTrue};
+ghost use Rattle.std.specs.Option.{option_map_or};
+ghost use Rattle.std.specs.Str.{bytes_eq};
+ghost use Rattle.ocf_types.specs.Params.{AreParams, is_before, is_after, last_name, has_param, with_param};
 
+use crate::limits::PARAMS_LIMIT;
 use crate::param_name::ParamName;
-use crate::values::ParamValue;
+use crate::values::{ParamValue, ValueError};
 use std::alloc::{AllocError, Allocator, Global};
 use std::marker::Model;
+
+fn is_before(a: &ParamName, b: &ParamName) -> bool
+    ensures { result ≡ is_before a.now b.now }
+{
+    a.as_bytes().cmp(&b.as_bytes()).is_lt()
+}
+
+fn lesser_names<A: Allocator>(entries: &[(ParamName, ParamValue<A>)], name: &ParamName) -> usize
+    ensures { result ≡ count_by (λ p. is_before p.0 name.now) entries.now }
+{
+    entries.iter().filter(|p| is_before(&p.0, name)).count()
+}
+
+#[tactic(auto, using(crate::proofs::InsertLemmas::there_at, crate::proofs::InsertLemmas::none_at))]
+fn is_there<A: Allocator>(
+    entries: &[(ParamName, ParamValue<A>)],
+    place: usize,
+    name: &ParamName,
+) -> bool
+    requires lawful { AreParams entries.now }
+    requires place { place ≡ count_by (λ p. is_before p.0 name.now) entries.now }
+    ensures { result ≡ has_param name.now entries.now }
+{
+    match entries.get(place) {
+        Some(entry) => entry.0.as_bytes() == name.as_bytes(),
+        None => false,
+    }
+}
 
 /// The instance parameters of a resource: at most 64, sorted by name. OCF Resource Agent API 1.1, OCF_RESKEY_.
 #[derive(Drop)]
@@ -63,6 +94,31 @@ impl<A: Allocator> Params<A> {
         let _ = name.as_bytes();
         let _ = value.as_str();
         self.entries.push((name, value))?;
+        Ok(())
+    }
+
+    /// Sets a parameter: one of the same name gets the new value, another comes in its place by name. It is
+    /// `BadValue` just where it would be the 65th. One that is there takes no memory.
+    #[tactic(auto, using(crate::proofs::InsertLemmas::place_below, crate::proofs::InsertLemmas::set_there, crate::proofs::InsertLemmas::insert_new, crate::proofs::InsertLemmas::set_lawful, crate::proofs::InsertLemmas::insert_lawful))]
+    pub fn insert(&mut self, name: ParamName, value: ParamValue<A>) -> Result<(), ValueError>
+        ensures ok { OnOk result (self.new ≡ with_param name value self.old) }
+        ensures full { result ≡ Err ValueError.BadValue ↔ ((length self.old ≡ PARAMS_LIMIT) × (has_param name self.old ≡ false)) }
+        ensures known { has_param name self.old ≡ true → IsOk result }
+        ensures err { OnErr result (self.new ≡ self.old) }
+    {
+        let _ = name.as_bytes();
+        let _ = value.as_str();
+        let place = lesser_names(self.entries.as_slice(), &name);
+        if is_there(self.entries.as_slice(), place, &name) {
+            self.entries[place] = (name, value);
+            return Ok(());
+        }
+        if self.entries.len() == PARAMS_LIMIT {
+            return Err(ValueError::BadValue);
+        }
+        if self.entries.insert(place, (name, value)).is_err() {
+            return Err(ValueError::Memory);
+        }
         Ok(())
     }
 }
