@@ -1,3 +1,15 @@
 pub mod ValueLemmas
 pub mod ParamsLemmas
 pub mod InsertLemmas
+pub mod SpellingExamples
+pub mod StateExamples
+pub mod RuleExamples
+pub mod Lengths
+pub mod Lists
+pub mod Registries
+pub mod BootLemmas
+pub mod OthersLemmas
+pub mod AskedLemmas
+pub mod LawfulParts
+pub mod LawfulSteps
+pub mod LawfulLaw

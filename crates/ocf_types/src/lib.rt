@@ -8,6 +8,7 @@ mod event;
 mod items;
 mod key;
 mod known;
+pub mod laws;
 mod limits;
 mod names;
 mod numbers;

@@ -1,0 +1,95 @@
+-- Lists: facts of each element, and numbers that ascend.
+use Rattle.std.proofs.Common.{◌≡◌, ℕ, ◌≤◌, ◌<◌, Bool, true, false, cond, List, [], ◌∷◌, ◌++◌, map, length, drop, filter, Option, Some, None, IsSomeAnd, refl, zero, suc, arith}
+use Rattle.std.specs.List.{AllByRecursion, IsDistinct}
+use Rattle.std.proofs.lemmas.Map.Keys.{IsDistinct-head, IsDistinct-tail, IsDistinct-cons}
+use Rattle.ocf_types.specs.LawfulState.{IsAscending}
+
+-- where a fact holds of what is there, it is there, and the fact holds of it
+pub found : {A : Type 0} (o : Option A) (P : A → Type 0) → IsSomeAnd o P → (x : A) × (o ≡ Some x) × P x
+found None P h = absurd h
+found (Some x) P h = (x, refl, h)
+
+module _ {A : Type 0} where
+  -- a weaker fact
+  pub each_weaken : (P Q : A → Type 0) → ((x : A) → P x → Q x) → (xs : List A) → AllByRecursion P xs → AllByRecursion Q xs
+  each_weaken P Q f [] h = tt
+  each_weaken P Q f (x ∷ xs) h = (f x h.0, each_weaken P Q f xs h.1)
+
+  -- a fact of two lists holds of both together
+  pub each_append : (P : A → Type 0) (xs ys : List A) → AllByRecursion P xs → AllByRecursion P ys → AllByRecursion P (xs ++ ys)
+  each_append P [] ys h k = k
+  each_append P (x ∷ xs) ys h k = (h.0, each_append P xs ys h.1 k)
+
+  -- a fact of each holds of the last ones
+  pub each_drop : (P : A → Type 0) (n : ℕ) (xs : List A) → AllByRecursion P xs → AllByRecursion P (drop n xs)
+  each_drop P zero xs h = h
+  each_drop P (suc n) [] h = tt
+  each_drop P (suc n) (x ∷ xs) h = each_drop P n xs h.1
+
+  -- a fact of each holds of those that pass a test
+  pub each_filter : (P : A → Type 0) (test : A → Bool) (xs : List A) → AllByRecursion P xs → AllByRecursion P (filter test xs)
+  each_filter P test [] h = tt
+  each_filter P test (x ∷ xs) h = by (test x) (each_filter P test xs h.1)
+    where
+      by : (b : Bool) → AllByRecursion P (filter test xs) → AllByRecursion P (cond b (x ∷ filter test xs) (filter test xs))
+      by true k = (h.0, k)
+      by false k = k
+
+  -- a filter makes no list longer
+  pub filter_shorter : (test : A → Bool) (xs : List A) → length (filter test xs) ≤ length xs
+  filter_shorter test [] = omega arith
+  filter_shorter test (x ∷ xs) = by (test x) (filter_shorter test xs)
+    where
+      by : (b : Bool) → length (filter test xs) ≤ length xs → length (cond b (x ∷ filter test xs) (filter test xs)) ≤ suc (length xs)
+      by true k = omega arith
+      by false k = omega arith
+
+  -- a second filter by the same test takes nothing more away
+  pub filter-filter : (test : A → Bool) (xs : List A) → filter test (filter test xs) ≡ filter test xs
+  filter-filter test [] = refl
+  filter-filter test (x ∷ xs) = by (test x) refl (filter-filter test xs)
+    where
+      by : (b : Bool) → test x ≡ b → filter test (filter test xs) ≡ filter test xs
+          → filter test (cond b (x ∷ filter test xs) (filter test xs)) ≡ cond b (x ∷ filter test xs) (filter test xs)
+      by true e k = rw (e, k) refl
+      by false e k = k
+
+  -- a fact of the keys of each holds of the keys of those that pass a test
+  pub keys_filter : {K : Type 0} (key : A → K) (P : K → Type 0) (test : A → Bool) (xs : List A) → AllByRecursion P (map key xs)
+      → AllByRecursion P (map key (filter test xs))
+  keys_filter key P test [] h = tt
+  keys_filter key P test (x ∷ xs) h = by (test x) (keys_filter key P test xs h.1)
+    where
+      by : (b : Bool) → AllByRecursion P (map key (filter test xs)) → AllByRecursion P (map key (cond b (x ∷ filter test xs) (filter test xs)))
+      by true k = (h.0, k)
+      by false k = k
+
+  -- distinct keys stay so where some elements are taken away
+  pub distinct_filter : {K : Type 0} (eq : K → K → Bool) (key : A → K) (test : A → Bool) (xs : List A) → IsDistinct eq (map key xs)
+      → IsDistinct eq (map key (filter test xs))
+  distinct_filter eq key test [] h = h
+  distinct_filter eq key test (x ∷ xs) h = by (test x) (distinct_filter eq key test xs (IsDistinct-tail eq (key x) (map key xs) h))
+    where
+      by : (b : Bool) → IsDistinct eq (map key (filter test xs)) → IsDistinct eq (map key (cond b (x ∷ filter test xs) (filter test xs)))
+      by true k = IsDistinct-cons eq (key x) (map key (filter test xs))
+          (keys_filter key (λ y. eq (key x) y ≡ false) test xs (IsDistinct-head eq (key x) (map key xs) h)) k
+      by false k = k
+
+  -- ascending keys stay so where some elements are taken away
+  pub ascends_filter : (key : A → ℕ) (test : A → Bool) (xs : List A) → IsAscending (map key xs) → IsAscending (map key (filter test xs))
+  ascends_filter key test [] h = tt
+  ascends_filter key test (x ∷ xs) h = by (test x) (ascends_filter key test xs h.1)
+    where
+      by : (b : Bool) → IsAscending (map key (filter test xs)) → IsAscending (map key (cond b (x ∷ filter test xs) (filter test xs)))
+      by true k = (keys_filter key (λ m. key x < m) test xs h.0, k)
+      by false k = k
+
+  -- ascending keys stay so with one more element, above a bound below which the others are
+  pub ascends_push : (key : A → ℕ) (n : ℕ) (xs : List A) (y : A) → AllByRecursion (λ x. key x < n) xs → n ≤ key y → IsAscending (map key xs)
+      → IsAscending (map key (xs ++ y ∷ []))
+  ascends_push key n [] y below le h = (tt, tt)
+  ascends_push key n (x ∷ xs) y below le h = (above xs h.0, ascends_push key n xs y below.1 le h.1)
+    where
+      above : (zs : List A) → AllByRecursion (λ m. key x < m) (map key zs) → AllByRecursion (λ m. key x < m) (map key (zs ++ y ∷ []))
+      above [] a = (omega (arith, below.0), tt)
+      above (z ∷ zs) a = (a.0, above zs a.1)

@@ -1,0 +1,8 @@
+use Rattle.ocf_types.proofs.LawfulLaw.{lawful_empty, lawful_after}
+use Rattle.ocf_types.proofs.laws.lawful_states.Goals as goal
+
+pub returns-clause-empty : goal.returns-clause-empty
+returns-clause-empty c = lawful_empty
+
+pub returns-clause-after : goal.returns-clause-after
+returns-clause-after c s e h a = lawful_after s e h a

@@ -1,0 +1,8 @@
+use Rattle.ocf_types.proofs.AskedLemmas.{event_applies, boot_applies}
+use Rattle.ocf_types.proofs.laws.what_applies.Goals as goal
+
+pub returns-clause-command : goal.returns-clause-command
+returns-clause-command c s now command e h l is = event_applies s now command e h l is
+
+pub returns-clause-boot : goal.returns-clause-boot
+returns-clause-boot c s at later le busy = boot_applies s at later le busy

@@ -1,0 +1,58 @@
+//! Laws of the definitions, each the contract of a function that does nothing.
+ghost use Rattle.std.specs.Prelude.{◌≡◌, ◌≢◌, ℕ, ◌≤◌, List, length, Some, Ok, IsTrue, filter, not};
+ghost use Rattle.std.specs.Str.{bytes_eq};
+ghost use Rattle.ocf_types.specs.declared.event.Step.TheVariants as step;
+ghost use Rattle.ocf_types.specs.declared.event.Change.TheVariants as change;
+ghost use Rattle.ocf_types.specs.declared.outcome.RunEnd.{RunEnd};
+ghost use Rattle.ocf_types.specs.Kinds.{Event, Command, Step, Change};
+ghost use Rattle.ocf_types.specs.Lawful.{IsId, IsLawfulEvent, IsLawfulCommand};
+ghost use Rattle.ocf_types.specs.Spelling.{spelled_event, HasNoParams};
+ghost use Rattle.ocf_types.specs.State.{State, empty, resource_at, named, others, after};
+ghost use Rattle.ocf_types.specs.Applies.{Applies};
+ghost use Rattle.ocf_types.specs.Boot.{any_busy, boot, boot_at};
+ghost use Rattle.ocf_types.specs.Answer.{event_of};
+ghost use Rattle.ocf_types.specs.LawfulState.{IsLawfulState};
+
+/// A second boot changes nothing.
+pub fn boot_is_once()
+    ensures { (s : State) (m n : ℕ) → boot (boot s m) n ≡ boot s m }
+{
+}
+
+/// The empty state is lawful, and an event that applies in a lawful state leaves a lawful one: all that events lead to
+/// keeps the limits and conditions of a spelled state.
+pub fn lawful_states()
+    ensures empty { IsLawfulState empty }
+    ensures after { (s : State) (e : Event) → IsLawfulState s → Applies s e → IsLawfulState (after s e) }
+{
+}
+
+/// An event that names one resource does nothing to another: it stays as it was, and in its place among the others.
+pub fn others_stay()
+    ensures resource { (s : State) (e : Event) (id other : List ℕ) → named e.change ≡ Some id → id ≢ other
+        → resource_at (after s e) other ≡ resource_at s other }
+    ensures order { (s : State) (e : Event) (id : List ℕ) → named e.change ≡ Some id
+        → others id (after s e).resources ≡ others id s.resources }
+{
+}
+
+/// The event that a lawful command is at a lawful state applies there, and so does a boot that is needed.
+pub fn what_applies()
+    ensures command { (s : State) (now : ℕ) (c : Command) (e : Event) → IsLawfulState s → IsLawfulCommand c
+        → event_of s now c ≡ Ok e → Applies s e }
+    ensures boot { (s : State) (at : ℕ) → s.clock ≤ at → at ≤ 9007199254740991 → IsTrue (any_busy s)
+        → Applies s (boot_at at) }
+{
+}
+
+/// How long spellings are at most, in bytes: so a begin and the results of all that runs fit the reserve.
+pub fn lengths()
+    ensures result { (at run : ℕ) (id : List ℕ) (end : RunEnd) → IsId id
+        → length (spelled_event (record { at = at; change = change.Step id (step.Result run end) })) ≤ 84 }
+    ensures begin { (at call run : ℕ) (id : List ℕ) → IsId id
+        → length (spelled_event (record { at = at; change = change.Step id (step.Begin call run) })) ≤ 90 }
+    ensures boot { (at : ℕ) → length (spelled_event (boot_at at)) ≡ 9 }
+    ensures small { (at : ℕ) (c : Change) → IsLawfulEvent (record { at = at; change = c }) → HasNoParams c
+        → length (spelled_event (record { at = at; change = c })) ≤ 91 }
+{
+}
