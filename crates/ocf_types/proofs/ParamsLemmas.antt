@@ -1,5 +1,5 @@
 -- Parameters with one more.
-use Rattle.std.proofs.Common.{◌≡◌, ℕ, ◌+◌, ◌-◌, ◌≤◌, ◌<◌, Bool, true, false, ◌&&◌, List, [], ◌∷◌, ◌++◌, length, Option, Some, None, refl, arith, length-append, ap}
+use Rattle.std.proofs.Common.{◌≡◌, ℕ, ◌-◌, ◌<◌, true, ◌&&◌, List, [], ◌∷◌, ◌++◌, length, Option, Some, None, refl, arith, length-append, ap}
 use Rattle.std.specs.Prelude.{slice_get}
 use Rattle.ocf_types.specs.Names.{is_param_name}
 use Rattle.ocf_types.specs.Values.{is_param_value}

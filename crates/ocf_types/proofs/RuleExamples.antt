@@ -1,5 +1,5 @@
 -- The rules of commands, boots, due moments and picks, computed on small states.
-use Rattle.std.proofs.Common.{◌≡◌, ℕ, ◌-◌, ◌*◌, min, ◌≤◌, ◌<◌, List, [], ◌∷◌, Option, Some, None, Result, Ok, Err, refl, arith, inl, inr}
+use Rattle.std.proofs.Common.{◌≡◌, ℕ, ◌-◌, ◌*◌, min, ◌≤◌, ◌<◌, List, [], ◌∷◌, Option, Some, None, Ok, Err, refl, arith, inl, inr}
 use Rattle.std.specs.Prelude.{codes, replicate, option_map, All}
 use Rattle.std.proofs.lemmas.List.Elements.{All-from_recursion}
 use Rattle.ocf_types.specs.declared.action.Level.TheVariants.{Zero}
@@ -9,7 +9,7 @@ use Rattle.ocf_types.specs.declared.action.Task.TheVariants as task
 use Rattle.ocf_types.specs.declared.operation.Op.{Op}
 use Rattle.ocf_types.specs.declared.operation.Recur.{Recur}
 use Rattle.ocf_types.specs.declared.outcome.RunEnd.TheVariants.{Done}
-use Rattle.ocf_types.specs.declared.outcome.Outcome.TheVariants.{Run, Interrupted, Dropped}
+use Rattle.ocf_types.specs.declared.outcome.Outcome.TheVariants.{Interrupted, Dropped}
 use Rattle.ocf_types.specs.declared.event.Step.TheVariants as step
 use Rattle.ocf_types.specs.declared.event.Change.TheVariants as change
 use Rattle.ocf_types.specs.declared.command.CommandOf.TheVariants as command
@@ -17,7 +17,7 @@ use Rattle.ocf_types.specs.declared.refusal.Refusal.TheVariants.{Exists, Busy, Q
 use Rattle.ocf_types.specs.Kinds.{Change, Event, Registration}
 use Rattle.ocf_types.specs.Resource.{Resource, no_history}
 use Rattle.ocf_types.specs.State.{State, empty, resource_at, after, after_all}
-use Rattle.ocf_types.specs.Boot.{boot, boot_event, boot_at}
+use Rattle.ocf_types.specs.Boot.{boot, boot_event}
 use Rattle.ocf_types.specs.Answer.{event_of}
 use Rattle.ocf_types.specs.Spelling.{two_bytes, four_bytes, eight_bytes, spelled_event}
 use Rattle.ocf_types.specs.Due.{Due, due_at, due_after, IsBefore, IsPick}
@@ -43,7 +43,9 @@ registered = after empty (at 0 (change.Register dummy))
 -- a resource that has these operations
 abbrev with_resource : ℕ → List Op → List Recur → State
 with_resource next_call queue monitors = record {
-  next_call = next_call; next_run = 1; clock = 0;
+  next_call = next_call;
+  next_run = 1;
+  clock = 0;
   resources = (r1, record { provider = codes "pacemaker"; agent = codes "Dummy"; params = []; history = record no_history { queue = queue }; recurring = monitors }) ∷ [];
 }
 
@@ -142,7 +144,10 @@ due_opened = refl
 -- three monitors, of which the last two are due at the same moment, before the first: the lower call is picked
 abbrev three : List Op → Resource
 three queue = record {
-  provider = codes "pacemaker"; agent = codes "Dummy"; params = []; history = record no_history { queue = queue };
+  provider = codes "pacemaker";
+  agent = codes "Dummy";
+  params = [];
+  history = record no_history { queue = queue };
   recurring = monitor 1 10000 ∷ monitor 2 5000 ∷ monitor 3 7000 ∷ [];
 }
 
@@ -154,6 +159,7 @@ least_due = (30, (1, omega arith, refl), omega arith, least)
   where
     pairs : List (ℕ × ℕ)
     pairs = (35, 1) ∷ (30, 2) ∷ (30, 3) ∷ []
+
     least : All (λ p. p.0 ≤ 50 → IsBefore (30, 2) p) pairs
     least = All-from_recursion (λ p. p.0 ≤ 50 → IsBefore (30, 2) p) pairs
         ((λ _. inl (omega arith)), ((λ _. inr (refl, omega arith)), ((λ _. inr (refl, omega arith)), tt)))

@@ -1,5 +1,5 @@
 -- Which event a command is, or which refusal, and what a question is answered.
-use Rattle.std.specs.Prelude.{ℕ, ◌==◌, Bool, false, max, min, nat_lt, nat_le, is_some, is_none, List, [], ◌∷◌, length, map, Option, Some, None, Result, Ok, Err, if◌then◌else◌}
+use Rattle.std.specs.Prelude.{ℕ, ◌==◌, Bool, false, max, min, nat_lt, nat_le, is_some, is_none, List, [], ◌∷◌, length, map, Result, Ok, Err, if◌then◌else◌}
 use Rattle.std.specs.Option.{option_map_or}
 use Rattle.ocf_types.specs.Kinds.{Change, Event, Command, Info, Reply}
 use Rattle.ocf_types.specs.Spelling.{spelled_event}

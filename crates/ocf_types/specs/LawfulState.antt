@@ -1,5 +1,5 @@
 -- Lawful states: those that have a spelling, and all that events lead to.
-use Rattle.std.specs.Prelude.{◌≡◌, ◌↔◌, ℕ, ◌<◌, ◌≤◌, ◌^◌, nat_eq, IsTrue, List, [], ◌∷◌, ◌++◌, map, length, Option, Some, None, ⊤}
+use Rattle.std.specs.Prelude.{◌≡◌, ◌↔◌, ℕ, ◌<◌, ◌≤◌, ◌^◌, nat_eq, IsTrue, List, [], ◌∷◌, map, length, Option, Some, None, ⊤}
 use Rattle.std.specs.List.{AllByRecursion, IsDistinct}
 use Rattle.std.specs.Map.{keys_of}
 use Rattle.std.specs.Str.{bytes_eq}
@@ -14,12 +14,10 @@ use Rattle.ocf_types.specs.Resource.{Resource, kept}
 use Rattle.ocf_types.specs.State.{State}
 use Rattle.ocf_types.specs.declared.action.Action.{Action}
 use Rattle.ocf_types.specs.declared.action.Action.TheVariants.{Monitor}
-use Rattle.ocf_types.specs.declared.operation.Op.{Op}
-use Rattle.ocf_types.specs.declared.operation.Recur.{Recur}
 use Rattle.ocf_types.specs.declared.operation.Running.{Running}
 use Rattle.ocf_types.specs.declared.operation.Ended.{Ended}
 use Rattle.ocf_types.specs.declared.outcome.Outcome.{Outcome}
-use Rattle.ocf_types.specs.declared.outcome.Outcome.TheVariants.{Run, Interrupted, Dropped}
+use Rattle.ocf_types.specs.declared.outcome.Outcome.TheVariants.{Run, Dropped}
 
 -- numbers that strictly ascend
 abbrev pub IsAscending : List ℕ → Type 0

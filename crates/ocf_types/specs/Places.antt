@@ -1,5 +1,5 @@
 -- A state by places: its resources in order of registration, from 0.
-use Rattle.std.specs.Prelude.{ℕ, List, [], None, slice_index_or}
+use Rattle.std.specs.Prelude.{ℕ, List, [], slice_index_or}
 use Rattle.ocf_types.specs.Resource.{Resource, no_history}
 use Rattle.ocf_types.specs.State.{State}
 

@@ -1,4 +1,5 @@
--- One resource, as plain lists, and what happens to it.
+-- One resource, as plain lists, and what happens to it. Pacemaker Explained, resource operations; how many results
+-- are kept, and what a boot does, is this executor's own.
 use Rattle.std.specs.Prelude.{ℕ, ◌-◌, ◌==◌, Bool, ◌||◌, List, [], ◌∷◌, ◌++◌, map, length, drop, find, filter, not, nat_lt, Option, Some, None, option_map, option_to_list, is_some}
 use Rattle.ocf_types.specs.Params.{ParamList}
 use Rattle.ocf_types.specs.Actions.{action_of}

@@ -16,16 +16,14 @@ ghost use Rattle.ocf_types.specs.LawfulState.{IsLawfulState};
 /// A second boot changes nothing.
 pub fn boot_is_once()
     ensures { (s : State) (m n : ℕ) → boot (boot s m) n ≡ boot s m }
-{
-}
+{}
 
 /// The empty state is lawful, and an event that applies in a lawful state leaves a lawful one: all that events lead to
 /// keeps the limits and conditions of a spelled state.
 pub fn lawful_states()
     ensures empty { IsLawfulState empty }
     ensures after { (s : State) (e : Event) → IsLawfulState s → Applies s e → IsLawfulState (after s e) }
-{
-}
+{}
 
 /// An event that names one resource does nothing to another: it stays as it was, and in its place among the others.
 pub fn others_stay()
@@ -33,8 +31,7 @@ pub fn others_stay()
         → resource_at (after s e) other ≡ resource_at s other }
     ensures order { (s : State) (e : Event) (id : List ℕ) → named e.change ≡ Some id
         → others id (after s e).resources ≡ others id s.resources }
-{
-}
+{}
 
 /// The event that a lawful command is at a lawful state applies there, and so does a boot that is needed.
 pub fn what_applies()
@@ -42,8 +39,7 @@ pub fn what_applies()
         → event_of s now c ≡ Ok e → Applies s e }
     ensures boot { (s : State) (at : ℕ) → s.clock ≤ at → at ≤ 9007199254740991 → IsTrue (any_busy s)
         → Applies s (boot_at at) }
-{
-}
+{}
 
 /// How long spellings are at most, in bytes: so a begin and the results of all that runs fit the reserve.
 pub fn lengths()
@@ -54,5 +50,4 @@ pub fn lengths()
     ensures boot { (at : ℕ) → length (spelled_event (boot_at at)) ≡ 9 }
     ensures small { (at : ℕ) (c : Change) → IsLawfulEvent (record { at = at; change = c }) → HasNoParams c
         → length (spelled_event (record { at = at; change = c })) ≤ 91 }
-{
-}
+{}

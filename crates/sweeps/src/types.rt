@@ -254,22 +254,27 @@ fn lengths_of_spelled_events(rt: HostRuntime) -> Result<(), Fail> {
     Ok(())
 }
 
-#[test]
-fn a_resource_in_vectors(rt: HostRuntime) -> Result<(), Fail> {
-    let op = Op {
+fn queued_stop() -> Result<Op, Fail> {
+    Ok(Op {
         call: call(2)?,
         task: Task::Stop,
         timeout: millis(20_000)?,
-    };
-    let running = Running {
+    })
+}
+
+fn running_start() -> Result<Running, Fail> {
+    Ok(Running {
         call: call(1)?,
         run: run(1)?,
         task: Task::Start,
         timeout: millis(20_000)?,
         interval: 0,
         since: Moment::cut(10),
-    };
-    let ended = Ended {
+    })
+}
+
+fn dropped_start() -> Result<Ended, Fail> {
+    Ok(Ended {
         call: call(1)?,
         run: 0,
         action: Action::Start,
@@ -277,29 +282,40 @@ fn a_resource_in_vectors(rt: HostRuntime) -> Result<(), Fail> {
         since: Moment::cut(5),
         at: Moment::cut(5),
         outcome: Outcome::Dropped,
-    };
-    let recur = Recur {
+    })
+}
+
+fn every_ten_seconds() -> Result<Recur, Fail> {
+    Ok(Recur {
         call: call(3)?,
         interval: millis(10_000)?,
         timeout: millis(20_000)?,
         level: Level::Zero,
-    };
+    })
+}
+
+#[test]
+fn a_resource_in_vectors(rt: HostRuntime) -> Result<(), Fail> {
+    let queue = [queued_stop()?];
+    let ended = [dropped_start()?];
+    let recurring = [every_ten_seconds()?];
+    let running = Some(running_start()?);
     let history = HistoryParts::new(
-        [op].to_vec(rt.alloc())?,
-        Some(running),
-        [ended].to_vec(rt.alloc())?,
+        queue.to_vec(rt.alloc())?,
+        running,
+        ended.to_vec(rt.alloc())?,
     );
-    let params = Params::new(rt.alloc());
-    let parts = ResourceParts::new(registration(params)?, history, [recur].to_vec(rt.alloc())?);
+    let named = registration(Params::new(rt.alloc()))?;
+    let parts = ResourceParts::new(named, history, recurring.to_vec(rt.alloc())?);
     assert!(rt; parts.registration().id == id(b"r1")?);
-    assert_eq!(rt; parts.history().queue(), [op].as_slice());
-    assert_eq!(rt; parts.history().running(), Some(running));
-    assert_eq!(rt; parts.history().ended(), [ended].as_slice());
-    assert_eq!(rt; parts.recurring(), [recur].as_slice());
-    let (registration, history, recurring) = parts.into_parts();
-    assert!(rt; registration.provider.as_bytes() == b"pacemaker".as_slice());
-    assert_eq!(rt; history.running(), Some(running));
-    assert_eq!(rt; Items::new(recurring).as_slice(), [recur].as_slice());
+    assert_eq!(rt; parts.history().queue(), queue.as_slice());
+    assert_eq!(rt; parts.history().running(), running);
+    assert_eq!(rt; parts.history().ended(), ended.as_slice());
+    assert_eq!(rt; parts.recurring(), recurring.as_slice());
+    let (named, history, monitors) = parts.into_parts();
+    assert!(rt; named.provider.as_bytes() == b"pacemaker".as_slice());
+    assert_eq!(rt; history.running(), running);
+    assert_eq!(rt; Items::new(monitors).as_slice(), recurring.as_slice());
     Ok(())
 }
 

@@ -1,4 +1,4 @@
-use Rattle.std.proofs.Common.{◌≡◌, ℕ, List, length, refl, sym, ◌∙◌, ap, Bool, true, false, Some, None, ◌≤◌}
+use Rattle.std.proofs.Common.{◌≡◌, length, refl, ◌∙◌, ap, Some, ◌≤◌}
 use Rattle.std.specs.Prelude.{slice_get}
 use Rattle.std.specs.Str.{bytes_eq}
 use Rattle.std.proofs.lemmas.Option.{slice_get_read, slice_get_past}

@@ -1,4 +1,4 @@
-use Rattle.std.proofs.Common.{◌≡◌, ℕ, List, length, refl, sym, ◌∙◌, ap, subst, Bool, true, false, not, ◌≤◌, ◌<◌, arith}
+use Rattle.std.proofs.Common.{◌≡◌, ℕ, List, length, sym, ◌∙◌, ap, subst, Bool, true, false, not, ◌≤◌, ◌<◌, arith}
 use Rattle.std.specs.Prelude.{count_by, vec_len, insert, if◌then◌else◌, is_ok}
 use Rattle.ocf_types.specs.Params.{ParamList, AreParams, is_before, has_param, with_param}
 use Rattle.ocf_types.specs.Names.{is_param_name}

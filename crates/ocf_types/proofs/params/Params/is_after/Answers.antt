@@ -1,8 +1,7 @@
-use Rattle.std.proofs.Common.{rules, ◌≡◌, List, ℕ, length, ap, ◌∙◌, sym, Some, ◌-◌, refl}
+use Rattle.std.proofs.Common.{◌≡◌, length, ap, ◌∙◌, sym, Some, ◌-◌, refl}
 use Rattle.std.specs.Prelude.{slice_get}
-use Rattle.std.specs.Ordering.{is_lt, nat_cmp}
-use Rattle.std.specs.Cmp.Lexicographic.{slice_cmp}
-use Rattle.ocf_types.specs.Params.{is_after, last_name, ParamList}
+use Rattle.std.specs.Ordering.{is_lt}
+use Rattle.ocf_types.specs.Params.{ParamList}
 use Rattle.ocf_types.proofs.ParamsLemmas.{last_name_is}
 use Rattle.ocf_types.proofs.params.Params.is_after.Goals as goal
 
