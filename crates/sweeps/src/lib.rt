@@ -1,5 +1,18 @@
-//! Tests that go over several crates, or over each size of a heap. Nothing here is part of the product.
+//! Tests that go over several crates, over each device call, or over each size of a heap. Nothing here is part of the
+//! product.
 #![tactic(auto)]
 
+#[cfg(test)]
+mod disk;
+#[cfg(test)]
+mod heaps;
+#[cfg(test)]
+mod monitors;
+#[cfg(test)]
+mod operations;
+#[cfg(test)]
+mod slots;
+#[cfg(test)]
+mod tools;
 #[cfg(test)]
 mod types;

@@ -1,0 +1,63 @@
+//! What is noted of an operation as it begins, and as it ends.
+ghost use Rattle.std.specs.Prelude.{◌≡◌};
+ghost use Rattle.ocf_types.specs.Resource.{run_of_op, run_of_monitor, ended_of, dropped_of};
+
+use ocf_types::{Ended, Moment, Op, Outcome, Recur, RunId, Running, Task};
+
+/// The run of a queued action that begins at that moment.
+pub(crate) fn run_of_op(op: Op, run: RunId, at: Moment) -> Running
+    ensures { result ≡ run_of_op run at op }
+{
+    Running {
+        call: op.call,
+        run,
+        task: op.task,
+        timeout: op.timeout,
+        interval: 0,
+        since: at,
+    }
+}
+
+/// The run of a recurring monitor that begins at that moment.
+pub(crate) fn run_of_monitor(monitor: Recur, run: RunId, at: Moment) -> Running
+    ensures { result ≡ run_of_monitor run at monitor }
+{
+    Running {
+        call: monitor.call,
+        run,
+        task: Task::Monitor(monitor.level),
+        timeout: monitor.timeout,
+        interval: monitor.interval.get(),
+        since: at,
+    }
+}
+
+/// The result of a run that ended at that moment.
+pub(crate) fn ended_of(running: Running, outcome: Outcome, at: Moment) -> Ended
+    ensures { result ≡ ended_of outcome at running }
+{
+    Ended {
+        call: running.call,
+        run: running.run.get(),
+        action: running.task.action(),
+        interval: running.interval,
+        since: running.since,
+        at,
+        outcome,
+    }
+}
+
+/// The result of a queued action that is dropped at that moment: it has run number 0.
+pub(crate) fn dropped_of(op: Op, at: Moment) -> Ended
+    ensures { result ≡ dropped_of at op }
+{
+    Ended {
+        call: op.call,
+        run: 0,
+        action: op.task.action(),
+        interval: 0,
+        since: at,
+        at,
+        outcome: Outcome::Dropped,
+    }
+}

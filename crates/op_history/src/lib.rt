@@ -1,0 +1,9 @@
+//! The operations of one resource: what is queued, what runs, and the results that are kept.
+#![tactic(auto)]
+
+mod entries;
+mod ops;
+mod queued;
+mod results;
+
+pub use ops::{Ops, QueueFull};

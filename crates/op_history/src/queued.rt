@@ -1,0 +1,51 @@
+//! A place of the queue.
+ghost use Rattle.std.specs.Prelude.{◌≡◌};
+
+use ocf_types::{CallId, Millis, Op, Task};
+use std::marker::Model;
+
+/// A queued action. Contracts see just the action.
+#[derive(Drop)]
+pub(crate) struct Queued {
+    op: Op,
+}
+
+impl Model for Queued {
+    ghost use Rattle.ocf_types.specs.declared.operation.Op.{Op};
+
+    ghost Value = { Op };
+
+    ghost view = { λ q. q.op };
+}
+
+impl Queued {
+    pub(crate) fn new(op: Op) -> Queued
+        ensures { result ≡ op }
+    {
+        Queued { op }
+    }
+
+    /// The action.
+    pub(crate) fn op(&self) -> Op
+        ensures { result ≡ self.now }
+    {
+        self.op
+    }
+}
+
+/// What lies in an unused place of the queue, where nobody sees it.
+impl Default for Queued {
+    fn default() -> Queued {
+        let (Some(call), Some(timeout)) = (CallId::new(1), Millis::new(1)) else {
+            unreachable!()
+        };
+        let task = Task::Start;
+        Queued {
+            op: Op {
+                call,
+                task,
+                timeout,
+            },
+        }
+    }
+}

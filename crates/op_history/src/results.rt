@@ -1,0 +1,85 @@
+//! The results that are kept.
+ghost use Rattle.std.specs.Prelude.{◌≡◌, ◌<◌, ◌≤◌, [], ◌∷◌, ◌++◌, length, map, slice_get, IfOk};
+ghost use Rattle.std.specs.Prelude.{option_to_list};
+ghost use Rattle.ocf_types.specs.Resource.{kept, last_ended, ended_of, dropped_of};
+
+use crate::entries::{dropped_of, ended_of};
+use crate::queued::Queued;
+use circular_buffer::HeapCircularBuffer;
+use ocf_types::{ENDED_KEPT, Ended, Moment, Outcome, Running};
+use std::alloc::{AllocError, Allocator, Global};
+use std::marker::Model;
+
+/// The last results of one resource, oldest first: as many as [`ENDED_KEPT`].
+#[derive(Drop)]
+pub(crate) struct Results<A: Allocator = Global> {
+    ring: HeapCircularBuffer<Ended, A>,
+}
+
+impl<A: Allocator> Model for Results<A> {
+    ghost use Rattle.std.specs.Prelude.{◌≡◌, ◌≤◌, List, length};
+    ghost use Rattle.ocf_types.specs.Resource.{kept};
+    ghost use Rattle.ocf_types.specs.declared.operation.Ended.{Ended};
+
+    ghost Value = { List Ended };
+
+    ghost view = { λ r. r.ring.items };
+
+    ghost invariant = { λ r. (r.ring.capacity ≡ kept) × (length r.ring.items ≤ kept) };
+}
+
+impl<A: Allocator> Results<A> {
+    /// No results, with the room for all that are kept.
+    pub(crate) fn new(alloc: A) -> Result<Results<A>, AllocError>
+        ensures { IfOk result (λ r. r ≡ []) }
+    {
+        let ring = HeapCircularBuffer::with_capacity(alloc, ENDED_KEPT)?;
+        Ok(Results { ring })
+    }
+
+    /// How many results there are.
+    pub(crate) fn len(&self) -> usize
+        ensures value { result ≡ length self.now }
+        ensures limit { result ≤ kept }
+    {
+        self.ring.len()
+    }
+
+    /// A result, the oldest at 0.
+    pub(crate) fn at(&self, index: usize) -> Ended
+        requires { index < length self.now }
+        ensures { slice_get self.now index ≡ Some result }
+    {
+        match self.ring.get(index) {
+            Some(ended) => *ended,
+            None => unreachable!(),
+        }
+    }
+
+    /// Puts the result of what ran, if anything did, behind the others. Where there is no room the oldest goes.
+    pub(crate) fn push_run(&mut self, running: Option<Running>, outcome: Outcome, at: Moment)
+        ensures { self.new ≡ last_ended (self.old ++ map (ended_of outcome at) (option_to_list running)) }
+    {
+        let ring = &mut self.ring;
+        if let Some(running) = running {
+            ring.push_back(ended_of(running, outcome, at));
+        }
+    }
+
+    /// Puts queued actions behind the others, in order, as dropped. Where there is no room the oldest goes.
+    pub(crate) fn push_dropped(&mut self, queue: &[Queued], at: Moment)
+        ensures { self.new ≡ last_ended (self.old ++ map (dropped_of at) queue.now) }
+    {
+        let ring = &mut self.ring;
+        for queued in queue {
+            ring.push_back(dropped_of(queued.op(), at));
+        }
+    }
+
+    /// Takes all results away.
+    pub(crate) fn clear(&mut self)
+        ensures { self.new ≡ [] }
+    {
+        self.ring.clear();
+    }
+}

@@ -1,0 +1,2 @@
+pub mod FirstDue
+pub mod Recurs

@@ -1,0 +1,41 @@
+-- The recurring monitors of a resource, with their due moments.
+use Rattle.std.specs.Prelude.{ℕ, ◌+◌, ◌<◌, ◌≤◌, ◌==◌, List, map, filter, not, if◌then◌else◌, Option, Some, None, All, Contains}
+use Rattle.ocf_types.specs.declared.operation.Recur.{Recur}
+use Rattle.ocf_types.specs.Due.{IsBefore}
+use Rattle.recurring.specs.declared.monitor.Monitor.{Monitor}
+
+-- the monitors without their due moments
+abbrev pub recurs : List Monitor → List Recur
+recurs monitors = map (λ m. m.recur) monitors
+
+-- a monitor as the pair of its due moment and its call, and all of them so
+abbrev pub pair : Monitor → ℕ × ℕ
+pair m = (m.due, m.recur.call)
+
+abbrev pub pairs : List Monitor → List (ℕ × ℕ)
+pairs monitors = map pair monitors
+
+-- the monitors but that of an interval
+abbrev pub cancelled : ℕ → List Monitor → List Monitor
+cancelled interval monitors = filter (λ m. not (m.recur.interval == interval)) monitors
+
+-- a monitor that is due at a moment
+abbrev pub due_at : ℕ → Monitor → Monitor
+due_at at m = record m { due = at }
+
+-- a monitor after a run of a call ended at a moment: where the call is its own, due its own interval later
+abbrev pub settled_one : ℕ → ℕ → Monitor → Monitor
+settled_one call at m = if m.recur.call == call then due_at (at + m.recur.interval) m else m
+
+-- the monitors after a run of a call ended at a moment
+abbrev pub settled : ℕ → ℕ → List Monitor → List Monitor
+settled call at monitors = map (settled_one call at) monitors
+
+-- the monitors after an opening, all due at its moment
+abbrev pub restarted : ℕ → List Monitor → List Monitor
+restarted at monitors = map (due_at at) monitors
+
+-- the monitor is one of the pairs, and of those that are due none comes before it; or there is none, and none is due
+abbrev pub IsFirstDue : List (ℕ × ℕ) → ℕ → Option Monitor → Type 0
+IsFirstDue pairs now None = All (λ p. now < p.0) pairs
+IsFirstDue pairs now (Some m) = Contains pairs (pair m) × (m.due ≤ now) × All (λ p. p.0 ≤ now → IsBefore (pair m) p) pairs

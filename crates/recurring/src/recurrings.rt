@@ -1,0 +1,173 @@
+//! The recurring monitors of one resource.
+ghost use Rattle.std.specs.Prelude.{◌≡◌, ◌<◌, ◌≤◌, ◌↔◌, [], ◌∷◌, ◌++◌, length, slice_get, nat_le, is_some, IsSome, IsNone, IsErr, OnOk, OnErr};
+ghost use Rattle.ocf_types.specs.Resource.{of_call, of_interval, without_interval};
+ghost use Rattle.ocf_types.specs.Due.{IsLeastDue};
+ghost use Rattle.recurring.specs.Monitors.{recurs, pairs, cancelled, settled, restarted};
+
+use crate::monitor::Monitor;
+use arrayvec::ArrayVec;
+use ocf_types::{CallId, Millis, Moment, RECURRING_LIMIT, Recur};
+use std::marker::Model;
+use thiserror::Error;
+
+/// Why a recurring monitor was not added.
+#[derive(Clone, Copy, Debug, PartialEq, Eq, Error)]
+pub enum AddError {
+    #[error("the resource has a recurring monitor of this interval already: cancel it first")]
+    Duplicate,
+    #[error("the resource has 8 recurring monitors already: cancel one first")]
+    RecurringFull,
+}
+
+/// The resource has no recurring monitor of the interval.
+#[derive(Clone, Copy, Debug, PartialEq, Eq, Error)]
+#[error("the resource has no recurring monitor of this interval")]
+pub struct NoSuchRecurring;
+
+/// The recurring monitors of one resource with their due moments, in order of acceptance: at most 8. No call takes
+/// memory.
+#[derive(Drop)]
+pub struct Recurrings {
+    monitors: ArrayVec<Monitor, { RECURRING_LIMIT }>,
+}
+
+impl Model for Recurrings {
+    ghost use Rattle.std.specs.Prelude.{List};
+    ghost use Rattle.recurring.specs.declared.monitor.Monitor.{Monitor};
+
+    ghost Value = { List Monitor };
+
+    ghost view = { λ r. r.monitors.items };
+}
+
+impl Recurrings {
+    /// No monitors.
+    pub fn new() -> Recurrings
+        ensures { result ≡ [] }
+    {
+        Recurrings {
+            monitors: ArrayVec::new_in(()),
+        }
+    }
+
+    /// How many monitors there are, at most 8.
+    pub fn len(&self) -> usize
+        ensures value { result ≡ length self.now }
+        ensures limit { result ≤ RECURRING_LIMIT }
+    {
+        self.monitors.len()
+    }
+
+    /// A monitor. They stand in order of acceptance, from 0.
+    pub fn monitor_at(&self, at: usize) -> Monitor
+        requires { at < length self.now }
+        ensures { slice_get self.now at ≡ Some result }
+    {
+        self.monitors.as_slice()[at]
+    }
+
+    /// Whether there are 8 monitors, so that none can be added.
+    pub fn is_full(&self) -> bool
+        ensures value { result ≡ nat_le RECURRING_LIMIT (length self.now) }
+        ensures limit { length self.now ≤ RECURRING_LIMIT }
+    {
+        self.monitors.len() >= RECURRING_LIMIT
+    }
+
+    /// The monitor of that call.
+    pub fn of_call(&self, call: CallId) -> Option<Recur>
+        ensures { result ≡ of_call call (recurs self.now) }
+    {
+        self.monitors
+            .as_slice()
+            .iter()
+            .map(|m| m.recur)
+            .find(|m| m.call == call)
+    }
+
+    /// Whether there is a monitor of that interval.
+    pub fn has_interval(&self, interval: Millis) -> bool
+        ensures { result ≡ is_some (of_interval interval (recurs self.now)) }
+    {
+        self.of_interval(interval).is_some()
+    }
+
+    /// The monitor of that interval.
+    fn of_interval(&self, interval: Millis) -> Option<Recur>
+        ensures { result ≡ of_interval interval (recurs self.now) }
+    {
+        self.monitors
+            .as_slice()
+            .iter()
+            .map(|m| m.recur)
+            .find(|m| m.interval == interval)
+    }
+
+    /// Puts a monitor behind the others, due at that moment. It is `Duplicate` just where one of its interval is
+    /// there, and otherwise `RecurringFull` just where 8 are there.
+    pub fn add(&mut self, recur: Recur, due: Moment) -> Result<(), AddError>
+        ensures ok { OnOk result (self.new ≡ self.old ++ record { recur = recur; due = due } ∷ []) }
+        ensures recurs { OnOk result (recurs self.new ≡ recurs self.old ++ recur ∷ []) }
+        ensures duplicate { (result ≡ Err AddError.Duplicate) ↔ IsSome (of_interval recur.interval (recurs self.old)) }
+        ensures full { (result ≡ Err AddError.RecurringFull)
+            ↔ (IsNone (of_interval recur.interval (recurs self.old)) × (length self.old ≡ RECURRING_LIMIT)) }
+        ensures err { OnErr result (self.new ≡ self.old) }
+    {
+        if self.has_interval(recur.interval) {
+            return Err(AddError::Duplicate);
+        }
+        if self.is_full() {
+            return Err(AddError::RecurringFull);
+        }
+        let due = due.get();
+        self.monitors.push(Monitor { recur, due });
+        Ok(())
+    }
+
+    /// Takes the monitor of that interval away. It is `NoSuchRecurring` just where there is none.
+    pub fn cancel(&mut self, interval: Millis) -> Result<(), NoSuchRecurring>
+        ensures ok { OnOk result (self.new ≡ cancelled interval self.old) }
+        ensures recurs { OnOk result (recurs self.new ≡ without_interval interval (recurs self.old)) }
+        ensures none { IsErr result ↔ IsNone (of_interval interval (recurs self.old)) }
+        ensures err { OnErr result (self.new ≡ self.old) }
+    {
+        if !self.has_interval(interval) {
+            return Err(NoSuchRecurring);
+        }
+        self.monitors.retain(|m| m.recur.interval != interval);
+        Ok(())
+    }
+
+    /// After a run of that call ended at that moment: its monitor is due its own interval later. Where it is gone,
+    /// nothing changes.
+    pub fn settle(&mut self, call: CallId, ended_at: Moment)
+        ensures due { self.new ≡ settled call ended_at self.old }
+        ensures recurs { recurs self.new ≡ recurs self.old }
+    {
+        for m in self.monitors.as_mut_slice() {
+            *m = m.settled(call, ended_at);
+        }
+    }
+
+    /// Makes every monitor due at that moment.
+    pub fn restart(&mut self, at: Moment)
+        ensures due { self.new ≡ restarted at self.old }
+        ensures recurs { recurs self.new ≡ recurs self.old }
+    {
+        for m in self.monitors.as_mut_slice() {
+            *m = m.due_at(at.get());
+        }
+    }
+
+    /// The call of the monitor that is due first, and of the lowest call among those that are due then: `None` just
+    /// where none is due.
+    pub fn due(&self, now: Moment) -> Option<CallId>
+        ensures { IsLeastDue (pairs self.now) now result }
+    {
+        let mut first: Option<Monitor> = None;
+        for m in self.monitors.as_slice() {
+            first = m.first_due(first, now);
+        }
+        first.map(|m| m.recur.call)
+    }
+}
