@@ -52,7 +52,11 @@ fn an_image_has_its_fill_at_each_range_that_was_not_synced(rt: HostRuntime) -> R
     ] {
         let left = disk.image(alloc, call, fill)?;
         assert_eq!(rt; left.bytes(Part::A), a, "stopped in call {call}, {fill:?}");
-        assert_eq!(rt; left.bytes(Part::B), [b].as_slice(), "stopped in call {call}, {fill:?}");
+        assert_eq!(rt;
+            left.bytes(Part::B),
+            [b].as_slice(),
+            "stopped in call {call}, {fill:?}"
+        );
         assert_eq!(rt; left.clock(), 0);
     }
     Ok(())

@@ -35,8 +35,12 @@ fn a_slot_on_a_disk_that_finds_no_memory_is_a_fault(rt: HostRuntime) -> Result<(
     let mut appended = false;
     for steps in 0..64 {
         let heap = LocalHeap::new(alloc, steps * 64)?;
-        let Ok(gate) = [0].to_vec(&heap) else { continue };
-        let Ok(mut disk) = MemDisk::from_parts(&heap, gate, Vec::new(&heap)) else { continue };
+        let Ok(gate) = [0].to_vec(&heap) else {
+            continue
+        };
+        let Ok(mut disk) = MemDisk::from_parts(&heap, gate, Vec::new(&heap)) else {
+            continue
+        };
         let mut tail = Tail::at(0);
         match append(&rt, &mut disk, &mut tail, &frame, 0) {
             Ok(()) => appended = true,

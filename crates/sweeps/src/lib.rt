@@ -3,7 +3,11 @@
 #![tactic(auto)]
 
 #[cfg(test)]
+mod calls;
+#[cfg(test)]
 mod disk;
+#[cfg(test)]
+mod exit_codes;
 #[cfg(test)]
 mod heaps;
 #[cfg(test)]
@@ -12,6 +16,8 @@ mod monitors;
 mod operations;
 #[cfg(test)]
 mod slots;
+#[cfg(test)]
+mod spellings;
 #[cfg(test)]
 mod tools;
 #[cfg(test)]

@@ -17,7 +17,12 @@ fn a_slot_is_appended_and_read_back(rt: HostRuntime) -> Result<(), Fail> {
     assert_eq!(rt; disk.bytes(Part::A), [9, 1, 0, 0, 0, 2, 7, 8, 0].as_slice());
     assert_eq!(rt; disk.bytes(Part::B), [].as_slice());
     assert_eq!(rt; disk.clock(), 4);
-    for (at, found) in [(0, SlotRead::Closed), (1, SlotRead::Slot), (8, SlotRead::Closed), (9, SlotRead::Truncated)] {
+    for (at, found) in [
+        (0, SlotRead::Closed),
+        (1, SlotRead::Slot),
+        (8, SlotRead::Closed),
+        (9, SlotRead::Truncated),
+    ] {
         let (answer, frame) = read(alloc, &mut disk, Part::A, at)?;
         assert_eq!(rt; answer, found, "at {at}");
         assert_eq!(rt; frame.len() == 2, found == SlotRead::Slot);
@@ -51,15 +56,15 @@ fn a_damaged_slot_is_told_by_name(rt: HostRuntime) -> Result<(), Fail> {
 
 // The bytes of a new journal with no resource, but for the open gate at its front.
 const CREATED: [u8; 44] = [
-    0x4f, 0x43, 0x46, 0x4a, 0x01, 0x00, 0x00, 0x00, 0x00, 0x00, 0x00, 0x00, 0x01, 0x00, 0x00, 0x00, 0x1a, 0x00,
-    0x00, 0x00, 0x00, 0x00, 0x00, 0x00, 0x01, 0x00, 0x00, 0x00, 0x00, 0x00, 0x00, 0x00, 0x01, 0x00, 0x00, 0x00,
-    0x00, 0x00, 0x00, 0x00, 0x00, 0x00, 0x00, 0x00,
+    0x4f, 0x43, 0x46, 0x4a, 0x01, 0x00, 0x00, 0x00, 0x00, 0x00, 0x00, 0x00, 0x01, 0x00, 0x00, 0x00,
+    0x1a, 0x00, 0x00, 0x00, 0x00, 0x00, 0x00, 0x00, 0x01, 0x00, 0x00, 0x00, 0x00, 0x00, 0x00, 0x00,
+    0x01, 0x00, 0x00, 0x00, 0x00, 0x00, 0x00, 0x00, 0x00, 0x00, 0x00, 0x00,
 ];
 
 // The event by which pacemaker's Dummy is registered as r1 at moment 0.
 const REGISTERED: [u8; 29] = [
-    0x01, 0x00, 0x00, 0x00, 0x00, 0x00, 0x00, 0x00, 0x00, 0x02, 0x72, 0x31, 0x09, 0x70, 0x61, 0x63, 0x65, 0x6d,
-    0x61, 0x6b, 0x65, 0x72, 0x05, 0x44, 0x75, 0x6d, 0x6d, 0x79, 0x00,
+    0x01, 0x00, 0x00, 0x00, 0x00, 0x00, 0x00, 0x00, 0x00, 0x02, 0x72, 0x31, 0x09, 0x70, 0x61, 0x63,
+    0x65, 0x6d, 0x61, 0x6b, 0x65, 0x72, 0x05, 0x44, 0x75, 0x6d, 0x6d, 0x79, 0x00,
 ];
 
 #[test]
@@ -88,7 +93,9 @@ fn the_first_journal_has_79_bytes(rt: HostRuntime) -> Result<(), Fail> {
 }
 
 #[test]
-fn a_stop_at_each_device_call_leaves_the_slot_whole_or_not_at_all(rt: HostRuntime) -> Result<(), Fail> {
+fn a_stop_at_each_device_call_leaves_the_slot_whole_or_not_at_all(
+    rt: HostRuntime,
+) -> Result<(), Fail> {
     let alloc = rt.alloc();
     let frame = frame_with(alloc, &[7, 8])?;
     // Whether the slot stands, with the last sync's bytes, the written ones, ones, and nines where nothing was synced.
@@ -104,11 +111,20 @@ fn a_stop_at_each_device_call_leaves_the_slot_whole_or_not_at_all(rt: HostRuntim
         let mut tail = Tail::at(1);
         let done = append(&rt, &mut disk, &mut tail, &frame, 0);
         assert_eq!(rt; done.is_ok(), call == 5, "stopped in call {call}");
-        let fills = [Fill::Synced, Fill::Written, Fill::Repeated(&[1]), Fill::Repeated(&[9])];
+        let fills = [
+            Fill::Synced,
+            Fill::Written,
+            Fill::Repeated(&[1]),
+            Fill::Repeated(&[9]),
+        ];
         for (fill, whole) in fills.iter().zip(stands.iter()) {
             let mut left = disk.image(alloc, call, *fill)?;
             let (answer, found) = read(alloc, &mut left, Part::A, 1)?;
-            let want = if *whole { SlotRead::Slot } else { SlotRead::Closed };
+            let want = if *whole {
+                SlotRead::Slot
+            } else {
+                SlotRead::Closed
+            };
             assert_eq!(rt; answer, want, "stopped in call {call}, {fill:?}");
             if *whole {
                 assert_eq!(rt; found.body(), [7, 8].as_slice());
@@ -132,7 +148,11 @@ fn a_fault_at_each_device_call_is_told_and_leaves_the_tail(rt: HostRuntime) -> R
         let mut disk = MemDisk::from_parts(alloc, [0].to_vec(alloc)?, Vec::new(alloc))?;
         disk.plan_fault(call);
         let mut tail = Tail::at(0);
-        assert_eq!(rt; append(&rt, &mut disk, &mut tail, &frame, 0), Err(SlotFault::Disk), "a fault in call {call}");
+        assert_eq!(rt;
+            append(&rt, &mut disk, &mut tail, &frame, 0),
+            Err(SlotFault::Disk),
+            "a fault in call {call}"
+        );
         assert_eq!(rt; tail.offset(), 0);
         assert_eq!(rt; disk.failures(), 1);
         assert_eq!(rt; disk.clock(), call);
@@ -151,7 +171,11 @@ fn a_slot_fits_up_to_the_part_limit_and_no_further(rt: HostRuntime) -> Result<()
     ] {
         let mut disk = MemDisk::from_parts(alloc, [0].to_vec(alloc)?, Vec::new(alloc))?;
         let mut tail = Tail::at(0);
-        assert_eq!(rt; append(&rt, &mut disk, &mut tail, &frame, keep), appended, "{keep} bytes free");
+        assert_eq!(rt;
+            append(&rt, &mut disk, &mut tail, &frame, keep),
+            appended,
+            "{keep} bytes free"
+        );
         if appended.is_err() {
             assert_eq!(rt; disk.clock(), 0);
             assert_eq!(rt; disk.bytes(Part::A), [0].as_slice());

@@ -28,7 +28,12 @@ fn fill(room: &mut [u8], body: &[u8])
 }
 
 /// Reads a slot into a new frame.
-pub fn read<D: Disk>(alloc: Global, disk: &mut D, part: Part, at: u64) -> Result<(SlotRead, Frame), AllocError> {
+pub fn read<D: Disk>(
+    alloc: Global,
+    disk: &mut D,
+    part: Part,
+    at: u64,
+) -> Result<(SlotRead, Frame), AllocError> {
     let mut frame = Frame::new(alloc)?;
     let found = read_slot(disk, part, at, &mut frame);
     Ok((found, frame))

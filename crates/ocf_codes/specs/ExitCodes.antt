@@ -1,0 +1,39 @@
+-- The table of exit codes.
+use Rattle.std.specs.Prelude.{ℕ, ◌==◌, List, [], ◌∷◌, Option, Some, None, codes}
+use Rattle.std.specs.List.{find}
+use Rattle.ocf_codes.specs.declared.exit_code.Code.{Code}
+use Rattle.ocf_codes.specs.declared.exit_code.Code.TheVariants.{Success, Generic, Args, Unimplemented, Perm, Installed, Configured, NotRunning, RunningPromoted, FailedPromoted, Degraded, DegradedPromoted, Other}
+
+-- a row of the table: a number, what it says, and its name
+abbrev pub Row : Type 0
+Row = ℕ × Code × List ℕ
+
+-- OCF Resource Agent API 1.1 and Pacemaker Administration, exit codes
+abbrev pub exit_codes : List Row
+exit_codes =
+    (0, Success, codes "OCF_SUCCESS") ∷ (1, Generic, codes "OCF_ERR_GENERIC") ∷ (2, Args, codes "OCF_ERR_ARGS")
+    ∷ (3, Unimplemented, codes "OCF_ERR_UNIMPLEMENTED") ∷ (4, Perm, codes "OCF_ERR_PERM")
+    ∷ (5, Installed, codes "OCF_ERR_INSTALLED") ∷ (6, Configured, codes "OCF_ERR_CONFIGURED")
+    ∷ (7, NotRunning, codes "OCF_NOT_RUNNING") ∷ (8, RunningPromoted, codes "OCF_RUNNING_PROMOTED")
+    ∷ (9, FailedPromoted, codes "OCF_FAILED_PROMOTED") ∷ (190, Degraded, codes "OCF_DEGRADED")
+    ∷ (191, DegradedPromoted, codes "OCF_DEGRADED_PROMOTED") ∷ []
+
+-- the row of a number, if it has one
+abbrev pub row_at : ℕ → Option Row
+row_at n = find (λ row. row.0 == n) exit_codes
+
+-- what a number says: that of its row; with no row it is kept as it is
+abbrev pub code_in : ℕ → Option Row → Code
+code_in n (Some row) = row.1
+code_in n None = Other n
+
+abbrev pub code_read : ℕ → Code
+code_read n = code_in n (row_at n)
+
+-- the name of a number: that of its row; with no row, other
+abbrev pub name_in : Option Row → List ℕ
+name_in (Some row) = row.2
+name_in None = codes "other"
+
+abbrev pub name_read : ℕ → List ℕ
+name_read n = name_in (row_at n)

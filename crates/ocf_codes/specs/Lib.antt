@@ -1,0 +1,2 @@
+pub mod ExitCodes
+pub mod OutcomeCodes

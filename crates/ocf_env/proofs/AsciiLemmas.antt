@@ -1,0 +1,43 @@
+-- Names are ASCII, and ASCII bytes are text.
+use Rattle.std.proofs.Common.{◌≡◌, ℕ, ◌<◌, List, [], ◌∷◌, Bool, true, false, ◌&&◌, refl, arith}
+use Rattle.std.specs.List.{list_all}
+use Rattle.std.specs.Str.{IsAscii, IsUtf8}
+use Rattle.std.proofs.lemmas.Str.{IsUtf8-from_ascii}
+use Rattle.std.proofs.lemmas.Str.Ascii.{IsAscii-nil, IsAscii-cons}
+use Rattle.std.proofs.lemmas.Bool.Decides.{nat_tests}
+use Rattle.ocf_types.specs.Names.{is_name_byte, is_id_byte, is_word_byte, is_rsc_id, is_provider, is_agent_type, is_param_name}
+
+pub texts : (bs : List ℕ) → IsAscii bs → IsUtf8 bs
+texts bs h = IsUtf8-from_ascii bs h
+
+word_byte : (b : ℕ) → is_word_byte b ≡ true → b < 128
+word_byte b h = grind (arith, nat_tests)
+
+name_byte : (b : ℕ) → is_name_byte b ≡ true → b < 128
+name_byte b h = grind (arith, nat_tests)
+
+id_byte : (b : ℕ) → is_id_byte b ≡ true → b < 128
+id_byte b h = grind (arith, nat_tests)
+
+-- both sides of a test that holds
+pub both : (a b : Bool) → (a && b) ≡ true → (a ≡ true) × (b ≡ true)
+both true b e = (refl, e)
+both false b e = absurd cc
+
+all_ascii : (p : ℕ → Bool) → ((b : ℕ) → p b ≡ true → b < 128) → (bs : List ℕ) → list_all p bs ≡ true → IsAscii bs
+all_ascii p low [] h = IsAscii-nil
+all_ascii p low (b ∷ bs) h =
+    let s = both (p b) (list_all p bs) h in
+    IsAscii-cons b bs (low b s.0) (all_ascii p low bs s.1)
+
+pub ids : (bs : List ℕ) → is_rsc_id bs ≡ true → IsAscii bs
+ids bs h = all_ascii is_id_byte id_byte bs (both _ _ h).1
+
+pub providers : (bs : List ℕ) → is_provider bs ≡ true → IsAscii bs
+providers bs h = all_ascii is_name_byte name_byte bs (both _ _ h).1
+
+pub agent_types : (bs : List ℕ) → is_agent_type bs ≡ true → IsAscii bs
+agent_types bs h = all_ascii is_name_byte name_byte bs (both _ _ h).1
+
+pub param_names : (bs : List ℕ) → is_param_name bs ≡ true → IsAscii bs
+param_names bs h = all_ascii is_word_byte word_byte bs (both _ _ h).1

@@ -1,0 +1,6 @@
+pub mod Places
+pub mod Programs
+pub mod Variables
+pub mod Lists
+pub mod Instances
+pub mod Keys

@@ -1,0 +1,50 @@
+-- The environment as a list, in the order in which it is filled.
+use Rattle.std.specs.Prelude.{ℕ, List, [], ◌∷◌, ◌++◌, map, codes, decimal}
+use Rattle.ocf_types.specs.Params.{ParamList}
+use Rattle.ocf_types.specs.Actions.{level_number}
+use Rattle.ocf_types.specs.Kinds.{Registration}
+use Rattle.ocf_types.specs.declared.action.Task.{Task}
+use Rattle.ocf_types.specs.declared.action.Task.TheVariants.{Monitor}
+use Rattle.ocf_env.specs.Places.{Place, Pair}
+use Rattle.ocf_env.specs.Variables.{reskey}
+
+-- OCF Resource Agent API 1.1, OCF_CHECK_LEVEL: of a monitor only
+abbrev pub level_pairs : Task → List Pair
+level_pairs (Monitor depth) = (codes "OCF_CHECK_LEVEL", decimal (level_number depth)) ∷ []
+level_pairs _ = []
+
+-- OCF Resource Agent API 1.1, OCF_RA_VERSION_MAJOR and OCF_RA_VERSION_MINOR
+abbrev pub version_pairs : List Pair
+version_pairs = (codes "OCF_RA_VERSION_MAJOR", codes "1") ∷ (codes "OCF_RA_VERSION_MINOR", codes "1") ∷ []
+
+-- OCF Resource Agent API 1.1, OCF_RESKEY_
+abbrev pub param_pairs : ParamList → List Pair
+param_pairs = map (λ p. (reskey p.0, p.1))
+
+-- OCF Resource Agent API 1.1, OCF_RESOURCE_INSTANCE
+abbrev pub instance_pair : List ℕ → Pair
+instance_pair id = (codes "OCF_RESOURCE_INSTANCE", id)
+
+-- OCF Resource Agent API 1.1, OCF_RESOURCE_TYPE; Pacemaker's OCF_RESOURCE_PROVIDER
+abbrev pub agent_pairs : List ℕ → List ℕ → List Pair
+agent_pairs provider agent = (codes "OCF_RESOURCE_PROVIDER", provider) ∷ (codes "OCF_RESOURCE_TYPE", agent) ∷ []
+
+-- OCF Resource Agent API 1.1, OCF_ROOT; this profile's PATH
+abbrev pub site_pairs : Place → List Pair
+site_pairs site = (codes "OCF_ROOT", site.root) ∷ (codes "PATH", site.path) ∷ []
+
+-- the end of each environment
+abbrev pub last_pairs : Place → List ℕ → List ℕ → List Pair
+last_pairs site provider agent = agent_pairs provider agent ++ site_pairs site
+
+-- the parameters and what comes behind them
+abbrev pub instance_pairs : Place → Registration → List Pair
+instance_pairs site r = param_pairs r.params ++ instance_pair r.id ∷ last_pairs site r.provider r.agent
+
+-- all variables of an action, in order
+unfoldable pub action_pairs : Place → Registration → Task → List Pair
+action_pairs site r task = level_pairs task ++ (version_pairs ++ instance_pairs site r)
+
+-- all variables of meta-data, in order
+unfoldable pub meta_pairs : Place → List ℕ → List ℕ → List Pair
+meta_pairs site provider agent = version_pairs ++ last_pairs site provider agent

@@ -1,0 +1,38 @@
+-- The environment of an agent, as a set of names with values.
+use Rattle.std.specs.Prelude.{◌≡◌, ℕ, ◌&&◌, Bool, true, List, [], ◌∷◌, ◌++◌, codes, decimal, Option, Some, None, Contains}
+use Rattle.ocf_types.specs.Params.{is_after}
+use Rattle.ocf_types.specs.Actions.{level_number}
+use Rattle.ocf_types.specs.Kinds.{Registration}
+use Rattle.ocf_types.specs.declared.action.Level.{Level}
+use Rattle.ocf_types.specs.declared.action.Task.{Task}
+use Rattle.ocf_types.specs.declared.action.Task.TheVariants.{Monitor}
+use Rattle.ocf_env.specs.Places.{Place, Pair}
+
+-- the variable of a parameter: OCF Resource Agent API 1.1, OCF_RESKEY_
+abbrev pub reskey : List ℕ → List ℕ
+reskey name = codes "OCF_RESKEY_" ++ name
+
+-- what each call of an agent has: OCF Resource Agent API 1.1, environment variables; PATH is this profile's own
+pub data IsAgentVariable (site : Place) (provider agent : List ℕ) : List ℕ → List ℕ → Type 0 where
+  major : IsAgentVariable site provider agent (codes "OCF_RA_VERSION_MAJOR") (codes "1")
+  minor : IsAgentVariable site provider agent (codes "OCF_RA_VERSION_MINOR") (codes "1")
+  of_provider : IsAgentVariable site provider agent (codes "OCF_RESOURCE_PROVIDER") provider
+  of_type : IsAgentVariable site provider agent (codes "OCF_RESOURCE_TYPE") agent
+  below_root : IsAgentVariable site provider agent (codes "OCF_ROOT") site.root
+  with_path : IsAgentVariable site provider agent (codes "PATH") site.path
+
+-- what an action has: the same, the level of a monitor, the instance, and each parameter
+pub data IsVariable (site : Place) (r : Registration) (task : Task) : List ℕ → List ℕ → Type 0 where
+  of_agent : {name value : List ℕ} → IsAgentVariable site r.provider r.agent name value → IsVariable site r task name value
+  level : {depth : Level} → task ≡ Monitor depth → IsVariable site r task (codes "OCF_CHECK_LEVEL") (decimal (level_number depth))
+  instance : IsVariable site r task (codes "OCF_RESOURCE_INSTANCE") r.id
+  parameter : {name value : List ℕ} → Contains r.params (name, value) → IsVariable site r task (reskey name) value
+
+-- the names strictly ascend by their bytes, all after the last one
+abbrev pub are_ascending_after : Option (List ℕ) → List Pair → Bool
+are_ascending_after last [] = true
+are_ascending_after last (x ∷ xs) = is_after last x.0 && are_ascending_after (Some x.0) xs
+
+-- sorted by name, so no name stands twice
+abbrev pub are_ascending : List Pair → Bool
+are_ascending = are_ascending_after None

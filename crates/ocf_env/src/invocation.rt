@@ -1,0 +1,121 @@
+//! Programs with their arguments and environments.
+ghost use Rattle.std.specs.Prelude.{◌≡◌, ◌++◌, IfOk, Option, Some, None};
+ghost use Rattle.ocf_env.specs.Programs.{agent_path, program_at, arguments_at};
+
+use crate::site::Site;
+use crate::text::{Text, ascii, copied};
+use crate::variables::Pairs;
+use ocf_types::{AgentType, Provider};
+use std::alloc::{AllocError, Allocator, Global};
+use std::marker::Model;
+
+/// A program with its arguments, and with its whole environment sorted by name. OCF Resource Agent API 1.1, actions.
+#[derive(Drop)]
+pub struct Invocation<A: Allocator = Global> {
+    program: Text<A>,
+    arguments: Vec<Text<A>, A>,
+    environment: Pairs<A>,
+}
+
+impl<A: Allocator> Model for Invocation<A> {
+    ghost use Rattle.ocf_env.specs.Places.{Call};
+
+    ghost Value = { Call };
+
+    ghost view = { λ i. record { program = i.program; arguments = i.arguments.items; environment = i.environment.items } };
+}
+
+impl<A: Allocator> Invocation<A> {
+    /// The program.
+    pub fn program(&self) -> &str
+        ensures { result.now ≡ self.now.program }
+    {
+        self.program.as_str()
+    }
+
+    /// The arguments in order, without the program.
+    pub fn arguments(&self) -> &[Text<A>]
+        ensures { result.now ≡ self.now.arguments }
+    {
+        self.arguments.as_slice()
+    }
+
+    /// The names and values of all variables, sorted by name: there is no other variable.
+    pub fn environment(&self) -> &[(Text<A>, Text<A>)]
+        ensures { result.now ≡ self.now.environment }
+    {
+        self.environment.as_slice()
+    }
+}
+
+/// The agent's file, `<root>/resource.d/<provider>/<type>`. OCF Resource Agent API 1.1, OCF_ROOT.
+#[tactic(auto, using(crate::proofs::AsciiLemmas::providers, crate::proofs::AsciiLemmas::agent_types))]
+pub fn agent_file<A: Allocator, S: Allocator>(
+    alloc: A,
+    site: &Site<S>,
+    provider: &Provider,
+    agent: &AgentType,
+) -> Result<Text<A>, AllocError>
+    ensures { IfOk result (λ f. f ≡ agent_path site.now.root provider.now agent.now) }
+{
+    let mut file = String::from_str(alloc, site.root())?;
+    file.push_str("/resource.d/")?;
+    file.push_str(ascii(provider.as_bytes()))?;
+    file.push_str("/")?;
+    file.push_str(ascii(agent.as_bytes()))?;
+    Ok(Text::new(file))
+}
+
+fn direct<A: Allocator + Copy>(
+    alloc: A,
+    file: Text<A>,
+    action: Text<A>,
+    environment: Pairs<A>,
+) -> Result<Invocation<A>, AllocError>
+    ensures { IfOk result (λ i. i ≡ record { program = program_at None file; arguments = arguments_at None file action; environment = environment.items }) }
+{
+    let mut arguments = Vec::new(alloc);
+    arguments.push(action)?;
+    Ok(Invocation {
+        program: file,
+        arguments,
+        environment,
+    })
+}
+
+fn through<A: Allocator + Copy>(
+    alloc: A,
+    via: &str,
+    file: Text<A>,
+    action: Text<A>,
+    environment: Pairs<A>,
+) -> Result<Invocation<A>, AllocError>
+    ensures { IfOk result (λ i. i ≡ record { program = program_at (Some via.now) file; arguments = arguments_at (Some via.now) file action; environment = environment.items }) }
+{
+    let program = copied(alloc, via)?;
+    let mut arguments = Vec::new(alloc);
+    arguments.push(file)?;
+    arguments.push(action)?;
+    Ok(Invocation {
+        program,
+        arguments,
+        environment,
+    })
+}
+
+/// The call of an agent's file for an action: through the site's program, where it has one.
+pub fn called<A: Allocator + Copy, S: Allocator>(
+    alloc: A,
+    site: &Site<S>,
+    file: Text<A>,
+    action: &str,
+    environment: Pairs<A>,
+) -> Result<Invocation<A>, AllocError>
+    ensures { IfOk result (λ i. i ≡ record { program = program_at site.now.via file; arguments = arguments_at site.now.via file action.now; environment = environment.items }) }
+{
+    let action = copied(alloc, action)?;
+    match site.via() {
+        None => direct(alloc, file, action, environment),
+        Some(via) => through(alloc, via, file, action, environment),
+    }
+}

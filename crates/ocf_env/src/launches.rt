@@ -1,0 +1,119 @@
+//! Calls of agents.
+ghost use Rattle.std.specs.Prelude.{◌≡◌, ◌↔◌, ℕ, List, codes, IfOk, Contains, IsTrue};
+ghost use Rattle.ocf_types.specs.Actions.{action_of, action_word};
+ghost use Rattle.ocf_env.specs.Instances.{registered};
+ghost use Rattle.ocf_env.specs.Programs.{agent_path, program_at, arguments_at};
+ghost use Rattle.ocf_env.specs.Variables.{IsVariable, IsAgentVariable, are_ascending};
+
+use crate::invocation::{Invocation, agent_file, called};
+use crate::site::Site;
+use crate::variables::{Pairs, push_instance, push_last, push_level, push_params, push_version};
+use ocf_types::{AgentType, CallId, Params, Provider, RscId, RunId, Task};
+use std::alloc::{AllocError, Allocator, Global};
+
+/// An instance of an agent: its id, provider, type and parameters, which stand elsewhere. `P` is the type of
+/// parameters. OCF Resource Agent API 1.1, OCF_RESOURCE_INSTANCE.
+#[derive(Drop)]
+pub struct Instance<'a, P> {
+    pub id: &'a RscId,
+    pub provider: &'a Provider,
+    pub agent: &'a AgentType,
+    pub params: &'a P,
+}
+
+/// What starts an action of an instance: the call of its agent, the instance's id, and the call id and run number of
+/// the action. `I` is the type of the call.
+#[derive(Drop)]
+pub struct LaunchOf<I> {
+    pub invocation: I,
+    pub id: RscId,
+    pub call: CallId,
+    pub run: RunId,
+}
+
+/// A launch whose texts lie in memory of the allocator.
+pub type Launch<A = Global> = LaunchOf<Invocation<A>>;
+
+fn action_variables<A: Allocator + Copy, S: Allocator, P: Allocator>(
+    alloc: A,
+    site: &Site<S>,
+    instance: &Instance<'_, Params<P>>,
+    task: Task,
+) -> Result<Pairs<A>, AllocError>
+    ensures sorted { IfOk result (λ e. IsTrue (are_ascending e.items)) }
+    ensures variables { IfOk result (λ e. (name value : List ℕ) → Contains e.items (name, value) ↔ IsVariable site.now (registered instance.now) task name value) }
+{
+    let mut pairs = Vec::new(alloc);
+    push_level(alloc, &mut pairs, task)?;
+    push_version(alloc, &mut pairs)?;
+    push_params(alloc, &mut pairs, instance.params)?;
+    push_instance(alloc, &mut pairs, instance.id)?;
+    push_last(alloc, &mut pairs, site, instance.provider, instance.agent)?;
+    Ok(pairs)
+}
+
+fn meta_variables<A: Allocator + Copy, S: Allocator>(
+    alloc: A,
+    site: &Site<S>,
+    provider: &Provider,
+    agent: &AgentType,
+) -> Result<Pairs<A>, AllocError>
+    ensures sorted { IfOk result (λ e. IsTrue (are_ascending e.items)) }
+    ensures variables { IfOk result (λ e. (name value : List ℕ) → Contains e.items (name, value) ↔ IsAgentVariable site.now provider.now agent.now name value) }
+{
+    let mut pairs = Vec::new(alloc);
+    push_version(alloc, &mut pairs)?;
+    push_last(alloc, &mut pairs, site, provider, agent)?;
+    Ok(pairs)
+}
+
+/// What starts an action of an instance. The agent gets just the variables of OCF Resource Agent API 1.1 that
+/// `IsVariable` lists, OCF_CHECK_LEVEL for a monitor only, OCF_RESOURCE_PROVIDER as Pacemaker sets it, PATH, and one
+/// OCF_RESKEY_ variable for each parameter. No OCF_RESKEY_CRM_meta_ variable is set but that of a parameter which an
+/// administrator named so.
+pub fn launch<A: Allocator + Copy, S: Allocator, P: Allocator>(
+    alloc: A,
+    site: &Site<S>,
+    instance: &Instance<'_, Params<P>>,
+    task: Task,
+    call: CallId,
+    run: RunId,
+) -> Result<Launch<A>, AllocError>
+    ensures program { IfOk result (λ l. l.invocation.program ≡ program_at site.now.via (agent_path site.now.root instance.now.provider.now instance.now.agent.now)) }
+    ensures arguments { IfOk result (λ l. l.invocation.arguments
+        ≡ arguments_at site.now.via (agent_path site.now.root instance.now.provider.now instance.now.agent.now) (action_word (action_of task))) }
+    ensures sorted { IfOk result (λ l. IsTrue (are_ascending l.invocation.environment)) }
+    ensures variables { IfOk result (λ l. (name value : List ℕ) → Contains l.invocation.environment (name, value) ↔ IsVariable site.now (registered instance.now) task name value) }
+    ensures id { IfOk result (λ l. l.id ≡ instance.now.id.now) }
+    ensures call { IfOk result (λ l. l.call ≡ call) }
+    ensures run { IfOk result (λ l. l.run ≡ run) }
+{
+    let environment = action_variables(alloc, site, instance, task)?;
+    let file = agent_file(alloc, site, instance.provider, instance.agent)?;
+    let invocation = called(alloc, site, file, task.action().word(), environment)?;
+    Ok(LaunchOf {
+        invocation,
+        id: instance.id.copied(),
+        call,
+        run,
+    })
+}
+
+/// The call that asks an agent for its metadata, which needs no instance: neither OCF_CHECK_LEVEL nor
+/// OCF_RESOURCE_INSTANCE is set, nor any OCF_RESKEY_ variable. OCF Resource Agent API 1.1, meta-data.
+pub fn launch_meta<A: Allocator + Copy, S: Allocator>(
+    alloc: A,
+    site: &Site<S>,
+    provider: &Provider,
+    agent: &AgentType,
+) -> Result<Invocation<A>, AllocError>
+    ensures program { IfOk result (λ i. i.program ≡ program_at site.now.via (agent_path site.now.root provider.now agent.now)) }
+    ensures arguments { IfOk result (λ i. i.arguments ≡ arguments_at site.now.via (agent_path site.now.root provider.now agent.now) (codes "meta-data")) }
+    ensures sorted { IfOk result (λ i. IsTrue (are_ascending i.environment)) }
+    ensures variables { IfOk result (λ i. (name value : List ℕ) → Contains i.environment (name, value) ↔ IsAgentVariable site.now provider.now agent.now name value) }
+{
+    let environment = meta_variables(alloc, site, provider, agent)?;
+    let file = agent_file(alloc, site, provider, agent)?;
+    let invocation = called(alloc, site, file, "meta-data", environment)?;
+    Ok(invocation)
+}
