@@ -2,6 +2,7 @@
 use crate::action::{Action, Level, Task};
 use crate::numbers::{CallId, Millis, Moment, RunId};
 use crate::outcome::Outcome;
+use std::default::MadeWith;
 
 /// A one-time action that is queued.
 #[derive(Clone, Copy, Debug, PartialEq, Eq)]
@@ -18,6 +19,21 @@ pub struct Recur {
     pub interval: Millis,
     pub timeout: Millis,
     pub level: Level,
+}
+
+/// Stands in an unused place of a list of fixed room, where nobody sees it.
+impl MadeWith<()> for Recur {
+    fn made_with(_: ()) -> Recur {
+        let (Some(call), Some(interval)) = (CallId::new(1), Millis::new(1)) else {
+            unreachable!()
+        };
+        Recur {
+            call,
+            interval,
+            timeout: interval,
+            level: Level::Zero,
+        }
+    }
 }
 
 /// The action that runs.

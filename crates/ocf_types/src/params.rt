@@ -1,5 +1,5 @@
 //! Parameters, sorted by name.
-ghost use Rattle.std.specs.Prelude.{◌≡◌, ◌↔◌, ◌≤◌, ◌<◌, ◌++◌, [], ◌∷◌, None, true, false, length, count_by, slice_get, IsOk, OnOk, OnErr, IsTrue};
+ghost use Rattle.std.specs.Prelude.{◌≡◌, ◌↔◌, ◌≤◌, ◌<◌, ◌++◌, [], ◌∷◌, None, true, false, length, count_by, slice_get, IsOk, OnOk, OnErr, IfOk, IsTrue};
 ghost use Rattle.std.specs.Option.{option_map_or};
 ghost use Rattle.std.specs.Str.{bytes_eq};
 ghost use Rattle.ocf_types.specs.Params.{AreParams, is_before, is_after, last_name, has_param, with_param};
@@ -120,5 +120,18 @@ impl<A: Allocator> Params<A> {
             return Err(ValueError::Memory);
         }
         Ok(())
+    }
+}
+
+impl<A: Allocator + Copy> Params<A> {
+    /// The same parameters again. The only error is want of memory.
+    pub fn copied(&self, alloc: A) -> Result<Self, AllocError>
+        ensures { IfOk result (λ params. params ≡ self.now) }
+    {
+        let mut entries = Vec::new(alloc);
+        for (name, value) in self.entries.as_slice() {
+            entries.push((name.copied(), value.copied(alloc)?))?;
+        }
+        Ok(Params { entries })
     }
 }

@@ -1,10 +1,10 @@
 //! Values of parameters.
-ghost use Rattle.std.specs.Prelude.{◌≡◌, ◌==◌, ◌≤◌, not, length, IsTrue};
+ghost use Rattle.std.specs.Prelude.{◌≡◌, ◌==◌, ◌≤◌, not, length, IsTrue, IfOk};
 ghost use Rattle.std.specs.List.{list_all};
 ghost use Rattle.ocf_types.specs.Values.{is_param_value, IsValueOrRefused};
 
 use crate::limits::VALUE_LIMIT;
-use std::alloc::{Allocator, Global};
+use std::alloc::{AllocError, Allocator, Global};
 use std::marker::Model;
 use std::str::from_utf8;
 use thiserror::Error;
@@ -70,5 +70,13 @@ impl<A: Allocator> ParamValue<A> {
         ensures short { length result.now ≤ VALUE_LIMIT }
     {
         self.text.as_str()
+    }
+
+    /// The same value again. The only error is want of memory.
+    pub fn copied(&self, alloc: A) -> Result<Self, AllocError>
+        ensures { IfOk result (λ value. value ≡ self.now) }
+    {
+        let text = String::from_str(alloc, self.text.as_str())?;
+        Ok(ParamValue { text })
     }
 }

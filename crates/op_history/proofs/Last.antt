@@ -1,6 +1,6 @@
 -- A ring of the last n of a list that grows at its end.
-use Rattle.std.proofs.Common.{◌≡◌, ℕ, ◌+◌, ◌-◌, ◌<◌, List, [], ◌∷◌, ◌++◌, length, map, take, drop, get_or, refl, sym, ap, ◌∙◌, arith, length-append, length-drop, append_assoc}
-use Rattle.std.proofs.lemmas.List.{drop-append-le, drop-drop, map_more}
+use Rattle.std.proofs.Common.{◌≡◌, ℕ, ◌+◌, ◌-◌, ◌<◌, ◌≤◌, List, [], ◌∷◌, ◌++◌, length, map, take, drop, get_or, refl, sym, ap, ◌∙◌, arith, length-append, length-drop, append_assoc}
+use Rattle.std.proofs.lemmas.List.{drop-append-le, drop-drop, map_more, take_more}
 use Rattle.circular_buffer.specs.Buffer.{Buffer, buffer, keep_last}
 
 module _ {X : Type 0} (n : ℕ) where
@@ -26,3 +26,19 @@ module _ {X : Type 0} (n : ℕ) where
       let last : keep_last n (keep_last n (xs ++ map f (take i ys)) ++ f y ∷ []) ≡ keep_last n (xs ++ map f (take i ys) ++ f y ∷ [])
       = keep_last-append (xs ++ map f (take i ys)) (f y ∷ []) in
       rw (pushed, so_far, image, more, last, append_assoc xs (map f (take i ys)) (f y ∷ [])) refl
+
+  -- the same of the items themselves
+  pub buffer_more_same : (xs ys : List X) (i : ℕ) (y : X) (ring new : Buffer X) →
+      i < length ys → y ≡ get_or ys i y →
+      ring ≡ buffer (keep_last n (xs ++ take i ys)) n →
+      new ≡ buffer (keep_last ring.capacity (ring.items ++ y ∷ [])) ring.capacity →
+      new ≡ buffer (keep_last n (xs ++ take (i + 1) ys)) n
+  buffer_more_same xs ys i y ring new within item so_far pushed =
+      let more : take (i + 1) ys ≡ take i ys ++ y ∷ [] = rw (← item) at (take_more ys i y within) in
+      let last : keep_last n (keep_last n (xs ++ take i ys) ++ y ∷ []) ≡ keep_last n (xs ++ take i ys ++ y ∷ [])
+      = keep_last-append (xs ++ take i ys) (y ∷ []) in
+      rw (pushed, so_far, more, last, append_assoc xs (take i ys) (y ∷ [])) refl
+
+-- a list that is no longer than what is kept is kept whole
+pub kept_whole : {X : Type 0} (n : ℕ) (xs : List X) → length xs ≤ n → drop (length xs - n) xs ≡ xs
+kept_whole n xs h = let none : length xs - n ≡ 0 = omega (arith, h) in ap (λ m. drop m xs) none

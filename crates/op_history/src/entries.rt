@@ -33,7 +33,7 @@ pub(crate) fn run_of_monitor(monitor: Recur, run: RunId, at: Moment) -> Running
 }
 
 /// The result of a run that ended at that moment.
-pub(crate) fn ended_of(running: Running, outcome: Outcome, at: Moment) -> Ended
+pub fn ended_of(running: Running, outcome: Outcome, at: Moment) -> Ended
     ensures { result ≡ ended_of outcome at running }
 {
     Ended {
@@ -48,7 +48,7 @@ pub(crate) fn ended_of(running: Running, outcome: Outcome, at: Moment) -> Ended
 }
 
 /// The result of a queued action that is dropped at that moment: it has run number 0.
-pub(crate) fn dropped_of(op: Op, at: Moment) -> Ended
+pub fn dropped_of(op: Op, at: Moment) -> Ended
     ensures { result ≡ dropped_of at op }
 {
     Ended {

@@ -6,4 +6,5 @@ mod ops;
 mod queued;
 mod results;
 
+pub use entries::{dropped_of, ended_of};
 pub use ops::{Ops, QueueFull};

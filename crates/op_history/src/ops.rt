@@ -3,10 +3,12 @@ ghost use Rattle.std.specs.Prelude.{◌≡◌, ◌<◌, ◌≤◌, ◌↔◌, le
 ghost use Rattle.ocf_types.specs.Resource.{kept, no_history, is_busy, accepted, begun, ended, booted, forgotten};
 
 use crate::entries::{run_of_monitor, run_of_op};
-use crate::queued::Queued;
+use crate::queued::{Queued, queue_of};
 use crate::results::Results;
 use arrayvec::ArrayVec;
-use ocf_types::{Ended, Moment, Op, Outcome, QUEUE_LIMIT, Recur, RunEnd, RunId, Running};
+use ocf_types::{
+    Ended, HistoryParts, Moment, Op, Outcome, QUEUE_LIMIT, Recur, RunEnd, RunId, Running,
+};
 use std::alloc::{AllocError, Allocator, Global};
 use std::marker::Model;
 use thiserror::Error;
@@ -42,6 +44,22 @@ impl<A: Allocator> Ops<A> {
             queue: ArrayVec::new(),
             running: None,
             ended: Results::new(alloc)?,
+        })
+    }
+
+    /// The operations that these parts say. The only error is want of memory.
+    #[tactic(auto, using(crate::proofs::Last::kept_whole))]
+    pub fn from_parts(alloc: A, parts: &HistoryParts<A>) -> Result<Ops<A>, AllocError>
+        requires queue { length parts.now.queue ≤ QUEUE_LIMIT }
+        requires ended { length parts.now.ended ≤ kept }
+        ensures { IfOk result (λ o. o ≡ parts.now) }
+    {
+        let mut ended = Results::new(alloc)?;
+        ended.push_all(parts.ended());
+        Ok(Ops {
+            queue: queue_of(parts.queue()),
+            running: parts.running(),
+            ended,
         })
     }
 

@@ -1,7 +1,8 @@
 //! A place of the queue.
-ghost use Rattle.std.specs.Prelude.{◌≡◌};
+ghost use Rattle.std.specs.Prelude.{◌≡◌, ◌≤◌, length};
 
-use ocf_types::{CallId, Millis, Op, Task};
+use arrayvec::ArrayVec;
+use ocf_types::{CallId, Millis, Op, QUEUE_LIMIT, Task};
 use std::marker::Model;
 
 /// A queued action. Contracts see just the action.
@@ -48,4 +49,16 @@ impl Default for Queued {
             },
         }
     }
+}
+
+/// The queue of these actions, in order.
+pub(crate) fn queue_of(ops: &[Op]) -> ArrayVec<Queued, { QUEUE_LIMIT }>
+    requires { length ops.now ≤ QUEUE_LIMIT }
+    ensures { result.items ≡ ops.now }
+{
+    let mut queue = ArrayVec::new();
+    for op in ops {
+        queue.push(Queued::new(*op));
+    }
+    queue
 }

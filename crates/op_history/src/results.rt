@@ -76,6 +76,16 @@ impl<A: Allocator> Results<A> {
         }
     }
 
+    /// Puts results behind the others, in order. Where there is no room the oldest goes.
+    pub(crate) fn push_all(&mut self, results: &[Ended])
+        ensures { self.new ≡ last_ended (self.old ++ results.now) }
+    {
+        let ring = &mut self.ring;
+        for result in results {
+            ring.push_back(*result);
+        }
+    }
+
     /// Takes all results away.
     pub(crate) fn clear(&mut self)
         ensures { self.new ≡ [] }

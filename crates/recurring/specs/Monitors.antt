@@ -8,6 +8,13 @@ use Rattle.recurring.specs.declared.monitor.Monitor.{Monitor}
 abbrev pub recurs : List Monitor → List Recur
 recurs monitors = map (λ m. m.recur) monitors
 
+-- a monitor that is due at a moment, and all of a list so
+abbrev pub monitor_due_at : ℕ → Recur → Monitor
+monitor_due_at at m = record { recur = m; due = at }
+
+abbrev pub all_due_at : ℕ → List Recur → List Monitor
+all_due_at at monitors = map (monitor_due_at at) monitors
+
 -- a monitor as the pair of its due moment and its call, and all of them so
 abbrev pub pair : Monitor → ℕ × ℕ
 pair m = (m.due, m.recur.call)

@@ -2,7 +2,7 @@
 ghost use Rattle.std.specs.Prelude.{◌≡◌, ◌<◌, ◌≤◌, ◌↔◌, [], ◌∷◌, ◌++◌, length, slice_get, nat_le, is_some, IsSome, IsNone, IsErr, OnOk, OnErr};
 ghost use Rattle.ocf_types.specs.Resource.{of_call, of_interval, without_interval};
 ghost use Rattle.ocf_types.specs.Due.{IsLeastDue};
-ghost use Rattle.recurring.specs.Monitors.{recurs, pairs, cancelled, settled, restarted};
+ghost use Rattle.recurring.specs.Monitors.{recurs, pairs, all_due_at, cancelled, settled, restarted};
 
 use crate::monitor::Monitor;
 use arrayvec::ArrayVec;
@@ -48,6 +48,20 @@ impl Recurrings {
         Recurrings {
             monitors: ArrayVec::new_in(()),
         }
+    }
+
+    /// These monitors, each due at that moment.
+    pub fn due_at(recurs: &[Recur], due: Moment) -> Recurrings
+        requires { length recurs.now ≤ RECURRING_LIMIT }
+        ensures { result ≡ all_due_at due recurs.now }
+    {
+        let mut monitors = ArrayVec::new_in(());
+        let due = due.get();
+        for recur in recurs {
+            let recur = *recur;
+            monitors.push(Monitor { recur, due });
+        }
+        Recurrings { monitors }
     }
 
     /// How many monitors there are, at most 8.
