@@ -63,23 +63,47 @@ fn words<A: Allocator>(alloc: Global, invocation: &Invocation<A>) -> Result<Stri
     Ok(words)
 }
 
+/// The launch of a task of a resource with one parameter, with or without a program between.
+fn of(alloc: Global, via: Option<Text>, task: Task) -> Result<Launch, Fail> {
+    let params = with_state(alloc)?;
+    let site = site(alloc, via)?;
+    let launch = launched(alloc, &site, &params, task)??;
+    Ok(launch)
+}
+
+/// The launch that asks an agent for its meta-data.
+fn meta(alloc: Global, via: Option<Text>) -> Result<Invocation, Fail> {
+    let site = site(alloc, via)?;
+    let provider = Provider::new(b"pacemaker")?;
+    let agent = AgentType::new(b"Dummy")?;
+    Ok(launch_meta(alloc, &site, &provider, &agent)?)
+}
+
+/// Both as lines: the environment, and the program with its arguments.
+fn told<A: Allocator>(alloc: Global, invocation: &Invocation<A>) -> Result<(String, String), Fail> {
+    let environment = lines(alloc, invocation)?;
+    let program = words(alloc, invocation)?;
+    Ok((environment, program))
+}
+
+const MONITOR: &str =
+    "OCF_CHECK_LEVEL=0\nOCF_RA_VERSION_MAJOR=1\nOCF_RA_VERSION_MINOR=1\nOCF_RESKEY_state=/tmp/s\nOCF_RESOURCE_INSTANCE=r1\nOCF_RESOURCE_PROVIDER=pacemaker\nOCF_RESOURCE_TYPE=Dummy\nOCF_ROOT=/usr/lib/ocf\nPATH=/bin\n";
+
 #[test]
 fn a_monitor_has_nine_variables(rt: HostRuntime) -> Result<(), Fail> {
-    let params = with_state(rt.alloc())?;
-    let launch = launched(
-        rt.alloc(),
-        &site(rt.alloc(), None)?,
-        &params,
-        Task::Monitor(Level::Zero),
-    )??;
+    let launch = of(rt.alloc(), None, Task::Monitor(Level::Zero))?;
+    let (environment, program) = told(rt.alloc(), &launch.invocation)?;
+    assert_eq!(rt; environment.as_str(), MONITOR);
     assert_eq!(rt;
-        lines(rt.alloc(), &launch.invocation)?.as_str(),
-        "OCF_CHECK_LEVEL=0\nOCF_RA_VERSION_MAJOR=1\nOCF_RA_VERSION_MINOR=1\nOCF_RESKEY_state=/tmp/s\nOCF_RESOURCE_INSTANCE=r1\nOCF_RESOURCE_PROVIDER=pacemaker\nOCF_RESOURCE_TYPE=Dummy\nOCF_ROOT=/usr/lib/ocf\nPATH=/bin\n"
-    );
-    assert_eq!(rt;
-        words(rt.alloc(), &launch.invocation)?.as_str(),
+        program.as_str(),
         "/usr/lib/ocf/resource.d/pacemaker/Dummy\nmonitor"
     );
+    Ok(())
+}
+
+#[test]
+fn a_launch_says_whose_it_is(rt: HostRuntime) -> Result<(), Fail> {
+    let launch = of(rt.alloc(), None, Task::Monitor(Level::Zero))?;
     assert!(rt; launch.id.as_bytes() == b"r1".as_slice());
     assert_eq!(rt; launch.call.get(), 3);
     assert_eq!(rt; launch.run.get(), 7);
@@ -88,25 +112,24 @@ fn a_monitor_has_nine_variables(rt: HostRuntime) -> Result<(), Fail> {
 
 #[test]
 fn via_runs_the_agent_and_sets_no_variable(rt: HostRuntime) -> Result<(), Fail> {
-    let params = with_state(rt.alloc())?;
-    let site = site(rt.alloc(), Some(text(rt.alloc(), "echo")?))?;
-    let launch = launched(rt.alloc(), &site, &params, Task::Monitor(Level::Zero))??;
+    let via = text(rt.alloc(), "echo")?;
+    let launch = of(rt.alloc(), Some(via), Task::Monitor(Level::Zero))?;
+    let (environment, program) = told(rt.alloc(), &launch.invocation)?;
+    assert_eq!(rt; environment.as_str(), MONITOR);
     assert_eq!(rt;
-        lines(rt.alloc(), &launch.invocation)?.as_str(),
-        "OCF_CHECK_LEVEL=0\nOCF_RA_VERSION_MAJOR=1\nOCF_RA_VERSION_MINOR=1\nOCF_RESKEY_state=/tmp/s\nOCF_RESOURCE_INSTANCE=r1\nOCF_RESOURCE_PROVIDER=pacemaker\nOCF_RESOURCE_TYPE=Dummy\nOCF_ROOT=/usr/lib/ocf\nPATH=/bin\n"
-    );
-    assert_eq!(rt;
-        words(rt.alloc(), &launch.invocation)?.as_str(),
+        program.as_str(),
         "echo\n/usr/lib/ocf/resource.d/pacemaker/Dummy\nmonitor"
     );
-    let meta = launch_meta(
-        rt.alloc(),
-        &site,
-        &Provider::new(b"pacemaker")?,
-        &AgentType::new(b"Dummy")?,
-    )?;
+    Ok(())
+}
+
+#[test]
+fn via_is_asked_for_meta_data(rt: HostRuntime) -> Result<(), Fail> {
+    let via = text(rt.alloc(), "echo")?;
+    let meta = meta(rt.alloc(), Some(via))?;
+    let program = words(rt.alloc(), &meta)?;
     assert_eq!(rt;
-        words(rt.alloc(), &meta)?.as_str(),
+        program.as_str(),
         "echo\n/usr/lib/ocf/resource.d/pacemaker/Dummy\nmeta-data"
     );
     Ok(())
@@ -114,14 +137,14 @@ fn via_runs_the_agent_and_sets_no_variable(rt: HostRuntime) -> Result<(), Fail> 
 
 #[test]
 fn a_start_has_no_level(rt: HostRuntime) -> Result<(), Fail> {
-    let params = with_state(rt.alloc())?;
-    let launch = launched(rt.alloc(), &site(rt.alloc(), None)?, &params, Task::Start)??;
+    let launch = of(rt.alloc(), None, Task::Start)?;
+    let (environment, program) = told(rt.alloc(), &launch.invocation)?;
     assert_eq!(rt;
-        lines(rt.alloc(), &launch.invocation)?.as_str(),
+        environment.as_str(),
         "OCF_RA_VERSION_MAJOR=1\nOCF_RA_VERSION_MINOR=1\nOCF_RESKEY_state=/tmp/s\nOCF_RESOURCE_INSTANCE=r1\nOCF_RESOURCE_PROVIDER=pacemaker\nOCF_RESOURCE_TYPE=Dummy\nOCF_ROOT=/usr/lib/ocf\nPATH=/bin\n"
     );
     assert_eq!(rt;
-        words(rt.alloc(), &launch.invocation)?.as_str(),
+        program.as_str(),
         "/usr/lib/ocf/resource.d/pacemaker/Dummy\nstart"
     );
     Ok(())
@@ -129,51 +152,51 @@ fn a_start_has_no_level(rt: HostRuntime) -> Result<(), Fail> {
 
 #[test]
 fn meta_data_has_no_level_instance_or_parameter(rt: HostRuntime) -> Result<(), Fail> {
-    let meta = launch_meta(
-        rt.alloc(),
-        &site(rt.alloc(), None)?,
-        &Provider::new(b"pacemaker")?,
-        &AgentType::new(b"Dummy")?,
-    )?;
+    let meta = meta(rt.alloc(), None)?;
+    let (environment, program) = told(rt.alloc(), &meta)?;
     assert_eq!(rt;
-        lines(rt.alloc(), &meta)?.as_str(),
+        environment.as_str(),
         "OCF_RA_VERSION_MAJOR=1\nOCF_RA_VERSION_MINOR=1\nOCF_RESOURCE_PROVIDER=pacemaker\nOCF_RESOURCE_TYPE=Dummy\nOCF_ROOT=/usr/lib/ocf\nPATH=/bin\n"
     );
     assert_eq!(rt;
-        words(rt.alloc(), &meta)?.as_str(),
+        program.as_str(),
         "/usr/lib/ocf/resource.d/pacemaker/Dummy\nmeta-data"
     );
     Ok(())
 }
 
+fn starts_with(alloc: Global, level: Level, line: &str) -> Result<bool, Fail> {
+    let launch = of(alloc, None, Task::Monitor(level))?;
+    let environment = lines(alloc, &launch.invocation)?;
+    Ok(environment.as_str().starts_with(line))
+}
+
 #[test]
 fn each_level_is_written_out(rt: HostRuntime) -> Result<(), Fail> {
-    let site = site(rt.alloc(), None)?;
-    let params = Params::new(rt.alloc());
-    for (level, line) in [
-        (Level::Zero, "OCF_CHECK_LEVEL=0\n"),
-        (Level::Ten, "OCF_CHECK_LEVEL=10\n"),
-        (Level::Twenty, "OCF_CHECK_LEVEL=20\n"),
-    ] {
-        let launch = launched(rt.alloc(), &site, &params, Task::Monitor(level))??;
-        assert!(rt;
-            lines(rt.alloc(), &launch.invocation)?
-                .as_str()
-                .starts_with(line)
-        );
-    }
+    assert!(rt; starts_with(rt.alloc(), Level::Zero, "OCF_CHECK_LEVEL=0\n")?);
+    assert!(rt; starts_with(rt.alloc(), Level::Ten, "OCF_CHECK_LEVEL=10\n")?);
+    assert!(rt; starts_with(rt.alloc(), Level::Twenty, "OCF_CHECK_LEVEL=20\n")?);
     Ok(())
+}
+
+fn insert(alloc: Global, params: &mut Params, name: &[u8], value: &[u8]) -> Result<(), Fail> {
+    let name = ParamName::new(name)?;
+    let value = ParamValue::new(alloc, value)?;
+    params.insert(name, value)?;
+    Ok(())
+}
+
+fn stopped(alloc: Global, params: &Params) -> Result<Launch, Fail> {
+    let site = site(alloc, None)?;
+    Ok(launched(alloc, &site, params, Task::Stop)??)
 }
 
 #[test]
 fn parameters_inserted_in_falling_order_stand_in_order(rt: HostRuntime) -> Result<(), Fail> {
     let mut params = Params::new(rt.alloc());
-    params.insert(
-        ParamName::new(b"alpha")?,
-        ParamValue::new(rt.alloc(), b"1")?,
-    )?;
-    params.insert(ParamName::new(b"ZETA")?, ParamValue::new(rt.alloc(), b"2")?)?;
-    let launch = launched(rt.alloc(), &site(rt.alloc(), None)?, &params, Task::Stop)??;
+    insert(rt.alloc(), &mut params, b"alpha", b"1")?;
+    insert(rt.alloc(), &mut params, b"ZETA", b"2")?;
+    let launch = stopped(rt.alloc(), &params)?;
     assert_eq!(rt;
         lines(rt.alloc(), &launch.invocation)?.as_str(),
         "OCF_RA_VERSION_MAJOR=1\nOCF_RA_VERSION_MINOR=1\nOCF_RESKEY_ZETA=2\nOCF_RESKEY_alpha=1\nOCF_RESOURCE_INSTANCE=r1\nOCF_RESOURCE_PROVIDER=pacemaker\nOCF_RESOURCE_TYPE=Dummy\nOCF_ROOT=/usr/lib/ocf\nPATH=/bin\n"
@@ -183,21 +206,22 @@ fn parameters_inserted_in_falling_order_stand_in_order(rt: HostRuntime) -> Resul
 
 #[test]
 fn the_longest_id_has_a_key(rt: HostRuntime) -> Result<(), Fail> {
-    let key = op_key(&RscId::new(&[b'r'; 64])?, Action::ReloadAgent, 0);
+    let id = RscId::new(&[b'r'; 64])?;
+    let key = op_key(&id, Action::ReloadAgent, 0);
     assert_eq!(rt;
         key.as_str(),
         "rrrrrrrrrrrrrrrrrrrrrrrrrrrrrrrrrrrrrrrrrrrrrrrrrrrrrrrrrrrrrrrr_reload-agent_0"
     );
-    let longest = op_key(
-        &RscId::new(&[b'r'; 64])?,
-        Action::ReloadAgent,
-        4_294_967_295,
-    );
+    let longest = op_key(&id, Action::ReloadAgent, 4_294_967_295);
     assert_eq!(rt; longest.as_str().len(), 88);
-    assert_eq!(rt;
-        op_key(&RscId::new(b"r1")?, Action::Monitor, 10_000).as_str(),
-        "r1_monitor_10000"
-    );
+    Ok(())
+}
+
+#[test]
+fn a_key_names_the_interval(rt: HostRuntime) -> Result<(), Fail> {
+    let id = RscId::new(b"r1")?;
+    let key = op_key(&id, Action::Monitor, 10_000);
+    assert_eq!(rt; key.as_str(), "r1_monitor_10000");
     Ok(())
 }
 
