@@ -1,0 +1,151 @@
+-- The registry's entries, each value seen by a function.
+use Rattle.std.proofs.Common.{◌≡◌, ℕ, zero, suc, ◌+◌, ◌<◌, Bool, true, false, cond, not, ◌||◌, List, [], ◌∷◌, ◌++◌, map, length, filter, get_or, set, slice_get, slice_index_or, Option, Some, None, refl, sym, ap, subst, ◌∙◌}
+use Rattle.std.specs.Option.{option_map, option_copied}
+use Rattle.std.specs.Borrow.{Bor}
+use Rattle.std.specs.List.{list_any, IsDistinct, AllByRecursion}
+use Rattle.std.specs.Map.{keys_of, values_of, lookup, set_value, remove_entry}
+use Rattle.std.specs.Str.{bytes_eq}
+use Rattle.std.proofs.lemmas.Map.Keys.{IsDistinct-head, IsDistinct-tail}
+use Rattle.std.proofs.lemmas.Slice.Eq.{bytes_eq-Decides}
+use Rattle.indexmap.specs.IndexMap.{set_value_at}
+use Rattle.ocf_types.specs.declared.operation.Recur.{Recur}
+use Rattle.ocf_types.specs.Resource.{Resource}
+use Rattle.ocf_types.specs.State.{at_id, others}
+use Rattle.exec_state.specs.declared.registered.Registered.{Registered}
+use Rattle.recurring.specs.declared.monitor.Monitor.{Monitor}
+use Rattle.recurring.specs.Monitors.{recurs, all_due_at}
+use Rattle.exec_state.specs.Seen.{seen, seen_all, monitors_all, look_all}
+use Rattle.exec_state.specs.Lawful.{recurs_by_id, recurring_by_id}
+use Rattle.exec_state.proofs.Choices.{through_cond}
+
+-- no key is the id
+abbrev pub IsAbsent : {A : Type 0} → List ℕ → List (List ℕ × A) → Type 0
+IsAbsent id es = AllByRecursion (λ k. bytes_eq id k ≡ false) (keys_of es)
+
+-- with f of the value
+abbrev pub on_value : {A : Type 0} → (A → A) → List ℕ × A → List ℕ × A
+on_value f e = (e.0, f e.1)
+
+-- behind the entry of an id none has it
+pub absent_behind : {A : Type 0} (id : List ℕ) (e : List ℕ × A) (es : List (List ℕ × A)) → IsDistinct bytes_eq (keys_of (e ∷ es)) → bytes_eq id e.0 ≡ true → IsAbsent id es
+absent_behind id e es distinct same =
+    subst (λ (k : List ℕ). IsAbsent k es) (sym ((bytes_eq-Decides id e.0).0 same)) (IsDistinct-head bytes_eq e.0 (keys_of es) distinct)
+
+module _ {A : Type 0} where
+  pub at_id-absent : (id : List ℕ) (f : A → A) (xs : List (List ℕ × A)) → IsAbsent id xs → at_id id f xs ≡ xs
+  at_id-absent id f [] h = refl
+  at_id-absent id f (x ∷ xs) h =
+      ap (λ (b : Bool). (x.0, cond b (f x.1) x.1) ∷ at_id id f xs) h.0
+      ∙ ap (λ (ys : List (List ℕ × A)). x ∷ ys) (at_id-absent id f xs h.1)
+
+  pub others-absent : (id : List ℕ) (xs : List (List ℕ × A)) → IsAbsent id xs → filter (λ e. not (bytes_eq id e.0)) xs ≡ xs
+  others-absent id [] h = refl
+  others-absent id (x ∷ xs) h =
+      ap (λ (b : Bool). cond (not b) (x ∷ filter (λ e. not (bytes_eq id e.0)) xs) (filter (λ e. not (bytes_eq id e.0)) xs)) h.0
+      ∙ ap (λ (ys : List (List ℕ × A)). x ∷ ys) (others-absent id xs h.1)
+
+module _ {H A : Type 0} (look : Registered H → A) where
+  -- the keys are seen as they are
+  pub keys-look_all : (es : List (List ℕ × Registered H)) → keys_of (look_all look es) ≡ keys_of es
+  keys-look_all [] = refl
+  keys-look_all (e ∷ es) = ap (λ (ks : List (List ℕ)). e.0 ∷ ks) (keys-look_all es)
+
+  pub length-look_all : (es : List (List ℕ × Registered H)) → length (look_all look es) ≡ length es
+  length-look_all [] = refl
+  length-look_all (e ∷ es) = ap suc (length-look_all es)
+
+  pub lookup-look_all : (test : List ℕ → Bool) (es : List (List ℕ × Registered H)) → lookup test (look_all look es) ≡ option_map look (lookup test es)
+  lookup-look_all test [] = refl
+  lookup-look_all test (e ∷ es) =
+      ap (λ (o : Option A). cond (test e.0) (Some (look e.1)) o) (lookup-look_all test es)
+      ∙ sym (through_cond (option_map look) (test e.0) (Some e.1) (lookup test es))
+
+  absent_seen : (id : List ℕ) (es : List (List ℕ × Registered H)) → IsAbsent id es → IsAbsent id (look_all look es)
+  absent_seen id es h = subst (λ (ks : List (List ℕ)). AllByRecursion (λ k. bytes_eq id k ≡ false) ks) (sym (keys-look_all es)) h
+
+  -- a write at the id
+  pub look_all-set_value : (id : List ℕ) (f : A → A) (es : List (List ℕ × Registered H)) (v w : Registered H) → IsDistinct bytes_eq (keys_of es)
+      → lookup (bytes_eq id) es ≡ Some v → look w ≡ f (look v) → look_all look (set_value (bytes_eq id) es w) ≡ at_id id f (look_all look es)
+  look_all-set_value id f [] v w distinct at is = refl
+  look_all-set_value id f (e ∷ es) v w distinct at is =
+      by (bytes_eq id e.0) refl (look_all-set_value id f es v w (IsDistinct-tail bytes_eq e.0 (keys_of es) distinct))
+    where
+      by : (b : Bool) → bytes_eq id e.0 ≡ b
+          → (lookup (bytes_eq id) es ≡ Some v → look w ≡ f (look v) → look_all look (set_value (bytes_eq id) es w) ≡ at_id id f (look_all look es))
+          → look_all look (set_value (bytes_eq id) (e ∷ es) w) ≡ at_id id f (look_all look (e ∷ es))
+      by true same rest =
+          let here : Some e.1 ≡ Some v = rw same at at in
+          let value : e.1 ≡ v = cc in
+          let now : look w ≡ f (look e.1) = is ∙ ap (λ (r : Registered H). f (look r)) (sym value) in
+          rw same (ap (λ (r : A). (e.0, r) ∷ look_all look es) now
+          ∙ ap (λ (xs : List (List ℕ × A)). (e.0, f (look e.1)) ∷ xs) (sym (at_id-absent id f (look_all look es) (absent_seen id es (absent_behind id e es distinct same)))))
+      by false other rest = rw other (ap (λ (xs : List (List ℕ × A)). (e.0, look e.1) ∷ xs) (rest (rw other at at) is))
+
+  -- without the id
+  pub look_all-remove_entry : (id : List ℕ) (es : List (List ℕ × Registered H)) → IsDistinct bytes_eq (keys_of es)
+      → look_all look (remove_entry (bytes_eq id) es) ≡ filter (λ e. not (bytes_eq id e.0)) (look_all look es)
+  look_all-remove_entry id [] distinct = refl
+  look_all-remove_entry id (e ∷ es) distinct =
+      by (bytes_eq id e.0) refl (look_all-remove_entry id es (IsDistinct-tail bytes_eq e.0 (keys_of es) distinct))
+    where
+      by : (b : Bool) → bytes_eq id e.0 ≡ b
+          → look_all look (remove_entry (bytes_eq id) es) ≡ filter (λ e. not (bytes_eq id e.0)) (look_all look es)
+          → look_all look (remove_entry (bytes_eq id) (e ∷ es)) ≡ filter (λ e. not (bytes_eq id e.0)) (look_all look (e ∷ es))
+      by true same rest = rw same (sym (others-absent id (look_all look es) (absent_seen id es (absent_behind id e es distinct same))))
+      by false other rest = rw other (ap (λ (xs : List (List ℕ × A)). (e.0, look e.1) ∷ xs) rest)
+
+  -- a write at a place
+  pub look_all-set_value_at : (f : A → A) (es : List (List ℕ × Registered H)) (i : ℕ) (v w : Registered H) (d : List ℕ × A)
+      → slice_get (values_of es) i ≡ Some v → look w ≡ f (look v)
+      → look_all look (set_value_at es i w) ≡ set (look_all look es) i (on_value f (get_or (look_all look es) i d))
+  look_all-set_value_at f [] i v w d at is = refl
+  look_all-set_value_at f (e ∷ es) zero v w d at is =
+      let value : e.1 ≡ v = cc in
+      ap (λ (r : A). (e.0, r) ∷ look_all look es) (is ∙ ap (λ (r : Registered H). f (look r)) (sym value))
+  look_all-set_value_at f (e ∷ es) (suc i) v w d at is =
+      ap (λ (xs : List (List ℕ × A)). (e.0, look e.1) ∷ xs) (look_all-set_value_at f es i v w d at is)
+
+  -- a write that is not seen
+  pub look_all-same_at : (es : List (List ℕ × Registered H)) (i : ℕ) (v w : Registered H)
+      → slice_get (values_of es) i ≡ Some v → look w ≡ look v → look_all look (set_value_at es i w) ≡ look_all look es
+  look_all-same_at [] i v w at is = refl
+  look_all-same_at (e ∷ es) zero v w at is =
+      let value : e.1 ≡ v = cc in
+      ap (λ (r : A). (e.0, r) ∷ look_all look es) (is ∙ ap look (sym value))
+  look_all-same_at (e ∷ es) (suc i) v w at is = ap (λ (xs : List (List ℕ × A)). (e.0, look e.1) ∷ xs) (look_all-same_at es i v w at is)
+
+-- some resource passes
+pub list_any-seen_all : {H : Type 0} (test : Resource → Bool) (es : List (List ℕ × Registered H)) → list_any (λ r. test (seen r)) (values_of es) ≡ list_any (λ e. test e.1) (seen_all es)
+list_any-seen_all test [] = refl
+list_any-seen_all test (e ∷ es) = ap (λ (b : Bool). test (seen e.1) || b) (list_any-seen_all test es)
+
+-- what is lent is seen as what lies there
+pub seen_copied : {H : Type 0} (o : Option (Bor (Registered H))) → option_map (λ r. seen r.now) o ≡ option_map seen (option_copied o)
+seen_copied None = refl
+seen_copied (Some r) = refl
+
+-- the monitors made due are those of the resources
+pub due_seen : {H : Type 0} (at : ℕ) (es : List (List ℕ × Registered H))
+    → map {B = List ℕ × List Monitor} (λ e. (e.0, all_due_at at (recurs e.1))) (monitors_all es) ≡ map {B = List ℕ × List Monitor} (λ e. (e.0, all_due_at at e.1.recurring)) (seen_all es)
+due_seen at [] = refl
+due_seen at (e ∷ es) = ap (λ (xs : List (List ℕ × List Monitor)). (e.0, all_due_at at (recurs e.1.monitors)) ∷ xs) (due_seen at es)
+
+-- the monitors of the entries are those of the resources
+pub recurs_seen : {H : Type 0} (es : List (List ℕ × Registered H)) → recurs_by_id (monitors_all es) ≡ recurring_by_id (seen_all es)
+recurs_seen [] = refl
+recurs_seen (e ∷ es) = ap (λ (xs : List (List ℕ × List Recur)). (e.0, recurs e.1.monitors) ∷ xs) (recurs_seen es)
+
+-- the entry at a place
+pub seen_entry : {H : Type 0} (es : List (List ℕ × Registered H)) (i : ℕ) (k : List ℕ) (v : Registered H) (d : List ℕ × Resource)
+    → Some (k, v) ≡ slice_get es i → slice_index_or (seen_all es) i d ≡ (k, seen v)
+seen_entry {H = H} [] i k v d at = absurd (let none : Some (k, v) ≡ None = at in cc)
+seen_entry {H = H} (e ∷ es) zero k v d at =
+    let here : Some (k, v) ≡ Some e = at in
+    let same : e ≡ (k, v) = cc in
+    ap (λ (x : List ℕ × Registered H). (x.0, seen x.1)) same
+seen_entry {H = H} (e ∷ es) (suc i) k v d at = seen_entry es i k v d at
+
+-- the ids of the entries are those of the resources
+pub ids_seen : {H : Type 0} (es : List (List ℕ × Registered H)) → keys_of es ≡ map {B = List ℕ} (λ e. e.0) (seen_all es)
+ids_seen [] = refl
+ids_seen (e ∷ es) = ap (λ (ks : List (List ℕ)). e.0 ∷ ks) (ids_seen es)

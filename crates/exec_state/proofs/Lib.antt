@@ -1,0 +1,7 @@
+pub mod Choices
+pub mod Entries
+pub mod Picks
+pub mod Rooms
+pub mod Restored
+pub mod DueSteps
+pub mod DueLaw

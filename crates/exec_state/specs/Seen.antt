@@ -1,0 +1,27 @@
+-- What the journal keeps of a registered resource, and its recurring monitors with their due moments.
+use Rattle.std.specs.Prelude.{ℕ, ◌≤◌, List, map, length}
+use Rattle.ocf_types.specs.Resource.{Resource, kept}
+use Rattle.recurring.specs.declared.monitor.Monitor.{Monitor}
+use Rattle.recurring.specs.Monitors.{recurs}
+use Rattle.exec_state.specs.declared.registered.Registered.{Registered}
+
+-- all but when its monitors are due
+abbrev pub seen : {H : Type 0} → Registered H → Resource
+seen r = record { provider = r.provider; agent = r.agent; params = r.params; history = r.ops; recurring = recurs r.monitors }
+
+abbrev pub monitors_of : {H : Type 0} → Registered H → List Monitor
+monitors_of r = r.monitors
+
+-- the entries, each value seen by a function
+abbrev pub look_all : {H A : Type 0} → (Registered H → A) → List (List ℕ × Registered H) → List (List ℕ × A)
+look_all look es = map (λ e. (e.0, look e.1)) es
+
+abbrev pub seen_all : {H : Type 0} → List (List ℕ × Registered H) → List (List ℕ × Resource)
+seen_all es = look_all seen es
+
+abbrev pub monitors_all : {H : Type 0} → List (List ℕ × Registered H) → List (List ℕ × List Monitor)
+monitors_all es = look_all monitors_of es
+
+-- a resource whose lists fit the room that a registered one has
+abbrev pub FitsRoom : Resource → Type 0
+FitsRoom r = (length r.history.queue ≤ 32) × (length r.history.ended ≤ kept) × (length r.recurring ≤ 8)
