@@ -1,0 +1,4 @@
+pub mod Reporting
+pub mod Booting
+pub mod Recording
+pub mod Requests

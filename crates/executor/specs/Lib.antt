@@ -1,0 +1,6 @@
+pub mod Pieces
+pub mod Replies
+pub mod Reports
+pub mod Commands
+pub mod Openings
+pub mod Executors

@@ -1,0 +1,13 @@
+//! The executor.
+use exec_journal::Journal;
+use exec_state::State;
+use std::alloc::{Allocator, Global};
+
+/// A local executor of OCF resource agents over a journal. A disk fault closes it; it is opened again by its journal.
+#[derive(Drop)]
+pub struct Executor<D: Drop, A: Allocator + Copy = Global> {
+    pub(crate) journal: Journal<D, A>,
+    pub(crate) state: State<A>,
+    pub(crate) alloc: A,
+    pub(crate) open: bool,
+}

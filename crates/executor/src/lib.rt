@@ -1,0 +1,11 @@
+//! A local executor of OCF resource agents: what is acknowledged outlasts a stop at any moment.
+#![tactic(auto)]
+
+mod commands;
+mod executor;
+mod opening;
+mod report;
+
+pub use executor::Executor;
+pub use opening::{OpenError, OpenFault};
+pub use report::Report;

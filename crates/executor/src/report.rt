@@ -1,0 +1,99 @@
+//! What an opening says of the actions that a stopped executor left.
+ghost use Rattle.std.specs.Prelude.{◌≡◌, ◌++◌, ◌<◌, IfOk, OnOk, length};
+ghost use Rattle.ocf_types.specs.Places.{entry_at};
+ghost use Rattle.executor.specs.Reports.{dropped, dropped_in, interrupted, interrupted_in};
+
+use exec_state::State;
+use ocf_types::{Moment, Notice, Outcome, StateView};
+use op_history::{dropped_of, ended_of};
+use std::alloc::{AllocError, Allocator, Global};
+
+/// The actions that a stopped executor left: those that ran, and those that were queued, each by registration and then by
+/// call.
+#[derive(Drop)]
+pub struct Report<A: Allocator = Global> {
+    pub interrupted: Vec<Notice, A>,
+    pub dropped: Vec<Notice, A>,
+}
+
+// A notice of what runs in the resource at a place.
+fn push_interrupted<A: Allocator + Copy>(
+    notices: &mut Vec<Notice, A>,
+    state: &State<A>,
+    place: usize,
+    at: Moment,
+) -> Result<(), AllocError>
+    requires place { place < length state.now.state.resources }
+    ensures pushed { OnOk result (notices.new.items ≡ notices.old.items ++ interrupted_in at (entry_at state.now.state place)) }
+{
+    if let Some(running) = state.running_at(place) {
+        let result = ended_of(running, Outcome::Interrupted, at);
+        let id = state.id_at(place).copied();
+        notices.push(Notice { id, result })?;
+    }
+    Ok(())
+}
+
+// Notices of what is queued in the resource at a place.
+#[tactic(auto, using(crate::proofs::Reporting::drop_more))]
+fn push_dropped<A: Allocator + Copy>(
+    notices: &mut Vec<Notice, A>,
+    state: &State<A>,
+    place: usize,
+    at: Moment,
+) -> Result<(), AllocError>
+    requires place { place < length state.now.state.resources }
+    ensures pushed { OnOk result (notices.new.items ≡ notices.old.items ++ dropped_in at (entry_at state.now.state place)) }
+{
+    for i in 0..state.queue_len(place) {
+        let result = dropped_of(state.queued_at(place, i), at);
+        let id = state.id_at(place).copied();
+        notices.push(Notice { id, result })?;
+    }
+    Ok(())
+}
+
+impl<A: Allocator + Copy> Report<A> {
+    /// What an opening at that moment says of the state that it found. The only error is want of memory.
+    pub(crate) fn of(alloc: A, state: &State<A>, at: Moment) -> Result<Report<A>, AllocError>
+        ensures interrupted { IfOk result (λ r. r.interrupted.items ≡ interrupted state.now.state at) }
+        ensures dropped { IfOk result (λ r. r.dropped.items ≡ dropped state.now.state at) }
+    {
+        let interrupted = all_interrupted(alloc, state, at)?;
+        let dropped = all_dropped(alloc, state, at)?;
+        Ok(Report {
+            interrupted,
+            dropped,
+        })
+    }
+}
+
+#[tactic(auto, using(crate::proofs::Reporting::interrupted_more))]
+fn all_interrupted<A: Allocator + Copy>(
+    alloc: A,
+    state: &State<A>,
+    at: Moment,
+) -> Result<Vec<Notice, A>, AllocError>
+    ensures all { IfOk result (λ notices. notices.items ≡ interrupted state.now.state at) }
+{
+    let mut notices = Vec::new(alloc);
+    for place in 0..state.len() {
+        push_interrupted(&mut notices, state, place, at)?;
+    }
+    Ok(notices)
+}
+
+#[tactic(auto, using(crate::proofs::Reporting::dropped_more))]
+fn all_dropped<A: Allocator + Copy>(
+    alloc: A,
+    state: &State<A>,
+    at: Moment,
+) -> Result<Vec<Notice, A>, AllocError>
+    ensures all { IfOk result (λ notices. notices.items ≡ dropped state.now.state at) }
+{
+    let mut notices = Vec::new(alloc);
+    for place in 0..state.len() {
+        push_dropped(&mut notices, state, place, at)?;
+    }
+    Ok(notices)
+}
