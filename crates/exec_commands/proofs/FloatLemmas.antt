@@ -1,0 +1,57 @@
+-- No reply and no notice has a float.
+use Rattle.std.proofs.Common.{◌≡◌, ℕ, false, List, [], ◌∷◌, map, Option, Some, None, refl}
+use Rattle.serde_json.specs.Data.{Data, string}
+use Rattle.serde_json.specs.View.{items_of}
+use Rattle.serde_json.specs.Written.{has_float, items_have_float, members_have_float}
+use Rattle.ocf_types.specs.Params.{ParamList}
+use Rattle.ocf_types.specs.Kinds.{Info, Reply}
+use Rattle.ocf_types.specs.declared.operation.Running.{Running}
+use Rattle.ocf_types.specs.declared.reply.Notice.{Notice}
+use Rattle.ocf_types.specs.declared.reply.ReplyOf.TheVariants as reply
+use Rattle.exec_commands.specs.Objects.{natural_data, param_members}
+use Rattle.exec_commands.specs.Replies.{recur_data, running_data, info_data, ended_data, notice_data, request_data, reply_data, meta_data}
+use Rattle.exec_commands.specs.declared.ends.MetaEnd.{MetaEnd}
+use Rattle.exec_commands.specs.declared.ends.MetaEnd.TheVariants as metadata
+use Rattle.exec_commands.specs.declared.reply.LineReply.{LineReply}
+use Rattle.exec_commands.specs.declared.reply.LineReply.TheVariants as line
+
+-- a list has no float where none of its items has one
+items_no_float : {A : Type 0} (say : A → Data) → ((a : A) → has_float (say a) ≡ false) → (xs : List A) → items_have_float (items_of (map say xs)) ≡ false
+items_no_float say none [] = refl
+items_no_float say none (x ∷ xs) = rw (none x) (items_no_float say none xs)
+
+params_no_float : (ps : ParamList) → members_have_float (param_members ps) ≡ false
+params_no_float [] = refl
+params_no_float (p ∷ ps) = params_no_float ps
+
+running_no_float : (id : List ℕ) (r : Option Running) → has_float (running_data id r) ≡ false
+running_no_float id None = refl
+running_no_float id (Some x) = refl
+
+info_no_float : (i : Info) → has_float (info_data i) ≡ false
+info_no_float i = rw (params_no_float i.params, items_no_float natural_data (λ n. refl) i.queued.items, items_no_float recur_data (λ m. refl) i.recurring.items, running_no_float i.id i.running) refl
+
+request_no_float : (r : Reply) → has_float (request_data r) ≡ false
+request_no_float (reply.Refused e) = refl
+request_no_float reply.Done = refl
+request_no_float (reply.Accepted call key) = refl
+request_no_float (reply.List ids) = rw (items_no_float string (λ t. refl) ids) refl
+request_no_float (reply.Info i) = info_no_float i
+request_no_float (reply.History es) = rw (items_no_float ended_data (λ e. refl) es) refl
+request_no_float (reply.Turn end) = refl
+
+meta_no_float : (m : MetaEnd) → has_float (meta_data m) ≡ false
+meta_no_float (metadata.Given n) = refl
+meta_no_float (metadata.NotStarted f) = refl
+meta_no_float metadata.Read = refl
+meta_no_float (metadata.Failed c) = refl
+meta_no_float metadata.TooLong = refl
+meta_no_float metadata.Memory = refl
+
+pub reply_has_no_float : (r : LineReply) → has_float (reply_data r) ≡ false
+reply_has_no_float (line.Request r) = request_no_float r
+reply_has_no_float (line.Drain end) = refl
+reply_has_no_float (line.Meta end) = meta_no_float end
+
+pub notice_has_no_float : (n : Notice) → has_float (notice_data n) ≡ false
+notice_has_no_float n = refl

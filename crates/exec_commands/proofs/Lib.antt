@@ -1,0 +1,5 @@
+pub mod NameLemmas
+pub mod FloatLemmas
+pub mod TextLemmas
+pub mod ParamLemmas
+pub mod ValueLemmas

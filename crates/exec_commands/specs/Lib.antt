@@ -1,0 +1,5 @@
+pub mod Keys
+pub mod Values
+pub mod Lines
+pub mod Objects
+pub mod Replies

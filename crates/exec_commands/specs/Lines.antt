@@ -1,0 +1,128 @@
+-- What a line asks for, over the JSON value that it is. In each line all keys are looked at first, with their types, then
+-- all names, and then all values.
+use Rattle.std.specs.Prelude.{ℕ, ◌&&◌, nat_le, List, [], ◌∷◌, length, Option, None, Result, Ok, if◌then◌else◌, codes}
+use Rattle.std.specs.Option.{option_map, option_or, ok_or}
+use Rattle.std.specs.List.{find}
+use Rattle.std.specs.Str.{bytes_eq, is_utf8}
+use Rattle.serde_json.specs.Data.{Data}
+use Rattle.serde_json.specs.Read.{read}
+use Rattle.ocf_types.specs.Names.{is_rsc_id, is_provider, is_agent_type}
+use Rattle.ocf_types.specs.Kinds.{Command}
+use Rattle.ocf_types.specs.declared.command.CommandOf.TheVariants as command
+use Rattle.ocf_types.specs.declared.command.Question.{Question}
+use Rattle.ocf_types.specs.declared.command.Question.TheVariants as question
+use Rattle.ocf_types.specs.declared.command.RequestOf.TheVariants as request
+use Rattle.ocf_types.specs.declared.refusal.Refusal.{Refusal}
+use Rattle.ocf_types.specs.declared.refusal.Refusal.TheVariants.{UnknownOp}
+use Rattle.exec_commands.specs.Keys.{given, typed, text_at, number_at, number_or, params_at, params_if_there}
+use Rattle.exec_commands.specs.Values.{named, params_of, level_of, task_named, millis_of, limit_of}
+use Rattle.exec_commands.specs.declared.line.Line.{Line}
+use Rattle.exec_commands.specs.declared.line.Line.TheVariants as line
+use Rattle.exec_commands.specs.declared.operation.Operation.{Operation}
+use Rattle.exec_commands.specs.declared.operation.Operation.TheVariants as operation
+
+-- a line whose one key is the id of a resource
+abbrev pub id_in : Data → Result (List ℕ) Refusal
+id_in d = given (text_at (codes "id") d) (named is_rsc_id)
+
+abbrev pub register_in : Data → Result Command Refusal
+register_in d =
+    given (text_at (codes "id") d) (λ id. given (text_at (codes "provider") d) (λ provider. given (text_at (codes "type") d) (λ agent.
+    given (params_if_there d) (λ params.
+    given (named is_rsc_id id) (λ id. given (named is_provider provider) (λ provider. given (named is_agent_type agent) (λ agent.
+    given (params_of params) (λ params.
+    Ok (command.Register (record { id = id; provider = provider; agent = agent; params = params }))))))))))
+
+abbrev pub set_params_in : Data → Result Command Refusal
+set_params_in d =
+    given (text_at (codes "id") d) (λ id. given (params_at d) (λ params.
+    given (named is_rsc_id id) (λ id. given (params_of params) (λ params.
+    Ok (command.SetParams id params)))))
+
+-- an operation that names no timeout has 20,000 milliseconds
+abbrev pub exec_in : Data → Result Command Refusal
+exec_in d =
+    given (text_at (codes "id") d) (λ id. given (text_at (codes "action") d) (λ word.
+    given (number_or 20000 (codes "timeout") d) (λ timeout. given (number_or 0 (codes "level") d) (λ level.
+    given (named is_rsc_id id) (λ id.
+    given (task_named word level) (λ task. given (millis_of timeout) (λ timeout.
+    Ok (command.Exec id task timeout))))))))
+
+abbrev pub recur_in : Data → Result Command Refusal
+recur_in d =
+    given (text_at (codes "id") d) (λ id. given (number_at (codes "interval") d) (λ interval.
+    given (number_or 20000 (codes "timeout") d) (λ timeout. given (number_or 0 (codes "level") d) (λ level.
+    given (named is_rsc_id id) (λ id.
+    given (millis_of interval) (λ interval. given (millis_of timeout) (λ timeout. given (level_of level) (λ level.
+    Ok (command.Recur id interval timeout level)))))))))
+
+abbrev pub cancel_in : Data → Result Command Refusal
+cancel_in d =
+    given (text_at (codes "id") d) (λ id. given (number_at (codes "interval") d) (λ interval.
+    given (named is_rsc_id id) (λ id.
+    given (millis_of interval) (λ interval.
+    Ok (command.Cancel id interval)))))
+
+-- a drain that names no limit has 60,000 milliseconds
+abbrev pub drain_in : Data → Result Line Refusal
+drain_in d = given (number_or 60000 (codes "limit") d) (λ limit. given (limit_of limit) (λ limit. Ok (line.Drain limit)))
+
+abbrev pub meta_in : Data → Result Line Refusal
+meta_in d =
+    given (text_at (codes "provider") d) (λ provider. given (text_at (codes "type") d) (λ agent.
+    given (named is_provider provider) (λ provider. given (named is_agent_type agent) (λ agent.
+    Ok (line.Meta provider agent)))))
+
+-- a command, and a question, as a line
+abbrev pub commanded : Result Command Refusal → Result Line Refusal
+commanded found = given found (λ c. Ok (line.Request (request.Command c)))
+
+abbrev pub asked : Result Question Refusal → Result Line Refusal
+asked found = given found (λ q. Ok (line.Request (request.Question q)))
+
+-- the words of commands, and of what else a line may ask for
+abbrev pub command_words : List (List ℕ × Operation)
+command_words =
+    (codes "register", operation.Register) ∷ (codes "unregister", operation.Unregister) ∷ (codes "params", operation.SetParams)
+    ∷ (codes "exec", operation.Exec) ∷ (codes "recur", operation.Recur) ∷ (codes "cancel", operation.Cancel)
+    ∷ (codes "forget", operation.Forget) ∷ []
+
+abbrev pub other_words : List (List ℕ × Operation)
+other_words =
+    (codes "list", operation.List) ∷ (codes "info", operation.Info) ∷ (codes "history", operation.History)
+    ∷ (codes "drain", operation.Drain) ∷ (codes "meta", operation.Meta) ∷ []
+
+-- the operation that a word has in a table, if it stands there
+abbrev pub operation_in : List (List ℕ × Operation) → List ℕ → Option Operation
+operation_in words word = option_map (λ row. row.1) (find (λ row. bytes_eq word row.0) words)
+
+-- the operation of a word, if there is one
+abbrev pub operation_named : List ℕ → Option Operation
+operation_named word = option_or (operation_in command_words word) (operation_in other_words word)
+
+-- what the line of an operation asks for
+abbrev pub line_for : Operation → Data → Result Line Refusal
+line_for operation.Register d = commanded (register_in d)
+line_for operation.Unregister d = commanded (given (id_in d) (λ id. Ok (command.Unregister id)))
+line_for operation.SetParams d = commanded (set_params_in d)
+line_for operation.Exec d = commanded (exec_in d)
+line_for operation.Recur d = commanded (recur_in d)
+line_for operation.Cancel d = commanded (cancel_in d)
+line_for operation.Forget d = commanded (given (id_in d) (λ id. Ok (command.Forget id)))
+line_for operation.List d = asked (Ok question.List)
+line_for operation.Info d = asked (given (id_in d) (λ id. Ok (question.Info id)))
+line_for operation.History d = asked (given (id_in d) (λ id. Ok (question.History id)))
+line_for operation.Drain d = drain_in d
+line_for operation.Meta d = meta_in d
+
+-- what a JSON value asks for, or the first refusal
+abbrev pub line_of : Data → Result Line Refusal
+line_of d = given (text_at (codes "op") d) (λ word. given (ok_or (operation_named word) UnknownOp) (λ o. line_for o d))
+
+-- the JSON value that a line is: none where it is longer than 131,072 bytes, or no UTF-8, or no JSON that serde_json reads
+abbrev pub value_of : List ℕ → Option Data
+value_of bytes = if nat_le (length bytes) 131072 && is_utf8 bytes then read bytes else None
+
+-- what the bytes of a line ask for, or the first refusal
+abbrev pub line_read : List ℕ → Result Line Refusal
+line_read bytes = given (typed (value_of bytes)) line_of

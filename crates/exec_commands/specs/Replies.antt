@@ -1,0 +1,126 @@
+-- The JSON values of replies and notices.
+use Rattle.std.specs.Prelude.{ℕ, List, [], ◌∷◌, true, Option, Some, None, codes}
+use Rattle.serde_json.specs.Data.{Data, null, boolean, string, object}
+use Rattle.ocf_types.specs.Actions.{action_word, action_of, level_number}
+use Rattle.ocf_types.specs.Outcomes.{outcome_word}
+use Rattle.ocf_types.specs.Refusals.{refusal_row}
+use Rattle.ocf_types.specs.Kinds.{Info, Reply}
+use Rattle.ocf_types.specs.declared.operation.Recur.{Recur}
+use Rattle.ocf_types.specs.declared.operation.Running.{Running}
+use Rattle.ocf_types.specs.declared.operation.Ended.{Ended}
+use Rattle.ocf_types.specs.declared.outcome.StartFault.{StartFault}
+use Rattle.ocf_types.specs.declared.outcome.StartFault.TheVariants as start
+use Rattle.ocf_types.specs.declared.refusal.Refusal.{Refusal}
+use Rattle.ocf_types.specs.declared.reply.Notice.{Notice}
+use Rattle.ocf_types.specs.declared.reply.ReplyOf.TheVariants as reply
+use Rattle.ocf_types.specs.declared.reply.TurnEnd.{TurnEnd}
+use Rattle.ocf_types.specs.declared.reply.TurnEnd.TheVariants as turn
+use Rattle.ocf_codes.specs.ExitCodes.{name_read}
+use Rattle.ocf_codes.specs.OutcomeCodes.{outcome_code}
+use Rattle.ocf_env.specs.Keys.{key_text}
+use Rattle.exec_commands.specs.Objects.{object_from, natural_data, array_from, param_members}
+use Rattle.exec_commands.specs.declared.ends.DrainEnd.{DrainEnd}
+use Rattle.exec_commands.specs.declared.ends.DrainEnd.TheVariants as drain
+use Rattle.exec_commands.specs.declared.ends.MetaEnd.{MetaEnd}
+use Rattle.exec_commands.specs.declared.ends.MetaEnd.TheVariants as metadata
+use Rattle.exec_commands.specs.declared.reply.LineReply.{LineReply}
+use Rattle.exec_commands.specs.declared.reply.LineReply.TheVariants as line
+
+-- how a turn, a drain and a start ended, in a word
+abbrev pub turn_word : TurnEnd → List ℕ
+turn_word turn.Done = codes "done"
+turn_word turn.Closed = codes "closed"
+turn_word turn.BookFull = codes "book-full"
+turn_word turn.RunsSpent = codes "runs-spent"
+turn_word turn.Full = codes "full"
+turn_word turn.Memory = codes "memory"
+turn_word turn.Disk = codes "disk"
+
+abbrev pub drain_word : DrainEnd → List ℕ
+drain_word drain.Idle = codes "idle"
+drain_word drain.Limit = codes "limit"
+drain_word drain.Turns = codes "turns"
+drain_word (drain.Turn end) = turn_word end
+
+abbrev pub start_word : StartFault → List ℕ
+start_word start.Missing = codes "missing"
+start_word start.Denied = codes "denied"
+start_word start.Other = codes "other"
+
+-- an end, by its word
+abbrev pub end_data : List ℕ → Data
+end_data word = object_from ((codes "end", string word) ∷ [])
+
+abbrev pub meta_data : MetaEnd → Data
+meta_data (metadata.Given length) = object_from ((codes "meta", natural_data length) ∷ [])
+meta_data (metadata.NotStarted fault) = end_data (start_word fault)
+meta_data metadata.Read = end_data (codes "read")
+meta_data (metadata.Failed code) = object_from ((codes "code", natural_data code) ∷ (codes "end", string (codes "failed")) ∷ [])
+meta_data metadata.TooLong = end_data (codes "too-long")
+meta_data metadata.Memory = end_data (codes "memory")
+
+abbrev pub refusal_data : Refusal → Data
+refusal_data refusal = object_from ((codes "error", string (refusal_row refusal).1) ∷ (codes "number", natural_data (refusal_row refusal).0) ∷ [])
+
+abbrev pub done_data : Data
+done_data = object_from ((codes "ok", boolean true) ∷ [])
+
+abbrev pub accepted_data : ℕ → List ℕ → Data
+accepted_data call key = object_from ((codes "call", natural_data call) ∷ (codes "key", string key) ∷ (codes "ok", boolean true) ∷ [])
+
+abbrev pub list_data : List (List ℕ) → Data
+list_data ids = object_from ((codes "ok", boolean true) ∷ (codes "resources", array_from string ids) ∷ [])
+
+-- a recurring monitor
+abbrev pub recur_data : Recur → Data
+recur_data m = object_from (
+    (codes "call", natural_data m.call) ∷ (codes "interval", natural_data m.interval)
+    ∷ (codes "level", natural_data (level_number m.level)) ∷ (codes "timeout", natural_data m.timeout) ∷ [])
+
+-- what the resource of an id runs, under the key of the operation
+abbrev pub running_data : List ℕ → Option Running → Data
+running_data id None = null
+running_data id (Some x) = object_from (
+    (codes "call", natural_data x.call) ∷ (codes "key", string (key_text id (action_of x.task) x.interval))
+    ∷ (codes "run", natural_data x.run) ∷ [])
+
+abbrev pub info_data : Info → Data
+info_data i = object_from (
+    (codes "id", string i.id) ∷ (codes "ok", boolean true) ∷ (codes "params", object (param_members i.params))
+    ∷ (codes "provider", string i.provider) ∷ (codes "queued", array_from natural_data i.queued.items)
+    ∷ (codes "recurring", array_from recur_data i.recurring.items) ∷ (codes "running", running_data i.id i.running)
+    ∷ (codes "type", string i.agent) ∷ [])
+
+-- a result in a history; its code and name are those of its outcome
+abbrev pub ended_data : Ended → Data
+ended_data e = object_from (
+    (codes "action", string (action_word e.action)) ∷ (codes "at", natural_data e.at) ∷ (codes "call", natural_data e.call)
+    ∷ (codes "code", natural_data (outcome_code e.outcome)) ∷ (codes "interval", natural_data e.interval)
+    ∷ (codes "name", string (name_read (outcome_code e.outcome))) ∷ (codes "outcome", string (outcome_word e.outcome))
+    ∷ (codes "run", natural_data e.run) ∷ (codes "since", natural_data e.since) ∷ [])
+
+abbrev pub history_data : List Ended → Data
+history_data results = object_from ((codes "ok", boolean true) ∷ (codes "results", array_from ended_data results) ∷ [])
+
+-- a result as it is noticed
+abbrev pub notice_data : Notice → Data
+notice_data n = object_from (
+    (codes "action", string (action_word n.result.action)) ∷ (codes "call", natural_data n.result.call)
+    ∷ (codes "code", natural_data (outcome_code n.result.outcome)) ∷ (codes "id", string n.id)
+    ∷ (codes "interval", natural_data n.result.interval) ∷ (codes "name", string (name_read (outcome_code n.result.outcome)))
+    ∷ (codes "outcome", string (outcome_word n.result.outcome)) ∷ (codes "run", natural_data n.result.run) ∷ [])
+
+-- the reply to a request, and to a line
+abbrev pub request_data : Reply → Data
+request_data (reply.Refused refusal) = refusal_data refusal
+request_data reply.Done = done_data
+request_data (reply.Accepted call key) = accepted_data call key
+request_data (reply.List ids) = list_data ids
+request_data (reply.Info info) = info_data info
+request_data (reply.History results) = history_data results
+request_data (reply.Turn end) = end_data (turn_word end)
+
+abbrev pub reply_data : LineReply → Data
+reply_data (line.Request r) = request_data r
+reply_data (line.Drain end) = end_data (drain_word end)
+reply_data (line.Meta end) = meta_data end

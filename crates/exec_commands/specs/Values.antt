@@ -1,0 +1,67 @@
+-- Names and values of a line. A text that is no name is bad-name; a value outside its range is bad-value.
+use Rattle.std.specs.Prelude.{ℕ, ◌==◌, ◌&&◌, ◌^◌, nat_le, nat_lt, List, [], ◌∷◌, length, Bool, Option, option_and_then, Result, Ok, Err, if◌then◌else◌}
+use Rattle.std.specs.Option.{ok_or}
+use Rattle.std.specs.List.{find, list_all}
+use Rattle.std.specs.Str.{bytes_eq}
+use Rattle.ocf_types.specs.Names.{is_param_name}
+use Rattle.ocf_types.specs.Params.{ParamList}
+use Rattle.ocf_types.specs.Values.{is_param_value}
+use Rattle.ocf_types.specs.Actions.{action_word, level_number, task_of}
+use Rattle.ocf_types.specs.declared.action.Action.{Action}
+use Rattle.ocf_types.specs.declared.action.Action.TheVariants as action
+use Rattle.ocf_types.specs.declared.action.Level.{Level}
+use Rattle.ocf_types.specs.declared.action.Level.TheVariants.{Zero, Ten, Twenty}
+use Rattle.ocf_types.specs.declared.action.Task.{Task}
+use Rattle.ocf_types.specs.declared.refusal.Refusal.{Refusal}
+use Rattle.ocf_types.specs.declared.refusal.Refusal.TheVariants.{BadName, BadValue}
+use Rattle.exec_commands.specs.Keys.{given}
+
+-- a text that passes as a name
+abbrev pub named : (List ℕ → Bool) → List ℕ → Result (List ℕ) Refusal
+named is_name text = if is_name text then Ok text else Err BadName
+
+-- a value that is in its range
+abbrev pub valued : {A : Type 0} → Option A → Result A Refusal
+valued found = ok_or found BadValue
+
+-- parameters whose names are names
+abbrev pub are_names : ParamList → Bool
+are_names ps = list_all (λ p. is_param_name p.0) ps
+
+abbrev pub named_params : ParamList → Result ParamList Refusal
+named_params ps = if are_names ps then Ok ps else Err BadName
+
+-- at most 64 parameters, whose values are values
+abbrev pub valued_params : ParamList → Result ParamList Refusal
+valued_params ps = if nat_le (length ps) 64 && list_all (λ p. is_param_value p.1) ps then Ok ps else Err BadValue
+
+-- parameters, their names before their values
+abbrev pub params_of : ParamList → Result ParamList Refusal
+params_of ps = given (named_params ps) valued_params
+
+-- the actions, and the one of a word
+abbrev pub actions : List Action
+actions = action.Start ∷ action.Stop ∷ action.Monitor ∷ action.Promote ∷ action.Demote ∷ action.ReloadAgent ∷ action.ValidateAll ∷ []
+
+abbrev pub action_named : List ℕ → Option Action
+action_named word = find (λ a. bytes_eq word (action_word a)) actions
+
+-- the level of a number
+abbrev pub level_numbered : ℕ → Option Level
+level_numbered n = find (λ l. n == level_number l) (Zero ∷ Ten ∷ Twenty ∷ [])
+
+-- the level of a number, as a value
+abbrev pub level_of : ℕ → Result Level Refusal
+level_of n = valued (level_numbered n)
+
+-- the task of an action's word and a level's number: only a monitor has a level other than 0
+abbrev pub task_named : List ℕ → ℕ → Result Task Refusal
+task_named word n = valued (option_and_then (λ a. option_and_then (task_of a) (level_numbered n)) (action_named word))
+
+-- from 1 to 4,294,967,295 milliseconds
+abbrev pub millis_of : ℕ → Result ℕ Refusal
+millis_of n = if nat_le 1 n && nat_lt n (2 ^ 32) then Ok n else Err BadValue
+
+-- from 0 to 86,400,000 milliseconds, a day
+abbrev pub limit_of : ℕ → Result ℕ Refusal
+limit_of n = if nat_le n 86400000 then Ok n else Err BadValue

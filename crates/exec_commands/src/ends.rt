@@ -1,0 +1,108 @@
+//! Ends of what a line asks for, and of turns.
+ghost use Rattle.std.specs.Prelude.{◌≡◌, IfOk};
+ghost use Rattle.serde_json.specs.View.{view};
+ghost use Rattle.exec_commands.specs.Replies.{turn_word, drain_word, start_word, end_data, meta_data};
+
+use ocf_types::{StartFault, TurnEnd};
+use serde_json::{Value, json};
+use std::alloc::{AllocError, Global};
+
+/// How a drain ended.
+#[derive(Clone, Copy, Debug, PartialEq, Eq)]
+pub enum DrainEnd {
+    /// Nothing is queued or running any more.
+    Idle,
+    /// Its limit has passed.
+    Limit,
+    /// It has made as many turns as a drain may.
+    Turns,
+    /// A turn ended otherwise than done, and the drain with it.
+    Turn(TurnEnd),
+}
+
+/// How the asking for an agent's metadata ended. OCF Resource Agent API 1.1, meta-data.
+#[derive(Clone, Copy, Debug, PartialEq, Eq)]
+pub enum MetaEnd {
+    /// The metadata, this many bytes, follow the reply's line, and then a newline.
+    Given(u32),
+    /// The agent was not started.
+    NotStarted(StartFault),
+    /// What it wrote could not be read.
+    Read,
+    /// It ended with this exit code, which is not 0, or with 1 where a signal ended it.
+    Failed(u8),
+    /// It wrote more than is passed on.
+    TooLong,
+    /// A growth was refused.
+    Memory,
+}
+
+/// The word for the end of a turn.
+pub fn turn_word(end: TurnEnd) -> &'static str
+    ensures { result.now ≡ turn_word end }
+{
+    match end {
+        TurnEnd::Done => "done",
+        TurnEnd::Closed => "closed",
+        TurnEnd::BookFull => "book-full",
+        TurnEnd::RunsSpent => "runs-spent",
+        TurnEnd::Full => "full",
+        TurnEnd::Memory => "memory",
+        TurnEnd::Disk => "disk",
+    }
+}
+
+/// The word for the end of a drain.
+pub fn drain_word(end: DrainEnd) -> &'static str
+    ensures { result.now ≡ drain_word end }
+{
+    match end {
+        DrainEnd::Idle => "idle",
+        DrainEnd::Limit => "limit",
+        DrainEnd::Turns => "turns",
+        DrainEnd::Turn(end) => turn_word(end),
+    }
+}
+
+fn start_word(fault: StartFault) -> &'static str
+    ensures { result.now ≡ start_word fault }
+{
+    match fault {
+        StartFault::Missing => "missing",
+        StartFault::Denied => "denied",
+        StartFault::Other => "other",
+    }
+}
+
+/// An end, by its word.
+pub fn end_value(alloc: Global, word: &str) -> Result<Value, AllocError>
+    ensures { IfOk result (λ v. view v ≡ end_data word.now) }
+{
+    json!(in alloc; {"end": word})
+}
+
+fn given_value(alloc: Global, length: u32) -> Result<Value, AllocError>
+    ensures { IfOk result (λ v. view v ≡ meta_data (MetaEnd.Given length)) }
+{
+    json!(in alloc; {"meta": length})
+}
+
+fn failed_value(alloc: Global, code: u8) -> Result<Value, AllocError>
+    ensures { IfOk result (λ v. view v ≡ meta_data (MetaEnd.Failed code)) }
+{
+    json!(in alloc; {"code": code, "end": "failed"})
+}
+
+/// The end of asking for metadata.
+pub fn meta_value(alloc: Global, end: MetaEnd) -> Result<Value, AllocError>
+    ensures { IfOk result (λ v. view v ≡ meta_data end) }
+{
+    match end {
+        MetaEnd::Given(length) => given_value(alloc, length),
+        MetaEnd::NotStarted(fault) => end_value(alloc, start_word(fault)),
+        MetaEnd::Read => end_value(alloc, "read"),
+        MetaEnd::Failed(code) => failed_value(alloc, code),
+        MetaEnd::TooLong => end_value(alloc, "too-long"),
+        MetaEnd::Memory => end_value(alloc, "memory"),
+    }
+}

@@ -1,0 +1,21 @@
+//! Command lines of JSON, and the replies and notices that are written in answer.
+#![tactic(auto)]
+
+mod commands;
+mod ends;
+mod info;
+mod keys;
+mod line;
+mod names;
+mod operation;
+mod params;
+mod read;
+mod reply;
+mod results;
+mod texts;
+mod values;
+
+pub use ends::{DrainEnd, MetaEnd};
+pub use line::Line;
+pub use read::read_command;
+pub use reply::{LineReply, write_notice, write_reply};

@@ -1,0 +1,16 @@
+//! What a line asks for.
+use ocf_types::{AgentType, Provider, Request};
+
+/// What a command line asks for.
+#[derive(Drop)]
+pub enum Line {
+    /// A command or a question for the executor.
+    Request(Request),
+    /// Turns until nothing is queued or running, for this many milliseconds at most: from 0 to 86,400,000.
+    Drain(u32),
+    /// The metadata of an agent. OCF Resource Agent API 1.1, meta-data.
+    Meta {
+        provider: Provider,
+        agent: AgentType,
+    },
+}

@@ -1,0 +1,49 @@
+//! Names as texts.
+ghost use Rattle.std.specs.Prelude.{◌≡◌};
+ghost use Rattle.std.specs.Str.{IsAscii};
+
+use ocf_types::{AgentType, ParamName, Provider, RscId};
+use std::str::from_utf8;
+
+#[tactic(auto, using(crate::proofs::NameLemmas::texts))]
+fn ascii(bytes: &[u8]) -> &str
+    requires { IsAscii bytes.now }
+    ensures { result.now ≡ bytes.now }
+{
+    match from_utf8(bytes) {
+        Ok(text) => text,
+        Err(_) => unreachable!(),
+    }
+}
+
+/// The text of an id.
+#[tactic(auto, using(crate::proofs::NameLemmas::ids))]
+pub fn id_text(id: &RscId) -> &str
+    ensures { result.now ≡ id.now }
+{
+    ascii(id.as_bytes())
+}
+
+/// The text of a provider.
+#[tactic(auto, using(crate::proofs::NameLemmas::providers))]
+pub fn provider_text(provider: &Provider) -> &str
+    ensures { result.now ≡ provider.now }
+{
+    ascii(provider.as_bytes())
+}
+
+/// The text of an agent's type.
+#[tactic(auto, using(crate::proofs::NameLemmas::agent_types))]
+pub fn agent_text(agent: &AgentType) -> &str
+    ensures { result.now ≡ agent.now }
+{
+    ascii(agent.as_bytes())
+}
+
+/// The text of a parameter's name.
+#[tactic(auto, using(crate::proofs::NameLemmas::param_names))]
+pub fn param_text(name: &ParamName) -> &str
+    ensures { result.now ≡ name.now }
+{
+    ascii(name.as_bytes())
+}

@@ -1,0 +1,123 @@
+//! Lines read.
+ghost use Rattle.std.specs.Prelude.{◌≡◌, ◌≢◌, ◌<◌, length, None, Some, Err, Ok, IfOk, IfErr};
+ghost use Rattle.serde_json.specs.View.{view};
+ghost use Rattle.ocf_types.specs.declared.refusal.Refusal.TheVariants.{Syntax, Memory};
+ghost use Rattle.exec_commands.specs.Lines.{drain_in, meta_in, line_for, line_of, value_of, line_read, commanded, asked};
+
+use crate::commands::{cancel_in, exec_in, id_in, recur_in, register_in, set_params_in};
+use crate::keys::{number_or, text_at};
+use crate::line::Line;
+use crate::operation::{Operation, operation_named};
+use crate::values::{agent_type, limit, provider};
+use ocf_types::{Command, LINE_LIMIT, Question, Refusal, Request};
+use serde_json::Value;
+use std::alloc::Global;
+
+fn drain_in(line: &Value) -> Result<Line, Refusal>
+    ensures { result ≡ drain_in (view line.now) }
+{
+    let number = number_or(line, "limit", 60_000)?;
+    Ok(Line::Drain(limit(number)?))
+}
+
+fn meta_in(line: &Value) -> Result<Line, Refusal>
+    ensures { result ≡ meta_in (view line.now) }
+{
+    let provider_text = text_at(line, "provider")?;
+    let agent_text = text_at(line, "type")?;
+    let provider = provider(provider_text)?;
+    let agent = agent_type(agent_text)?;
+    Ok(Line::Meta { provider, agent })
+}
+
+fn commanded(found: Result<Command, Refusal>) -> Result<Line, Refusal>
+    ensures { result ≡ commanded found }
+{
+    Ok(Line::Request(Request::Command(found?)))
+}
+
+fn asked(found: Result<Question, Refusal>) -> Result<Line, Refusal>
+    ensures { result ≡ asked found }
+{
+    Ok(Line::Request(Request::Question(found?)))
+}
+
+fn unregister_in(line: &Value) -> Result<Command, Refusal>
+    ensures { commanded result ≡ line_for Operation.Unregister (view line.now) }
+{
+    Ok(Command::Unregister(id_in(line)?))
+}
+
+fn forget_in(line: &Value) -> Result<Command, Refusal>
+    ensures { commanded result ≡ line_for Operation.Forget (view line.now) }
+{
+    Ok(Command::Forget(id_in(line)?))
+}
+
+fn info_in(line: &Value) -> Result<Question, Refusal>
+    ensures { asked result ≡ line_for Operation.Info (view line.now) }
+{
+    Ok(Question::Info(id_in(line)?))
+}
+
+fn history_in(line: &Value) -> Result<Question, Refusal>
+    ensures { asked result ≡ line_for Operation.History (view line.now) }
+{
+    Ok(Question::History(id_in(line)?))
+}
+
+fn line_for(alloc: Global, operation: Operation, line: &Value) -> Result<Line, Refusal>
+    ensures ok { IfOk result (λ l. line_for operation (view line.now) ≡ Ok l) }
+    ensures err { IfErr result (λ e. e ≢ Memory → line_for operation (view line.now) ≡ Err e) }
+{
+    match operation {
+        Operation::Register => commanded(register_in(alloc, line)),
+        Operation::Unregister => commanded(unregister_in(line)),
+        Operation::SetParams => commanded(set_params_in(alloc, line)),
+        Operation::Exec => commanded(exec_in(line)),
+        Operation::Recur => commanded(recur_in(line)),
+        Operation::Cancel => commanded(cancel_in(line)),
+        Operation::Forget => commanded(forget_in(line)),
+        Operation::List => asked(Ok(Question::List)),
+        Operation::Info => asked(info_in(line)),
+        Operation::History => asked(history_in(line)),
+        Operation::Drain => drain_in(line),
+        Operation::Meta => meta_in(line),
+    }
+}
+
+fn line_of(alloc: Global, value: &Value) -> Result<Line, Refusal>
+    ensures ok { IfOk result (λ l. line_of (view value.now) ≡ Ok l) }
+    ensures err { IfErr result (λ e. e ≢ Memory → line_of (view value.now) ≡ Err e) }
+{
+    match operation_named(text_at(value, "op")?) {
+        Some(operation) => line_for(alloc, operation, value),
+        None => Err(Refusal::UnknownOp),
+    }
+}
+
+#[tactic(auto, using(crate::proofs::ValueLemmas::too_long))]
+fn value_of(alloc: Global, bytes: &[u8]) -> Result<Value, Refusal>
+    ensures ok { IfOk result (λ v. value_of bytes.now ≡ Some (view v)) }
+    ensures err { IfErr result (λ e. e ≢ Memory → (value_of bytes.now ≡ None) × (e ≡ Syntax)) }
+    ensures long { LINE_LIMIT < length bytes.now → result ≡ Err Syntax }
+{
+    if bytes.len() > LINE_LIMIT {
+        return Err(Refusal::Syntax);
+    }
+    match Value::from_slice(alloc, bytes) {
+        Ok(value) => Ok(value),
+        Err(error) if error.is_memory() => Err(Refusal::Memory),
+        Err(_) => Err(Refusal::Syntax),
+    }
+}
+
+/// What a line, without its newline, asks for, or why it is refused: the first of syntax, unknown-op, bad-name and
+/// bad-value that holds. Memory may stand in place of any answer but that to a line of more than 131,072 bytes.
+pub fn read_command(alloc: Global, bytes: &[u8]) -> Result<Line, Refusal>
+    ensures ok { IfOk result (λ l. line_read bytes.now ≡ Ok l) }
+    ensures refused { IfErr result (λ e. e ≢ Memory → line_read bytes.now ≡ Err e) }
+    ensures long { LINE_LIMIT < length bytes.now → result ≡ Err Syntax }
+{
+    line_of(alloc, &value_of(alloc, bytes)?)
+}

@@ -1,0 +1,120 @@
+//! Replies and notices, written as lines.
+ghost use Rattle.std.specs.Prelude.{◌≡◌, ◌++◌, ◌∷◌, [], false, map, IfOk};
+ghost use Rattle.serde_json.specs.Data.{string};
+ghost use Rattle.serde_json.specs.View.{view};
+ghost use Rattle.serde_json.specs.Written.{compact_text, has_float};
+ghost use Rattle.exec_commands.specs.Replies.{refusal_data, done_data, accepted_data, list_data, history_data, request_data, reply_data, notice_data};
+
+use crate::ends::{DrainEnd, MetaEnd, drain_word, end_value, meta_value, turn_word};
+use crate::info::info_value;
+use crate::names::id_text;
+use crate::results::{ended_values, notice_value};
+use ocf_types::{CallId, Ended, Notice, OpKey, Refusal, Reply, RscId};
+use serde_json::{Value, json};
+use std::alloc::{AllocError, Global};
+
+/// What a line is answered.
+#[derive(Drop)]
+pub enum LineReply {
+    /// The reply to a request, or a refusal.
+    Request(Reply),
+    /// How a drain ended.
+    Drain(DrainEnd),
+    /// How the asking for metadata ended.
+    Meta(MetaEnd),
+}
+
+fn refusal_value(alloc: Global, refusal: Refusal) -> Result<Value, AllocError>
+    ensures { IfOk result (λ v. view v ≡ refusal_data refusal) }
+{
+    let (word, number) = (refusal.word(), refusal.number());
+    json!(in alloc; {"error": word, "number": number})
+}
+
+fn done_value(alloc: Global) -> Result<Value, AllocError>
+    ensures { IfOk result (λ v. view v ≡ done_data) }
+{
+    json!(in alloc; {"ok": true})
+}
+
+fn accepted_value(alloc: Global, call: CallId, key: &OpKey) -> Result<Value, AllocError>
+    ensures { IfOk result (λ v. view v ≡ accepted_data call key.now) }
+{
+    let (call, key) = (call.get(), key.as_str());
+    json!(in alloc; {"call": call, "key": key, "ok": true})
+}
+
+fn id_values(alloc: Global, ids: &[RscId]) -> Result<Vec<Value>, AllocError>
+    ensures { IfOk result (λ v. map view v.items ≡ map string ids.now) }
+{
+    let mut values = Vec::with_capacity(alloc, ids.len())?;
+    for id in ids {
+        values.push(Value::try_from_str(alloc, id_text(id))?)?;
+    }
+    Ok(values)
+}
+
+fn list_value(alloc: Global, ids: &[RscId]) -> Result<Value, AllocError>
+    ensures { IfOk result (λ v. view v ≡ list_data ids.now) }
+{
+    let ids = id_values(alloc, ids)?;
+    json!(in alloc; {"ok": true, "resources": ids})
+}
+
+fn history_value(alloc: Global, results: &[Ended]) -> Result<Value, AllocError>
+    ensures { IfOk result (λ v. view v ≡ history_data results.now) }
+{
+    let results = ended_values(alloc, results)?;
+    json!(in alloc; {"ok": true, "results": results})
+}
+
+fn request_value(alloc: Global, reply: &Reply) -> Result<Value, AllocError>
+    ensures { IfOk result (λ v. view v ≡ request_data reply.now) }
+{
+    match reply {
+        Reply::Refused(refusal) => refusal_value(alloc, *refusal),
+        Reply::Done => done_value(alloc),
+        Reply::Accepted { call, key } => accepted_value(alloc, *call, key),
+        Reply::List(ids) => list_value(alloc, ids.as_slice()),
+        Reply::Info(info) => info_value(alloc, info),
+        Reply::History(results) => history_value(alloc, results.as_slice()),
+        Reply::Turn(end) => end_value(alloc, turn_word(*end)),
+    }
+}
+
+fn reply_value(alloc: Global, reply: &LineReply) -> Result<Value, AllocError>
+    ensures { IfOk result (λ v. view v ≡ reply_data reply.now) }
+{
+    match reply {
+        LineReply::Request(reply) => request_value(alloc, reply),
+        LineReply::Drain(end) => end_value(alloc, drain_word(*end)),
+        LineReply::Meta(end) => meta_value(alloc, *end),
+    }
+}
+
+fn write_line(alloc: Global, value: &Value) -> Result<Vec<u8>, AllocError>
+    requires { has_float (view value.now) ≡ false }
+    ensures { IfOk result (λ b. b.items ≡ compact_text (view value.now) ++ 10 ∷ []) }
+{
+    let mut bytes = value.to_vec(alloc)?;
+    bytes.push(b'\n')?;
+    Ok(bytes)
+}
+
+/// The line of a reply: the compact text of its JSON value, keys ascending by their bytes, and a newline.
+#[tactic(auto, using(crate::proofs::FloatLemmas::reply_has_no_float))]
+pub fn write_reply(alloc: Global, reply: &LineReply) -> Result<Vec<u8>, AllocError>
+    ensures line { IfOk result (λ b. b.items ≡ compact_text (reply_data reply.now) ++ 10 ∷ []) }
+{
+    let value = reply_value(alloc, reply)?;
+    write_line(alloc, &value)
+}
+
+/// The line of a notice: the compact text of its JSON value, keys ascending by their bytes, and a newline.
+#[tactic(auto, using(crate::proofs::FloatLemmas::notice_has_no_float))]
+pub fn write_notice(alloc: Global, notice: &Notice) -> Result<Vec<u8>, AllocError>
+    ensures line { IfOk result (λ b. b.items ≡ compact_text (notice_data notice.now) ++ 10 ∷ []) }
+{
+    let value = notice_value(alloc, notice)?;
+    write_line(alloc, &value)
+}

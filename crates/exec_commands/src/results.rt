@@ -1,0 +1,66 @@
+//! Results, as they stand in histories and notices.
+ghost use Rattle.std.specs.Prelude.{◌≡◌, map, IfOk};
+ghost use Rattle.ocf_codes.specs.ExitCodes.{name_read};
+ghost use Rattle.ocf_codes.specs.OutcomeCodes.{outcome_code};
+ghost use Rattle.serde_json.specs.View.{view};
+ghost use Rattle.exec_commands.specs.Replies.{ended_data, notice_data};
+
+use crate::names::id_text;
+use ocf_codes::{code_of, name, read_code};
+use ocf_types::{Ended, Notice, Outcome};
+use serde_json::{Value, json};
+use std::alloc::{AllocError, Global};
+
+fn code_name(outcome: Outcome) -> &'static str
+    ensures { result.now ≡ name_read (outcome_code outcome) }
+{
+    name(read_code(code_of(outcome)))
+}
+
+fn ended_value(alloc: Global, ended: Ended) -> Result<Value, AllocError>
+    ensures { IfOk result (λ v. view v ≡ ended_data ended) }
+{
+    let action = ended.action.word();
+    let at = ended.at.get();
+    let call = ended.call.get();
+    let code = code_of(ended.outcome);
+    let interval = ended.interval;
+    let name = code_name(ended.outcome);
+    let outcome = ended.outcome.word();
+    let run = ended.run;
+    let since = ended.since.get();
+    json!(in alloc; {
+        "action": action, "at": at, "call": call, "code": code, "interval": interval,
+        "name": name, "outcome": outcome, "run": run, "since": since
+    })
+}
+
+/// The results of a history, in order.
+pub fn ended_values(alloc: Global, results: &[Ended]) -> Result<Vec<Value>, AllocError>
+    ensures { IfOk result (λ v. map view v.items ≡ map ended_data results.now) }
+{
+    let mut values = Vec::with_capacity(alloc, results.len())?;
+    for ended in results {
+        values.push(ended_value(alloc, *ended)?)?;
+    }
+    Ok(values)
+}
+
+/// A result as it is noticed.
+pub fn notice_value(alloc: Global, notice: &Notice) -> Result<Value, AllocError>
+    ensures { IfOk result (λ v. view v ≡ notice_data notice.now) }
+{
+    let ended = notice.result;
+    let action = ended.action.word();
+    let call = ended.call.get();
+    let code = code_of(ended.outcome);
+    let id = id_text(&notice.id);
+    let interval = ended.interval;
+    let name = code_name(ended.outcome);
+    let outcome = ended.outcome.word();
+    let run = ended.run;
+    json!(in alloc; {
+        "action": action, "call": call, "code": code, "id": id, "interval": interval,
+        "name": name, "outcome": outcome, "run": run
+    })
+}

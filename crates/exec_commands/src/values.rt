@@ -1,0 +1,115 @@
+//! Names and values of a line.
+ghost use Rattle.std.specs.Prelude.{◌≡◌};
+ghost use Rattle.ocf_types.specs.Names.{is_rsc_id, is_provider, is_agent_type};
+ghost use Rattle.exec_commands.specs.Values.{named, action_named, level_numbered, level_of, task_named, millis_of, limit_of};
+
+use ocf_types::{Action, AgentType, Level, Millis, Provider, Refusal, RscId, Task};
+
+/// The id of a resource.
+pub fn rsc_id(text: &str) -> Result<RscId, Refusal>
+    ensures { result ≡ named is_rsc_id text.now }
+{
+    match RscId::new(text.as_bytes()) {
+        Ok(id) => Ok(id),
+        Err(_) => Err(Refusal::BadName),
+    }
+}
+
+/// The provider of an agent.
+pub fn provider(text: &str) -> Result<Provider, Refusal>
+    ensures { result ≡ named is_provider text.now }
+{
+    match Provider::new(text.as_bytes()) {
+        Ok(provider) => Ok(provider),
+        Err(_) => Err(Refusal::BadName),
+    }
+}
+
+/// The type of an agent.
+pub fn agent_type(text: &str) -> Result<AgentType, Refusal>
+    ensures { result ≡ named is_agent_type text.now }
+{
+    match AgentType::new(text.as_bytes()) {
+        Ok(agent) => Ok(agent),
+        Err(_) => Err(Refusal::BadName),
+    }
+}
+
+fn action_named(word: &str) -> Option<Action>
+    ensures { result ≡ action_named word.now }
+{
+    if word == "start" {
+        Some(Action::Start)
+    } else if word == "stop" {
+        Some(Action::Stop)
+    } else if word == "monitor" {
+        Some(Action::Monitor)
+    } else if word == "promote" {
+        Some(Action::Promote)
+    } else if word == "demote" {
+        Some(Action::Demote)
+    } else if word == "reload-agent" {
+        Some(Action::ReloadAgent)
+    } else if word == "validate-all" {
+        Some(Action::ValidateAll)
+    } else {
+        None
+    }
+}
+
+fn level_numbered(number: u64) -> Option<Level>
+    ensures { result ≡ level_numbered number }
+{
+    match number {
+        0 => Some(Level::Zero),
+        10 => Some(Level::Ten),
+        20 => Some(Level::Twenty),
+        _ => None,
+    }
+}
+
+/// The level of a monitor.
+pub fn level(number: u64) -> Result<Level, Refusal>
+    ensures { result ≡ level_of number }
+{
+    match level_numbered(number) {
+        Some(level) => Ok(level),
+        None => Err(Refusal::BadValue),
+    }
+}
+
+/// The task of an action's word and a level's number.
+pub fn task(word: &str, number: u64) -> Result<Task, Refusal>
+    ensures { result ≡ task_named word.now number }
+{
+    let (Some(action), Some(level)) = (action_named(word), level_numbered(number)) else {
+        return Err(Refusal::BadValue);
+    };
+    match Task::new(action, level) {
+        Some(task) => Ok(task),
+        None => Err(Refusal::BadValue),
+    }
+}
+
+/// An interval or a timeout.
+pub fn millis(number: u64) -> Result<Millis, Refusal>
+    ensures { result ≡ millis_of number }
+{
+    let Ok(number) = u32::try_from(number) else {
+        return Err(Refusal::BadValue);
+    };
+    match Millis::new(number) {
+        Some(millis) => Ok(millis),
+        None => Err(Refusal::BadValue),
+    }
+}
+
+/// The limit of a drain, in milliseconds.
+pub fn limit(number: u64) -> Result<u32, Refusal>
+    ensures { result ≡ limit_of number }
+{
+    if number > 86_400_000 {
+        return Err(Refusal::BadValue);
+    }
+    Ok(number as u32)
+}

@@ -1,0 +1,235 @@
+-- Lines as reads bring them, piece by piece.
+use Rattle.std.proofs.Common.{◌≡◌, ◌≢◌, ℕ, ◌+◌, ◌<◌, ◌≤◌, Bool, true, false, not, cond, List, [], ◌∷◌, ◌++◌, All, Option, Some, None, Result, Ok, IfSome, length, take, drop, get_or, refl, sym, ap, subst, ◌∙◌, arith, zero-add, append_assoc, append-nil, length-append, length-take-le, get_or-take, take_all, take-take, drop_of_length-le, eq-eqb, ne_eqb, nat_le, if◌then◌else◌, min, true≢false}
+use lib.Seq.{take-append_seam, drop-append_seam}
+use Rattle.std.proofs.lemmas.Bool.{leb-true, leb-false, le-leb, lt-leb}
+use Rattle.std.proofs.lemmas.List.{length-take, take-append-le}
+use Rattle.std.proofs.lemmas.List.Elements.{All-append, All-head, All-nil, All-tail, All-take}
+use Rattle.std.proofs.lemmas.List.Sums.{fails_before_first, prefix_len-le-length}
+use Rattle.std.specs.List.{position_or_len}
+use Rattle.std.specs.Io.KnownBytes.{Consumes, IsAtEnd}
+use Rattle.exec_lines.specs.declared.line.Next.{Next}
+use Rattle.exec_lines.specs.declared.line.Next.TheVariants.{Line, TooLong, End}
+use Rattle.exec_lines.specs.Lines.{is_newline, first_line, after_first_line, line_answer, next_of}
+use Rattle.exec_lines.specs.declared.line.Piece.{Piece}
+use Rattle.exec_lines.specs.declared.line.Piece.TheVariants.{Part, Last, Nothing}
+use Rattle.exec_lines.specs.Pieces.{Reads, answer_at}
+
+abbrev pub NoNewline : List ℕ → Type 0
+NoNewline = All (λ b. b ≢ 10)
+
+pub place-le : (xs : List ℕ) → position_or_len is_newline xs ≤ length xs
+place-le xs = prefix_len-le-length (λ x. not (is_newline x)) xs
+
+-- no newline stands before the first one
+pub none_before : (xs : List ℕ) → NoNewline (take (position_or_len is_newline xs) xs)
+none_before xs k d h e =
+    let n = position_or_len is_newline xs in
+    let below : k < n = omega (arith, h, length-take-le n xs (place-le xs)) in
+    let miss : is_newline (get_or xs k d) ≡ false = fails_before_first is_newline xs k d below in
+    let hit : is_newline (get_or xs k d) ≡ true = eq-eqb _ 10 (sym (get_or-take n xs k d below) ∙ e) in
+    true≢false (sym hit ∙ miss)
+
+-- a front with no newline moves the first one on
+pub place-append : (xs ys : List ℕ) → NoNewline xs → position_or_len is_newline (xs ++ ys) ≡ length xs + position_or_len is_newline ys
+place-append [] ys h = sym (zero-add _)
+place-append (x ∷ xs) ys h =
+    let more = ap (λ b. cond (not b) (1 + position_or_len is_newline (xs ++ ys)) 0) (ne_eqb x 10 (All-head (λ y. y ≢ 10) x xs h)) in
+    let rest = place-append xs ys (All-tail (λ y. y ≢ 10) x xs h) in
+    more ∙ omega (arith, rest)
+
+pub line-ended : (d z : List ℕ) → NoNewline d → (first_line (d ++ 10 ∷ z) ≡ d) × (after_first_line (d ++ 10 ∷ z) ≡ z)
+line-ended d z h =
+    let place : position_or_len is_newline (d ++ 10 ∷ z) ≡ length d = place-append d (10 ∷ z) h ∙ omega arith in
+    let joined : d ++ 10 ∷ z ≡ (d ++ 10 ∷ []) ++ z = sym (append_assoc d (10 ∷ []) z) in
+    let long : length d + 1 ≡ length (d ++ 10 ∷ []) = omega (arith, length-append d (10 ∷ [])) in (
+      ap (λ n. take n (d ++ 10 ∷ z)) place ∙ take-append_seam d (10 ∷ z),
+      ap (λ n. drop (n + 1) (d ++ 10 ∷ z)) place ∙ ap (drop (length d + 1)) joined ∙ ap (λ n. drop n ((d ++ 10 ∷ []) ++ z)) long ∙ drop-append_seam (d ++ 10 ∷ []) z,
+    )
+
+pub line-unended : (d : List ℕ) → NoNewline d → (first_line d ≡ d) × (after_first_line d ≡ [])
+line-unended d h =
+    let place : position_or_len is_newline d ≡ length d = sym (ap (position_or_len is_newline) (append-nil d)) ∙ place-append d [] h ∙ omega arith in (
+      ap (λ n. take n d) place ∙ take_all (length d) d (omega arith),
+      ap (λ n. drop (n + 1) d) place ∙ drop_of_length-le d (omega arith),
+    )
+
+-- what a reader had left began with this line, and it has left what stands behind the line
+abbrev pub HasRead : Option (List ℕ) → Option (List ℕ) → List ℕ → Type 0
+HasRead a c d = IfSome a (λ xs. (0 < length xs) × (first_line xs ≡ d) × (c ≡ Some (after_first_line xs)))
+
+-- reads without a newline, and then one with the newline
+pub read-ended : (a b c : Option (List ℕ)) (done part : List ℕ) → Consumes a b done → NoNewline done → Consumes b c (part ++ 10 ∷ []) → NoNewline part → HasRead a c (done ++ part)
+read-ended None b c done part p all q last = tt
+read-ended (Some x) None c done part p all q last = absurd p
+read-ended (Some x) (Some y) None done part p all q last = absurd q
+read-ended (Some x) (Some y) (Some z) done part p all q last =
+    let d = done ++ part in
+    let split : x ≡ d ++ 10 ∷ z =
+    p ∙ ap (λ l. done ++ l) (q ∙ append_assoc part (10 ∷ []) z) ∙ sym (append_assoc done part (10 ∷ z)) in
+    let both = line-ended d z (All-append (λ b. b ≢ 10) done part all last) in (
+      omega (arith, ap length split, length-append d (10 ∷ z)),
+      ap first_line split ∙ both.0,
+      ap Some (sym (ap after_first_line split ∙ both.1)),
+    )
+
+-- reads without a newline up to the end
+pub read-unended : (a b c : Option (List ℕ)) (done : List ℕ) → Consumes a b done → NoNewline done → IsAtEnd b → Consumes b c [] → 0 < length done → HasRead a c done
+read-unended None b c done p all end q some = tt
+read-unended (Some x) None c done p all end q some = absurd p
+read-unended (Some x) (Some y) None done p all end q some = absurd q
+read-unended (Some x) (Some y) (Some z) done p all end q some =
+    let whole : x ≡ done = p ∙ ap (λ l. done ++ l) end ∙ append-nil done in
+    let both = line-unended done all in (
+      omega (arith, ap length whole),
+      ap first_line whole ∙ both.0,
+      ap Some (sym q ∙ end ∙ sym (ap after_first_line whole ∙ both.1)),
+    )
+
+-- nothing was read before the end
+pub read-none : (a b c : Option (List ℕ)) (done : List ℕ) → Consumes a b done → IsAtEnd b → Consumes b c [] → length done ≡ 0 → IfSome a (λ xs. (xs ≡ []) × (c ≡ Some []))
+read-none None b c done p end q none = tt
+read-none (Some x) None c done p end q none = absurd p
+read-none (Some x) (Some y) None done p end q none = absurd q
+read-none (Some x) (Some y) (Some z) [] p end q none = (p ∙ end, ap Some (sym q ∙ end))
+read-none (Some x) (Some y) (Some z) (d ∷ ds) p end q none = absurd (omega arith)
+
+-- what is kept of more is what is kept of all
+pub kept-more : (done part old items : List ℕ) → old ≡ take 131073 done → items ≡ take 131073 (old ++ part) → items ≡ take 131073 (done ++ part)
+kept-more done part old items before after = after ∙ ap (λ l. take 131073 (l ++ part)) before ∙ at (nat_le (length done) 131073) refl
+  where
+    at : (b : Bool) → nat_le (length done) 131073 ≡ b → take 131073 (take 131073 done ++ part) ≡ take 131073 (done ++ part)
+    at true t = ap (λ l. take 131073 (l ++ part)) (take_all 131073 done (leb-true _ _ t))
+    at false f =
+        let lt : 131073 < length done = leb-false _ _ f in
+        let long = length-take-le 131073 done (omega (arith, lt)) in
+        take-append-le 131073 (take 131073 done) part (omega (arith, long)) ∙ take-take 131073 131073 done (omega arith) ∙ sym (take-append-le 131073 done part (omega (arith, lt)))
+
+-- what is kept of a line has no newline either
+pub kept-none : (line items : List ℕ) → items ≡ take 131073 line → NoNewline line → NoNewline items
+kept-none line items e none = subst NoNewline (sym e) (All-take (λ b. b ≢ 10) 131073 line none)
+
+next_of-some : (xs : List ℕ) → 0 < length xs → next_of xs ≡ line_answer (first_line xs)
+next_of-some [] some = absurd (omega arith)
+next_of-some (x ∷ xs) some = refl
+
+-- a line of which just what there is room for was kept
+pub kept-whole : (line items : List ℕ) → items ≡ take 131073 line → (length items ≡ 131073 → 131072 < length line) × (length items ≢ 131073 → length line ≤ 131072)
+kept-whole line items e =
+    let long : length items ≡ min 131073 (length line) = ap length e ∙ length-take 131073 line in
+    (λ full. omega (arith, full, long), λ more. omega (arith, more, long))
+
+pub answer-long : (line : List ℕ) → 131072 < length line → TooLong ≡ line_answer line
+answer-long line h = sym (ap (λ b. if b then Line else TooLong) (lt-leb _ _ h))
+
+pub answer-fits : (line : List ℕ) → length line ≤ 131072 → Line ≡ line_answer line
+answer-fits line h = sym (ap (λ b. if b then Line else TooLong) (le-leb _ _ h))
+
+is_line : (line : List ℕ) → Line ≡ line_answer line → length line ≤ 131072
+is_line line e = at (nat_le (length line) 131072) refl
+  where
+    apart : Line ≡ TooLong → ⊥
+    apart e = cc
+
+    at : (b : Bool) → nat_le (length line) 131072 ≡ b → length line ≤ 131072
+    at true t = leb-true _ _ t
+    at false f = absurd (apart (e ∙ ap (λ b. if b then Line else TooLong) f))
+
+some_answer : (piece : Piece) (line : List ℕ) → 0 < length line → answer_at piece line ≡ line_answer line
+some_answer Nothing [] some = absurd (omega arith)
+some_answer Nothing (x ∷ xs) some = refl
+some_answer Part line some = refl
+some_answer Last line some = refl
+
+-- nothing was kept, and the input ended
+pub answer-none : (piece : Piece) (line items : List ℕ) → items ≡ take 131073 line → piece ≡ Nothing → items ≡ [] → End ≡ answer_at piece line
+answer-none piece line items kept end none = at line (ap length none ∙ refl) kept ∙ ap (λ p. answer_at p line) (sym end)
+  where
+    at : (l : List ℕ) → length items ≡ 0 → items ≡ take 131073 l → End ≡ answer_at Nothing l
+    at [] zero e = refl
+    at (x ∷ xs) zero e = absurd (omega (arith, zero, ap length e ∙ length-take 131073 (x ∷ xs)))
+
+-- all the room is taken
+pub answer-full : (piece : Piece) (line items : List ℕ) → items ≡ take 131073 line → length items ≡ 131073 → TooLong ≡ answer_at piece line
+answer-full piece line items kept full =
+    let long = (kept-whole line items kept).0 full in
+    answer-long line long ∙ sym (some_answer piece line (omega (arith, long)))
+
+-- there is room left, and a line
+pub answer-line : (piece : Piece) (line items : List ℕ) → items ≡ take 131073 line → length items ≢ 131073 → ((piece ≡ Nothing) × (items ≡ []) → ⊥) → Line ≡ answer_at piece line
+answer-line Part line items kept more some = answer-fits line ((kept-whole line items kept).1 more)
+answer-line Last line items kept more some = answer-fits line ((kept-whole line items kept).1 more)
+answer-line Nothing [] items kept more some = absurd (some (refl, kept))
+answer-line Nothing (x ∷ xs) items kept more some = answer-fits (x ∷ xs) ((kept-whole (x ∷ xs) items kept).1 more)
+
+-- the clauses of a line that was read
+pub record Clauses (a c : Option (List ℕ)) (items : List ℕ) (n : Next) : Type 0 where
+  pub answer : IfSome a (λ xs. n ≡ next_of xs)
+  pub line : IfSome a (λ xs. n ≡ Line → items ≡ first_line xs)
+  pub rest : IfSome a (λ xs. c ≡ Some (after_first_line xs))
+  pub without : NoNewline items
+  pub fits : n ≡ Line → length items ≤ 131072
+
+whole : (a c : Option (List ℕ)) (d items : List ℕ) (n : Next) → HasRead a c d → NoNewline d → items ≡ take 131073 d → n ≡ line_answer d → Clauses a c items n
+whole a c d items n read none kept is = record { answer = of a read; line = line_of a read; rest = rest_of a read; without = kept-none d items kept none; fits = λ e. omega (arith, ap length (same e), short e) }
+  where
+    short : n ≡ Line → length d ≤ 131072
+    short e = is_line d (sym e ∙ is)
+
+    same : n ≡ Line → items ≡ d
+    same e = kept ∙ take_all 131073 d (omega (arith, short e))
+
+    of : (o : Option (List ℕ)) → HasRead o c d → IfSome o (λ xs. n ≡ next_of xs)
+    of None h = tt
+    of (Some xs) h = is ∙ ap line_answer (sym h.1) ∙ sym (next_of-some xs h.0)
+
+    line_of : (o : Option (List ℕ)) → HasRead o c d → IfSome o (λ xs. n ≡ Line → items ≡ first_line xs)
+    line_of None h = tt
+    line_of (Some xs) h = λ e. same e ∙ sym h.1
+
+    rest_of : (o : Option (List ℕ)) → HasRead o c d → IfSome o (λ xs. c ≡ Some (after_first_line xs))
+    rest_of None h = tt
+    rest_of (Some xs) h = h.2
+
+-- the input ended before a line began
+ended : (a c : Option (List ℕ)) (items : List ℕ) (n : Next) → IfSome a (λ xs. (xs ≡ []) × (c ≡ Some [])) → items ≡ [] → n ≡ End → Clauses a c items n
+ended a c items n read none is = record { answer = of a read; line = line_of a; rest = rest_of a read; without = subst NoNewline (sym none) (All-nil (λ b. b ≢ 10)); fits = λ e. absurd (apart (sym is ∙ e)) }
+  where
+    apart : End ≡ Line → ⊥
+    apart e = cc
+
+    of : (o : Option (List ℕ)) → IfSome o (λ xs. (xs ≡ []) × (c ≡ Some [])) → IfSome o (λ xs. n ≡ next_of xs)
+    of None h = tt
+    of (Some xs) h = is ∙ sym (ap next_of h.0)
+
+    line_of : (o : Option (List ℕ)) → IfSome o (λ xs. n ≡ Line → items ≡ first_line xs)
+    line_of None = tt
+    line_of (Some xs) = λ e. absurd (apart (sym is ∙ e))
+
+    rest_of : (o : Option (List ℕ)) → IfSome o (λ xs. (xs ≡ []) × (c ≡ Some [])) → IfSome o (λ xs. c ≡ Some (after_first_line xs))
+    rest_of None h = tt
+    rest_of (Some xs) h = h.1 ∙ sym (ap (λ l. Some (after_first_line l)) h.0)
+
+-- reads without a newline, and then one that ended the line
+pub clauses : (E : Type 0) (a b c : Option (List ℕ)) (done part items : List ℕ) (p : Piece) (n : Next) → Consumes a b done → NoNewline done → Reads {E = E} b c part (Ok p) → NoNewline part
+    → p ≢ Part → items ≡ take 131073 (done ++ part) → n ≡ answer_at p (done ++ part) → Clauses a c items n
+clauses E a b c done part items Part n read none reads none' ends kept is = absurd (ends refl)
+clauses E a b c done part items Last n read none reads none' ends kept is =
+    whole a c (done ++ part) items n (read-ended a b c done part read none reads none') (All-append (λ b. b ≢ 10) done part none none') kept is
+clauses E a b c done part items Nothing n read none reads none' ends kept is =
+    let empty = reads.1 in
+    let all : done ++ part ≡ done = ap (λ l. done ++ l) empty ∙ append-nil done in
+    let last : Consumes b c [] = subst (Consumes b c) empty reads.0 in
+    at done read none reads.2 last (kept ∙ ap (take 131073) all) (is ∙ ap (answer_at Nothing) all)
+  where
+    at : (d : List ℕ) → Consumes a b d → NoNewline d → IsAtEnd b → Consumes b c [] → items ≡ take 131073 d → n ≡ answer_at Nothing d → Clauses a c items n
+    at [] read none end last kept is = ended a c items n (read-none a b c [] read end last refl) kept is
+    at (x ∷ xs) read none end last kept is = whole a c (x ∷ xs) items n (read-unended a b c (x ∷ xs) read none end last (omega arith)) none kept is
+
+pub ok_is : {E : Type 0} {n : Next} → ◌≡◌ {A = Result Next E} (Ok n) (Ok Line) → n ≡ Line
+ok_is e = cc
+
+-- the line of an answer, in the words of a result
+pub line-ok : (E : Type 0) (a : Option (List ℕ)) (items : List ℕ) (n : Next) → IfSome a (λ xs. n ≡ Line → items ≡ first_line xs)
+    → IfSome a (λ xs. ◌≡◌ {A = Result Next E} (Ok n) (Ok Line) → items ≡ first_line xs)
+line-ok E None items n h = tt
+line-ok E (Some xs) items n h = λ e. h (ok_is e)

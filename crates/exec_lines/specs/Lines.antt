@@ -1,0 +1,26 @@
+-- The lines of an input.
+use Rattle.std.specs.Prelude.{ℕ, Bool, ◌==◌, List, [], ◌∷◌, length, nat_le, if◌then◌else◌}
+use Rattle.std.specs.List.{before_first, after_first}
+use Rattle.exec_lines.specs.declared.line.Next.{Next}
+use Rattle.exec_lines.specs.declared.line.Next.TheVariants.{Line, TooLong, End}
+
+-- the byte that ends a line
+abbrev pub is_newline : ℕ → Bool
+is_newline b = b == 10
+
+-- the first line of these bytes, without its newline
+abbrev pub first_line : List ℕ → List ℕ
+first_line = before_first is_newline
+
+-- what stands behind the first line and its newline
+abbrev pub after_first_line : List ℕ → List ℕ
+after_first_line = after_first is_newline
+
+-- a line has at most 131,072 bytes
+abbrev pub line_answer : List ℕ → Next
+line_answer line = if nat_le (length line) 131072 then Line else TooLong
+
+-- what stands next in these bytes
+abbrev pub next_of : List ℕ → Next
+next_of [] = End
+next_of (x ∷ xs) = line_answer (first_line (x ∷ xs))

@@ -1,0 +1,31 @@
+-- What one read of a line brings.
+use Rattle.std.specs.Prelude.{ℕ, ◌≡◌, ◌==◌, List, [], ◌∷◌, ◌++◌, Option, Result, Ok, Err, nat_lt, if◌then◌else◌}
+use Rattle.std.specs.Io.KnownBytes.{Consumes, IsAtEnd}
+use Rattle.exec_lines.specs.declared.line.Next.{Next}
+use Rattle.exec_lines.specs.declared.line.Next.TheVariants.{End}
+use Rattle.exec_lines.specs.declared.line.Piece.{Piece}
+use Rattle.exec_lines.specs.declared.line.Piece.TheVariants.{Part, Last, Nothing}
+use Rattle.exec_lines.specs.Lines.{line_answer}
+
+abbrev pub newline_count : Piece → ℕ
+newline_count Part = 0
+newline_count Last = 1
+newline_count Nothing = 0
+
+-- of `total` bytes, `len` stand before the first newline
+abbrev pub piece_of : ℕ → ℕ → Piece
+piece_of total len = if nat_lt len total then Last else (if total == 0 then Nothing else Part)
+
+-- what the end of a line tells: where nothing was read before the input's end, there is no line
+abbrev pub answer_at : Piece → List ℕ → Next
+answer_at Nothing [] = End
+answer_at Nothing (x ∷ xs) = line_answer (x ∷ xs)
+answer_at Part line = line_answer line
+answer_at Last line = line_answer line
+
+-- the reader lost `part` and perhaps a newline, and brings nothing only at its end
+abbrev pub Reads : {E : Type 0} → Option (List ℕ) → Option (List ℕ) → List ℕ → Result Piece E → Type 0
+Reads old new part (Ok Nothing) = Consumes old new part × (part ≡ []) × IsAtEnd old
+Reads old new part (Ok Part) = Consumes old new part
+Reads old new part (Ok Last) = Consumes old new (part ++ 10 ∷ [])
+Reads old new part (Err e) = Consumes old new part

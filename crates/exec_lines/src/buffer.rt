@@ -1,0 +1,57 @@
+//! The room that a line is read into.
+ghost use Rattle.std.specs.Prelude.{◌≡◌, ◌≤◌, ◌↔◌, [], ◌++◌, IsTrue, IfOk, length, take, vec_len, vec_capacity};
+
+use ocf_types::LINE_LIMIT;
+use std::alloc::{AllocError, Allocator, Global};
+
+// One byte above the greatest length of a line: a buffer that is full holds the front of a longer one.
+const ROOM: usize = LINE_LIMIT + 1;
+
+/// Room for one line. It takes all its memory when it is made, 131,073 bytes: one byte more than the longest line has,
+/// so that a longer line shows.
+#[derive(Drop)]
+pub struct LineBuffer<A: Allocator = Global> {
+    bytes: Vec<u8, A>,
+    ghost fits: { vec_len bytes ≤ 131_073 },
+    ghost room: { 131_073 ≤ vec_capacity bytes },
+}
+
+impl<A: Allocator> LineBuffer<A> {
+    ghost use Rattle.exec_lines.specs.Buffer.{line_bytes};
+
+    /// A buffer with no line in it. It fails only where memory is refused.
+    pub fn new(alloc: A) -> Result<LineBuffer<A>, AllocError>
+        ensures { IfOk result (λ b. line_bytes b ≡ []) }
+    {
+        let bytes = Vec::with_capacity(alloc, ROOM)?;
+        Ok(LineBuffer { bytes })
+    }
+
+    /// The line that was read last, in bytes.
+    pub fn line(&self) -> &[u8]
+        ensures { result.now ≡ line_bytes self.now }
+    {
+        self.bytes.as_slice()
+    }
+
+    // Whether what was read passes the greatest length of a line.
+    pub(crate) fn is_full(&self) -> bool
+        ensures { IsTrue result ↔ (length (line_bytes self.now) ≡ 131_073) }
+    {
+        self.bytes.len() == ROOM
+    }
+
+    pub(crate) fn clear(&mut self)
+        ensures { line_bytes self.new ≡ [] }
+    {
+        self.bytes.clear();
+    }
+
+    // Appends what there is room for.
+    pub(crate) fn append(&mut self, part: &[u8])
+        ensures { line_bytes self.new ≡ take 131_073 (line_bytes self.old ++ part.now) }
+    {
+        let fitting = part.len().min(ROOM - self.bytes.len());
+        let _ = self.bytes.extend_from_slice(&part[..fitting]);
+    }
+}

@@ -1,0 +1,152 @@
+//! Lines of input, read in bounded memory.
+ghost use Rattle.std.specs.Prelude.{◌≡◌, ◌≢◌, ◌↔◌, ◌≤◌, ◌+◌, ℕ, List, [], ◌++◌, All, IsTrue, IfSome, IfOk, IfErr, OnOk, OnErr, Some, Ok, length, take};
+ghost use Rattle.std.specs.List.{position_or_len};
+ghost use Rattle.std.specs.IoError.{error_kind};
+ghost use Rattle.std.specs.Io.KnownBytes.{Consumes};
+ghost use Rattle.exec_lines.specs.Buffer.{line_bytes};
+ghost use Rattle.exec_lines.specs.Lines.{is_newline, first_line, after_first_line, line_answer, next_of};
+ghost use Rattle.exec_lines.specs.Pieces.{answer_at, newline_count, piece_of, Reads};
+
+use crate::buffer::LineBuffer;
+use ocf_types::NUM_MAX;
+use std::alloc::Allocator;
+use std::io::{self, BufRead, ErrorKind};
+
+/// What stands next in the input.
+#[derive(Clone, Copy, Debug, PartialEq, Eq)]
+pub enum Next {
+    /// A line of at most 131,072 bytes.
+    Line,
+    /// A longer line.
+    TooLong,
+    /// Nothing.
+    End,
+}
+
+// What one read brought.
+#[derive(Clone, Copy, Debug, PartialEq, Eq)]
+enum Piece {
+    // Bytes of the line, which goes on.
+    Part,
+    // The last bytes of the line, and its newline.
+    Last,
+    // Nothing: the input ends here.
+    Nothing,
+}
+
+impl Piece {
+    fn newline_len(self) -> usize
+        ensures { result ≡ newline_count self }
+    {
+        match self {
+            Piece::Last => 1,
+            Piece::Part | Piece::Nothing => 0,
+        }
+    }
+}
+
+fn line_len(bytes: &[u8]) -> usize
+    ensures { result ≡ position_or_len is_newline bytes.now }
+{
+    match bytes.iter().position(|byte| *byte == b'\n') {
+        Some(len) => len,
+        None => bytes.len(),
+    }
+}
+
+fn piece_with(bytes: &[u8], len: usize) -> Piece
+    ensures { result ≡ piece_of (length bytes.now) len }
+{
+    if len < bytes.len() {
+        Piece::Last
+    } else if bytes.is_empty() {
+        Piece::Nothing
+    } else {
+        Piece::Part
+    }
+}
+
+// One read: what the reader has, up to a newline.
+fn take_piece<R: BufRead, A: Allocator>(
+    reader: &mut R,
+    buffer: &mut LineBuffer<A>,
+) -> io::Result<Piece>
+    ensures read { (part : List ℕ) × All (λ b. b ≢ 10) part
+        × (line_bytes buffer.new ≡ take 131_073 (line_bytes buffer.old ++ part))
+        × Reads (R.remaining reader.old) (R.remaining reader.new) part result }
+    ensures retried { IfErr result (λ e. error_kind e ≢ ErrorKind.Interrupted) }
+{
+    let bytes = match reader.fill_buf() {
+        Ok(bytes) => bytes,
+        Err(error) => return interrupted(error),
+    };
+    let len = line_len(bytes);
+    buffer.append(&bytes[..len]);
+    let piece = piece_with(bytes, len);
+    let used = len + piece.newline_len();
+    reader.consume(used);
+    Ok(piece)
+}
+
+// A read that a signal interrupts is made again.
+fn interrupted(error: io::Error) -> io::Result<Piece>
+    ensures part { IfOk result (λ p. p ≡ Piece.Part) }
+    ensures retried { IfErr result (λ e. error_kind e ≢ ErrorKind.Interrupted) }
+{
+    if error.kind() == ErrorKind::Interrupted {
+        Ok(Piece::Part)
+    } else {
+        Err(error)
+    }
+}
+
+// The input ended before a line began.
+fn is_end<A: Allocator>(buffer: &LineBuffer<A>, piece: Piece) -> bool
+    ensures { IsTrue result ↔ ((piece ≡ Piece.Nothing) × (line_bytes buffer.now ≡ [])) }
+{
+    piece == Piece::Nothing && buffer.line().is_empty()
+}
+
+fn answer<A: Allocator>(buffer: &LineBuffer<A>, piece: Piece) -> Next
+    ensures { (line : List ℕ) → line_bytes buffer.now ≡ take 131_073 line → result ≡ answer_at piece line }
+{
+    if is_end(buffer, piece) {
+        Next::End
+    } else if buffer.is_full() {
+        Next::TooLong
+    } else {
+        Next::Line
+    }
+}
+
+/// Reads the next line into the buffer, without its newline; the last line needs none. The rest of a line that is too
+/// long is passed over, its newline too. An interrupted read is made again. After an error the front of the line is lost.
+/// It gives up, with the kind `TimedOut`, after 9,007,199,254,740,991 reads.
+pub fn next_line<R: BufRead, A: Allocator>(
+    reader: &mut R,
+    buffer: &mut LineBuffer<A>,
+) -> io::Result<Next>
+    // Where it is known what the reader has left.
+    ensures answer { IfSome (R.remaining reader.old) (λ xs. IfOk result (λ next. next ≡ next_of xs)) }
+    ensures line { IfSome (R.remaining reader.old)
+        (λ xs. result ≡ Ok Next.Line → line_bytes buffer.new ≡ first_line xs) }
+    ensures rest { IfSome (R.remaining reader.old)
+        (λ xs. OnOk result (R.remaining reader.new ≡ Some (after_first_line xs))) }
+    ensures lost { OnErr result ((bs : List ℕ) × All (λ b. b ≢ 10) bs
+        × Consumes (R.remaining reader.old) (R.remaining reader.new) bs) }
+
+    // At any reader.
+    ensures without { All (λ b. b ≢ 10) (line_bytes buffer.new) }
+    ensures fits { result ≡ Ok Next.Line → length (line_bytes buffer.new) ≤ 131_072 }
+    ensures retried { IfErr result (λ e. error_kind e ≢ ErrorKind.Interrupted) }
+{
+    buffer.clear();
+    for _ in 0..NUM_MAX {
+        let piece = take_piece(reader, buffer)?;
+        match piece {
+            Piece::Part => {}
+            _ => return Ok(answer(buffer, piece)),
+        }
+    }
+    Err(io::Error::from(ErrorKind::TimedOut))
+}

@@ -1,0 +1,25 @@
+//! Moments of the system's clock.
+ghost use Rattle.std.specs.Prelude.{◌≡◌, ◌/◌, min};
+ghost use Rattle.exec_lines.specs.Clock.{millis_of};
+
+use ocf_types::Moment;
+use std::rt::Clock;
+use std::time::{SystemTime, UNIX_EPOCH};
+
+/// The whole milliseconds from 1970 to this time, cut at the greatest moment.
+pub fn moment_of(time: SystemTime) -> Moment
+    ensures { result ≡ min (millis_of time) 9_007_199_254_740_991 }
+{
+    match time.duration_since(UNIX_EPOCH) {
+        Ok(passed) => Moment::cut(u64::try_from(passed.as_millis()).unwrap_or(u64::MAX)),
+        Err(_) => Moment::cut(0),
+    }
+}
+
+/// The moment that the system's clock shows, in milliseconds since 1970; 0 where it can't be read or stands before 1970.
+pub fn moment_now(clock: &impl Clock) -> Moment {
+    match SystemTime::now(clock) {
+        Ok(time) => moment_of(time),
+        Err(_) => Moment::cut(0),
+    }
+}

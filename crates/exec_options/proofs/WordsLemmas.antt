@@ -1,0 +1,54 @@
+-- What a parse of the command line's words met, and words that give no options.
+use Rattle.std.proofs.Common.{◌≡◌, ◌≢◌, Bool, true, false, not, is_some, List, Some, option_map, ap, subst, ◌∙◌, sym, codes}
+use Rattle.clap.specs.Words.{Row, Text, app_of, fault_of, first_of, is_simple, is_simple_and_free, subcommand_name_of, subcommand_of, subcommand_rows_of, HasMatchesOf, Kinds}
+use Rattle.clap.specs.declared.builder.command.Command.{Command}
+use Rattle.clap.specs.declared.parser.matches.ArgMatches.{ArgMatches}
+use Rattle.exec_options.specs.declared.options.Options.{Options}
+use Rattle.exec_options.specs.declared.options.Subcommand.{Subcommand}
+use Rattle.exec_options.specs.declared.fault.WordsFault.{WordsFault}
+use Rattle.exec_options.specs.declared.fault.WordsFault.TheVariants.{Help, Usage, Choice, Memory}
+use Rattle.exec_options.specs.App.{ocfexec_app}
+use Rattle.exec_options.specs.Faults.{HasFaultKind, IsFault}
+use Rattle.exec_options.specs.Subcommands.{subcommand_word}
+use Rattle.exec_options.specs.Words.{is_true_text, Gives}
+use Rattle.exec_options.proofs.AppLemmas.{both_parts, name_in_rows}
+
+-- the subcommand that a parse met is the one that the words name
+pub met : (command : Command) (words : List Text) (m : ArgMatches) (name : Text) (rows : List Row) → app_of command ≡ ocfexec_app → HasMatchesOf (app_of command) words m
+    → Some name ≡ subcommand_name_of m → Some rows ≡ option_map (λ p. p.1) (subcommand_rows_of m) → subcommand_of ocfexec_app words ≡ Some (name, rows)
+met command words m name rows app matches is_name are_rows =
+    let same : subcommand_rows_of m ≡ subcommand_of (app_of command) words = (matches (ap is_simple app)).1 in
+    sym (ap (λ a. subcommand_of a words) app) ∙ sym same ∙ both_parts (subcommand_rows_of m) name rows (is_name ∙ name_in_rows m) are_rows
+
+-- where `clap` refuses the words of the command line just by these kinds
+pub faults : (command : Command) (words : List Text) (P : Kinds → Type 0) → app_of command ≡ ocfexec_app
+    → (is_simple_and_free (app_of command) ≡ true → P (fault_of (app_of command) words)) → P (fault_of ocfexec_app words)
+faults command words P app holds = subst (λ a. P (fault_of a words)) app (holds (ap is_simple_and_free app))
+
+some_is : {X : Type 0} {x y : X} → Some x ≡ Some y → x ≡ y
+some_is e = cc
+
+-- words that name no subcommand give no options
+pub unnamed : (words : List Text) (name : Text) (rows : List Row) → subcommand_of ocfexec_app words ≡ Some (name, rows) → ((s : Subcommand) → name ≢ subcommand_word s)
+    → (o : Options) → Gives words o → ⊥
+unnamed words name rows named none o gives = none o.subcommand (ap (λ (p : Text × List Row). p.0) (some_is (sym named ∙ gives.named)))
+
+not_self : (b : Bool) → b ≡ not b → ⊥
+not_self true e = cc
+not_self false e = cc
+
+-- words with both or none of `--journal` and `--memory` give no options
+pub unchosen : (words : List Text) (name : Text) (rows : List Row) → subcommand_of ocfexec_app words ≡ Some (name, rows)
+    → is_true_text (first_of (codes "memory") rows) ≡ is_some (first_of (codes "journal") rows) → (o : Options) → Gives words o → ⊥
+unchosen words name rows named both o gives =
+    let same : gives.rows ≡ rows = ap (λ (p : Text × List Row). p.1) (some_is (sym gives.named ∙ named)) in
+    let journal = ap (λ r. is_some (first_of (codes "journal") r)) same in
+    let memory = ap (λ r. is_true_text (first_of (codes "memory") r)) same in
+    not_self _ (sym both ∙ sym memory ∙ gives.read.choice ∙ ap not journal)
+
+-- `clap`'s fault is one of these words
+pub fault_kind : (words : List Text) (fault : WordsFault) → HasFaultKind (fault_of ocfexec_app words) fault → IsFault words fault
+fault_kind words (Help e) h = h
+fault_kind words (Usage e) h = h
+fault_kind words Choice h = absurd h
+fault_kind words Memory h = h

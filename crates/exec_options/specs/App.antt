@@ -1,0 +1,39 @@
+-- The command line of `ocfexec` as `clap` reads it: `run` and `show`, each with the same five options.
+use Rattle.std.specs.Prelude.{[], ◌∷◌, Some, true, codes}
+use Rattle.clap.specs.Words.{App, Rule, Text, new_app, new_rule, with_rule, with_subcommand}
+use Rattle.clap.specs.declared.builder.ArgAction.TheVariants.{SetTrue}
+
+-- an option with one text
+abbrev pub text_rule : Text → Rule
+text_rule id = record (new_rule id) { long = Some id; value_names = 1 }
+
+-- an option with one text, which stands for this one where it is left out
+abbrev pub text_rule_or : Text → Text → Rule
+text_rule_or id default = record (text_rule id) { defaults = default ∷ [] }
+
+-- an option without a text
+abbrev pub flag_rule : Text → Rule
+flag_rule id = record (new_rule id) { long = Some id; action = Some SetTrue }
+
+abbrev pub default_root : Text
+default_root = codes "/usr/lib/ocf"
+
+abbrev pub default_path : Text
+default_path = codes "/usr/sbin:/usr/bin:/sbin:/bin"
+
+abbrev pub with_options_app : App → App
+with_options_app a =
+    let a₁ = with_rule a (text_rule (codes "journal")) in
+    let a₂ = with_rule a₁ (flag_rule (codes "memory")) in
+    let a₃ = with_rule a₂ (text_rule_or (codes "root") default_root) in
+    let a₄ = with_rule a₃ (text_rule (codes "via")) in
+    with_rule a₄ (text_rule_or (codes "path") default_path)
+
+abbrev pub top_app : App
+top_app = let a = new_app (codes "ocfexec") in record a { top = record a.top { subcommand_required = true } }
+
+-- the whole command line
+abbrev pub ocfexec_app : App
+ocfexec_app =
+    let with_run = with_subcommand top_app (with_options_app (new_app (codes "run"))).top in
+    with_subcommand with_run (with_options_app (new_app (codes "show"))).top

@@ -1,0 +1,4 @@
+pub mod Subcommands
+pub mod App
+pub mod Words
+pub mod Faults

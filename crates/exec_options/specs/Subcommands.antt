@@ -1,0 +1,8 @@
+-- The words that name what the program does.
+use Rattle.std.specs.Prelude.{ℕ, List, codes}
+use Rattle.exec_options.specs.declared.options.Subcommand.{Subcommand}
+use Rattle.exec_options.specs.declared.options.Subcommand.TheVariants.{Run, Show}
+
+abbrev pub subcommand_word : Subcommand → List ℕ
+subcommand_word Run = codes "run"
+subcommand_word Show = codes "show"

@@ -1,0 +1,35 @@
+-- The options that words give.
+use Rattle.std.specs.Prelude.{◌≡◌, Bool, false, not, List, Option, Some, None, is_some, option_map, unwrap_or, codes, bytes_eq}
+use Rattle.clap.specs.Words.{Row, Text, first_of, subcommand_of}
+use Rattle.exec_options.specs.declared.options.Options.{Options}
+use Rattle.exec_options.specs.declared.options.JournalPlace.{JournalPlace}
+use Rattle.exec_options.specs.declared.options.JournalPlace.TheVariants.{Folder, Memory}
+use Rattle.exec_options.specs.App.{default_path, default_root, ocfexec_app}
+use Rattle.exec_options.specs.Subcommands.{subcommand_word}
+
+-- the folder that is named, or none in memory
+abbrev pub folder_of : JournalPlace → Option Text
+folder_of (Folder dir) = Some dir.now
+folder_of Memory = None
+
+abbrev pub is_true_text : Option Text → Bool
+is_true_text (Some t) = bytes_eq t (codes "true")
+is_true_text None = false
+
+-- just one of `--journal` and `--memory` was given
+abbrev pub IsChoice : List Row → Type 0
+IsChoice rows = is_true_text (first_of (codes "memory") rows) ≡ not (is_some (first_of (codes "journal") rows))
+
+-- the options are what a subcommand's rows hold, a default in place of what they lack
+pub record IsReadFrom (rows : List Row) (o : Options) : Type 0 where
+  pub journal : folder_of o.journal ≡ first_of (codes "journal") rows
+  pub choice : IsChoice rows
+  pub root : o.root.now ≡ unwrap_or (first_of (codes "root") rows) default_root
+  pub via : option_map (λ s. s.now) o.via ≡ first_of (codes "via") rows
+  pub path : o.path.now ≡ unwrap_or (first_of (codes "path") rows) default_path
+
+-- by `clap`'s rules the words name this subcommand, and its rows hold the options
+pub record Gives (words : List Text) (o : Options) : Type 0 where
+  pub rows : List Row
+  pub named : subcommand_of ocfexec_app words ≡ Some (subcommand_word o.subcommand, rows)
+  pub read : IsReadFrom rows o

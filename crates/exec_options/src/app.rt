@@ -1,0 +1,135 @@
+//! The command line as `clap` knows it, with its help texts.
+ghost use Rattle.std.specs.Prelude.{◌≡◌, false, IfOk, codes};
+ghost use Rattle.clap.specs.Words.{app_of, rule_of, new_app};
+ghost use Rattle.clap.specs.declared.builder.command.Command.TheViews.{out-Command};
+ghost use Rattle.exec_options.specs.App.{text_rule, text_rule_or, flag_rule, with_options_app, top_app, ocfexec_app};
+
+use clap::{Arg, ArgAction, Command};
+use std::alloc::{AllocError, Global};
+
+/// The folder of the agents where none is named.
+pub const ROOT: &str = "/usr/lib/ocf";
+
+/// The `PATH` of the agents where none is named.
+pub const PATH: &str = "/usr/sbin:/usr/bin:/sbin:/bin";
+
+fn text_option<'a>(alloc: Global, id: &'a str, value: &'a str, help: &'a str) -> Arg<'a>
+    ensures rule { rule_of result ≡ text_rule id.entry.now }
+    ensures local { result.global ≡ false }
+{
+    Arg::new(alloc, id).long(id).value_name(value).help(help)
+}
+
+fn text_option_or<'a>(
+    alloc: Global,
+    id: &'a str,
+    value: &'a str,
+    default: &'a str,
+    help: &'a str,
+) -> Arg<'a>
+    ensures rule { rule_of result ≡ text_rule_or id.entry.now default.entry.now }
+    ensures local { result.global ≡ false }
+{
+    text_option(alloc, id, value, help).default_value(default)
+}
+
+fn flag<'a>(alloc: Global, id: &'a str, help: &'a str) -> Arg<'a>
+    ensures rule { rule_of result ≡ flag_rule id.entry.now }
+    ensures local { result.global ≡ false }
+{
+    Arg::new(alloc, id)
+        .long(id)
+        .action(ArgAction::SetTrue)
+        .help(help)
+}
+
+fn with_options<'a>(alloc: Global, command: Command<'a>) -> Result<Command<'a>, AllocError>
+    ensures app { IfOk result (λ r. app_of r ≡ with_options_app (app_of command.entry)) }
+    ensures local { IfOk result (λ r. (out-Command r).has_globals ≡ (out-Command command.entry).has_globals) }
+{
+    let command = command.arg(text_option(
+        alloc,
+        "journal",
+        "DIR",
+        "Keep the journal in this folder, in the files part-a and part-b, made where missing",
+    ))?;
+    let command = command.arg(flag(
+        alloc,
+        "memory",
+        "Keep the journal in memory: it is gone when the program ends",
+    ))?;
+    let command = command.arg(text_option_or(
+        alloc,
+        "root",
+        "DIR",
+        ROOT,
+        "The folder of the agents; an agent is the file resource.d/PROVIDER/TYPE in it",
+    ))?;
+    let command = command.arg(text_option(
+        alloc,
+        "via",
+        "PROGRAM",
+        "Start each agent as PROGRAM AGENT ACTION; left out, as AGENT ACTION",
+    ))?;
+    command.arg(text_option_or(
+        alloc,
+        "path",
+        "PATH",
+        PATH,
+        "The PATH in the environment of the agents",
+    ))
+}
+
+fn bare<'a>(alloc: Global, name: &'a str, about: &'a str, example: &'a str) -> Command<'a>
+    ensures app { app_of result ≡ new_app name.entry.now }
+    ensures local { (out-Command result).has_globals ≡ false }
+{
+    Command::new(alloc, name).about(about).after_help(example)
+}
+
+fn top<'a>(alloc: Global) -> Command<'a>
+    ensures app { app_of result ≡ top_app }
+    ensures local { (out-Command result).has_globals ≡ false }
+{
+    bare(
+        alloc,
+        "ocfexec",
+        "A local executor of OCF resource agents that keeps a journal",
+        "Example:\n  echo '{\"op\":\"list\"}' | ocfexec run --memory",
+    )
+    .subcommand_required(true)
+}
+
+fn run<'a>(alloc: Global) -> Command<'a>
+    ensures app { app_of result ≡ new_app (codes "run") }
+    ensures local { (out-Command result).has_globals ≡ false }
+{
+    bare(
+        alloc,
+        "run",
+        "Reads commands from standard input, a JSON object a line, and writes a reply line to each",
+        "Give just one of --journal and --memory.\n\nExample:\n  ocfexec run --journal /var/lib/ocfexec < commands.jsonl",
+    )
+}
+
+fn show<'a>(alloc: Global) -> Command<'a>
+    ensures app { app_of result ≡ new_app (codes "show") }
+    ensures local { (out-Command result).has_globals ≡ false }
+{
+    bare(
+        alloc,
+        "show",
+        "Prints what a journal holds, as JSON lines: its resources, and each one's state and history",
+        "Give just one of --journal and --memory.\n\nExample:\n  ocfexec show --journal /var/lib/ocfexec",
+    )
+}
+
+/// The whole command line.
+pub fn ocfexec<'a>(alloc: Global) -> Result<Command<'a>, AllocError>
+    ensures { IfOk result (λ c. app_of c ≡ ocfexec_app) }
+{
+    let run = with_options(alloc, run(alloc))?;
+    let show = with_options(alloc, show(alloc))?;
+    let with_run = top(alloc).subcommand(run)?;
+    with_run.subcommand(show)
+}

@@ -1,0 +1,51 @@
+//! What the words of the command line ask for.
+ghost use Rattle.std.specs.Prelude.{◌≡◌, ◌≢◌, IfSome, IfNone};
+ghost use Rattle.exec_options.specs.declared.options.Subcommand.{Subcommand};
+ghost use Rattle.exec_options.specs.Subcommands.{subcommand_word};
+
+/// What the program does.
+#[derive(Clone, Copy, Debug, PartialEq, Eq)]
+pub enum Subcommand {
+    /// Reads commands and answers each.
+    Run,
+    /// Prints what the journal holds.
+    Show,
+}
+
+impl Subcommand {
+    /// The subcommand of this name.
+    pub(crate) fn of(name: &str) -> Option<Subcommand>
+        ensures found { IfSome result (λ s. name.now ≡ subcommand_word s) }
+        ensures none { IfNone result ((s : Subcommand) → name.now ≢ subcommand_word s) }
+    {
+        if name == "run" {
+            Some(Subcommand::Run)
+        } else if name == "show" {
+            Some(Subcommand::Show)
+        } else {
+            None
+        }
+    }
+}
+
+/// Where the journal is kept.
+#[derive(Clone, Copy, Debug, PartialEq, Eq)]
+pub enum JournalPlace<'a> {
+    /// In the files of this folder.
+    Folder(&'a str),
+    /// In memory: it ends with the program.
+    Memory,
+}
+
+/// What the words of the command line ask for.
+#[derive(Clone, Copy, Debug, PartialEq, Eq)]
+pub struct Options<'a> {
+    pub subcommand: Subcommand,
+    pub journal: JournalPlace<'a>,
+    /// The folder of the agents: an agent is the file `resource.d/PROVIDER/TYPE` in it.
+    pub root: &'a str,
+    /// The program that each agent is started through, or none.
+    pub via: Option<&'a str>,
+    /// What `PATH` is in the environment of the agents.
+    pub path: &'a str,
+}
