@@ -1,23 +1,56 @@
 //! Benchmarks. Without arguments one round of each is run, and nothing is printed; with a name and a number of rounds
-//! the rate is printed.
+//! the rate is printed. `appends` counts slots, `events` counts events that are read and written, `state-reads` and
+//! `state-writes` count bytes, `triples` counts actions that are accepted, begun and ended.
 #![tactic(auto)]
 
 mod slots;
+mod spellings;
+mod triples;
 
 use crate::slots::appends;
-use anyhow::{Result, bail, ensure};
+use crate::spellings::{events, largest_state, read_state, write_state};
+use crate::triples::triples;
+use anyhow::{Context, Result, bail};
+use event_wire::decode_state;
+use ocf_types::StateParts;
 use std::alloc::Global;
 use std::env;
 use std::rt::{Clock, Env};
 use std::time::Instant;
 
+// The largest state, and its spelling.
+#[derive(Drop)]
+struct Largest {
+    bytes: Vec<u8>,
+    state: StateParts,
+}
+
+fn make_largest(alloc: Global) -> Result<Largest> {
+    let bytes = largest_state(alloc)?;
+    let state = decode_state(alloc, bytes.as_slice())?.context("the bytes are no state")?;
+    Ok(Largest { bytes, state })
+}
+
+// Runs one round of a benchmark, and counts its steps.
+fn round(alloc: Global, largest: &Largest, name: &str) -> Result<u64> {
+    let steps = match name {
+        "appends" => appends(alloc)?,
+        "events" => events(alloc)?,
+        "state-reads" => read_state(alloc, largest.bytes.as_slice())?,
+        "state-writes" => write_state(alloc, &largest.state)?,
+        "triples" => triples(alloc)?,
+        _ => bail!("no benchmark is called {name}"),
+    };
+    Ok(steps)
+}
+
 // Runs the rounds of one benchmark, and prints how many of its steps a second took.
 fn timed(rt: &(impl Clock + Print), alloc: Global, name: &str, rounds: u64) -> Result<()> {
-    ensure!(name == "appends", "no benchmark is called {name}");
+    let largest = make_largest(alloc)?;
     let start = Instant::now(rt)?;
     let mut steps: u64 = 0;
     for _ in 0..rounds {
-        steps = steps.saturating_add(appends(alloc)?);
+        steps = steps.saturating_add(round(alloc, &largest, name)?);
     }
     let micros = start.elapsed(rt)?.as_micros().max(1);
     let rate = u128::from(steps).saturating_mul(1_000_000) / micros;
@@ -30,7 +63,16 @@ fn run(rt: &(impl Alloc + Clock + Print + Env), alloc: Global) -> Result<()> {
     let _program = words.next();
     match (words.next(), words.next()) {
         (None, None) => {
-            appends(alloc)?;
+            let largest = make_largest(alloc)?;
+            for name in [
+                "appends",
+                "events",
+                "state-reads",
+                "state-writes",
+                "triples",
+            ] {
+                round(alloc, &largest, name)?;
+            }
             Ok(())
         }
         (Some(name), Some(rounds)) => timed(rt, alloc, name.as_str(), rounds.parse()?),

@@ -1,0 +1,65 @@
+#!/bin/sh
+# Times the built program: `list` lines in and out over memory, and start to end on empty input. Each is the best of
+# several rounds, since whatever else the machine does only makes a round slower; on a busy machine the processor's
+# time tells more. Wanted: at least 150,000 lines a second, under 5 ms, under 8 MiB of resident memory.
+# Use: speed.sh PROGRAM [ROUNDS]
+set -eu
+program=$1
+rounds=${2:-5}
+lines=300000
+starts=50
+here=$(mktemp -d)
+trap 'rm -rf "$here"' EXIT
+
+# The time in microseconds.
+now() {
+    echo $(($(date +%s%N) / 1000))
+}
+
+# Writes all lines into the program, and waits for its end. Sets $took, $memory, and $ticks of the processor.
+answer_lines() {
+    mkfifo "$here/in"
+    "$program" run --memory < "$here/in" > "$here/replies" &
+    pid=$!
+    exec 3> "$here/in"
+    began=$(now)
+    cat "$here/lines" >&3
+    # what is left now is in the pipe and the program's buffer
+    memory=$(awk '$1 == "VmHWM:" { print $2 }' "/proc/$pid/status")
+    ticks=$(awk '{ print $14 + $15 }' "/proc/$pid/stat")
+    exec 3>&-
+    wait "$pid"
+    took=$(($(now) - began))
+    rm "$here/in"
+    [ "$(wc -l < "$here/replies")" -eq "$lines" ]
+}
+
+# Starts the program on empty input, one after the other. Sets $took.
+start_and_end() {
+    began=$(now)
+    for _ in $(seq "$starts"); do
+        "$program" run --memory < /dev/null > /dev/null
+    done
+    took=$((($(now) - began) / starts))
+}
+
+yes '{"op":"list"}' | head -n "$lines" > "$here/lines"
+rate=0
+start=1000000
+greatest=0
+spent=1000000
+for _ in $(seq "$rounds"); do
+    answer_lines
+    found=$((lines * 1000000 / took))
+    [ "$found" -le "$rate" ] || rate=$found
+    [ "$memory" -le "$greatest" ] || greatest=$memory
+    [ "$ticks" -ge "$spent" ] || spent=$ticks
+    start_and_end
+    [ "$took" -ge "$start" ] || start=$took
+done
+
+echo "list lines a second: $rate (at least 150000 wanted)"
+echo "processor time of $lines lines: $((spent * 1000 / $(getconf CLK_TCK))) milliseconds"
+echo "start to end on empty input: $start microseconds (under 5000 wanted)"
+echo "resident memory: at most $greatest KiB (under 8192 wanted)"
+[ "$rate" -ge 150000 ] && [ "$start" -lt 5000 ] && [ "$greatest" -lt 8192 ]
