@@ -1,6 +1,6 @@
 -- Requests.
 use Rattle.std.proofs.Common.{◌≡◌}
-use Rattle.ocf_types.specs.Kinds.{Command, Request}
+use Rattle.ocf_types.specs.Kinds.{Command}
 use Rattle.ocf_types.specs.declared.command.RequestOf.TheVariants as asked
 
 -- a request that is two commands is one

@@ -3,6 +3,7 @@ use Rattle.std.specs.Prelude.{◌≡◌, ℕ, Bool, true}
 use Rattle.ocf_types.specs.State.{State}
 use Rattle.disk_model.specs.View.{View}
 use Rattle.exec_journal.specs.Journal.{Settled, journal_disk, journal_tail}
+use Rattle.exec_journal.specs.Room.{HasRoom}
 use Rattle.exec_state.specs.Store.{Monitors}
 use Rattle.executor.specs.declared.executor.Executor.{Executor}
 
@@ -27,5 +28,9 @@ abbrev pub tail_of : {D M : Type 0} → Executor D M → ℕ
 tail_of e = journal_tail e.journal
 
 -- while it is open, its journal is settled at its state
+abbrev pub IsOnJournal : {D M : Type 0} → Executor D M → View → Type 0
+IsOnJournal e v = e.open ≡ true → Settled e.journal v e.state.state
+
+-- while it is open, its journal is settled at its state, and has room for the results of what runs and for a boot
 abbrev pub IsSound : {D M : Type 0} → Executor D M → View → Type 0
-IsSound e v = e.open ≡ true → Settled e.journal v e.state.state
+IsSound e v = e.open ≡ true → Settled e.journal v e.state.state × HasRoom (tail_of e) e.state.state

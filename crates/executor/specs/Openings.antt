@@ -1,12 +1,13 @@
 -- What an opening makes of what it finds, and what it leaves.
-use Rattle.std.specs.Prelude.{◌≡◌, ◌⊎◌, ℕ, List}
+use Rattle.std.specs.Prelude.{◌≡◌, ◌⊎◌, ℕ, ◌+◌, ◌<◌, List, IsTrue}
 use Rattle.ocf_types.specs.Answer.{moment}
-use Rattle.ocf_types.specs.Boot.{boot}
+use Rattle.ocf_types.specs.Boot.{any_busy, boot}
 use Rattle.ocf_types.specs.State.{State}
+use Rattle.ocf_types.specs.declared.part.Part.{Part}
 use Rattle.ocf_types.specs.declared.reply.Notice.{Notice}
-use Rattle.disk_model.specs.Image.{Image}
+use Rattle.disk_model.specs.Image.{Image, part_limit}
 use Rattle.disk_model.specs.View.{View}
-use Rattle.exec_journal.specs.Found.{FoundAs}
+use Rattle.exec_journal.specs.Found.{FoundAs, StandsAt}
 use Rattle.exec_journal.specs.Opening.{OpensLike}
 use Rattle.exec_journal.specs.declared.fault.JournalFault.{JournalFault}
 use Rattle.exec_journal.specs.declared.fault.JournalFault.TheVariants as journal
@@ -36,6 +37,16 @@ BootsFrom s now c = FoundAs s c ⊎ FoundAs (booted s now) c
 -- a stop might have left the pair before the opening, or it is found as the parts read at its start, or as the boot of that
 abbrev pub StartsLike : View → ℕ → Image → Type 0
 StartsLike old now c = OpensLike old c ⊎ ((s : State) × FoundAs s old.reads × BootsFrom s now c)
+
+-- on these parts something is queued or running, and behind the last record is too little room for a boot, of 14 bytes,
+-- and the gate behind it
+pub record LacksRoom (c : Image) : Type 0 where
+  pub part : Part
+  pub at : ℕ
+  pub state : State
+  pub stands : StandsAt part at state c
+  pub busy : IsTrue (any_busy state)
+  pub short : part_limit < at + 15
 
 -- why the journal was not opened, as the executor tells it
 abbrev pub told_fault : JournalFault → OpenError

@@ -1,11 +1,10 @@
 -- What an open executor replies to a command.
-use Rattle.std.specs.Prelude.{◌≡◌, ◌⊎◌, ℕ, List, [], ◌∷◌, Result, Ok, Err}
+use Rattle.std.specs.Prelude.{◌≡◌, ◌⊎◌, List, [], ◌∷◌}
 use Rattle.ocf_types.specs.Kinds.{Change, Event, Reply}
 use Rattle.ocf_types.specs.Actions.{action_of}
 use Rattle.ocf_types.specs.declared.action.Action.TheVariants.{Monitor}
 use Rattle.ocf_types.specs.declared.event.Change.TheVariants as change
 use Rattle.ocf_types.specs.declared.event.Step.TheVariants as step
-use Rattle.ocf_types.specs.declared.refusal.Refusal.{Refusal}
 use Rattle.ocf_types.specs.declared.refusal.Refusal.TheVariants.{JournalFull, Memory, Disk}
 use Rattle.ocf_types.specs.declared.reply.ReplyOf.TheVariants.{Refused, Done, Accepted}
 use Rattle.ocf_env.specs.Keys.{key_text}

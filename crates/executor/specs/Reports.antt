@@ -3,7 +3,6 @@ use Rattle.std.specs.Prelude.{ℕ, List, map, option_to_list}
 use Rattle.std.specs.List.{flat_map}
 use Rattle.ocf_types.specs.Resource.{Resource, dropped_of, ended_of}
 use Rattle.ocf_types.specs.State.{State}
-use Rattle.ocf_types.specs.declared.operation.Ended.{Ended}
 use Rattle.ocf_types.specs.declared.operation.Op.{Op}
 use Rattle.ocf_types.specs.declared.operation.Running.{Running}
 use Rattle.ocf_types.specs.declared.outcome.Outcome.TheVariants.{Interrupted}
