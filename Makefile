@@ -18,7 +18,7 @@ check:
 
 # The rate of each benchmark. The first call proves the program; `crates/bench/out/bench NAME ROUNDS` runs it again.
 bench:
-	cd crates/bench && rt run -- appends 20 && rt run -- events 20 && rt run -- state-reads 20 && rt run -- state-writes 20 && rt run -- triples 20
+	cd crates/bench && rt run -- appends 20 && rt run -- events 20 && rt run -- state-reads 20 && rt run -- state-writes 20 && rt run -- triples 20 && rt run -- openings 1
 
 # Proves and builds the program, and installs it.
 install:

@@ -1,12 +1,15 @@
 //! Benchmarks. Without arguments one round of each is run, and nothing is printed; with a name and a number of rounds
 //! the rate is printed. `appends` counts slots, `events` counts events that are read and written, `state-reads` and
-//! `state-writes` count bytes, `triples` counts actions that are accepted, begun and ended.
+//! `state-writes` count bytes, `triples` counts actions that are accepted, begun and ended, and `openings` counts the bytes of a full part
+//! that a journal is opened on.
 #![tactic(auto)]
 
+mod openings;
 mod slots;
 mod spellings;
 mod triples;
 
+use crate::openings::{full_part, openings};
 use crate::slots::appends;
 use crate::spellings::{events, largest_state, read_state, write_state};
 use crate::triples::triples;
@@ -18,17 +21,19 @@ use std::env;
 use std::rt::{Clock, Env};
 use std::time::Instant;
 
-// The largest state, and its spelling.
+// The largest state, its spelling, and a part that is full of records.
 #[derive(Drop)]
 struct Largest {
     bytes: Vec<u8>,
     state: StateParts,
+    part: Vec<u8>,
 }
 
 fn make_largest(alloc: Global) -> Result<Largest> {
     let bytes = largest_state(alloc)?;
     let state = decode_state(alloc, bytes.as_slice())?.context("the bytes are no state")?;
-    Ok(Largest { bytes, state })
+    let part = full_part(alloc)?;
+    Ok(Largest { bytes, state, part })
 }
 
 // Runs one round of a benchmark, and counts its steps.
@@ -39,6 +44,7 @@ fn round(alloc: Global, largest: &Largest, name: &str) -> Result<u64> {
         "state-reads" => read_state(alloc, largest.bytes.as_slice())?,
         "state-writes" => write_state(alloc, &largest.state)?,
         "triples" => triples(alloc)?,
+        "openings" => openings(alloc, largest.part.as_slice())?,
         _ => bail!("no benchmark is called {name}"),
     };
     Ok(steps)
@@ -70,6 +76,7 @@ fn run(rt: &(impl Alloc + Clock + Print + Env), alloc: Global) -> Result<()> {
                 "state-reads",
                 "state-writes",
                 "triples",
+                "openings",
             ] {
                 round(alloc, &largest, name)?;
             }
