@@ -51,7 +51,7 @@ fn with_options<'a>(alloc: Global, command: Command<'a>) -> Result<Command<'a>, 
         alloc,
         "journal",
         "DIR",
-        "Keep the journal in this folder, in the files part-a and part-b, made where missing",
+        "Keep the journal in the files part-a and part-b of this folder. Not supported yet: it ends with status 2",
     ))?;
     let command = command.arg(flag(
         alloc,
@@ -108,7 +108,7 @@ fn run<'a>(alloc: Global) -> Command<'a>
         alloc,
         "run",
         "Reads commands from standard input, a JSON object a line, and writes a reply line to each",
-        "Give just one of --journal and --memory.\n\nExample:\n  ocfexec run --journal /var/lib/ocfexec < commands.jsonl",
+        "Give just one of --journal and --memory. No agent is started yet: an exec is recorded and queued.\n\nExample:\n  echo '{\"op\":\"list\"}' | ocfexec run --memory",
     )
 }
 
@@ -120,7 +120,7 @@ fn show<'a>(alloc: Global) -> Command<'a>
         alloc,
         "show",
         "Prints what a journal holds, as JSON lines: its resources, and each one's state and history",
-        "Give just one of --journal and --memory.\n\nExample:\n  ocfexec show --journal /var/lib/ocfexec",
+        "Give just one of --journal and --memory.\n\nExample:\n  ocfexec show --memory",
     )
 }
 

@@ -67,7 +67,7 @@ fn the_help_of_run_says_what_each_option_is(rt: HostRuntime) -> Result<(), Fail>
         &[
             "just one of --journal and --memory",
             "Example:",
-            "ocfexec run --journal",
+            "ocfexec run --memory",
         ],
     );
     Ok(())
@@ -77,7 +77,7 @@ fn the_help_of_run_says_what_each_option_is(rt: HostRuntime) -> Result<(), Fail>
 fn the_help_of_show_has_an_example(rt: HostRuntime) -> Result<(), Fail> {
     let (status, text) = shown(rt.alloc(), &["show", "--help"])?;
     assert_eq!(rt; status, 0);
-    has_all(&rt, text.as_str(), &["Example:", "ocfexec show --journal"]);
+    has_all(&rt, text.as_str(), &["Example:", "ocfexec show --memory"]);
     Ok(())
 }
 
