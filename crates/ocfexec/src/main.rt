@@ -1,6 +1,7 @@
 //! A local executor of OCF resource agents: reads commands, a JSON object a line, and answers each.
 #![tactic(auto)]
 
+mod output;
 mod session;
 mod show;
 mod start;

@@ -1,37 +1,84 @@
 //! Command lines answered one by one.
-ghost use Rattle.executor.specs.Executors.{IsSound, disk_of};
+ghost use Rattle.std.specs.Prelude.{◌≡◌, true, IfOk, OnOk};
+ghost use Rattle.executor.specs.Executors.{IsSound, disk_of, is_open};
+ghost use Rattle.ocfexec.specs.Answers.{IsOpenReply, IsReply, closed_reply, no_metadata, refused};
+ghost use Rattle.ocfexec.specs.Steps.{ReadsInput, Takes};
+ghost use Rattle.ocfexec.specs.Runs.{EndsAs, ReachesEnd};
 
+use crate::output::{Stopped, send_reply, send_report};
 use crate::status::Status;
 use disk_model::Disk;
-use exec_commands::{Line, LineReply, MetaEnd, read_command, write_notice, write_reply};
-use exec_lines::{LineBuffer, Next, moment_now, next_line, write_flushed};
+use exec_commands::{Line, LineReply, MetaEnd, read_command};
+use exec_lines::{LineBuffer, Next, moment_now, next_line};
 use executor::{Executor, Report};
-use ocf_types::{NUM_MAX, Notice, Refusal, Reply, StartFault};
-use std::alloc::{AllocError, Global};
-use std::io::{self, BufRead, Write};
+use ocf_types::{NUM_MAX, Refusal, Reply, StartFault};
+use std::alloc::Global;
+use std::io::{BufRead, Write};
 use std::rt::Clock;
 
-// Why a run stops before its input ends: standard input or output failed, or a reply found no memory.
+// What stands next in the input.
 #[derive(Drop)]
-struct Stopped;
-
-impl From<io::Error> for Stopped {
-    fn from(_: io::Error) -> Stopped {
-        Stopped
-    }
+enum Input {
+    // A line of no bytes.
+    Empty,
+    // A line, read.
+    Line(Result<Line, Refusal>),
+    // Nothing.
+    End,
 }
 
-impl From<AllocError> for Stopped {
-    fn from(_: AllocError) -> Stopped {
-        Stopped
-    }
+// What was done with what stands next in the input.
+#[derive(Clone, Copy, Debug, PartialEq, Eq)]
+enum Step {
+    Answered,
+    PassedOver,
+    End,
 }
 
-fn refused(refusal: Refusal) -> LineReply {
+fn refused(refusal: Refusal) -> LineReply
+    ensures { result ≡ refused refusal }
+{
     LineReply::Request(Reply::Refused(refusal))
 }
 
-// What a line is answered. Until the executor starts agents, a drain is no known operation, and there are no metadata.
+// Until agents are started there are no metadata.
+fn no_metadata() -> LineReply
+    ensures { result ≡ no_metadata }
+{
+    LineReply::Meta(MetaEnd::NotStarted(StartFault::Missing))
+}
+
+// What a line is answered once a disk fault has closed the executor.
+fn closed_reply(line: Result<Line, Refusal>) -> LineReply
+    ensures { result ≡ closed_reply line }
+{
+    match line {
+        Ok(Line::Meta { .. }) => no_metadata(),
+        _ => refused(Refusal::Closed),
+    }
+}
+
+// What a line is answered. Until the executor starts agents, a drain is no known operation.
+fn open_reply<D: Disk + Drop>(
+    executor: &mut Executor<D>,
+    clock: &impl Clock,
+    line: Result<Line, Refusal>,
+) -> LineReply
+    requires open { is_open executor.old ≡ true }
+    requires sound { IsSound executor.old (D.view (disk_of executor.old)) }
+    ensures sound { IsSound executor.new (D.view (disk_of executor.new)) }
+    ensures reply { IsOpenReply D.view executor.old executor.new line result }
+{
+    match line {
+        Ok(Line::Request(request)) => {
+            LineReply::Request(executor.command(moment_now(clock).get(), request))
+        }
+        Ok(Line::Drain(_)) => refused(Refusal::UnknownOp),
+        Ok(Line::Meta { .. }) => no_metadata(),
+        Err(refusal) => refused(refusal),
+    }
+}
+
 fn reply_to<D: Disk + Drop>(
     executor: &mut Executor<D>,
     clock: &impl Clock,
@@ -39,19 +86,36 @@ fn reply_to<D: Disk + Drop>(
 ) -> LineReply
     requires sound { IsSound executor.old (D.view (disk_of executor.old)) }
     ensures sound { IsSound executor.new (D.view (disk_of executor.new)) }
+    ensures reply { IsReply D.view executor.old executor.new line result }
 {
-    match line {
-        Ok(Line::Meta { .. }) => LineReply::Meta(MetaEnd::NotStarted(StartFault::Missing)),
-        _ if !executor.is_open() => refused(Refusal::Closed),
-        Ok(Line::Request(request)) => {
-            LineReply::Request(executor.command(moment_now(clock).get(), request))
-        }
-        Ok(Line::Drain(_)) => refused(Refusal::UnknownOp),
-        Err(refusal) => refused(refusal),
+    if executor.is_open() {
+        open_reply(executor, clock, line)
+    } else {
+        closed_reply(line)
     }
 }
 
-// Answers the next line; false at the end of the input. A line of no bytes is passed over.
+// Reads the next line.
+fn read_input<R: BufRead>(
+    alloc: Global,
+    reader: &mut R,
+    buffer: &mut LineBuffer,
+) -> Result<Input, Stopped>
+    ensures { IfOk result (λ i. ReadsInput (R.remaining reader.old) (R.remaining reader.new) i) }
+{
+    match next_line(reader, buffer)? {
+        Next::End => Ok(Input::End),
+        Next::TooLong => Ok(Input::Line(Err(Refusal::Syntax))),
+        Next::Line => {
+            if buffer.line().is_empty() {
+                return Ok(Input::Empty);
+            }
+            Ok(Input::Line(read_command(alloc, buffer.line())))
+        }
+    }
+}
+
+// Answers the next line. One of no bytes is passed over.
 fn next_reply<R: BufRead, W: Write, D: Disk + Drop>(
     alloc: Global,
     reader: &mut R,
@@ -59,41 +123,21 @@ fn next_reply<R: BufRead, W: Write, D: Disk + Drop>(
     executor: &mut Executor<D>,
     clock: &impl Clock,
     buffer: &mut LineBuffer,
-) -> Result<bool, Stopped>
+) -> Result<Step, Stopped>
     requires sound { IsSound executor.old (D.view (disk_of executor.old)) }
     ensures sound { IsSound executor.new (D.view (disk_of executor.new)) }
+    ensures step { IfOk result (λ s. Takes D.view s
+        (record { executor = executor.old; left = R.remaining reader.old; written = W.contents writer.old })
+        (record { executor = executor.new; left = R.remaining reader.new; written = W.contents writer.new })) }
 {
-    let line = match next_line(reader, buffer)? {
-        Next::End => return Ok(false),
-        Next::TooLong => Err(Refusal::Syntax),
-        Next::Line => {
-            if buffer.line().is_empty() {
-                return Ok(true);
-            }
-            read_command(alloc, buffer.line())
-        }
+    let line = match read_input(alloc, reader, buffer)? {
+        Input::End => return Ok(Step::End),
+        Input::Empty => return Ok(Step::PassedOver),
+        Input::Line(line) => line,
     };
     let reply = reply_to(executor, clock, line);
-    let bytes = write_reply(alloc, &reply)?;
-    write_flushed(writer, bytes.as_slice())?;
-    Ok(true)
-}
-
-fn write_notices<W: Write>(
-    alloc: Global,
-    writer: &mut W,
-    notices: &[Notice],
-) -> Result<(), Stopped> {
-    for notice in notices {
-        let bytes = write_notice(alloc, notice)?;
-        write_flushed(writer, bytes.as_slice())?;
-    }
-    Ok(())
-}
-
-fn write_report<W: Write>(alloc: Global, writer: &mut W, report: &Report) -> Result<(), Stopped> {
-    write_notices(alloc, writer, report.interrupted.as_slice())?;
-    write_notices(alloc, writer, report.dropped.as_slice())
+    send_reply(alloc, writer, &reply)?;
+    Ok(Step::Answered)
 }
 
 // Answers line after line, up to the end of the input.
@@ -106,9 +150,13 @@ fn answer_all<R: BufRead, W: Write, D: Disk + Drop>(
     buffer: &mut LineBuffer,
 ) -> Result<(), Stopped>
     requires sound { IsSound executor.old (D.view (disk_of executor.old)) }
+    ensures lines { OnOk result (ReachesEnd D.view
+        (record { executor = executor.old; left = R.remaining reader.old; written = W.contents writer.old })
+        (record { executor = executor.new; left = R.remaining reader.new; written = W.contents writer.new })) }
 {
     for _ in 0..NUM_MAX {
-        if !next_reply(alloc, reader, writer, executor, clock, buffer)? {
+        let step = next_reply(alloc, reader, writer, executor, clock, buffer)?;
+        if step == Step::End {
             return Ok(());
         }
     }
@@ -126,11 +174,14 @@ pub fn run_lines<R: BufRead, W: Write, D: Disk + Drop>(
     clock: &impl Clock,
 ) -> Status
     requires sound { IsSound executor (D.view (disk_of executor)) }
+    ensures { EndsAs D.view report.now
+        (record { executor = executor; left = R.remaining reader.old; written = W.contents writer.old })
+        (R.remaining reader.new) (W.contents writer.new) result }
 {
     let Ok(mut buffer) = LineBuffer::new(alloc) else {
         return Status::Memory;
     };
-    if write_report(alloc, writer, report).is_err() {
+    if send_report(alloc, writer, report).is_err() {
         return Status::InputOrOutput;
     }
     if answer_all(alloc, reader, writer, &mut executor, clock, &mut buffer).is_err() {

@@ -1,40 +1,77 @@
 //! What a journal holds.
+ghost use Rattle.std.specs.Prelude.{OnOk};
+ghost use Rattle.std.specs.Io.KnownBytes.{Appends};
+ghost use Rattle.std.specs.List.{flat_map};
+ghost use Rattle.ocfexec.specs.Shown.{ShowsAs, answer_line, resource_lines, shown};
+
+use crate::output::{Stopped, send_reply};
 use crate::status::Status;
 use disk_model::Disk;
-use exec_commands::{LineReply, write_reply};
+use exec_commands::LineReply;
 use exec_journal::{Journal, JournalFault};
-use exec_lines::write_flushed;
 use exec_state::State;
-use ocf_types::{Question, Reply};
+use ocf_types::{Question, Reply, RscId};
 use std::alloc::Global;
-use std::io::{self, Write};
+use std::io::Write;
 
+// Answers a question; it stops where memory is refused.
 fn write_answer<W: Write>(
     alloc: Global,
     writer: &mut W,
     state: &State,
     question: &Question,
-) -> io::Result<()> {
-    let reply = LineReply::Request(state.answer(alloc, question));
-    let bytes = write_reply(alloc, &reply)?;
-    write_flushed(writer, bytes.as_slice())
+) -> Result<(), Stopped>
+    ensures { OnOk result (Appends (W.contents writer.old) (W.contents writer.new) (answer_line state.now.state question.now)) }
+{
+    match state.answer(alloc, question) {
+        Reply::Refused(_) => Err(Stopped),
+        reply => send_reply(alloc, writer, &LineReply::Request(reply)),
+    }
 }
 
-// The reply of `list`, and then of each resource those of `info` and `history`.
-fn write_state<W: Write>(alloc: Global, writer: &mut W, state: &State) -> io::Result<()> {
-    write_answer(alloc, writer, state, &Question::List)?;
-    if let Reply::List(ids) = state.answer(alloc, &Question::List) {
-        for id in ids.as_slice() {
-            write_answer(alloc, writer, state, &Question::Info(id.copied()))?;
-            write_answer(alloc, writer, state, &Question::History(id.copied()))?;
-        }
+fn write_resource<W: Write>(
+    alloc: Global,
+    writer: &mut W,
+    state: &State,
+    id: &RscId,
+) -> Result<(), Stopped>
+    ensures { OnOk result (Appends (W.contents writer.old) (W.contents writer.new) (resource_lines state.now.state id.now)) }
+{
+    write_answer(alloc, writer, state, &Question::Info(id.copied()))?;
+    write_answer(alloc, writer, state, &Question::History(id.copied()))
+}
+
+fn write_resources<W: Write>(
+    alloc: Global,
+    writer: &mut W,
+    state: &State,
+    ids: &[RscId],
+) -> Result<(), Stopped>
+    ensures { OnOk result (Appends (W.contents writer.old) (W.contents writer.new) (flat_map (resource_lines state.now.state) ids.now)) }
+{
+    for id in ids {
+        write_resource(alloc, writer, state, id)?;
     }
     Ok(())
 }
 
+// The reply of `list`, and then of each resource those of `info` and `history`.
+fn write_state<W: Write>(alloc: Global, writer: &mut W, state: &State) -> Result<(), Stopped>
+    ensures { OnOk result (Appends (W.contents writer.old) (W.contents writer.new) (shown state.now.state)) }
+{
+    let reply = LineReply::Request(state.answer(alloc, &Question::List));
+    let LineReply::Request(Reply::List(ids)) = &reply else {
+        return Err(Stopped);
+    };
+    send_reply(alloc, writer, &reply)?;
+    write_resources(alloc, writer, state, ids.as_slice())
+}
+
 /// Opens a journal without a boot and prints what it holds: the reply of `list`, and then of each resource those of `info`
-/// and `history`.
-pub fn show<D: Disk + Drop, W: Write>(alloc: Global, disk: D, writer: &mut W) -> Status {
+/// and `history`. It is all printed, or the status is 7.
+pub fn show<D: Disk + Drop, W: Write>(alloc: Global, disk: D, writer: &mut W) -> Status
+    ensures { (D.view disk).honest → ShowsAs (D.view disk).reads (W.contents writer.old) (W.contents writer.new) result }
+{
     match Journal::open(alloc, disk) {
         Ok((_, state)) => match write_state(alloc, writer, &state) {
             Ok(()) => Status::Done,

@@ -1,4 +1,6 @@
 //! What the program ends with.
+ghost use Rattle.std.specs.Prelude.{◌≡◌};
+ghost use Rattle.ocfexec.specs.Statuses.{status_code};
 
 /// How a run ended.
 #[derive(Clone, Copy, Debug, PartialEq, Eq)]
@@ -21,7 +23,9 @@ pub enum Status {
 
 impl Status {
     /// The process's exit status.
-    pub fn code(self) -> u8 {
+    pub fn code(self) -> u8
+        ensures { result ≡ status_code self }
+    {
         match self {
             Status::Done => 0,
             Status::Usage | Status::NoJournal | Status::NotText => 2,

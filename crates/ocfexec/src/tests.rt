@@ -4,6 +4,7 @@ mod journal;
 mod lines;
 mod opening;
 mod shown;
+mod statuses;
 
 use crate::session::run_lines;
 use crate::status::Status;

@@ -5,7 +5,7 @@ use crate::status::Status;
 use disk_model::{Disk, MemDisk};
 use executor::Executor;
 use std::alloc::Global;
-use std::io::{self, BufReader, ErrorKind, Read};
+use std::io::{self, BufReader, ErrorKind, Read, Write};
 use std::rt::Clock;
 use std::test::Fail;
 
@@ -109,6 +109,39 @@ fn a_writer_that_fails_ends_the_run(rt: HostRuntime) -> Result<(), Fail> {
             Status::InputOrOutput
         );
     }
+    Ok(())
+}
+
+/// Takes everything, and marks each flush by a `|`.
+#[derive(Drop)]
+struct Marked {
+    bytes: Vec<u8>,
+}
+
+impl Write for Marked {
+    fn write(&mut self, buf: &[u8]) -> io::Result<usize> {
+        self.bytes.extend_from_slice(buf)?;
+        Ok(buf.len())
+    }
+
+    fn flush(&mut self) -> io::Result<()> {
+        self.bytes.push(b'|')?;
+        Ok(())
+    }
+}
+
+#[test]
+fn each_reply_is_flushed(rt: HostRuntime) -> Result<(), Fail> {
+    let bytes = Vec::new(rt.alloc());
+    let mut writer = Marked { bytes };
+    let mut reader = b"{\"op\":\"tidy\"}\n\n{\"op\":\"list\"}\n".as_slice();
+    let disk = MemDisk::new(rt.alloc());
+    let status = status_over(&rt, rt.alloc(), disk, &mut reader, &mut writer)?;
+    assert_eq!(rt; status, Status::Done);
+    assert_eq!(rt;
+        writer.bytes.as_slice(),
+        b"{\"error\":\"unknown-op\",\"number\":2}\n|{\"ok\":true,\"resources\":[]}\n|".as_slice()
+    );
     Ok(())
 }
 

@@ -28,6 +28,36 @@ fn a_resource_is_registered_and_listed(rt: HostRuntime) -> Result<(), Fail> {
 }
 
 #[test]
+fn lines_are_refused_on_an_empty_registry(rt: HostRuntime) -> Result<(), Fail> {
+    answers(
+        &rt,
+        rt.alloc(),
+        b"nope\n{\"op\":\"fly\"}\n{\"op\":\"exec\",\"id\":\"r 1\",\"action\":\"fly\"}\n{\"op\":\"exec\",\"id\":\"r1\",\"action\":\"fly\"}\n{\"op\":\"exec\",\"id\":\"r1\",\"action\":\"start\",\"timeout\":0}\n{\"op\":\"exec\",\"id\":\"r1\"}\n{\"op\":\"exec\",\"id\":\"zz\",\"action\":\"start\"}\n",
+        b"{\"error\":\"syntax\",\"number\":1}\n{\"error\":\"unknown-op\",\"number\":2}\n{\"error\":\"bad-name\",\"number\":3}\n{\"error\":\"bad-value\",\"number\":4}\n{\"error\":\"bad-value\",\"number\":4}\n{\"error\":\"syntax\",\"number\":1}\n{\"error\":\"unknown-resource\",\"number\":5}\n",
+    )
+}
+
+#[test]
+fn operations_are_accepted(rt: HostRuntime) -> Result<(), Fail> {
+    answers(
+        &rt,
+        rt.alloc(),
+        b"{\"op\":\"register\",\"id\":\"r1\",\"provider\":\"pacemaker\",\"type\":\"Dummy\"}\n{\"op\":\"exec\",\"id\":\"r1\",\"action\":\"start\"}\n{\"op\":\"recur\",\"id\":\"r1\",\"interval\":10000}\n{\"op\":\"info\",\"id\":\"r1\"}\n",
+        b"{\"ok\":true}\n{\"call\":1,\"key\":\"r1_start_0\",\"ok\":true}\n{\"call\":2,\"key\":\"r1_monitor_10000\",\"ok\":true}\n{\"id\":\"r1\",\"ok\":true,\"params\":{},\"provider\":\"pacemaker\",\"queued\":[1],\"recurring\":[{\"call\":2,\"interval\":10000,\"level\":0,\"timeout\":20000}],\"running\":null,\"type\":\"Dummy\"}\n",
+    )
+}
+
+#[test]
+fn changes_are_done(rt: HostRuntime) -> Result<(), Fail> {
+    answers(
+        &rt,
+        rt.alloc(),
+        b"{\"op\":\"register\",\"id\":\"r1\",\"provider\":\"p\",\"type\":\"t\"}\n{\"op\":\"params\",\"id\":\"r1\",\"params\":{\"a\":\"1\"}}\n{\"op\":\"recur\",\"id\":\"r1\",\"interval\":5}\n{\"op\":\"cancel\",\"id\":\"r1\",\"interval\":5}\n{\"op\":\"forget\",\"id\":\"r1\"}\n{\"op\":\"unregister\",\"id\":\"r1\"}\n{\"op\":\"history\",\"id\":\"r1\"}\n",
+        b"{\"ok\":true}\n{\"ok\":true}\n{\"call\":1,\"key\":\"r1_monitor_5\",\"ok\":true}\n{\"ok\":true}\n{\"ok\":true}\n{\"ok\":true}\n{\"error\":\"unknown-resource\",\"number\":5}\n",
+    )
+}
+
+#[test]
 fn an_empty_input_is_answered_nothing(rt: HostRuntime) -> Result<(), Fail> {
     answers(&rt, rt.alloc(), b"", b"")
 }

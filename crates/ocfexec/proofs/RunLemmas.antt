@@ -1,0 +1,33 @@
+-- A run that came to the end of its input.
+use Rattle.std.proofs.Common.{◌≡◌, ℕ, List, false, true≢false, Result, Ok, Err, is_err, OnOk, Option, subst}
+use Rattle.std.specs.Io.KnownBytes.{Appends}
+use Rattle.disk_model.specs.View.{View}
+use Rattle.executor.specs.declared.executor.Executor.{Executor}
+use Rattle.executor.specs.declared.report.Report.{Report}
+use Rattle.ocfexec.specs.Runs.{ReachesEnd, Runs, report_text}
+use Rattle.ocfexec.specs.Steps.{Place, Takes}
+use Rattle.ocfexec.specs.declared.session.Step.{Step}
+use Rattle.ocfexec.specs.declared.session.Step.TheVariants.{End}
+
+on_ok : {A E P : Type 0} (r : Result A E) → is_err r ≡ false → OnOk r P → P
+on_ok (Ok x) is_false p = p
+on_ok (Err e) is_false p = absurd (true≢false is_false)
+
+pub ended : {A B C F D M N : Type 0} (view : D → View) (report : Report N) (p q : Place (Executor D M)) (written : Option (List ℕ)) (sent : Result A B) (answered : Result C F)
+    → is_err sent ≡ false → is_err answered ≡ false
+    → OnOk sent (Appends p.written written (report_text report))
+    → OnOk answered (ReachesEnd view (record p { written = written }) q)
+    → Runs view report p q
+ended view report p q written sent answered went went' first lines = record {
+  reported = written;
+  report_first = on_ok sent went first;
+  lines = on_ok answered went' lines;
+}
+
+-- a place in a run
+abbrev pub place : {E : Type 0} → E → Option (List ℕ) → Option (List ℕ) → Place E
+place e left written = record { executor = e; left = left; written = written }
+
+-- the last step
+pub at_end : {D M : Type 0} (view : D → View) (p q : Place (Executor D M)) (s : Step) → s ≡ End → Takes view s p q → Takes view End p q
+at_end view p q s is step = subst (λ x. Takes view x p q) is step

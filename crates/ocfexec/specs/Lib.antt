@@ -1,0 +1,5 @@
+pub mod Answers
+pub mod Steps
+pub mod Runs
+pub mod Shown
+pub mod Statuses
