@@ -1,0 +1,137 @@
+// Journals that are full, or nearly so.
+use crate::parts::{FIRST, FORGET, REGISTER, SET_PARAMS, START, disk_of, journal, push_record};
+use crate::session::Session;
+use crate::tools::{disk_with, id, opened};
+use disk_model::MemDisk;
+use executor::OpenError;
+use ocf_types::{CommandOf, ParamName, ParamValue, Params, Part, Refusal};
+use std::alloc::{AllocError, Global};
+use std::process::Abort;
+use std::test::Fail;
+
+// The length of a record of 2,730 events, and of one with a parameter of 1,024 bytes.
+const ROW_LEN: usize = 32_765;
+
+const LONG_LEN: usize = 1_046;
+
+// The length of a record with a parameter of no byte.
+const SHORT_LEN: usize = 22;
+
+// Pushes a record of that length, which sets a parameter.
+fn push_params(part: &mut Vec<u8>, alloc: Global, len: usize) -> Result<(), AllocError> {
+    let value = len.saturating_sub(SHORT_LEN).min(1_024);
+    let mut body = SET_PARAMS.to_vec(alloc)?;
+    body.extend_from_slice(b"\x01\x01a")?;
+    body.extend_from_slice(&(value as u16).to_be_bytes())?;
+    for _ in 0..value {
+        body.push(b'v')?;
+    }
+    push_record(part, body.as_slice())
+}
+
+// Pushes records of many events each, as long as the gate behind them is well before the tail.
+fn push_rows(part: &mut Vec<u8>, alloc: Global, tail: usize) -> Result<(), AllocError> {
+    let mut row = Vec::new(alloc);
+    for _ in 0..2_730 {
+        row.extend_from_slice(FORGET)?;
+    }
+    let rows = tail.saturating_sub(part.len()) / ROW_LEN;
+    for _ in 1..rows {
+        push_record(part, row.as_slice())?;
+    }
+    Ok(())
+}
+
+// Pushes records until the last gate stands at the tail.
+fn push_rest(part: &mut Vec<u8>, alloc: Global, tail: usize) -> Result<(), AllocError> {
+    for _ in 0..80 {
+        let rest = tail.saturating_add(1).saturating_sub(part.len());
+        if rest == 0 {
+            return Ok(());
+        }
+        let len = if rest <= LONG_LEN {
+            rest
+        } else {
+            LONG_LEN.min(rest - SHORT_LEN)
+        };
+        push_params(part, alloc, len)?;
+    }
+    Ok(())
+}
+
+// Part A of a journal of r1, which has a start queued, whose last gate stands at the tail.
+fn filled(alloc: Global, tail: usize) -> Result<Vec<u8>, AllocError> {
+    let mut part = journal(alloc, &[REGISTER, START])?;
+    push_rows(&mut part, alloc, tail)?;
+    push_rest(&mut part, alloc, tail)?;
+    Ok(part)
+}
+
+#[test]
+fn a_boot_may_use_all_of_the_part(rt: HostRuntime) -> Result<(), Fail> {
+    let alloc = rt.alloc();
+    let part = filled(alloc, 8_388_593)?;
+    assert_eq!(rt; part.len(), 8_388_594);
+    match Session::open(alloc, disk_of(alloc, part)?, 0) {
+        Ok((session, report)) => {
+            assert_eq!(rt; report.dropped.len(), 1);
+            assert_eq!(rt; session.close().bytes(Part::A).len(), 8_388_608);
+        }
+        Err(_) => panic!(rt; "the boot fits"),
+    }
+    Ok(())
+}
+
+#[test]
+fn an_opening_whose_boot_does_not_fit_is_refused(rt: HostRuntime) -> Result<(), Fail> {
+    let alloc = rt.alloc();
+    let part = filled(alloc, 8_388_594)?;
+    let disk = MemDisk::from_parts(alloc, part.to_vec(alloc)?, Vec::new(alloc))?;
+    let Err(fault) = Session::open(alloc, disk, 0) else {
+        panic!(rt; "the boot does not fit")
+    };
+    assert_eq!(rt; fault.why, OpenError::Full);
+    assert!(rt; fault.disk.bytes(Part::A) == part.as_slice());
+    assert_eq!(rt; fault.disk.bytes(Part::B), [].as_slice());
+    Ok(())
+}
+
+// 15 parameters of 1,024 bytes: they are set by a record of 15,438 bytes.
+fn large(alloc: Global) -> Result<Params, Fail> {
+    let mut params = Params::new(alloc);
+    for letter in b'a'..b'p' {
+        let name = ParamName::new(&[letter])?;
+        params.insert(name, ParamValue::new(alloc, &[b'v'; 1_024])?)?;
+    }
+    Ok(params)
+}
+
+// Sets these parameters of r1.
+fn set(session: &mut Session, params: &Params, alloc: Global) -> Result<Option<Refusal>, Fail> {
+    let (id, params) = (id("r1")?, params.copied(alloc)?);
+    Ok(session.submit(CommandOf::SetParams { id, params }))
+}
+
+#[test]
+fn a_journal_takes_541_large_parameter_lists_and_then_only_short_records(
+    rt: HostRuntime,
+) -> Result<(), Fail> {
+    let alloc = rt.alloc();
+    let params = large(alloc)?;
+    let mut session = opened(alloc, disk_with(alloc, FIRST, &[])?)?;
+    for count in 1..=541 {
+        assert_eq!(rt;
+            set(&mut session, &params, alloc)?,
+            None,
+            "the list {count}"
+        );
+    }
+    let refused = set(&mut session, &params, alloc)?;
+    assert_eq!(rt; refused, Some(Refusal::JournalFull));
+    assert_eq!(rt; Refusal::JournalFull.number(), 14);
+    assert_eq!(rt; session.submit(CommandOf::Forget(id("r1")?)), None);
+    let disk = session.close();
+    // the tail at 78, the lists, the forget, and the closed gate
+    assert_eq!(rt; disk.bytes(Part::A).len(), 78 + 541 * 15_438 + 17 + 1);
+    Ok(())
+}
