@@ -1,5 +1,5 @@
 // Journals that are full, or nearly so.
-use crate::parts::{FIRST, FORGET, REGISTER, SET_PARAMS, START, disk_of, journal, push_record};
+use crate::parts::{FIRST, REGISTER, SET_PARAMS, START, disk_of, journal, push_record};
 use crate::session::Session;
 use crate::tools::{disk_with, id, opened};
 use disk_model::MemDisk;
@@ -9,31 +9,37 @@ use std::alloc::{AllocError, Global};
 use std::process::Abort;
 use std::test::Fail;
 
-// The length of a record of 2,730 events, and of one with a parameter of 1,024 bytes.
-const ROW_LEN: usize = 32_765;
+// The length of a record that sets 15 parameters of 1,024 bytes, of one with one such parameter, and of one with a
+// parameter of no byte.
+const ROW_LEN: usize = 15_438;
 
 const LONG_LEN: usize = 1_046;
 
-// The length of a record with a parameter of no byte.
 const SHORT_LEN: usize = 22;
+
+// Pushes a spelled parameter with a value of that length, of at most 1,024 bytes.
+fn push_param(body: &mut Vec<u8>, name: u8, len: usize) -> Result<(), AllocError> {
+    let value = [b'v'; 1_024];
+    body.extend_from_slice(&[1, name])?;
+    body.extend_from_slice(&(len.min(1_024) as u16).to_be_bytes())?;
+    body.extend_from_slice(value.get(..len).unwrap_or(&value))?;
+    Ok(())
+}
 
 // Pushes a record of that length, which sets a parameter.
 fn push_params(part: &mut Vec<u8>, alloc: Global, len: usize) -> Result<(), AllocError> {
-    let value = len.saturating_sub(SHORT_LEN).min(1_024);
     let mut body = SET_PARAMS.to_vec(alloc)?;
-    body.extend_from_slice(b"\x01\x01a")?;
-    body.extend_from_slice(&(value as u16).to_be_bytes())?;
-    for _ in 0..value {
-        body.push(b'v')?;
-    }
+    body.push(1)?;
+    push_param(&mut body, b'a', len.saturating_sub(SHORT_LEN))?;
     push_record(part, body.as_slice())
 }
 
-// Pushes records of many events each, as long as the gate behind them is well before the tail.
+// Pushes records of 15 parameters, as long as the gate behind them is well before the tail.
 fn push_rows(part: &mut Vec<u8>, alloc: Global, tail: usize) -> Result<(), AllocError> {
-    let mut row = Vec::new(alloc);
-    for _ in 0..2_730 {
-        row.extend_from_slice(FORGET)?;
+    let mut row = SET_PARAMS.to_vec(alloc)?;
+    row.push(15)?;
+    for name in b'a'..b'p' {
+        push_param(&mut row, name, 1_024)?;
     }
     let rows = tail.saturating_sub(part.len()) / ROW_LEN;
     for _ in 1..rows {

@@ -1,5 +1,5 @@
 // Executors in heaps that are too small for them.
-use crate::parts::{FIRST, busy_disk};
+use crate::parts::{CREATED, busy_disk};
 use crate::session::{Session, refusal};
 use crate::tools::{disk_lists, disk_with, register};
 use disk_model::MemDisk;
@@ -38,7 +38,7 @@ fn an_opening_that_finds_no_memory_writes_nothing(rt: HostRuntime) -> Result<(),
     Err("no heap was large enough")?
 }
 
-// How a registration of r2 in the first journal ended.
+// How a registration of r1 in a new journal ended.
 #[derive(Clone, Copy, Debug, PartialEq, Eq)]
 enum Reached {
     NotOpened,
@@ -46,29 +46,30 @@ enum Reached {
     Registered,
 }
 
-// Registers r2 in a heap of that size, and gives the disk.
+// Registers r1 in a heap of that size, and gives the disk.
 fn register_in(rt: &impl Abort, alloc: Global, size: usize) -> Result<(Reached, MemDisk), Fail> {
     let heap = LocalHeap::new(alloc, size)?;
-    let mut session = match Session::open(&heap, disk_with(alloc, FIRST, &[])?, 0) {
+    let mut session = match Session::open(&heap, disk_with(alloc, CREATED, &[])?, 0) {
         Ok((session, _)) => session,
         Err(fault) => return Ok((Reached::NotOpened, fault.disk)),
     };
-    let refused = refusal(&session.command(0, register(&heap, "r2")?));
+    let refused = refusal(&session.command(0, register(&heap, "r1")?));
     if refused.is_none() {
         return Ok((Reached::Registered, session.close()));
     }
     assert_eq!(rt; refused, Some(Refusal::Memory));
+    assert_eq!(rt; Refusal::Memory.number(), 15);
     assert!(rt; session.is_open());
     Ok((Reached::NotRegistered, session.close()))
 }
 
-// Whether the disk lists r2 just where it was registered.
+// Whether the disk lists r1 just where it was registered.
 fn is_as_said(rt: &impl Abort, alloc: Global, reached: Reached, disk: MemDisk) -> Result<(), Fail> {
     if reached == Reached::Registered {
-        return disk_lists(rt, alloc, disk, &["r1", "r2"]);
+        return disk_lists(rt, alloc, disk, &["r1"]);
     }
-    assert_eq!(rt; disk.bytes(Part::A), FIRST);
-    disk_lists(rt, alloc, disk, &["r1"])
+    assert_eq!(rt; disk.bytes(Part::A), CREATED);
+    disk_lists(rt, alloc, disk, &[])
 }
 
 #[test]

@@ -22,9 +22,6 @@ pub const MONITOR: &[u8] = b"\x04\0\0\0\0\0\0\0\0\x02r1\0\0\0\0\0\0\0\x02\x03\x0
 /// The call 1 of r1 began as run 1, at moment 10.
 pub const BEGIN: &[u8] = b"\x08\0\0\0\0\0\0\0\x0a\x02r1\0\0\0\0\0\0\0\x01\0\0\0\0\0\0\0\x01";
 
-/// The results of r1 were forgotten.
-pub const FORGET: &[u8] = b"\x07\0\0\0\0\0\0\0\0\x02r1";
-
 /// The parameters of r1 were replaced by those that follow.
 pub const SET_PARAMS: &[u8] = b"\x03\0\0\0\0\0\0\0\0\x02r1";
 
