@@ -1,10 +1,9 @@
 // Executors closed and opened again.
 use crate::parts::FIRST;
-use crate::session::Session;
-use crate::tools::{disk_with, id, lists, monitor, opened, register};
+use crate::tools::{ask, disk_with, id, lists, monitor, opened, register, submit};
 use disk_model::{Disk, MemDisk};
 use exec_journal::Journal;
-use ocf_types::{Question, ReplyOf};
+use ocf_types::{Question, Reply, ReplyOf};
 use std::alloc::Global;
 use std::process::Abort;
 use std::test::Fail;
@@ -12,8 +11,8 @@ use std::test::Fail;
 // How many device calls the opening of a journal makes.
 fn journal_calls(alloc: Global, disk: MemDisk) -> Result<u64, Fail> {
     match Journal::open(alloc, disk) {
-        Ok((journal, _)) => Ok(journal.clock()),
-        Err((fault, _)) => Err(fault)?,
+        Ok((journal, _state)) => Ok(journal.clock()),
+        Err((fault, _disk)) => Err(fault)?,
     }
 }
 
@@ -21,19 +20,17 @@ fn journal_calls(alloc: Global, disk: MemDisk) -> Result<u64, Fail> {
 fn closing_makes_no_device_call(rt: HostRuntime) -> Result<(), Fail> {
     let alloc = rt.alloc();
     let calls = journal_calls(alloc, disk_with(alloc, FIRST, &[])?)?;
-    let session = opened(alloc, disk_with(alloc, FIRST, &[])?)?;
-    assert_eq!(rt; session.close().clock(), calls);
-    let mut session = opened(alloc, disk_with(alloc, FIRST, &[])?)?;
-    assert_eq!(rt; session.submit(register(alloc, "r2")?), None);
-    assert_eq!(rt; session.close().clock(), calls.saturating_add(4));
+    let executor = opened(alloc, disk_with(alloc, FIRST, &[])?)?;
+    assert_eq!(rt; executor.close().clock(), calls);
+    let mut executor = opened(alloc, disk_with(alloc, FIRST, &[])?)?;
+    assert_eq!(rt; submit(&mut executor, register(alloc, "r2")?), None);
+    assert_eq!(rt; executor.close().clock(), calls.saturating_add(4));
     Ok(())
 }
 
-// Whether r1 and r2 are there, and r2 has a recurring monitor under the call 1.
-fn has_both(rt: &impl Abort, session: &mut Session) -> Result<(), Fail> {
-    lists(rt, session, &["r1", "r2"]);
-    let reply = session.ask(Question::Info(id("r2")?));
-    let ReplyOf::Info(info) = &reply else {
+// Whether this is the info of r2, with nothing but a recurring monitor under the call 1.
+fn has_monitor(rt: &impl Abort, reply: &Reply) {
+    let ReplyOf::Info(info) = reply else {
         panic!(rt; "an info was asked for")
     };
     assert_eq!(rt; info.id.as_bytes(), b"r2".as_slice());
@@ -45,16 +42,18 @@ fn has_both(rt: &impl Abort, session: &mut Session) -> Result<(), Fail> {
         assert_eq!(rt; recur.call.get(), 1);
         assert_eq!(rt; recur.interval.get(), 10_000);
     }
-    Ok(())
 }
 
 #[test]
 fn a_closed_executor_opened_again_answers_the_same(rt: HostRuntime) -> Result<(), Fail> {
     let alloc = rt.alloc();
-    let mut session = opened(alloc, disk_with(alloc, FIRST, &[])?)?;
-    assert_eq!(rt; session.submit(register(alloc, "r2")?), None);
-    assert_eq!(rt; session.submit(monitor("r2", 10_000)?), None);
-    has_both(&rt, &mut session)?;
-    let mut again = opened(alloc, session.close())?;
-    has_both(&rt, &mut again)
+    let mut executor = opened(alloc, disk_with(alloc, FIRST, &[])?)?;
+    assert_eq!(rt; submit(&mut executor, register(alloc, "r2")?), None);
+    assert_eq!(rt; submit(&mut executor, monitor("r2", 10_000)?), None);
+    lists(&rt, &ask(&mut executor, Question::List), &["r1", "r2"]);
+    has_monitor(&rt, &ask(&mut executor, Question::Info(id("r2")?)));
+    let mut again = opened(alloc, executor.close())?;
+    lists(&rt, &ask(&mut again, Question::List), &["r1", "r2"]);
+    has_monitor(&rt, &ask(&mut again, Question::Info(id("r2")?)));
+    Ok(())
 }

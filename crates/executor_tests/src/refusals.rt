@@ -1,50 +1,68 @@
 // Commands that are refused, the numbers of calls, and moments.
+ghost use Rattle.std.specs.Prelude.{IfOk};
+ghost use Rattle.disk_model.specs.MemDisk.{view_of};
+ghost use Rattle.executor.specs.Executors.{IsSound, disk_of};
+
 use crate::parts::{CREATED, FIRST, with};
-use crate::session::Session;
-use crate::tools::{disk_with, id, lists, millis, monitor, opened, opened_at, register, start};
-use ocf_types::{Command, CommandOf, NUM_MAX, ParamName, ParamValue, Params, Refusal, ReplyOf};
+use crate::tools::{
+    accept_all, ask, disk_with, id, lists, millis, monitor, opened, register, start, submit,
+};
+use disk_model::{Disk, MemDisk};
+use executor::Executor;
+use ocf_types::{
+    Command, CommandOf, NUM_MAX, ParamName, ParamValue, Params, Question, Refusal, Reply, ReplyOf,
+    RequestOf,
+};
 use std::alloc::Global;
 use std::process::Abort;
 use std::test::Fail;
 
 fn set_params(name: &str, params: Params) -> Result<Command, Fail> {
-    Ok(CommandOf::SetParams {
-        id: id(name)?,
-        params,
-    })
+    let id = id(name)?;
+    Ok(CommandOf::SetParams { id, params })
 }
 
 fn cancel(name: &str, interval: u32) -> Result<Command, Fail> {
-    Ok(CommandOf::Cancel {
-        id: id(name)?,
-        interval: millis(interval)?,
-    })
+    let (id, interval) = (id(name)?, millis(interval)?);
+    Ok(CommandOf::Cancel { id, interval })
 }
 
 // The executor of the first journal.
-fn first(alloc: Global) -> Result<Session, Fail> {
+fn first(alloc: Global) -> Result<Executor<MemDisk>, Fail>
+    ensures sound { IfOk result (λ e. IsSound e (view_of (disk_of e))) }
+{
     opened(alloc, disk_with(alloc, FIRST, &[])?)
 }
 
-fn is_unknown(rt: &impl Abort, session: &mut Session, command: Command) {
-    let refused = session.submit(command);
-    assert_eq!(rt; refused, Some(Refusal::UnknownResource));
+fn refuses<D: Disk + Drop>(
+    rt: &impl Abort,
+    executor: &mut Executor<D>,
+    command: Command,
+    refusal: Refusal,
+)
+    requires sound { IsSound executor.old (D.view (disk_of executor.old)) }
+    ensures sound { IsSound executor.new (D.view (disk_of executor.new)) }
+{
+    let refused = submit(executor, command);
+    assert_eq!(rt; refused, Some(refusal));
 }
 
 #[test]
 fn a_command_to_no_resource_is_refused(rt: HostRuntime) -> Result<(), Fail> {
-    let mut session = first(rt.alloc())?;
-    is_unknown(&rt, &mut session, CommandOf::Unregister(id("zz")?));
-    is_unknown(
+    let mut executor = first(rt.alloc())?;
+    let why = Refusal::UnknownResource;
+    refuses(&rt, &mut executor, CommandOf::Unregister(id("zz")?), why);
+    refuses(
         &rt,
-        &mut session,
+        &mut executor,
         set_params("zz", Params::new(rt.alloc()))?,
+        why,
     );
-    is_unknown(&rt, &mut session, start("zz")?);
-    is_unknown(&rt, &mut session, monitor("zz", 10_000)?);
-    is_unknown(&rt, &mut session, cancel("zz", 10_000)?);
-    is_unknown(&rt, &mut session, CommandOf::Forget(id("zz")?));
-    lists(&rt, &mut session, &["r1"]);
+    refuses(&rt, &mut executor, start("zz")?, why);
+    refuses(&rt, &mut executor, monitor("zz", 10_000)?, why);
+    refuses(&rt, &mut executor, cancel("zz", 10_000)?, why);
+    refuses(&rt, &mut executor, CommandOf::Forget(id("zz")?), why);
+    lists(&rt, &ask(&mut executor, Question::List), &["r1"]);
     Ok(())
 }
 
@@ -52,15 +70,16 @@ fn a_command_to_no_resource_is_refused(rt: HostRuntime) -> Result<(), Fail> {
 fn a_busy_resource_is_not_unregistered_and_its_queue_takes_32_actions(
     rt: HostRuntime,
 ) -> Result<(), Fail> {
-    let mut session = first(rt.alloc())?;
+    let mut starts = Vec::new(rt.alloc());
     for _ in 0..32 {
-        assert_eq!(rt; session.submit(start("r1")?), None);
+        starts.push(start("r1")?)?;
     }
-    let refused = session.submit(start("r1")?);
-    assert_eq!(rt; refused, Some(Refusal::QueueFull));
-    let refused = session.submit(CommandOf::Unregister(id("r1")?));
-    assert_eq!(rt; refused, Some(Refusal::Busy));
-    lists(&rt, &mut session, &["r1"]);
+    let mut executor = first(rt.alloc())?;
+    accept_all(&rt, &mut executor, starts);
+    refuses(&rt, &mut executor, start("r1")?, Refusal::QueueFull);
+    let command = CommandOf::Unregister(id("r1")?);
+    refuses(&rt, &mut executor, command, Refusal::Busy);
+    lists(&rt, &ask(&mut executor, Question::List), &["r1"]);
     Ok(())
 }
 
@@ -68,18 +87,27 @@ fn a_busy_resource_is_not_unregistered_and_its_queue_takes_32_actions(
 fn a_ninth_monitor_and_one_of_an_interval_that_is_there_are_refused(
     rt: HostRuntime,
 ) -> Result<(), Fail> {
-    let mut session = first(rt.alloc())?;
+    let mut monitors = Vec::new(rt.alloc());
     for interval in 1..9 {
-        assert_eq!(rt; session.submit(monitor("r1", interval)?), None);
+        monitors.push(monitor("r1", interval)?)?;
     }
-    let refused = session.submit(monitor("r1", 8)?);
-    assert_eq!(rt; refused, Some(Refusal::Exists));
-    let refused = session.submit(monitor("r1", 9)?);
-    assert_eq!(rt; refused, Some(Refusal::RecurringFull));
-    let refused = session.submit(cancel("r1", 9)?);
-    assert_eq!(rt; refused, Some(Refusal::NoSuchRecurring));
-    assert_eq!(rt; session.submit(cancel("r1", 8)?), None);
-    assert_eq!(rt; session.submit(monitor("r1", 9)?), None);
+    let mut executor = first(rt.alloc())?;
+    accept_all(&rt, &mut executor, monitors);
+    refuses(&rt, &mut executor, monitor("r1", 8)?, Refusal::Exists);
+    refuses(
+        &rt,
+        &mut executor,
+        monitor("r1", 9)?,
+        Refusal::RecurringFull,
+    );
+    refuses(
+        &rt,
+        &mut executor,
+        cancel("r1", 9)?,
+        Refusal::NoSuchRecurring,
+    );
+    assert_eq!(rt; submit(&mut executor, cancel("r1", 8)?), None);
+    assert_eq!(rt; submit(&mut executor, monitor("r1", 9)?), None);
     Ok(())
 }
 
@@ -95,28 +123,29 @@ fn large(alloc: Global, count: u8) -> Result<Params, Fail> {
 
 #[test]
 fn parameters_that_are_too_large_are_refused(rt: HostRuntime) -> Result<(), Fail> {
-    let mut session = first(rt.alloc())?;
-    let refused = session.submit(set_params("r1", large(rt.alloc(), 16)?)?);
-    assert_eq!(rt; refused, Some(Refusal::TooLarge));
-    let accepted = session.submit(set_params("r1", large(rt.alloc(), 15)?)?);
-    assert_eq!(rt; accepted, None);
+    let mut executor = first(rt.alloc())?;
+    let sixteen = set_params("r1", large(rt.alloc(), 16)?)?;
+    refuses(&rt, &mut executor, sixteen, Refusal::TooLarge);
+    let fifteen = set_params("r1", large(rt.alloc(), 15)?)?;
+    assert_eq!(rt; submit(&mut executor, fifteen), None);
     Ok(())
+}
+
+fn is_accepted(rt: &impl Abort, reply: &Reply, number: u64, text: &str) {
+    let ReplyOf::Accepted { call, key } = reply else {
+        panic!(rt; "an operation was asked for")
+    };
+    assert_eq!(rt; call.get(), number);
+    assert_eq!(rt; key.as_str(), text);
 }
 
 #[test]
 fn an_operation_is_accepted_under_its_call_and_key(rt: HostRuntime) -> Result<(), Fail> {
-    let mut session = first(rt.alloc())?;
-    for (command, number, text) in [
-        (start("r1")?, 1, "r1_start_0"),
-        (monitor("r1", 10_000)?, 2, "r1_monitor_10000"),
-    ] {
-        let reply = session.command(0, command);
-        let ReplyOf::Accepted { call, key } = &reply else {
-            panic!(rt; "an operation was asked for")
-        };
-        assert_eq!(rt; call.get(), number);
-        assert_eq!(rt; key.as_str(), text);
-    }
+    let mut executor = first(rt.alloc())?;
+    let reply = executor.command(0, RequestOf::Command(start("r1")?));
+    is_accepted(&rt, &reply, 1, "r1_start_0");
+    let reply = executor.command(0, RequestOf::Command(monitor("r1", 10_000)?));
+    is_accepted(&rt, &reply, 2, "r1_monitor_10000");
     Ok(())
 }
 
@@ -125,21 +154,26 @@ fn where_all_call_ids_are_used_up_no_operation_is_accepted(rt: HostRuntime) -> R
     let alloc = rt.alloc();
     // the snapshot's next call id
     let part = with(alloc, CREATED, 18, &NUM_MAX.to_be_bytes())?;
-    let mut session = opened(alloc, disk_with(alloc, part.as_slice(), &[])?)?;
-    assert_eq!(rt; session.submit(register(alloc, "r1")?), None);
-    let refused = session.submit(start("r1")?);
-    assert_eq!(rt; refused, Some(Refusal::CallsSpent));
-    let refused = session.submit(monitor("r1", 10_000)?);
-    assert_eq!(rt; refused, Some(Refusal::CallsSpent));
+    let mut executor = opened(alloc, disk_with(alloc, part.as_slice(), &[])?)?;
+    assert_eq!(rt; submit(&mut executor, register(alloc, "r1")?), None);
+    refuses(&rt, &mut executor, start("r1")?, Refusal::CallsSpent);
+    refuses(
+        &rt,
+        &mut executor,
+        monitor("r1", 10_000)?,
+        Refusal::CallsSpent,
+    );
     Ok(())
 }
 
 // The moment of the boot that an opening records at moment 5, after a start was accepted at that moment.
 fn boot_moment(alloc: Global, now: u64) -> Result<Option<u64>, Fail> {
-    let mut session = first(alloc)?;
-    let _ = session.command(now, start("r1")?);
-    let (_, report) = opened_at(alloc, session.close(), 5)?;
-    Ok(report.dropped.first().map(|notice| notice.result.at.get()))
+    let mut executor = first(alloc)?;
+    let _reply = executor.command(now, RequestOf::Command(start("r1")?));
+    match Executor::open(alloc, executor.close(), 5) {
+        Ok((_executor, report)) => Ok(report.dropped.first().map(|n| n.result.at.get())),
+        Err(_fault) => Ok(None),
+    }
 }
 
 #[test]

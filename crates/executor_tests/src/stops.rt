@@ -1,6 +1,6 @@
 // A second registration that is stopped.
-use crate::parts::{FIRST, disk_of};
-use crate::tools::{disk_lists, disk_with, opened, opening_calls, register};
+use crate::parts::FIRST;
+use crate::tools::{disk_lists, disk_with, opened, opening_calls, register, submit};
 use disk_model::{Fill, MemDisk};
 use ocf_types::{Part, Refusal};
 use std::alloc::Global;
@@ -16,10 +16,10 @@ fn stopped(rt: &impl Abort, alloc: Global, call: u64) -> Result<(u64, MemDisk), 
     let calls = opening_calls(alloc, disk_with(alloc, FIRST, &[])?)?;
     let stop = calls.saturating_add(call);
     disk.plan_stop(stop);
-    let mut session = opened(alloc, disk)?;
-    let refused = session.submit(register(alloc, "r2")?);
+    let mut executor = opened(alloc, disk)?;
+    let refused = submit(&mut executor, register(alloc, "r2")?);
     assert_eq!(rt; refused, Some(Refusal::Disk));
-    Ok((stop, session.close()))
+    Ok((stop, executor.close()))
 }
 
 #[test]
@@ -27,7 +27,7 @@ fn a_record_behind_a_closed_gate_is_nothing(rt: HostRuntime) -> Result<(), Fail>
     let alloc = rt.alloc();
     let mut part = FIRST.to_vec(alloc)?;
     part.extend_from_slice(SECOND)?;
-    disk_lists(&rt, alloc, disk_of(alloc, part)?, &["r1"])
+    disk_lists(&rt, alloc, disk_with(alloc, part.as_slice(), &[])?, &["r1"])
 }
 
 #[test]

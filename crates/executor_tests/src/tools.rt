@@ -1,12 +1,14 @@
 // What the tests share.
-use crate::session::Session;
+ghost use Rattle.std.specs.Prelude.{IfOk};
+ghost use Rattle.executor.specs.Executors.{IsSound, disk_of};
+
 use disk_model::{Disk, MemDisk};
-use executor::Report;
+use executor::Executor;
 use ocf_types::{
-    AgentType, Command, CommandOf, Ended, Level, Millis, Params, Provider, Question, Registration,
-    ReplyOf, RscId, Task,
+    AgentType, Command, CommandOf, Level, Millis, Params, Provider, Question, Refusal,
+    Registration, Reply, ReplyOf, RequestOf, RscId, Task,
 };
-use std::alloc::{AllocError, Allocator, Global};
+use std::alloc::{AllocError, Global};
 use std::process::Abort;
 use std::test::Fail;
 
@@ -19,7 +21,7 @@ pub fn millis(number: u32) -> Result<Millis, Fail> {
 }
 
 /// Registers a Dummy of the provider pacemaker.
-pub fn register<A: Allocator + Copy>(alloc: A, name: &str) -> Result<Command<A>, Fail> {
+pub fn register(alloc: Global, name: &str) -> Result<Command, Fail> {
     Ok(CommandOf::Register(Registration {
         id: id(name)?,
         provider: Provider::new(b"pacemaker")?,
@@ -50,10 +52,12 @@ pub fn disk_with(alloc: Global, a: &[u8], b: &[u8]) -> Result<MemDisk, AllocErro
     MemDisk::from_parts(alloc, a.to_vec(alloc)?, b.to_vec(alloc)?)
 }
 
-/// Opens the executor at that moment, with its report.
-pub fn opened_at(alloc: Global, disk: MemDisk, now: u64) -> Result<(Session, Report), Fail> {
-    match Session::open(alloc, disk, now) {
-        Ok(opened) => Ok(opened),
+/// Opens the executor at moment 0.
+pub fn opened<D: Disk + Drop>(alloc: Global, disk: D) -> Result<Executor<D>, Fail>
+    ensures sound { IfOk result (λ e. IsSound e (D.view (disk_of e))) }
+{
+    match Executor::open(alloc, disk, 0) {
+        Ok((executor, _report)) => Ok(executor),
         Err(fault) => {
             let why = fault.why;
             Err(why)?
@@ -61,20 +65,51 @@ pub fn opened_at(alloc: Global, disk: MemDisk, now: u64) -> Result<(Session, Rep
     }
 }
 
-/// Opens the executor at moment 0.
-pub fn opened(alloc: Global, disk: MemDisk) -> Result<Session, Fail> {
-    Ok(opened_at(alloc, disk, 0)?.0)
-}
-
 /// How many device calls an opening makes on such a disk.
 pub fn opening_calls(alloc: Global, disk: MemDisk) -> Result<u64, Fail> {
     Ok(opened(alloc, disk)?.close().clock())
 }
 
-/// Whether a list is answered, with these names in their order.
-pub fn lists(rt: &impl Abort, session: &mut Session, names: &[&str]) {
-    let reply = session.ask(Question::List);
-    let ReplyOf::List(ids) = &reply else {
+/// The refusal, where the request was refused.
+pub fn refusal(reply: &Reply) -> Option<Refusal> {
+    match reply {
+        ReplyOf::Refused(refusal) => Some(*refusal),
+        _ => None,
+    }
+}
+
+/// Does what the command asks for at moment 0, or gives its refusal.
+pub fn submit<D: Disk + Drop>(executor: &mut Executor<D>, command: Command) -> Option<Refusal>
+    requires sound { IsSound executor.old (D.view (disk_of executor.old)) }
+    ensures sound { IsSound executor.new (D.view (disk_of executor.new)) }
+{
+    refusal(&executor.command(0, RequestOf::Command(command)))
+}
+
+/// Does what each of these commands asks for.
+pub fn accept_all<D: Disk + Drop>(
+    rt: &impl Abort,
+    executor: &mut Executor<D>,
+    commands: Vec<Command>,
+)
+    requires sound { IsSound executor.old (D.view (disk_of executor.old)) }
+    ensures sound { IsSound executor.new (D.view (disk_of executor.new)) }
+{
+    for command in commands {
+        assert_eq!(rt; submit(executor, command), None);
+    }
+}
+
+pub fn ask<D: Disk + Drop>(executor: &mut Executor<D>, question: Question) -> Reply
+    requires sound { IsSound executor.old (D.view (disk_of executor.old)) }
+    ensures sound { IsSound executor.new (D.view (disk_of executor.new)) }
+{
+    executor.command(0, RequestOf::Question(question))
+}
+
+/// Whether a reply is the list of these names in their order.
+pub fn lists(rt: &impl Abort, reply: &Reply, names: &[&str]) {
+    let ReplyOf::List(ids) = reply else {
         panic!(rt; "a list was asked for")
     };
     assert_eq!(rt; ids.as_slice().len(), names.len());
@@ -90,15 +125,7 @@ pub fn disk_lists(
     disk: MemDisk,
     names: &[&str],
 ) -> Result<(), Fail> {
-    lists(rt, &mut opened(alloc, disk)?, names);
+    let mut executor = opened(alloc, disk)?;
+    lists(rt, &ask(&mut executor, Question::List), names);
     Ok(())
-}
-
-/// The last results of a resource.
-pub fn results(alloc: Global, session: &mut Session, name: &str) -> Result<Vec<Ended>, Fail> {
-    let reply = session.ask(Question::History(id(name)?));
-    match &reply {
-        ReplyOf::History(results) => Ok(results.as_slice().to_vec(alloc)?),
-        _ => Err("a history was asked for")?,
-    }
 }

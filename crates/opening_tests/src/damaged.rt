@@ -1,9 +1,8 @@
 // Damaged pairs.
 use crate::parts::{CREATED, FIRST, with};
-use crate::session::Session;
 use crate::tools::disk_with;
 use exec_journal::{Cause, Damage};
-use executor::OpenError;
+use executor::{Executor, OpenError};
 use ocf_types::Part;
 use std::alloc::Global;
 use std::process::Abort;
@@ -11,7 +10,7 @@ use std::test::Fail;
 
 // Whether an opening tells this damage, and leaves both parts as they were.
 fn tells(rt: &impl Abort, alloc: Global, a: &[u8], b: &[u8], damage: Damage) -> Result<(), Fail> {
-    let Err(fault) = Session::open(alloc, disk_with(alloc, a, b)?, 0) else {
+    let Err(fault) = Executor::open(alloc, disk_with(alloc, a, b)?, 0) else {
         panic!(rt; "the pair is damaged")
     };
     assert_eq!(rt; fault.why, OpenError::Damaged(damage));

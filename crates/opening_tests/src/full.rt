@@ -1,10 +1,9 @@
 // Journals that are full, or nearly so.
 use crate::parts::{FIRST, REGISTER, SET_PARAMS, START, disk_of, journal, push_record};
-use crate::session::Session;
-use crate::tools::{disk_with, id, opened};
+use crate::tools::{accept_all, disk_with, id, opened, refusal};
 use disk_model::MemDisk;
-use executor::OpenError;
-use ocf_types::{CommandOf, ParamName, ParamValue, Params, Part, Refusal};
+use executor::{Executor, OpenError};
+use ocf_types::{Command, CommandOf, ParamName, ParamValue, Params, Part, Refusal, RequestOf};
 use std::alloc::{AllocError, Global};
 use std::process::Abort;
 use std::test::Fail;
@@ -78,12 +77,12 @@ fn a_boot_may_use_all_of_the_part(rt: HostRuntime) -> Result<(), Fail> {
     let alloc = rt.alloc();
     let part = filled(alloc, 8_388_593)?;
     assert_eq!(rt; part.len(), 8_388_594);
-    match Session::open(alloc, disk_of(alloc, part)?, 0) {
-        Ok((session, report)) => {
+    match Executor::open(alloc, disk_of(alloc, part)?, 0) {
+        Ok((executor, report)) => {
             assert_eq!(rt; report.dropped.len(), 1);
-            assert_eq!(rt; session.close().bytes(Part::A).len(), 8_388_608);
+            assert_eq!(rt; executor.close().bytes(Part::A).len(), 8_388_608);
         }
-        Err(_) => panic!(rt; "the boot fits"),
+        Err(_fault) => panic!(rt; "the boot fits"),
     }
     Ok(())
 }
@@ -93,7 +92,7 @@ fn an_opening_whose_boot_does_not_fit_is_refused(rt: HostRuntime) -> Result<(), 
     let alloc = rt.alloc();
     let part = filled(alloc, 8_388_594)?;
     let disk = MemDisk::from_parts(alloc, part.to_vec(alloc)?, Vec::new(alloc))?;
-    let Err(fault) = Session::open(alloc, disk, 0) else {
+    let Err(fault) = Executor::open(alloc, disk, 0) else {
         panic!(rt; "the boot does not fit")
     };
     assert_eq!(rt; fault.why, OpenError::Full);
@@ -113,9 +112,9 @@ fn large(alloc: Global) -> Result<Params, Fail> {
 }
 
 // Sets these parameters of r1.
-fn set(session: &mut Session, params: &Params, alloc: Global) -> Result<Option<Refusal>, Fail> {
+fn set(alloc: Global, params: &Params) -> Result<Command, Fail> {
     let (id, params) = (id("r1")?, params.copied(alloc)?);
-    Ok(session.submit(CommandOf::SetParams { id, params }))
+    Ok(CommandOf::SetParams { id, params })
 }
 
 #[test]
@@ -124,20 +123,19 @@ fn a_journal_takes_541_large_parameter_lists_and_then_only_short_records(
 ) -> Result<(), Fail> {
     let alloc = rt.alloc();
     let params = large(alloc)?;
-    let mut session = opened(alloc, disk_with(alloc, FIRST, &[])?)?;
-    for count in 1..=541 {
-        assert_eq!(rt;
-            set(&mut session, &params, alloc)?,
-            None,
-            "the list {count}"
-        );
+    let mut commands = Vec::new(alloc);
+    for _ in 0..541 {
+        commands.push(set(alloc, &params)?)?;
     }
-    let refused = set(&mut session, &params, alloc)?;
-    assert_eq!(rt; refused, Some(Refusal::JournalFull));
+    let (mut executor, _report) = opened(alloc, disk_with(alloc, FIRST, &[])?, 0)?;
+    accept_all(&rt, &mut executor, commands);
+    let reply = executor.command(0, RequestOf::Command(set(alloc, &params)?));
+    assert_eq!(rt; refusal(&reply), Some(Refusal::JournalFull));
     assert_eq!(rt; Refusal::JournalFull.number(), 14);
-    assert_eq!(rt; session.submit(CommandOf::Forget(id("r1")?)), None);
-    let disk = session.close();
+    let reply = executor.command(0, RequestOf::Command(CommandOf::Forget(id("r1")?)));
+    assert_eq!(rt; refusal(&reply), None);
     // the tail at 78, the lists, the forget, and the closed gate
-    assert_eq!(rt; disk.bytes(Part::A).len(), 78 + 541 * 15_438 + 17 + 1);
+    let len = 78 + 541 * 15_438 + 17 + 1;
+    assert_eq!(rt; executor.close().bytes(Part::A).len(), len);
     Ok(())
 }

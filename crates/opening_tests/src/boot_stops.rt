@@ -1,10 +1,9 @@
 // Openings that record a boot, stopped at each device call.
 use crate::parts::busy_disk;
-use crate::session::Session;
-use crate::tools::{lists, opened_at, opening_calls, results};
-use disk_model::{Fill, MemDisk};
-use executor::OpenError;
-use ocf_types::Outcome;
+use crate::tools::{ask, id, lists, opened, results};
+use disk_model::{Disk, Fill, MemDisk};
+use executor::{Executor, OpenError};
+use ocf_types::{Ended, Outcome, Question};
 use std::alloc::Global;
 use std::process::Abort;
 use std::test::Fail;
@@ -13,27 +12,31 @@ use std::test::Fail;
 fn stopped(rt: &impl Abort, alloc: Global, call: u64) -> Result<MemDisk, Fail> {
     let mut disk = busy_disk(alloc)?;
     disk.plan_stop(call);
-    let Err(fault) = Session::open(alloc, disk, 500) else {
+    let Err(fault) = Executor::open(alloc, disk, 500) else {
         panic!(rt; "the opening was stopped")
     };
     assert_eq!(rt; fault.why, OpenError::Disk);
     Ok(fault.disk)
 }
 
-// Opens such a disk again, at moment 600: either the first boot is found, or this opening reports and records its own.
-fn finds(rt: &impl Abort, alloc: Global, disk: MemDisk, booted: bool) -> Result<(), Fail> {
-    let (mut session, report) = opened_at(alloc, disk, 600)?;
-    lists(rt, &mut session, &["r1"]);
-    let told = if booted { 0 } else { 1 };
-    assert_eq!(rt; report.interrupted.len(), told);
-    assert_eq!(rt; report.dropped.len(), told);
-    let at = if booted { 500 } else { 600 };
-    let ended = results(alloc, &mut session, "r1")?;
+// Whether the one action was dropped and the other interrupted, both at that moment.
+fn ended_at(rt: &impl Abort, ended: &[Ended], at: u64) {
     assert_eq!(rt; ended.len(), 2);
     for (ended, outcome) in ended.iter().zip([Outcome::Dropped, Outcome::Interrupted]) {
         assert_eq!(rt; ended.outcome, outcome);
         assert_eq!(rt; ended.at.get(), at);
     }
+}
+
+// Opens such a disk again, at moment 600: either the first boot is found, or this opening reports and records its own.
+fn finds(rt: &impl Abort, alloc: Global, disk: MemDisk, booted: bool) -> Result<(), Fail> {
+    let (mut executor, report) = opened(alloc, disk, 600)?;
+    lists(rt, &ask(&mut executor, Question::List), 1);
+    let (told, at) = if booted { (0, 500) } else { (1, 600) };
+    assert_eq!(rt; report.interrupted.len(), told);
+    assert_eq!(rt; report.dropped.len(), told);
+    let history = ask(&mut executor, Question::History(id("r1")?));
+    ended_at(rt, results(alloc, &history)?.as_slice(), at);
     Ok(())
 }
 
@@ -51,7 +54,8 @@ fn stop_leaves(rt: &impl Abort, alloc: Global, call: u64, booted: [bool; 3]) -> 
 #[test]
 fn an_opening_stopped_at_each_device_call_is_made_again(rt: HostRuntime) -> Result<(), Fail> {
     let alloc = rt.alloc();
-    let calls = opening_calls(alloc, busy_disk(alloc)?)?;
+    let (executor, _report) = opened(alloc, busy_disk(alloc)?, 500)?;
+    let calls = executor.close().clock();
     let gate = calls.saturating_sub(1);
     for call in 1..gate {
         stop_leaves(&rt, alloc, call, [false, false, false])?;
