@@ -37,22 +37,22 @@ fn an_opening_that_finds_no_memory_writes_nothing(rt: HostRuntime) -> Result<(),
     Err("no heap was large enough")?
 }
 
-// Registers r1 of a new journal in a heap of that size, and gives the disk with how it ended: None where the heap was too
-// small for the opening.
+// Registers r1 of a new journal in a heap of that size, and gives the disk with the refusal, or why the journal was not
+// opened.
 fn register_in(
     rt: &impl Abort,
     alloc: Global,
     size: usize,
-) -> Result<(Option<Option<Refusal>>, MemDisk), Fail> {
+) -> Result<(Result<Option<Refusal>, OpenError>, MemDisk), Fail> {
     let heap = LocalHeap::new(alloc, size)?;
     match Executor::open(&heap, disk_with(alloc, CREATED, &[])?, 0) {
         Ok((mut executor, _report)) => {
             let request = RequestOf::Command(register(&heap, "r1")?);
             let refused = refusal(&executor.command(0, request));
             assert!(rt; executor.is_open());
-            Ok((Some(refused), executor.close()))
+            Ok((Ok(refused), executor.close()))
         }
-        Err(fault) => Ok((None, fault.disk)),
+        Err(fault) => Ok((Err(fault.why), fault.disk)),
     }
 }
 
@@ -60,29 +60,28 @@ fn register_in(
 fn is_as_said(rt: &impl Abort, alloc: Global, done: bool, disk: MemDisk) -> Result<(), Fail> {
     assert_eq!(rt; disk.bytes(Part::A) == CREATED, !done);
     let (mut executor, _report) = opened(alloc, disk, 0)?;
-    lists(
-        rt,
-        &ask(&mut executor, Question::List),
-        if done { 1 } else { 0 },
-    );
+    let count = if done { 1 } else { 0 };
+    lists(rt, &ask(&mut executor, Question::List), count);
     Ok(())
 }
 
 #[test]
 fn a_registration_that_finds_no_memory_changes_nothing(rt: HostRuntime) -> Result<(), Fail> {
     let alloc = rt.alloc();
-    let mut refusals = 0;
+    let mut refused = false;
     for step in 0..1_024 {
         let (ended, disk) = register_in(&rt, alloc, step * 64 + 32_000)?;
-        is_as_said(&rt, alloc, ended == Some(None), disk)?;
-        if ended == Some(None) {
-            assert!(rt; refusals > 0);
-            return Ok(());
-        }
-        if ended == Some(Some(Refusal::Memory)) {
-            refusals = step;
-        } else {
-            assert_eq!(rt; ended, None);
+        is_as_said(&rt, alloc, ended == Ok(None), disk)?;
+        match ended {
+            Ok(None) => {
+                assert!(rt; refused);
+                return Ok(());
+            }
+            Ok(Some(refusal)) => {
+                assert_eq!(rt; refusal, Refusal::Memory);
+                refused = true;
+            }
+            Err(why) => assert_eq!(rt; why, OpenError::Memory),
         }
     }
     Err("no heap was large enough")?
