@@ -15,6 +15,7 @@ check:
 	cd crates/ocfexec && rt run -- --help > /dev/null
 	tests/random_lines.sh crates/ocfexec/out/ocfexec
 	tests/speed.sh crates/ocfexec/out/ocfexec
+	tests/words.sh crates/ocfexec/out/ocfexec
 
 # The rate of each benchmark. The first call proves the program; `crates/bench/out/bench NAME ROUNDS` runs it again.
 bench:
