@@ -1,0 +1,21 @@
+//! Disks that stop, fail and lie, and what they leave. Nothing here is part of the product.
+#![tactic(auto)]
+
+#[cfg(test)]
+mod disks;
+#[cfg(test)]
+mod every_byte;
+#[cfg(test)]
+mod liar;
+#[cfg(test)]
+mod lies;
+#[cfg(test)]
+mod openings;
+#[cfg(test)]
+mod parts;
+#[cfg(test)]
+mod quiet;
+#[cfg(test)]
+mod slots;
+#[cfg(test)]
+mod steps;
