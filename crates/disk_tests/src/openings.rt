@@ -87,7 +87,7 @@ fn fault_leaves(alloc: Global, pair: &Pair<'_>, call: u64, whole: &MemDisk) -> R
     let right = failed == Some(OpenError::Disk) && again.is_none();
     let same = disk.bytes(Part::A) == whole.bytes(Part::A)
         && disk.bytes(Part::B) == whole.bytes(Part::B);
-    let left = disk.image(alloc, u64::MAX, Fill::Repeated(&[1, 0xff]))?;
+    let left = disk.image(alloc, u64::MAX, Fill::Synced)?;
     Ok(right && same && is_found(alloc, left, pair.after)?)
 }
 

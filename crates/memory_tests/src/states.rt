@@ -4,16 +4,29 @@ use crate::parts::{BUSY, REGISTER};
 use event_wire::{decode_event, decode_state};
 use exec_state::State;
 use linked_list_allocator::LocalHeap;
-use ocf_types::{CommandOf, Event, Millis, Question, Refusal, ReplyOf, RscId, StateView, Task};
+use ocf_types::{
+    CallId, CommandOf, Event, Millis, Moment, Op, Question, Refusal, ReplyOf, RscId, StateView,
+    Task,
+};
 use op_history::Ops;
 use std::alloc::{Allocator, Global};
 use std::test::Fail;
 
+// A queue takes no memory after it was made.
 fn ops(_: Global, heap: &LocalHeap) -> Result<Ended, Fail> {
-    match Ops::new(heap) {
-        Ok(ops) => done(!ops.is_busy()),
-        Err(_) => refused(true),
-    }
+    let Ok(mut ops) = Ops::new(heap) else {
+        return refused(true);
+    };
+    let used = heap.used();
+    let call = CallId::new(1).ok_or("a call id")?;
+    let (task, timeout) = (Task::Start, Millis::new(1).ok_or("a timeout")?);
+    ops.accept(Op {
+        call,
+        task,
+        timeout,
+    })?;
+    ops.drop_all(Moment::cut(8));
+    done(ops.ended_len() == 1 && heap.used() == used)
 }
 
 fn from_parts(_: Global, heap: &LocalHeap) -> Result<Ended, Fail> {
