@@ -1,21 +1,23 @@
 # The gate, and what it leaves behind.
 PREFIX ?= /usr/local
 
-.PHONY: run test check bench install clean
+.PHONY: run test check mutants bench install clean
 
 # Compiles every crate, proves nothing, and answers the example's commands.
 run:
 	@cd crates/ocfexec && rt try -- run --memory < ../../examples/first.jsonl
 
+# The gate, which proves everything from nothing, and then the checks of the programs that it built.
 test:
-	rt ci
+	@tests/gate.sh
 
-# What needs the built program: a million random lines, and its speed. Not part of the gate.
+# The checks of the built programs alone.
 check:
-	cd crates/ocfexec && rt run -- --help > /dev/null
-	tests/random_lines.sh crates/ocfexec/out/ocfexec
-	tests/speed.sh crates/ocfexec/out/ocfexec
-	tests/words.sh crates/ocfexec/out/ocfexec
+	@tests/check.sh
+
+# Tries the wrong bodies of one crate that the gate does not keep: make mutants NAME=recurring
+mutants:
+	@mutants/try.sh $(NAME)
 
 # The rate of each benchmark. The first call proves the program; `crates/bench/out/bench NAME ROUNDS` runs it again.
 bench:

@@ -1,0 +1,32 @@
+#!/usr/bin/env bash
+# Tries a crate's wrong bodies, mutants/NAME/*.edit, on a copy of the repository, and prints the fate of each. The gate
+# keeps a few of its own, in crates/NAME/must-fail.
+# Use: mutants/try.sh NAME [EDIT..]
+set -eu
+top=$(cd "$(dirname "$0")/.." && pwd)
+name=${1:?a crate is wanted: make mutants NAME=recurring}
+shift
+copy=$(mktemp -d)
+trap 'rm -rf "$copy"' EXIT
+
+# The files as they stand in the work tree, and what earlier checks kept, so that no library is proved again.
+cd "$top"
+git ls-files -co --exclude-standard -z | while IFS= read -r -d '' file; do
+    if [ -f "$file" ]; then printf '%s\0' "$file"; fi
+done | tar --null -T - -cf - | tar -xf - -C "$copy"
+for out in crates/*/out; do
+    if [ -d "$out" ]; then cp -a "$out" "$copy/$out"; fi
+done
+
+tried=$copy/crates/$name/must-fail
+rm -rf "$tried"
+mkdir "$tried"
+if [ $# -eq 0 ]; then
+    cp "mutants/$name/"*.edit "$tried/"
+fi
+for edit in "$@"; do
+    cp "mutants/$name/$edit.edit" "$tried/"
+done
+git init -q "$copy"
+cd "$copy"
+rt must-fail "$name"
