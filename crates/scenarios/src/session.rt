@@ -1,7 +1,5 @@
 //! An open executor.
-ghost use Rattle.std.specs.Prelude.{IfOk};
-ghost use Rattle.executor.specs.Executors.{IsSound, disk_of};
-ghost use Rattle.scenarios.specs.SharedDisk.{shared_view};
+ghost use Rattle.scenarios.specs.Rooms.{KeepsRoom};
 
 use crate::disk::SharedDisk;
 use exec_commands::{Line, LineReply, read_command};
@@ -15,7 +13,7 @@ use std::alloc::Global;
 pub struct Session {
     executor: Executor<SharedDisk>,
     site: Site,
-    pub ghost sound: { IsSound executor (shared_view (disk_of executor)) },
+    pub ghost room: { KeepsRoom executor },
 }
 
 impl Session {

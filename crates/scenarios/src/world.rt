@@ -294,12 +294,20 @@ fn show_event<W: Write>(alloc: Global, bytes: &[u8], writer: &mut W) -> Result<(
     Ok(())
 }
 
-fn show_state<W: Write>(alloc: Global, bytes: &[u8], writer: &mut W) -> Result<()> {
-    let answer = match decode_state(alloc, bytes)? {
-        None => "no state",
-        Some(state) if encode_state(alloc, &state)?.as_slice() == bytes => "state",
-        Some(_) => "state differs",
+fn state_word(alloc: Global, bytes: &[u8]) -> Result<&'static str> {
+    let Some(state) = decode_state(alloc, bytes)? else {
+        return Ok("no state");
     };
-    writeln!(writer, "{answer}")?;
+    let spelled = encode_state(alloc, &state)?;
+    if spelled.as_slice() == bytes {
+        Ok("state")
+    } else {
+        Ok("state differs")
+    }
+}
+
+fn show_state<W: Write>(alloc: Global, bytes: &[u8], writer: &mut W) -> Result<()> {
+    let word = state_word(alloc, bytes)?;
+    writeln!(writer, "{word}")?;
     Ok(())
 }
