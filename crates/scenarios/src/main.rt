@@ -5,9 +5,11 @@
 mod disk;
 mod fill;
 mod finding;
+mod look;
 mod print;
 mod script;
 mod session;
+mod site;
 mod step;
 mod sweep;
 mod words;

@@ -1,16 +1,9 @@
 //! Steps of scenarios.
 use crate::fill::Filling;
+use crate::site::SiteWords;
 use crate::words::{BadLine, Words, text_of};
 use ocf_types::{Action, Level, Part, RscId, Task};
 use std::alloc::{AllocError, Global};
-
-/// The words of a site: a root, a search path, and perhaps a program to run agents through.
-#[derive(Drop)]
-pub struct SiteWords {
-    pub root: String,
-    pub path: String,
-    pub via: Option<String>,
-}
 
 /// A step that changes the world.
 #[derive(Drop)]

@@ -1,0 +1,121 @@
+//! Looks at a world.
+use crate::fill::Filling;
+use crate::finding::found_on;
+use crate::print::{print_bytes, print_codes, print_launch, print_part, print_rows, push_reply};
+use crate::step::Look;
+use crate::world::World;
+use anyhow::{Context, Result};
+use event_wire::{decode_event, decode_state, encode_event, encode_state};
+use exec_commands::LineReply;
+use ocf_env::{Instance, Site, launch};
+use ocf_types::{CallId, EVENT_LIMIT, Info, Part, Question, Reply, RscId, RunId, Task};
+use std::alloc::Global;
+use std::io::Write;
+
+impl World {
+    fn show_parts<W: Write>(&self, writer: &mut W) -> Result<()> {
+        let device = self.device()?;
+        print_part(self.alloc, writer, Part::A, device.bytes(Part::A))?;
+        print_part(self.alloc, writer, Part::B, device.bytes(Part::B))
+    }
+
+    fn show_found<W: Write>(&self, writer: &mut W) -> Result<()> {
+        let disk = self.device()?.copied(self.alloc)?;
+        let text = found_on(self.alloc, disk)?;
+        writer.write_all(text.as_slice())?;
+        Ok(())
+    }
+
+    fn show_stops<W: Write>(&self, filling: &Filling, writer: &mut W) -> Result<()> {
+        let mut findings = Vec::new(self.alloc);
+        for call in 0..self.call_count()? {
+            findings.push(self.finding_on_image(call + 1, filling)?)?;
+        }
+        print_rows(writer, filling, findings.as_slice())
+    }
+
+    fn show_all_stops<W: Write>(&self, fillings: &[Filling], writer: &mut W) -> Result<()> {
+        for filling in fillings {
+            self.show_stops(filling, writer)?;
+        }
+        Ok(())
+    }
+
+    fn show_launch<W: Write>(&mut self, id: &RscId, task: Task, writer: &mut W) -> Result<()> {
+        let Some(session) = &mut self.session else {
+            writeln!(writer, "no executor")?;
+            return Ok(());
+        };
+        match session.ask(Question::Info(id.copied())) {
+            Reply::Info(info) => show_start(self.alloc, session.site(), &info, task, writer),
+            refused => push_reply(self.alloc, writer, &LineReply::Request(refused)),
+        }
+    }
+
+    /// Plays a step that changes nothing.
+    pub fn show<W: Write>(&mut self, look: &Look, writer: &mut W) -> Result<()> {
+        match look {
+            Look::Parts => self.show_parts(writer),
+            Look::Found => self.show_found(writer),
+            Look::Stops(fillings) => self.show_all_stops(fillings.as_slice(), writer),
+            Look::Event(bytes) => show_event(self.alloc, bytes.as_slice(), writer),
+            Look::State(bytes) => show_state(self.alloc, bytes.as_slice(), writer),
+            Look::Launch(id, task) => self.show_launch(id, *task, writer),
+            Look::Codes => print_codes(writer),
+        }
+    }
+}
+
+fn show_start<W: Write>(
+    alloc: Global,
+    site: &Site,
+    info: &Info,
+    task: Task,
+    writer: &mut W,
+) -> Result<()> {
+    let instance = Instance {
+        id: &info.id,
+        provider: &info.provider,
+        agent: &info.agent,
+        params: &info.params,
+    };
+    let call = CallId::new(1).context("1 is a call id")?;
+    let run = RunId::new(1).context("1 is a run number")?;
+    let launch = launch(alloc, site, &instance, task, call, run)?;
+    print_launch(writer, &launch)
+}
+
+fn show_event<W: Write>(alloc: Global, bytes: &[u8], writer: &mut W) -> Result<()> {
+    let Some((event, len)) = decode_event(alloc, bytes)? else {
+        writeln!(writer, "no event")?;
+        return Ok(());
+    };
+    let mut room = vec![in alloc; 0u8; EVENT_LIMIT]?;
+    let spelled = encode_event(&event, room.as_mut_slice())?;
+    write!(writer, "event {len} ")?;
+    print_bytes(
+        alloc,
+        writer,
+        room.get(..spelled).context("a spelling fits")?,
+    )?;
+    writeln!(writer)?;
+    Ok(())
+}
+
+fn state_word(alloc: Global, bytes: &[u8]) -> Result<&'static str> {
+    let Some(state) = decode_state(alloc, bytes)? else {
+        return Ok("no state");
+    };
+    let spelled = encode_state(alloc, &state)?;
+    if spelled.as_slice() == bytes {
+        Ok("state")
+    } else {
+        Ok("state differs")
+    }
+}
+
+fn show_state<W: Write>(alloc: Global, bytes: &[u8], writer: &mut W) -> Result<()> {
+    let word = state_word(alloc, bytes)?;
+    writeln!(writer, "{word}")?;
+    Ok(())
+}
