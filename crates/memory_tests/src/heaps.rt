@@ -5,7 +5,7 @@ use std::process::Abort;
 use std::test::Fail;
 
 /// How a call in a small heap ended.
-#[derive(Clone, Copy, PartialEq, Eq)]
+#[derive(Clone, Copy, PartialEq)]
 pub enum Ended {
     /// What comes before the call found no memory.
     TooSmall,
