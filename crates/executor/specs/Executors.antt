@@ -2,7 +2,7 @@
 use Rattle.std.specs.Prelude.{◌≡◌, ℕ, Bool, true}
 use Rattle.ocf_types.specs.State.{State}
 use Rattle.disk_model.specs.View.{View}
-use Rattle.exec_journal.specs.Journal.{Settled, journal_disk, journal_tail}
+use Rattle.exec_journal.specs.Journal.{Settled, journal_disk, journal_place}
 use Rattle.exec_journal.specs.Room.{HasRoom}
 use Rattle.exec_state.specs.Store.{Monitors}
 use Rattle.executor.specs.declared.executor.Executor.{Executor}
@@ -25,7 +25,7 @@ monitors_of e = e.state.monitors
 
 -- the offset of the gate behind the last record, in bytes
 abbrev pub tail_of : {D M : Type 0} → Executor D M → ℕ
-tail_of e = journal_tail e.journal
+tail_of e = (journal_place e.journal).tail
 
 -- while it is open, its journal is settled at its state
 abbrev pub IsOnJournal : {D M : Type 0} → Executor D M → View → Type 0

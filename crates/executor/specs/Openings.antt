@@ -3,12 +3,12 @@ use Rattle.std.specs.Prelude.{◌≡◌, ◌⊎◌, ℕ, ◌+◌, ◌<◌, List,
 use Rattle.ocf_types.specs.Answer.{moment}
 use Rattle.ocf_types.specs.Boot.{any_busy, boot}
 use Rattle.ocf_types.specs.State.{State}
-use Rattle.ocf_types.specs.declared.part.Part.{Part}
 use Rattle.ocf_types.specs.declared.reply.Notice.{Notice}
 use Rattle.disk_model.specs.Image.{Image, part_limit}
 use Rattle.disk_model.specs.View.{View}
 use Rattle.exec_journal.specs.Found.{FoundAs, StandsAt}
 use Rattle.exec_journal.specs.Opening.{OpensLike}
+use Rattle.exec_journal.specs.Place.{Place}
 use Rattle.exec_journal.specs.declared.fault.JournalFault.{JournalFault}
 use Rattle.exec_journal.specs.declared.fault.JournalFault.TheVariants as journal
 use Rattle.executor.specs.declared.opening.OpenError.{OpenError}
@@ -41,12 +41,11 @@ StartsLike old now c = OpensLike old c ⊎ ((s : State) × FoundAs s old.reads �
 -- on these parts something is queued or running, and behind the last record is too little room for a boot, of 14 bytes,
 -- and the gate behind it
 pub record LacksRoom (c : Image) : Type 0 where
-  pub part : Part
-  pub at : ℕ
+  pub place : Place
   pub state : State
-  pub stands : StandsAt part at state c
+  pub stands : StandsAt place state c
   pub busy : IsTrue (any_busy state)
-  pub short : part_limit < at + 15
+  pub short : part_limit < place.tail + 15
 
 -- why the journal was not opened, as the executor tells it
 abbrev pub told_fault : JournalFault → OpenError

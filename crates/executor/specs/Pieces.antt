@@ -20,4 +20,4 @@ pub record Leaves (old new : View) (s t : State) (events pending : List Event) :
   -- moment, that or what it might have left before the call
   pub goes : Goes old new (Prefix s (events ++ pending))
   -- a stop now leaves all that was recorded
-  pub now : (c : Image) → new.now c → Prefix t pending c
+  pub now : new.honest → (c : Image) → new.now c → Prefix t pending c
