@@ -1,6 +1,7 @@
 -- Which event a command is, or which refusal, and what a question is answered.
 use Rattle.std.specs.Prelude.{ℕ, ◌==◌, Bool, false, max, min, nat_lt, nat_le, is_some, is_none, List, [], ◌∷◌, length, map, Result, Ok, Err, if◌then◌else◌}
 use Rattle.std.specs.Option.{option_map_or}
+use Rattle.ocf_types.specs.Limits.{num_max, event_limit, resources_limit, queue_limit, recurring_limit}
 use Rattle.ocf_types.specs.Kinds.{Change, Event, Command, Info, Reply}
 use Rattle.ocf_types.specs.Spelling.{spelled_event}
 use Rattle.ocf_types.specs.Resource.{Resource, is_busy, of_interval}
@@ -16,7 +17,7 @@ use Rattle.ocf_types.specs.declared.reply.ReplyOf.TheVariants as reply
 
 -- the moment of what happens now: a clock that is handed in is cut at the greatest moment, and never goes back
 abbrev pub moment : State → ℕ → ℕ
-moment s now = max s.clock (min now 9007199254740991)
+moment s now = max s.clock (min now num_max)
 
 -- the change that a command asks for
 abbrev pub change_of : ℕ → Command → Change
@@ -38,13 +39,13 @@ holds_at s id test = option_map_or test (resource_at s id) false
 
 -- the refusals that a command may meet, each with its test, in the order in which they are tried
 abbrev pub tests : State → Command → ℕ → List (Refusal × Bool)
-tests s (command.Register r) size = (Exists, is_some (resource_at s r.id)) ∷ (TooManyResources, nat_le 256 (length s.resources)) ∷ (TooLarge, nat_lt 16384 size) ∷ []
+tests s (command.Register r) size = (Exists, is_some (resource_at s r.id)) ∷ (TooManyResources, nat_le resources_limit (length s.resources)) ∷ (TooLarge, nat_lt event_limit size) ∷ []
 tests s (command.Unregister id) size = (UnknownResource, is_none (resource_at s id)) ∷ (Busy, holds_at s id (λ r. is_busy r.history)) ∷ []
-tests s (command.SetParams id ps) size = (UnknownResource, is_none (resource_at s id)) ∷ (TooLarge, nat_lt 16384 size) ∷ []
-tests s (command.Exec id t timeout) size = (UnknownResource, is_none (resource_at s id)) ∷ (QueueFull, holds_at s id (λ r. nat_le 32 (length r.history.queue))) ∷ (CallsSpent, s.next_call == 9007199254740991) ∷ []
+tests s (command.SetParams id ps) size = (UnknownResource, is_none (resource_at s id)) ∷ (TooLarge, nat_lt event_limit size) ∷ []
+tests s (command.Exec id t timeout) size = (UnknownResource, is_none (resource_at s id)) ∷ (QueueFull, holds_at s id (λ r. nat_le queue_limit (length r.history.queue))) ∷ (CallsSpent, s.next_call == num_max) ∷ []
 tests s (command.Recur id interval timeout level) size =
     (UnknownResource, is_none (resource_at s id)) ∷ (Exists, holds_at s id (λ r. is_some (of_interval interval r.recurring)))
-    ∷ (RecurringFull, holds_at s id (λ r. nat_le 8 (length r.recurring))) ∷ (CallsSpent, s.next_call == 9007199254740991) ∷ []
+    ∷ (RecurringFull, holds_at s id (λ r. nat_le recurring_limit (length r.recurring))) ∷ (CallsSpent, s.next_call == num_max) ∷ []
 tests s (command.Cancel id interval) size = (UnknownResource, is_none (resource_at s id)) ∷ (NoSuchRecurring, holds_at s id (λ r. is_none (of_interval interval r.recurring))) ∷ []
 tests s (command.Forget id) size = (UnknownResource, is_none (resource_at s id)) ∷ []
 

@@ -1,5 +1,6 @@
 -- Where an event applies.
 use Rattle.std.specs.Prelude.{◌≡◌, ℕ, ◌<◌, ◌≤◌, List, [], ◌∷◌, length, None, IsSome, IsSomeAnd, IsTrue, ⊤, false}
+use Rattle.ocf_types.specs.Limits.{num_max, resources_limit, queue_limit, recurring_limit}
 use Rattle.ocf_types.specs.Kinds.{Step, Change, Event}
 use Rattle.ocf_types.specs.Lawful.{HasSpelling}
 use Rattle.ocf_types.specs.Resource.{Resource, is_busy, of_call, of_interval}
@@ -12,7 +13,7 @@ use Rattle.ocf_types.specs.declared.event.Change.TheVariants as change
 
 -- a number is the next one, and that is not spent
 abbrev pub IsNext : ℕ → ℕ → Type 0
-IsNext n next = (n ≡ next) × (n < 9007199254740991)
+IsNext n next = (n ≡ next) × (n < num_max)
 
 -- the call that a begin takes: the first queued one, or with an empty queue that of a recurring monitor
 abbrev pub IsReady : List Op → List Recur → ℕ → Type 0
@@ -22,8 +23,8 @@ IsReady (o ∷ os) monitors call = call ≡ o.call
 -- where a step applies to a resource, in a state with these next numbers
 abbrev pub StepApplies : ℕ → ℕ → Step → Resource → Type 0
 StepApplies next_call next_run (step.SetParams ps) r = ⊤
-StepApplies next_call next_run (step.Exec o) r = (length r.history.queue < 32) × IsNext o.call next_call
-StepApplies next_call next_run (step.Recur m) r = (length r.recurring < 8) × (of_interval m.interval r.recurring ≡ None) × IsNext m.call next_call
+StepApplies next_call next_run (step.Exec o) r = (length r.history.queue < queue_limit) × IsNext o.call next_call
+StepApplies next_call next_run (step.Recur m) r = (length r.recurring < recurring_limit) × (of_interval m.interval r.recurring ≡ None) × IsNext m.call next_call
 StepApplies next_call next_run (step.Cancel interval) r = IsSome (of_interval interval r.recurring)
 StepApplies next_call next_run step.Forget r = ⊤
 StepApplies next_call next_run (step.Begin call run) r = (r.history.running ≡ None) × IsReady r.history.queue r.recurring call × IsNext run next_run
@@ -31,7 +32,7 @@ StepApplies next_call next_run (step.Result run end) r = IsSomeAnd r.history.run
 
 -- where a change applies
 abbrev pub ChangeApplies : State → Change → Type 0
-ChangeApplies s (change.Register r) = (resource_at s r.id ≡ None) × (length s.resources < 256)
+ChangeApplies s (change.Register r) = (resource_at s r.id ≡ None) × (length s.resources < resources_limit)
 ChangeApplies s (change.Unregister id) = IsSomeAnd (resource_at s id) (λ r. is_busy r.history ≡ false)
 ChangeApplies s (change.Step id what) = IsSomeAnd (resource_at s id) (StepApplies s.next_call s.next_run what)
 ChangeApplies s change.Boot = IsTrue (any_busy s)

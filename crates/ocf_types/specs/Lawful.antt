@@ -1,5 +1,6 @@
 -- Lawful events and commands: a clause that ranges over all of them ranges over all numbers and lists.
 use Rattle.std.specs.Prelude.{◌≡◌, ℕ, ◌≤◌, ◌<◌, IsTrue, List, ◌++◌, length, ⊤}
+use Rattle.ocf_types.specs.Limits.{event_limit}
 use Rattle.ocf_types.specs.Names.{is_rsc_id, is_provider, is_agent_type}
 use Rattle.ocf_types.specs.Numbers.{IsMoment, IsDrawn, IsMillis}
 use Rattle.ocf_types.specs.Params.{AreParams}
@@ -57,7 +58,7 @@ pub record IsLawfulEvent (e : Event) : Type 0 where
 -- what has a spelling: a lawful event of at most 16,384 bytes
 pub record HasSpelling (e : Event) : Type 0 where
   pub lawful : IsLawfulEvent e
-  pub short : length (spelled_event e) ≤ 16384
+  pub short : length (spelled_event e) ≤ event_limit
 
 -- the spelling of this event begins these bytes
 pub record Begins (bytes : List ℕ) (e : Event) : Type 0 where

@@ -3,6 +3,7 @@ use Rattle.std.specs.Prelude.{◌≡◌, ◌↔◌, ℕ, ◌<◌, ◌≤◌, ◌
 use Rattle.std.specs.List.{AllByRecursion, IsDistinct}
 use Rattle.std.specs.Map.{keys_of}
 use Rattle.std.specs.Str.{bytes_eq}
+use Rattle.ocf_types.specs.Limits.{event_limit, resources_limit, queue_limit, recurring_limit}
 use Rattle.ocf_types.specs.Names.{is_rsc_id, is_provider, is_agent_type}
 use Rattle.ocf_types.specs.Numbers.{IsMoment, IsDrawn, IsMillis}
 use Rattle.ocf_types.specs.Params.{AreParams}
@@ -54,12 +55,12 @@ pub record IsLawfulResource (next_call next_run clock : ℕ) (r : Resource) : Ty
   pub provider : IsTrue (is_provider r.provider)
   pub agent : IsTrue (is_agent_type r.agent)
   pub are_params : AreParams r.params
-  pub params_len : length (spelled_params r.params) ≤ 16384
-  pub queue_len : length r.history.queue ≤ 32
+  pub params_len : length (spelled_params r.params) ≤ event_limit
+  pub queue_len : length r.history.queue ≤ queue_limit
   pub queue : AllByRecursion (λ o. IsLawfulOp o × (o.call < next_call)) r.history.queue
   pub queue_ascends : IsAscending (map (λ o. o.call) r.history.queue)
   pub running : IsLawfulRunning next_call next_run clock r.history.running
-  pub recurring_len : length r.recurring ≤ 8
+  pub recurring_len : length r.recurring ≤ recurring_limit
   pub recurring : AllByRecursion (λ m. IsLawfulRecur m × (m.call < next_call)) r.recurring
   pub recurring_ascends : IsAscending (map (λ m. m.call) r.recurring)
   pub intervals : IsDistinct nat_eq (map (λ m. m.interval) r.recurring)
@@ -71,7 +72,7 @@ pub record IsLawfulState (s : State) : Type 0 where
   pub next_call : IsDrawn s.next_call
   pub next_run : IsDrawn s.next_run
   pub clock : IsMoment s.clock
-  pub at_most_256 : length s.resources ≤ 256
+  pub at_most_256 : length s.resources ≤ resources_limit
   pub ids : IsDistinct bytes_eq (keys_of s.resources)
   pub named : AllByRecursion (λ e. IsTrue (is_rsc_id e.0)) s.resources
   pub resources : AllByRecursion (λ e. IsLawfulResource s.next_call s.next_run s.clock e.1) s.resources

@@ -2,6 +2,7 @@
 use Rattle.std.specs.Prelude.{ℕ, ◌==◌, ◌||◌, ◌&&◌, not, nat_le, Bool, false, List, [], ◌∷◌, length, slice_index}
 use Rattle.std.specs.List.{list_all}
 use Rattle.std.specs.Char.{is_ascii_alphanumeric, is_ascii_alphabetic}
+use Rattle.ocf_types.specs.Limits.{name_limit}
 
 -- a letter, a digit, `_`, `-` or `.`
 abbrev pub is_name_byte : ℕ → Bool
@@ -19,7 +20,7 @@ is_dots _ = false
 
 -- 1 to 64 bytes
 abbrev pub has_name_length : List ℕ → Bool
-has_name_length name = nat_le 1 (length name) && nat_le (length name) 64
+has_name_length name = nat_le 1 (length name) && nat_le (length name) name_limit
 
 -- 1 to 64 bytes, each of which passes, but neither `.` nor `..`
 abbrev pub is_name_of : (ℕ → Bool) → List ℕ → Bool

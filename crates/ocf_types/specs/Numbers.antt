@@ -1,13 +1,14 @@
 -- Which numbers are moments, call ids, run numbers and lengths of time.
 use Rattle.std.specs.Prelude.{ℕ, ◌≤◌, ◌<◌, ◌^◌}
+use Rattle.ocf_types.specs.Limits.{num_max}
 
 -- whole milliseconds, up to the greatest moment
 abbrev pub IsMoment : ℕ → Type 0
-IsMoment n = n ≤ 9007199254740991
+IsMoment n = n ≤ num_max
 
 -- a call id or a run number: drawn from 1 upwards
 abbrev pub IsDrawn : ℕ → Type 0
-IsDrawn n = (1 ≤ n) × (n ≤ 9007199254740991)
+IsDrawn n = (1 ≤ n) × (n ≤ num_max)
 
 -- an interval or a timeout: at least one millisecond, in four bytes
 abbrev pub IsMillis : ℕ → Type 0

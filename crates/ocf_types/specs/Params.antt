@@ -4,6 +4,7 @@ use Rattle.std.specs.List.{list_any}
 use Rattle.std.specs.Str.{bytes_eq}
 use Rattle.std.specs.Ordering.{nat_cmp, is_lt}
 use Rattle.std.specs.Cmp.Lexicographic.{slice_cmp}
+use Rattle.ocf_types.specs.Limits.{params_limit}
 use Rattle.ocf_types.specs.Names.{is_param_name}
 use Rattle.ocf_types.specs.Values.{is_param_value}
 
@@ -27,7 +28,7 @@ are_params_after last (p ∷ ps) = is_after last p.0 && is_param_name p.0 && is_
 
 -- at most 64, sorted by name: OCF Resource Agent API 1.1, OCF_RESKEY_
 pub record AreParams (ps : ParamList) : Type 0 where
-  pub at_most_64 : length ps ≤ 64
+  pub at_most_64 : length ps ≤ params_limit
   pub sorted : IsTrue (are_params_after None ps)
 
 -- the name of the last one

@@ -1,6 +1,7 @@
 -- One resource, as plain lists, and what happens to it. Pacemaker Explained, resource operations; how many results
 -- are kept, and what a boot does, is this executor's own.
 use Rattle.std.specs.Prelude.{ℕ, ◌-◌, ◌==◌, Bool, ◌||◌, List, [], ◌∷◌, ◌++◌, map, length, drop, find, filter, not, nat_lt, Option, Some, None, option_map, option_to_list, is_some}
+use Rattle.ocf_types.specs.Limits.{ended_kept}
 use Rattle.ocf_types.specs.Params.{ParamList}
 use Rattle.ocf_types.specs.Actions.{action_of}
 use Rattle.ocf_types.specs.declared.action.Task.TheVariants.{Monitor}
@@ -27,7 +28,7 @@ pub record Resource : Type 0 where
 
 -- how many results are kept
 abbrev pub kept : ℕ
-kept = 16
+kept = ended_kept
 
 -- the last ones
 abbrev pub last_ended : List Ended → List Ended

@@ -14,12 +14,13 @@ pub struct OpKey {
 
 impl Model for OpKey {
     ghost use Rattle.std.specs.Prelude.{List, ℕ, ◌≤◌, length};
+    ghost use Rattle.ocf_types.specs.Limits.{key_limit};
 
     ghost Value = { List ℕ };
 
     ghost view = { λ k. k.text.bytes };
 
-    ghost invariant = { λ k. length k.text.bytes ≤ 88 };
+    ghost invariant = { λ k. length k.text.bytes ≤ key_limit };
 }
 
 impl OpKey {

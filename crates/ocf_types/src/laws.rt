@@ -4,6 +4,7 @@ ghost use Rattle.std.specs.Str.{bytes_eq};
 ghost use Rattle.ocf_types.specs.declared.event.Step.TheVariants as step;
 ghost use Rattle.ocf_types.specs.declared.event.Change.TheVariants as change;
 ghost use Rattle.ocf_types.specs.declared.outcome.RunEnd.{RunEnd};
+ghost use Rattle.ocf_types.specs.Limits.{num_max, boot_len, longest_result, longest_begin, longest_small};
 ghost use Rattle.ocf_types.specs.Kinds.{Event, Command, Step, Change};
 ghost use Rattle.ocf_types.specs.Lawful.{IsId, IsLawfulEvent, IsLawfulCommand};
 ghost use Rattle.ocf_types.specs.Spelling.{spelled_event, HasNoParams};
@@ -37,17 +38,17 @@ pub fn others_stay()
 pub fn what_applies()
     ensures command { (s : State) (now : ℕ) (c : Command) (e : Event) → IsLawfulState s → IsLawfulCommand c
         → event_of s now c ≡ Ok e → Applies s e }
-    ensures boot { (s : State) (at : ℕ) → s.clock ≤ at → at ≤ 9007199254740991 → IsTrue (any_busy s)
+    ensures boot { (s : State) (at : ℕ) → s.clock ≤ at → at ≤ num_max → IsTrue (any_busy s)
         → Applies s (boot_at at) }
 {}
 
 /// How long spellings are at most, in bytes: so a begin and the results of all that runs fit the reserve.
 pub fn lengths()
     ensures result { (at run : ℕ) (id : List ℕ) (end : RunEnd) → IsId id
-        → length (spelled_event (record { at = at; change = change.Step id (step.Result run end) })) ≤ 84 }
+        → length (spelled_event (record { at = at; change = change.Step id (step.Result run end) })) ≤ longest_result }
     ensures begin { (at call run : ℕ) (id : List ℕ) → IsId id
-        → length (spelled_event (record { at = at; change = change.Step id (step.Begin call run) })) ≤ 90 }
-    ensures boot { (at : ℕ) → length (spelled_event (boot_at at)) ≡ 9 }
+        → length (spelled_event (record { at = at; change = change.Step id (step.Begin call run) })) ≤ longest_begin }
+    ensures boot { (at : ℕ) → length (spelled_event (boot_at at)) ≡ boot_len }
     ensures small { (at : ℕ) (c : Change) → IsLawfulEvent (record { at = at; change = c }) → HasNoParams c
-        → length (spelled_event (record { at = at; change = c })) ≤ 91 }
+        → length (spelled_event (record { at = at; change = c })) ≤ longest_small }
 {}

@@ -42,6 +42,12 @@ pub const PART_LIMIT: u64 = 8_388_608;
 /// What stays free in a part after each slot but those of results and boots, in bytes.
 pub const RESERVE: u64 = 32_768;
 
+/// The length of a part's first gate and head, in bytes: here its snapshot begins.
+pub const HEAD_LEN: u64 = 18;
+
+/// The length of a part as a creation leaves it, in bytes: the head, the empty state and a gate.
+pub const CREATED_LEN: u64 = 45;
+
 /// The greatest length of a command line without its newline, in bytes.
 pub const LINE_LIMIT: usize = 131_072;
 

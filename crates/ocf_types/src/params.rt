@@ -86,7 +86,7 @@ impl<A: Allocator> Params<A> {
     /// Appends a parameter whose name comes after all that are there.
     #[tactic(auto, using(crate::proofs::ParamsLemmas::AreParams_push))]
     pub fn push(&mut self, name: ParamName, value: ParamValue<A>) -> Result<(), AllocError>
-        requires room { length self.old < 64 }
+        requires room { length self.old < PARAMS_LIMIT }
         requires after { IsTrue (is_after (last_name None self.old) name) }
         ensures ok { OnOk result (self.new ≡ self.old ++ (name, value) ∷ []) }
         ensures err { OnErr result (self.new ≡ self.old) }

@@ -4,6 +4,7 @@ ghost use Rattle.ocf_types.specs.State.{State};
 ghost use Rattle.ocf_types.specs.Places.{id_at, at_place};
 
 use crate::agent::{AgentType, Provider};
+use crate::limits::{ENDED_KEPT, QUEUE_LIMIT, RECURRING_LIMIT, RESOURCES_LIMIT};
 use crate::numbers::{CallId, Moment, RunId};
 use crate::operation::{Ended, Op, Recur, Running};
 use crate::params::Params;
@@ -33,7 +34,7 @@ pub trait StateView {
     /// How many resources there are, at most 256.
     fn len(&self) -> usize
         ensures value { result ≡ length (plain self.now).resources }
-        ensures limit { result ≤ 256 };
+        ensures limit { result ≤ RESOURCES_LIMIT };
 
     fn id_at(&self, place: usize) -> &RscId
         requires { place < length (plain self.now).resources }
@@ -55,7 +56,7 @@ pub trait StateView {
     fn queue_len(&self, place: usize) -> usize
         requires { place < length (plain self.now).resources }
         ensures value { result ≡ length (at_place (plain self.now) place).history.queue }
-        ensures limit { result ≤ 32 };
+        ensures limit { result ≤ QUEUE_LIMIT };
 
     /// A queued action.
     fn queued_at(&self, place: usize, at: usize) -> Op
@@ -72,7 +73,7 @@ pub trait StateView {
     fn recurring_len(&self, place: usize) -> usize
         requires { place < length (plain self.now).resources }
         ensures value { result ≡ length (at_place (plain self.now) place).recurring }
-        ensures limit { result ≤ 8 };
+        ensures limit { result ≤ RECURRING_LIMIT };
 
     /// A recurring monitor.
     fn recurring_at(&self, place: usize, at: usize) -> Recur
@@ -84,7 +85,7 @@ pub trait StateView {
     fn ended_len(&self, place: usize) -> usize
         requires { place < length (plain self.now).resources }
         ensures value { result ≡ length (at_place (plain self.now) place).history.ended }
-        ensures limit { result ≤ 16 };
+        ensures limit { result ≤ ENDED_KEPT };
 
     /// A result, the oldest at 0.
     fn ended_at(&self, place: usize, at: usize) -> Ended

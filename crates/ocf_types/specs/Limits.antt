@@ -1,0 +1,109 @@
+-- The limits by name: those of the code, and how long spellings are.
+use Rattle.std.specs.Prelude.{ℕ, ◌+◌, ◌*◌}
+use Rattle.ocf_types.specs.declared.limits.TheConstants.{NUM_MAX, NAME_LIMIT, VALUE_LIMIT, PARAMS_LIMIT, RESOURCES_LIMIT, QUEUE_LIMIT, RECURRING_LIMIT, ENDED_KEPT, KEY_LIMIT, EVENT_LIMIT, BODY_LIMIT, PART_LIMIT, RESERVE, LINE_LIMIT, METADATA_LIMIT, DEFAULT_TIMEOUT, HEAD_LEN, CREATED_LEN}
+
+-- the greatest moment, call id and run number
+abbrev pub num_max : ℕ
+num_max = NUM_MAX
+
+-- the longest name, value and key, in bytes
+abbrev pub name_limit : ℕ
+name_limit = NAME_LIMIT
+
+abbrev pub value_limit : ℕ
+value_limit = VALUE_LIMIT
+
+abbrev pub key_limit : ℕ
+key_limit = KEY_LIMIT
+
+-- how many there are at most: parameters, resources, queued actions, recurring monitors, results that are kept
+abbrev pub params_limit : ℕ
+params_limit = PARAMS_LIMIT
+
+abbrev pub resources_limit : ℕ
+resources_limit = RESOURCES_LIMIT
+
+abbrev pub queue_limit : ℕ
+queue_limit = QUEUE_LIMIT
+
+abbrev pub recurring_limit : ℕ
+recurring_limit = RECURRING_LIMIT
+
+abbrev pub ended_kept : ℕ
+ended_kept = ENDED_KEPT
+
+-- the longest spelling of an event, or of a resource's parameters, in bytes
+abbrev pub event_limit : ℕ
+event_limit = EVENT_LIMIT
+
+-- the longest body of a slot, the longest part, and what a record other than a result and a boot leaves free, in bytes
+abbrev pub body_limit : ℕ
+body_limit = BODY_LIMIT
+
+abbrev pub part_limit : ℕ
+part_limit = PART_LIMIT
+
+abbrev pub reserve : ℕ
+reserve = RESERVE
+
+-- the longest command line, and the longest metadata, in bytes
+abbrev pub line_limit : ℕ
+line_limit = LINE_LIMIT
+
+abbrev pub metadata_limit : ℕ
+metadata_limit = METADATA_LIMIT
+
+-- the timeout of an operation that names none, in milliseconds
+abbrev pub default_timeout : ℕ
+default_timeout = DEFAULT_TIMEOUT
+
+-- a part's first gate and its head, and a part as a creation leaves it, in bytes
+abbrev pub head_len : ℕ
+head_len = HEAD_LEN
+
+abbrev pub created_len : ℕ
+created_len = CREATED_LEN
+
+-- what a slot adds in front of its body: a gate and a length
+abbrev pub slot_frame : ℕ
+slot_frame = 5
+
+-- the spelling of a boot, and the longest ones of a result, of a begin, and of an event without parameters, in bytes
+abbrev pub boot_len : ℕ
+boot_len = 9
+
+abbrev pub longest_result : ℕ
+longest_result = 84
+
+abbrev pub longest_begin : ℕ
+longest_begin = 90
+
+abbrev pub longest_small : ℕ
+longest_small = 91
+
+-- the longest slot of a result: 89 bytes
+abbrev pub result_room : ℕ
+result_room = slot_frame + longest_result
+
+-- the slot of a boot, and the gate behind it: 15 bytes
+abbrev pub boot_room : ℕ
+boot_room = slot_frame + boot_len + 1
+
+-- the longest spelling of one parameter, and of as many as there may be
+abbrev pub longest_param : ℕ
+longest_param = 3 + name_limit + value_limit
+
+abbrev pub longest_params : ℕ
+longest_params = 1 + params_limit * longest_param
+
+-- the spelling of a state without its resources: 26 bytes
+abbrev pub bare_state : ℕ
+bare_state = 26
+
+-- the longest spelling of a resource: names, parameters, queue, what runs, recurring monitors and results; 17,825 bytes
+abbrev pub longest_resource : ℕ
+longest_resource = 3 * (1 + name_limit) + event_limit + (1 + 14 * queue_limit) + 35 + (1 + 17 * recurring_limit) + (1 + 39 * ended_kept)
+
+-- the longest spelling of a state: 4,563,226 bytes
+abbrev pub longest_state : ℕ
+longest_state = bare_state + longest_resource * resources_limit
