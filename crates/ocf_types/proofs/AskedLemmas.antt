@@ -1,5 +1,5 @@
 -- The event that a lawful command is at a lawful state applies there.
-use Rattle.std.proofs.Common.{◌≡◌, ℕ, ◌≤◌, Bool, true, false, List, [], ◌∷◌, length, Option, Some, None, Ok, Err, IsSome, IsSomeAnd, is_some, is_none, IsTrue, leb, refl, subst, arith}
+use Rattle.std.proofs.Common.{◌≡◌, ℕ, ◌≤◌, Bool, true, false, List, [], ◌∷◌, length, Option, Some, None, Ok, Err, IsSome, IsSomeAnd, is_some, is_none, IsTrue, leb, refl, sym, subst, arith}
 use Rattle.std.specs.List.{AllByRecursion}
 use Rattle.std.specs.Option.{option_map_or}
 use Rattle.std.proofs.lemmas.Bool.{leb-false, ltb-false, eqb-false}
@@ -14,10 +14,10 @@ use Rattle.ocf_types.specs.Numbers.{IsMoment}
 use Rattle.ocf_types.specs.Lawful.{IsLawfulChange, IsLawfulCommand}
 use Rattle.ocf_types.specs.Spelling.{spelled_event, HasNoParams}
 use Rattle.ocf_types.specs.Resource.{Resource, is_busy, of_interval}
-use Rattle.ocf_types.specs.State.{State, resource_at}
+use Rattle.ocf_types.specs.State.{State, resource_at, IsRegistration}
 use Rattle.ocf_types.specs.Applies.{Applies, ChangeApplies, StepApplies, IsNext}
 use Rattle.ocf_types.specs.Boot.{any_busy, boot_at}
-use Rattle.ocf_types.specs.Answer.{moment, asked_event, tests, first_of, event_of}
+use Rattle.ocf_types.specs.Answer.{moment, change_of, IsRegister, asked_event, tests, first_of, event_of}
 use Rattle.ocf_types.specs.LawfulState.{IsLawfulState}
 use Rattle.ocf_types.proofs.Lengths.{event_short}
 
@@ -132,3 +132,13 @@ boot_applies s at later le busy = record {
   later = later;
   change = busy;
 }
+
+-- only a command to register asks for a registration
+asks_to_register : (call : ℕ) (c : Command) → IsRegistration (change_of call c) → IsRegister c
+asks_to_register call (command.Register r) h = tt
+asks_to_register call _ h = absurd h
+
+pub registers : (s : State) (now : ℕ) (c : Command) (e : Event) → event_of s now c ≡ Ok e → IsRegistration e.change → IsRegister c
+registers s now c e is h =
+    let p = passed (tests s c (length (spelled_event (asked_event s now c)))) (asked_event s now c) e is in
+    asks_to_register s.next_call c (subst (λ (x : Event). IsRegistration x.change) (sym p.0) h)

@@ -5,6 +5,7 @@ pub mod SpellingExamples
 pub mod StateExamples
 pub mod RuleExamples
 pub mod Lengths
+pub mod StateLengths
 pub mod Lists
 pub mod Registries
 pub mod BootLemmas

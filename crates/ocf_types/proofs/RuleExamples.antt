@@ -1,6 +1,6 @@
 -- The rules of commands, boots, due moments and picks, computed on small states.
 use Rattle.std.proofs.Common.{◌≡◌, ℕ, ◌-◌, ◌*◌, min, ◌≤◌, ◌<◌, List, [], ◌∷◌, Option, Some, None, Ok, Err, refl, arith, inl, inr}
-use Rattle.std.specs.Prelude.{codes, replicate, option_map, All}
+use Rattle.std.specs.Prelude.{codes, replicate, option_map, IsSomeAnd, All}
 use Rattle.std.proofs.lemmas.List.Elements.{All-from_recursion}
 use Rattle.ocf_types.specs.declared.action.Level.TheVariants.{Zero}
 use Rattle.ocf_types.specs.declared.action.Action.TheVariants as action
@@ -17,7 +17,7 @@ use Rattle.ocf_types.specs.declared.refusal.Refusal.TheVariants.{Exists, Busy, Q
 use Rattle.ocf_types.specs.Kinds.{Change, Event, Registration}
 use Rattle.ocf_types.specs.Resource.{Resource, no_history}
 use Rattle.ocf_types.specs.State.{State, empty, resource_at, after, after_all}
-use Rattle.ocf_types.specs.Boot.{boot, boot_event}
+use Rattle.ocf_types.specs.Boot.{boot, boot_event, IsLast}
 use Rattle.ocf_types.specs.Answer.{event_of}
 use Rattle.ocf_types.specs.Spelling.{two_bytes, four_bytes, eight_bytes, spelled_event}
 use Rattle.ocf_types.specs.Due.{Due, due_at, due_after, IsBefore, IsPick}
@@ -63,6 +63,10 @@ booted_history : option_map (λ r. r.history.ended) (resource_at (boot stopped 5
     record { call = 2; run = 0; action = action.Stop; interval = 0; since = 500; at = 500; outcome = Dropped }
     ∷ record { call = 1; run = 1; action = action.Start; interval = 0; since = 10; at = 500; outcome = Interrupted } ∷ [])
 booted_history = refl
+
+-- what ran is the last of these results
+interrupted_last : IsSomeAnd (resource_at (boot stopped 500) r1) (λ r. IsLast (record { call = 1; run = 1; action = action.Start; interval = 0; since = 10; at = 500; outcome = Interrupted }) r.history.ended)
+interrupted_last = (record { call = 2; run = 0; action = action.Stop; interval = 0; since = 500; at = 500; outcome = Dropped } ∷ [], refl)
 
 -- and no second boot is needed
 booted_once : boot_event (boot stopped 500) 600 ≡ None

@@ -1,5 +1,5 @@
 -- Which event a command is, or which refusal, and what a question is answered.
-use Rattle.std.specs.Prelude.{ℕ, ◌==◌, Bool, false, max, min, nat_lt, nat_le, is_some, is_none, List, [], ◌∷◌, length, map, Result, Ok, Err, if◌then◌else◌}
+use Rattle.std.specs.Prelude.{ℕ, ◌==◌, Bool, false, max, min, nat_lt, nat_le, is_some, is_none, List, [], ◌∷◌, length, map, Result, Ok, Err, if◌then◌else◌, ⊤}
 use Rattle.std.specs.Option.{option_map_or}
 use Rattle.ocf_types.specs.Limits.{num_max, event_limit, resources_limit, queue_limit, recurring_limit}
 use Rattle.ocf_types.specs.Kinds.{Change, Event, Command, Info, Reply}
@@ -28,6 +28,11 @@ change_of call (command.Exec id t timeout) = change.Step id (step.Exec (record {
 change_of call (command.Recur id interval timeout level) = change.Step id (step.Recur (record { call = call; interval = interval; timeout = timeout; level = level }))
 change_of call (command.Cancel id interval) = change.Step id (step.Cancel interval)
 change_of call (command.Forget id) = change.Step id step.Forget
+
+-- the command asks for a registration
+abbrev pub IsRegister : Command → Type 0
+IsRegister (command.Register r) = ⊤
+IsRegister _ = ⊥
 
 -- the event that a command asks for
 abbrev pub asked_event : State → ℕ → Command → Event

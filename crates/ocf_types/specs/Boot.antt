@@ -1,9 +1,10 @@
 -- The boot: what an opening does to what a stopped executor left.
-use Rattle.std.specs.Prelude.{ℕ, Bool, Option, Some, None, if◌then◌else◌}
+use Rattle.std.specs.Prelude.{◌≡◌, ℕ, Bool, List, [], ◌∷◌, ◌++◌, Option, Some, None, if◌then◌else◌}
 use Rattle.std.specs.List.{list_any}
 use Rattle.ocf_types.specs.Kinds.{Event}
 use Rattle.ocf_types.specs.Resource.{is_busy}
 use Rattle.ocf_types.specs.State.{State, after}
+use Rattle.ocf_types.specs.declared.operation.Ended.{Ended}
 use Rattle.ocf_types.specs.declared.event.Change.TheVariants as change
 
 -- some resource has an action queued or running
@@ -21,3 +22,7 @@ boot_event s at = if any_busy s then Some (boot_at at) else None
 -- the state after it: that of before, where nothing is queued or running
 abbrev pub boot : State → ℕ → State
 boot s at = if any_busy s then after s (boot_at at) else s
+
+-- a result is the last of these
+abbrev pub IsLast : Ended → List Ended → Type 0
+IsLast e results = (before : List Ended) × (results ≡ before ++ e ∷ [])

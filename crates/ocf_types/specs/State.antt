@@ -1,5 +1,5 @@
 -- The state, and the state after an event: this executor's own.
-use Rattle.std.specs.Prelude.{ℕ, ◌+◌, List, [], ◌∷◌, ◌++◌, map, filter, fold, not, if◌then◌else◌, Option, Some, None}
+use Rattle.std.specs.Prelude.{ℕ, ◌+◌, List, [], ◌∷◌, ◌++◌, map, filter, fold, not, if◌then◌else◌, Option, Some, None, ⊤}
 use Rattle.std.specs.Map.{lookup}
 use Rattle.std.specs.Str.{bytes_eq}
 use Rattle.ocf_types.specs.Kinds.{Registration, Step, Change, Event}
@@ -94,3 +94,8 @@ named (change.Register r) = Some r.id
 named (change.Unregister id) = Some id
 named (change.Step id what) = Some id
 named change.Boot = None
+
+-- the change is a registration
+abbrev pub IsRegistration : Change → Type 0
+IsRegistration (change.Register r) = ⊤
+IsRegistration _ = ⊥

@@ -1,22 +1,33 @@
 //! Laws of the definitions, each the contract of a function that does nothing.
-ghost use Rattle.std.specs.Prelude.{◌≡◌, ◌≢◌, ℕ, ◌≤◌, List, length, Some, Ok, IsTrue, filter, not};
+ghost use Rattle.std.specs.Prelude.{◌≡◌, ◌≢◌, ℕ, ◌≤◌, List, length, Some, Ok, IsTrue, IsSomeAnd, filter, not};
 ghost use Rattle.std.specs.Str.{bytes_eq};
 ghost use Rattle.ocf_types.specs.declared.event.Step.TheVariants as step;
 ghost use Rattle.ocf_types.specs.declared.event.Change.TheVariants as change;
 ghost use Rattle.ocf_types.specs.declared.outcome.RunEnd.{RunEnd};
-ghost use Rattle.ocf_types.specs.Limits.{num_max, boot_len, longest_result, longest_begin, longest_small};
+ghost use Rattle.ocf_types.specs.Limits.{num_max, boot_len, longest_result, longest_begin, longest_small, longest_state};
 ghost use Rattle.ocf_types.specs.Kinds.{Event, Command, Step, Change};
 ghost use Rattle.ocf_types.specs.Lawful.{IsId, IsLawfulEvent, IsLawfulCommand};
 ghost use Rattle.ocf_types.specs.Spelling.{spelled_event, HasNoParams};
-ghost use Rattle.ocf_types.specs.State.{State, empty, resource_at, named, others, after};
+ghost use Rattle.ocf_types.specs.State.{State, empty, resource_at, named, others, after, IsRegistration};
 ghost use Rattle.ocf_types.specs.Applies.{Applies};
-ghost use Rattle.ocf_types.specs.Boot.{any_busy, boot, boot_at};
-ghost use Rattle.ocf_types.specs.Answer.{event_of};
+ghost use Rattle.ocf_types.specs.Boot.{any_busy, boot, boot_at, IsLast};
+ghost use Rattle.ocf_types.specs.Answer.{event_of, IsRegister};
 ghost use Rattle.ocf_types.specs.LawfulState.{IsLawfulState};
+ghost use Rattle.ocf_types.specs.StateSpelling.{spelled_state};
+ghost use Rattle.ocf_types.specs.Resource.{Resource, ended_of};
+ghost use Rattle.ocf_types.specs.declared.operation.Running.{Running};
+ghost use Rattle.ocf_types.specs.declared.outcome.Outcome.TheVariants.{Interrupted};
 
 /// A second boot changes nothing.
 pub fn boot_is_once()
     ensures { (s : State) (m n : ℕ) → boot (boot s m) n ≡ boot s m }
+{}
+
+/// What ran at a boot is the last of its resource's results: interrupted at the boot's moment, with its call, its run and
+/// the moment since which it ran.
+pub fn what_ran_is_interrupted()
+    ensures { (s : State) (at : ℕ) (id : List ℕ) (r : Resource) (x : Running) → resource_at s id ≡ Some r → r.history.running ≡ Some x
+        → IsSomeAnd (resource_at (after s (boot_at at)) id) (λ q. IsLast (ended_of Interrupted at x) q.history.ended) }
 {}
 
 /// The empty state is lawful, and an event that applies in a lawful state leaves a lawful one: all that events lead to
@@ -34,15 +45,18 @@ pub fn others_stay()
         → others id (after s e).resources ≡ others id s.resources }
 {}
 
-/// The event that a lawful command is at a lawful state applies there, and so does a boot that is needed.
+/// The event that a lawful command is at a lawful state applies there, and so does a boot that is needed. Only a command
+/// to register is a registration.
 pub fn what_applies()
     ensures command { (s : State) (now : ℕ) (c : Command) (e : Event) → IsLawfulState s → IsLawfulCommand c
         → event_of s now c ≡ Ok e → Applies s e }
     ensures boot { (s : State) (at : ℕ) → s.clock ≤ at → at ≤ num_max → IsTrue (any_busy s)
         → Applies s (boot_at at) }
+    ensures registers { (s : State) (now : ℕ) (c : Command) (e : Event) → event_of s now c ≡ Ok e → IsRegistration e.change → IsRegister c }
 {}
 
-/// How long spellings are at most, in bytes: so a begin and the results of all that runs fit the reserve.
+/// How long spellings are at most, in bytes: so a begin and the results of all that runs fit the reserve, and a snapshot
+/// of any lawful state fits a part.
 pub fn lengths()
     ensures result { (at run : ℕ) (id : List ℕ) (end : RunEnd) → IsId id
         → length (spelled_event (record { at = at; change = change.Step id (step.Result run end) })) ≤ longest_result }
@@ -51,4 +65,5 @@ pub fn lengths()
     ensures boot { (at : ℕ) → length (spelled_event (boot_at at)) ≡ boot_len }
     ensures small { (at : ℕ) (c : Change) → IsLawfulEvent (record { at = at; change = c }) → HasNoParams c
         → length (spelled_event (record { at = at; change = c })) ≤ longest_small }
+    ensures state { (s : State) → IsLawfulState s → length (spelled_state s) ≤ longest_state }
 {}

@@ -2,6 +2,7 @@ use Rattle.std.proofs.Common.{arith}
 use Rattle.ocf_types.specs.declared.event.Step.TheVariants as step
 use Rattle.ocf_types.specs.declared.event.Change.TheVariants as change
 use Rattle.ocf_types.proofs.Lengths.{id_short, length-event, length-step, length-begin, length-result, event_short}
+use Rattle.ocf_types.proofs.StateLengths.{state_short}
 use Rattle.ocf_types.proofs.laws.lengths.Goals as goal
 
 pub returns-clause-result : goal.returns-clause-result
@@ -17,3 +18,6 @@ returns-clause-boot c at = length-event at change.Boot
 
 pub returns-clause-small : goal.returns-clause-small
 returns-clause-small c at ch l h = event_short at ch l.change h
+
+pub returns-clause-state : goal.returns-clause-state
+returns-clause-state c s h = state_short s h
