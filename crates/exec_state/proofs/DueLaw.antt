@@ -1,5 +1,5 @@
 -- The due moments are a finite map from resource id and call, and each event makes of it what the rule says.
-use Rattle.std.proofs.Common.{◌≡◌, ◌≢◌, ℕ, ◌≤◌, ◌<◌, ◌==◌, unwrap_or, Bool, true, false, cond, not, List, [], ◌∷◌, ◌++◌, map, filter, find, Option, Some, None, is_some, refl, sym, ap, subst, ◌∙◌}
+use Rattle.std.proofs.Common.{◌≡◌, ◌≢◌, ℕ, ◌<◌, ◌==◌, unwrap_or, Bool, true, false, cond, not, List, [], ◌∷◌, ◌++◌, map, filter, find, Option, Some, None, is_some, refl, sym, ap, subst, ◌∙◌}
 use Rattle.std.specs.Option.{option_map, option_map_or, option_and_then}
 use Rattle.std.specs.List.{AllByRecursion}
 use Rattle.std.specs.Map.{lookup}
@@ -10,16 +10,16 @@ use Rattle.ocf_types.specs.declared.operation.Recur.{Recur}
 use Rattle.ocf_types.specs.declared.event.Change.TheVariants as change
 use Rattle.ocf_types.specs.Kinds.{Step, Change, Event}
 use Rattle.ocf_types.specs.Resource.{Resource, of_call, booted}
-use Rattle.ocf_types.specs.State.{State, Registry, at_id, after, stepped, registered, on_history}
-use Rattle.ocf_types.specs.Due.{due_after, due_at, step_sets, or_else}
+use Rattle.ocf_types.specs.State.{State, Registry, empty, at_id, stepped, registered, on_history}
+use Rattle.ocf_types.specs.Due.{due_after, due_at}
 use Rattle.ocf_types.specs.Applies.{Applies, StepApplies, ChangeApplies}
-use Rattle.ocf_types.specs.LawfulState.{IsAscending, IsLawfulResource, IsLawfulState}
+use Rattle.ocf_types.specs.LawfulState.{IsLawfulResource, IsLawfulState}
 use Rattle.ocf_types.specs.Lawful.{IsLawfulRecur}
 use Rattle.ocf_types.proofs.Lists.{found}
 use Rattle.ocf_types.proofs.Registries.{same_id, apart, lookup-push_other, lookup-at_id_other}
 use Rattle.recurring.specs.declared.monitor.Monitor.{Monitor}
 use Rattle.recurring.specs.Monitors.{recurs, all_due_at}
-use Rattle.exec_state.specs.Store.{Store, Monitors, monitors_at, due_of, monitors_due_at}
+use Rattle.exec_state.specs.Store.{Store, Monitors, monitors_at, due_of, dues, monitors_due_at}
 use Rattle.exec_state.specs.MonitorsAfter.{monitors_stepped, monitors_changed, monitors_after}
 use Rattle.exec_state.specs.Lawful.{recurs_by_id, recurring_by_id, IsLawfulStore}
 use Rattle.exec_state.proofs.Choices.{none_before}
@@ -197,6 +197,11 @@ due_all at call (x ∷ xs) = by (x.call == call) (due_all at call xs)
     by true k = refl
     by false k = k
 
+-- the same of the whole map
+pub due_applied : (s t : Store) (e : Event) → IsLawfulStore s → Applies s.state e → t.monitors ≡ monitors_after s.state e s.monitors
+    → dues t ≡ due_after s.state (dues s) e
+due_applied s t e h a is = ap due_of is ∙ (λ i. λ id call. due_by_events s e id call h a i)
+
 -- after an opening all are due at its moment
 pub due_by_opening : (s : State) (at : ℕ) (id : List ℕ) (call : ℕ) → due_of (monitors_due_at at s) id call ≡ due_at s at id call
 due_by_opening s at id call =
@@ -206,3 +211,15 @@ due_by_opening s at id call =
         ≡ cond (there_at o call) (Some at) None
     by None = refl
     by (Some r) = due_all at call r.recurring
+
+-- the same of the whole map
+pub due_opened : (s : State) (t : Store) (at : ℕ) → t.monitors ≡ monitors_due_at at s → dues t ≡ due_at s at
+due_opened s t at is = ap due_of is ∙ (λ i. λ id call. due_by_opening s at id call i)
+
+-- without resources nothing is due
+pub due_empty : (t : Store) → t.monitors ≡ [] → dues t ≡ due_at empty 0
+due_empty t is = ap due_of is
+
+-- where the monitors stay, so do their due moments
+pub due_same : (s t : Store) → t.monitors ≡ s.monitors → dues t ≡ dues s
+due_same s t is = ap due_of is

@@ -1,5 +1,5 @@
 -- When the monitors of one resource are due after a step.
-use Rattle.std.proofs.Common.{◌≡◌, ℕ, ◌+◌, ◌<◌, ◌==◌, ◌&&◌, nat_lt, Bool, true, false, cond, not, List, [], ◌∷◌, ◌++◌, map, filter, find, Option, Some, None, is_some, refl, sym, ap, subst, ◌∙◌, arith}
+use Rattle.std.proofs.Common.{◌≡◌, ℕ, ◌+◌, ◌<◌, ◌==◌, ◌&&◌, nat_lt, Bool, true, false, cond, not, List, [], ◌∷◌, ◌++◌, map, find, Option, Some, None, is_some, refl, sym, subst, ◌∙◌, arith}
 use Rattle.std.specs.Option.{option_map, option_and_then}
 use Rattle.std.specs.List.{AllByRecursion}
 use Rattle.std.proofs.lemmas.Bool.{false_from_ne_true}
@@ -14,9 +14,9 @@ use Rattle.ocf_types.specs.Due.{is_run_of, step_sets, or_else}
 use Rattle.ocf_types.specs.Applies.{StepApplies}
 use Rattle.ocf_types.specs.LawfulState.{IsAscending}
 use Rattle.recurring.specs.declared.monitor.Monitor.{Monitor}
-use Rattle.recurring.specs.Monitors.{recurs, cancelled, settled, settled_one, due_at, monitor_due_at}
+use Rattle.recurring.specs.Monitors.{recurs, cancelled, settled, due_at, monitor_due_at}
 use Rattle.exec_state.specs.MonitorsAfter.{run_ended, monitors_stepped}
-use Rattle.exec_state.proofs.Picks.{lesser_differs, due_in}
+use Rattle.exec_state.proofs.Picks.{due_in}
 
 -- a number is itself, and numbers that differ are not the same
 same_number : (n k : ℕ) → n ≡ k → (n == k) ≡ true

@@ -8,11 +8,11 @@ use Rattle.std.proofs.lemmas.Bool.{false_from_ne_true}
 use Rattle.std.proofs.lemmas.Bool.Decides.{Decides-eqb}
 use Rattle.ocf_types.specs.declared.operation.Recur.{Recur}
 use Rattle.ocf_types.specs.Resource.{Resource}
-use Rattle.ocf_types.specs.State.{State, Registry, resource_at}
+use Rattle.ocf_types.specs.State.{Registry, resource_at}
 use Rattle.ocf_types.specs.Due.{due_pairs, IsPickOf, IsPick}
-use Rattle.ocf_types.specs.LawfulState.{IsAscending, IsLawfulResource, IsLawfulState}
+use Rattle.ocf_types.specs.LawfulState.{IsAscending, IsLawfulResource}
 use Rattle.recurring.specs.declared.monitor.Monitor.{Monitor}
-use Rattle.recurring.specs.Monitors.{recurs, pair, pairs}
+use Rattle.recurring.specs.Monitors.{recurs, pairs}
 use Rattle.exec_state.specs.Store.{Store, Monitors, monitors_at, due_of, IsChoice}
 use Rattle.exec_state.specs.Lawful.{recurs_by_id, recurring_by_id, IsLawfulStore}
 use Rattle.exec_state.proofs.Choices.{through_cond}

@@ -1,15 +1,14 @@
 -- What a lawful state gives: room for each resource, and a lawful state behind each event.
 use Rattle.std.proofs.Common.{◌≡◌, ℕ, List, [], ◌∷◌, refl, sym, ap, subst}
 use Rattle.std.specs.List.{AllByRecursion}
-use Rattle.ocf_types.specs.Kinds.{Registration, Event}
+use Rattle.ocf_types.specs.Kinds.{Event}
 use Rattle.ocf_types.specs.declared.operation.Recur.{Recur}
-use Rattle.ocf_types.specs.Resource.{History, Resource}
-use Rattle.ocf_types.specs.State.{State, empty, after, resource_of}
+use Rattle.ocf_types.specs.Resource.{Resource}
+use Rattle.ocf_types.specs.State.{State, empty, after}
 use Rattle.ocf_types.specs.Applies.{Applies}
 use Rattle.ocf_types.specs.LawfulState.{IsLawfulResource, IsLawfulState}
 use Rattle.ocf_types.proofs.Lists.{each_weaken}
 use Rattle.ocf_types.proofs.LawfulLaw.{lawful_after, lawful_empty}
-use Rattle.recurring.specs.declared.monitor.Monitor.{Monitor}
 use Rattle.recurring.specs.Monitors.{recurs, all_due_at}
 use Rattle.exec_state.specs.Seen.{FitsRoom}
 use Rattle.exec_state.specs.Store.{Store}

@@ -1,5 +1,6 @@
 -- What the journal keeps of a registered resource, and its recurring monitors with their due moments.
 use Rattle.std.specs.Prelude.{ℕ, ◌≤◌, List, map, length}
+use Rattle.ocf_types.specs.Limits.{queue_limit, recurring_limit}
 use Rattle.ocf_types.specs.Resource.{Resource, kept}
 use Rattle.recurring.specs.declared.monitor.Monitor.{Monitor}
 use Rattle.recurring.specs.Monitors.{recurs}
@@ -24,4 +25,4 @@ monitors_all es = look_all monitors_of es
 
 -- a resource whose lists fit the room that a registered one has
 abbrev pub FitsRoom : Resource → Type 0
-FitsRoom r = (length r.history.queue ≤ 32) × (length r.history.ended ≤ kept) × (length r.recurring ≤ 8)
+FitsRoom r = (length r.history.queue ≤ queue_limit) × (length r.history.ended ≤ kept) × (length r.recurring ≤ recurring_limit)

@@ -36,10 +36,14 @@ monitors_at all id = unwrap_or (lookup (bytes_eq id) all) []
 abbrev pub due_of : Monitors → Due
 due_of all id call = option_map (λ m. m.due) (find (λ m. m.recur.call == call) (monitors_at all id))
 
+-- the due moments of the recurring monitors, as a map from resource id and call
+abbrev pub dues : Store → Due
+dues s = due_of s.monitors
+
 -- the monitors of a state, all due at a moment
 abbrev pub monitors_due_at : ℕ → State → Monitors
 monitors_due_at at s = map (λ e. (e.0, all_due_at at e.1.recurring)) s.resources
 
 -- what the resource of an id begins at a moment: nothing where there is none
 abbrev pub IsChoice : Store → List ℕ → ℕ → Option ℕ → Type 0
-IsChoice s id now pick = MatchOption (resource_at s.state id) (pick ≡ None) (λ r. IsPick r (due_of s.monitors id) now pick)
+IsChoice s id now pick = MatchOption (resource_at s.state id) (pick ≡ None) (λ r. IsPick r (dues s id) now pick)

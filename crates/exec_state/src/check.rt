@@ -15,7 +15,7 @@ use std::alloc::Allocator;
 
 /// The event, unless it is too large to be recorded.
 fn unless_too_large<A: Allocator>(event: Event<A>) -> Result<Event<A>, Refusal>
-    ensures { result ≡ (if nat_lt 16384 (length (spelled_event event)) then Err Refusal.TooLarge else Ok event) }
+    ensures { result ≡ (if nat_lt EVENT_LIMIT (length (spelled_event event)) then Err Refusal.TooLarge else Ok event) }
 {
     if event.spelled_len() > EVENT_LIMIT {
         return Err(Refusal::TooLarge);
@@ -42,7 +42,7 @@ impl<A: Allocator + Copy> Machine<A> {
 
     /// Whether there are as many resources as may be.
     fn is_full(&self) -> bool
-        ensures { result ≡ nat_le 256 (length self.now.state.resources) }
+        ensures { result ≡ nat_le RESOURCES_LIMIT (length self.now.state.resources) }
     {
         self.registry.len() >= RESOURCES_LIMIT
     }

@@ -14,7 +14,8 @@ ghost use Rattle.exec_state.specs.MonitorsAfter.{monitors_stepped};
 use crate::registered::Registered;
 use indexmap::IndexMap;
 use ocf_types::{
-    CallId, HistoryParts, Moment, Params, Recur, Registration, ResourceParts, RscId, RunId, Step,
+    CallId, HistoryParts, Moment, Params, QUEUE_LIMIT, RECURRING_LIMIT, Recur, Registration,
+    ResourceParts, RscId, RunId, Step,
 };
 use op_history::Ops;
 use recurring::Recurrings;
@@ -38,9 +39,9 @@ fn restored<A: Allocator + Copy>(
     history: &HistoryParts<A>,
     recurring: &[Recur],
 ) -> Result<(RscId, Registered<A>), AllocError>
-    requires queue { length history.now.queue ≤ 32 }
+    requires queue { length history.now.queue ≤ QUEUE_LIMIT }
     requires ended { length history.now.ended ≤ kept }
-    requires recurring { length recurring.now ≤ 8 }
+    requires recurring { length recurring.now ≤ RECURRING_LIMIT }
     ensures id { IfOk result (λ e. e.0 ≡ registration.id) }
     ensures state { IfOk result (λ e. seen e.1 ≡ (resource_of registration history.now recurring.now).1) }
     ensures monitors { IfOk result (λ e. e.1.monitors ≡ all_due_at due recurring.now) }

@@ -1,4 +1,4 @@
-use Rattle.std.proofs.Common.{sym, ◌∙◌, ap, ◌++◌, [], ◌∷◌, List}
+use Rattle.std.proofs.Common.{sym}
 use Rattle.ocf_types.specs.declared.operation.Op.{Op}
 use Rattle.exec_state.proofs.Choices.{map_more_some}
 use Rattle.exec_state.proofs.answer.queued.Goals as goal
