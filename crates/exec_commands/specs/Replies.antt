@@ -1,6 +1,7 @@
--- The JSON values of replies and notices.
-use Rattle.std.specs.Prelude.{ℕ, List, [], ◌∷◌, true, Option, Some, None, codes}
+-- The JSON values of replies and notices, and their lines.
+use Rattle.std.specs.Prelude.{ℕ, List, [], ◌∷◌, ◌++◌, true, Option, Some, None, codes}
 use Rattle.serde_json.specs.Data.{Data, null, boolean, string, object}
+use Rattle.serde_json.specs.Written.{compact_text}
 use Rattle.ocf_types.specs.Actions.{action_word, action_of, level_number}
 use Rattle.ocf_types.specs.Outcomes.{outcome_word}
 use Rattle.ocf_types.specs.Refusals.{refusal_row}
@@ -124,3 +125,10 @@ abbrev pub reply_data : LineReply → Data
 reply_data (line.Request r) = request_data r
 reply_data (line.Drain end) = end_data (drain_word end)
 reply_data (line.Meta end) = meta_data end
+
+-- the bytes that a reply and a notice are written as: the compact text of its value, and a newline
+abbrev pub reply_line : LineReply → List ℕ
+reply_line reply = compact_text (reply_data reply) ++ 10 ∷ []
+
+abbrev pub notice_line : Notice → List ℕ
+notice_line notice = compact_text (notice_data notice) ++ 10 ∷ []

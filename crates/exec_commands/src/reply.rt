@@ -3,7 +3,7 @@ ghost use Rattle.std.specs.Prelude.{◌≡◌, ◌++◌, ◌∷◌, [], false, m
 ghost use Rattle.serde_json.specs.Data.{string};
 ghost use Rattle.serde_json.specs.View.{view};
 ghost use Rattle.serde_json.specs.Written.{compact_text, has_float};
-ghost use Rattle.exec_commands.specs.Replies.{refusal_data, done_data, accepted_data, list_data, history_data, request_data, reply_data, notice_data};
+ghost use Rattle.exec_commands.specs.Replies.{refusal_data, done_data, accepted_data, list_data, history_data, request_data, reply_data, reply_line, notice_line};
 
 use crate::ends::{DrainEnd, MetaEnd, drain_word, end_value, meta_value, turn_word};
 use crate::info::info_value;
@@ -104,7 +104,7 @@ fn write_line(alloc: Global, value: &Value) -> Result<Vec<u8>, AllocError>
 /// The line of a reply: the compact text of its JSON value, keys ascending by their bytes, and a newline.
 #[tactic(auto, using(crate::proofs::FloatLemmas::reply_has_no_float))]
 pub fn write_reply(alloc: Global, reply: &LineReply) -> Result<Vec<u8>, AllocError>
-    ensures line { IfOk result (λ b. b.items ≡ compact_text (reply_data reply.now) ++ 10 ∷ []) }
+    ensures line { IfOk result (λ b. b.items ≡ reply_line reply.now) }
 {
     let value = reply_value(alloc, reply)?;
     write_line(alloc, &value)
@@ -113,7 +113,7 @@ pub fn write_reply(alloc: Global, reply: &LineReply) -> Result<Vec<u8>, AllocErr
 /// The line of a notice: the compact text of its JSON value, keys ascending by their bytes, and a newline.
 #[tactic(auto, using(crate::proofs::FloatLemmas::notice_has_no_float))]
 pub fn write_notice(alloc: Global, notice: &Notice) -> Result<Vec<u8>, AllocError>
-    ensures line { IfOk result (λ b. b.items ≡ compact_text (notice_data notice.now) ++ 10 ∷ []) }
+    ensures line { IfOk result (λ b. b.items ≡ notice_line notice.now) }
 {
     let value = notice_value(alloc, notice)?;
     write_line(alloc, &value)
