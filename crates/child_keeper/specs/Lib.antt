@@ -1,0 +1,4 @@
+pub mod Children
+pub mod MayStart
+pub mod Scripts
+pub mod Scripted

@@ -1,0 +1,21 @@
+-- What contracts see of scripted children.
+use Rattle.std.specs.Prelude.{ℕ}
+use Rattle.std.specs.VecDeque.{deque_items}
+use Rattle.child_keeper.specs.Children.{ChildrenView}
+use Rattle.child_keeper.specs.Scripts.{ScriptView}
+use Rattle.child_keeper.specs.declared.script.Script.{Script}
+use Rattle.child_keeper.specs.declared.scripted.Scripted.{Scripted}
+
+-- a script as it was written, with no fault planned
+abbrev pub script_view : {M : Type 0} → Script M → ScriptView
+script_view s = record { starts = deque_items s.starts; polls = deque_items s.polls; kills = deque_items s.kills; fault_in = 0 }
+
+-- with a fault planned so many calls ahead
+abbrev pub planned_in : ℕ → ScriptView → ScriptView
+planned_in calls v = record { starts = v.starts; polls = v.polls; kills = v.kills; fault_in = calls }
+
+abbrev pub script_of : {M : Type 0} → Scripted M → ScriptView
+script_of c = planned_in c.fault_in (script_view c.script)
+
+abbrev pub children_of : {M : Type 0} → Scripted M → ChildrenView
+children_of c = record { book = c.book.entries.items; room = c.book.room; last_run = c.last_run; live = c.live.runs.items }

@@ -1,0 +1,42 @@
+-- What scripted children answer next.
+use Rattle.std.specs.Prelude.{◌≡◌, ℕ, ◌-◌, ◌==◌, Bool, Unit, tt, List, [], ◌∷◌, Result, Ok, Err, drop, if◌then◌else◌}
+use Rattle.ocf_types.specs.declared.outcome.StartFault.{StartFault}
+use Rattle.ocf_types.specs.declared.outcome.StartFault.TheVariants.{Other}
+use Rattle.child_keeper.specs.declared.answer.KillFault.{KillFault}
+use Rattle.child_keeper.specs.declared.answer.Poll.{Poll}
+use Rattle.child_keeper.specs.declared.answer.Poll.TheVariants as poll
+
+-- the answers to come, and in how many calls of start, poll and kill the fault comes: 0 where none is planned
+pub record ScriptView : Type 0 where
+  pub starts : List (Result Unit StartFault)
+  pub polls : List Poll
+  pub kills : List (Result Unit KillFault)
+  pub fault_in : ℕ
+
+-- the next answer of a list, and behind its end this one
+abbrev pub head_or : {A : Type 0} → A → List A → A
+head_or last [] = last
+head_or last (a ∷ rest) = a
+
+-- a call that was planned to fault does, and takes the answer of its list
+abbrev pub answered : {A : Type 0} → A → A → ScriptView → List A → A
+answered fault last v list = if v.fault_in == 1 then fault else head_or last list
+
+abbrev pub next_start : ScriptView → Result Unit StartFault
+next_start v = answered (Err Other) (Ok tt) v v.starts
+
+abbrev pub next_poll : ScriptView → Poll
+next_poll v = answered poll.Fault poll.Running v v.polls
+
+abbrev pub next_kill : ScriptView → Result Unit KillFault
+next_kill v = answered (Err (record {})) (Ok tt) v v.kills
+
+-- the script after a call: the answer that was given is taken from its list
+abbrev pub started_on : ScriptView → ScriptView
+started_on v = record { starts = drop 1 v.starts; polls = v.polls; kills = v.kills; fault_in = v.fault_in - 1 }
+
+abbrev pub polled_on : ScriptView → ScriptView
+polled_on v = record { starts = v.starts; polls = drop 1 v.polls; kills = v.kills; fault_in = v.fault_in - 1 }
+
+abbrev pub killed_on : ScriptView → ScriptView
+killed_on v = record { starts = v.starts; polls = v.polls; kills = drop 1 v.kills; fault_in = v.fault_in - 1 }

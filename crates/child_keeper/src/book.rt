@@ -1,0 +1,44 @@
+// The book of answers.
+ghost use Rattle.std.specs.Prelude.{◌≡◌, ◌+◌, ◌<◌, ◌≤◌, ◌++◌, [], ◌∷◌, IfOk, length, vec_len};
+ghost use Rattle.std.specs.Vec.{vec_capacity};
+
+use crate::Entry;
+use std::alloc::{AllocError, Allocator};
+
+/// The answers since the book was emptied, in their order, and how many more it takes.
+#[derive(Drop)]
+pub struct Book<A: Allocator> {
+    pub entries: Vec<Entry, A>,
+    pub room: usize,
+    pub ghost fits: { vec_len entries + room ≤ vec_capacity entries },
+}
+
+impl<A: Allocator> Book<A> {
+    /// A book for so many entries. It fails only where memory is refused.
+    pub fn new(alloc: A, room: usize) -> Result<Book<A>, AllocError>
+        ensures empty { IfOk result (λ b. b.entries.items ≡ []) }
+        ensures room { IfOk result (λ b. b.room ≡ room) }
+    {
+        let entries = Vec::with_capacity(alloc, room)?;
+        Ok(Book { entries, room })
+    }
+
+    /// One entry more. It takes no memory.
+    pub fn note(&mut self, entry: Entry)
+        requires room { 0 < self.old.room }
+        ensures noted { self.new.entries.items ≡ self.old.entries.items ++ entry ∷ [] }
+        ensures room { self.new.room + 1 ≡ self.old.room }
+    {
+        self.room -= 1;
+        self.entries.push_reserved(entry);
+    }
+
+    /// Takes all entries out. Their places are free again.
+    pub fn clear(&mut self)
+        ensures entries { self.new.entries.items ≡ [] }
+        ensures room { self.new.room ≡ self.old.room + length self.old.entries.items }
+    {
+        self.room += self.entries.len();
+        self.entries.clear();
+    }
+}

@@ -1,0 +1,72 @@
+//! Children as the executor sees them.
+ghost use Rattle.std.specs.Prelude.{◌≡◌, ◌↔◌, ◌<◌, Contains, IsTrue, length};
+ghost use Rattle.exec_journal.specs.Journal.{journal_disk};
+ghost use Rattle.child_keeper.specs.Children.{ChildrenView, after_kill, after_poll, after_start, emptied, given_up};
+ghost use Rattle.child_keeper.specs.MayStart.{MayStart};
+
+use crate::{Entry, KillFault, LIVE_LIMIT, Poll};
+use disk_model::Disk;
+use exec_journal::Journal;
+use ocf_env::Launch;
+use ocf_types::{RunId, StartFault};
+use std::alloc::Allocator;
+
+/// Agents that were started, each under its run number, and the book of what they answered.
+///
+/// `start`, `poll` and `kill` add one entry each, with the answer that they return. None of the calls takes memory of its
+/// own; what the system needs to start a program is the system's.
+pub trait Children {
+    ghost view: { Self → ChildrenView };
+
+    /// Starts an agent, once the journal has its begin for good. Its run lives from then on, unless the start is refused.
+    fn start<D: Disk + Drop, A: Allocator + Copy, L: Allocator>(
+        &mut self,
+        journal: &Journal<D, A>,
+        launch: &Launch<L>,
+    ) -> Result<(), StartFault>
+        requires room { 0 < (view self.old).room }
+        requires few { length (view self.old).live < LIVE_LIMIT }
+        requires rising { (view self.old).last_run < launch.now.run }
+        requires may_start { MayStart journal.now (D.view (journal_disk journal.now)) launch.now.id launch.now.call launch.now.run }
+        ensures started { view self.new ≡ after_start (view self.old) launch.now.run (D.view (journal_disk journal.now)).clock result };
+
+    /// Asks a child whether it still runs. One that has ended, or that cannot be asked, lives no more.
+    fn poll(&mut self, run: RunId) -> Poll
+        requires room { 0 < (view self.old).room }
+        requires lives { Contains (view self.old).live run }
+        ensures polled { view self.new ≡ after_poll (view self.old) run result };
+
+    /// Kills a child. It lives no more, whatever the system answers.
+    fn kill(&mut self, run: RunId) -> Result<(), KillFault>
+        requires room { 0 < (view self.old).room }
+        requires lives { Contains (view self.old).live run }
+        ensures killed { view self.new ≡ after_kill (view self.old) run result };
+
+    /// Kills every child that lives, and adds no entry.
+    fn give_up_all(&mut self)
+        ensures given_up { view self.new ≡ given_up (view self.old) };
+
+    /// Empties the book.
+    fn clear_book(&mut self)
+        ensures emptied { view self.new ≡ emptied (view self.old) };
+
+    /// The greatest run that was asked to start, 0 where none was.
+    fn last_run(&self) -> u64
+        ensures value { result ≡ (view self.now).last_run };
+
+    /// The answers since the book was emptied, in their order.
+    fn book(&self) -> &[Entry]
+        ensures value { result.now ≡ (view self.now).book };
+
+    /// How many entries more the book takes.
+    fn room(&self) -> usize
+        ensures value { result ≡ (view self.now).room };
+
+    /// Whether the child of a run lives.
+    fn is_live(&self, run: RunId) -> bool
+        ensures value { IsTrue result ↔ Contains (view self.now).live run };
+
+    /// How many children live.
+    fn live_count(&self) -> usize
+        ensures value { result ≡ length (view self.now).live };
+}

@@ -1,0 +1,56 @@
+// The runs whose children live.
+ghost use Rattle.std.specs.Prelude.{◌≡◌, ◌↔◌, ◌<◌, ◌≤◌, ◌++◌, [], ◌∷◌, Contains, IfOk, IsTrue, length, vec_len};
+ghost use Rattle.std.specs.Vec.{vec_capacity};
+ghost use Rattle.child_keeper.specs.Children.{without_run, live_limit};
+
+use ocf_types::RunId;
+use std::alloc::{AllocError, Allocator};
+
+/// How many children may live at once: one for each resource that can be registered.
+pub const LIVE_LIMIT: usize = 256;
+
+/// The live runs, by their start.
+#[derive(Drop)]
+pub struct LiveRuns<A: Allocator> {
+    pub runs: Vec<RunId, A>,
+    pub ghost room: { live_limit ≤ vec_capacity runs },
+}
+
+impl<A: Allocator> LiveRuns<A> {
+    /// None, with room for all that may live. It fails only where memory is refused.
+    pub fn new(alloc: A) -> Result<LiveRuns<A>, AllocError>
+        ensures empty { IfOk result (λ l. l.runs.items ≡ []) }
+    {
+        let runs = Vec::with_capacity(alloc, LIVE_LIMIT)?;
+        Ok(LiveRuns { runs })
+    }
+
+    /// One live run more. It takes no memory.
+    pub fn add(&mut self, run: RunId)
+        requires few { length self.old.runs.items < LIVE_LIMIT }
+        ensures added { self.new.runs.items ≡ self.old.runs.items ++ run ∷ [] }
+    {
+        self.runs.push_reserved(run);
+    }
+
+    /// This run lives no more.
+    pub fn remove(&mut self, run: RunId)
+        ensures removed { self.new.runs.items ≡ without_run run self.old.runs.items }
+    {
+        self.runs.retain(|live| live.get() != run.get());
+    }
+
+    /// None lives any more.
+    pub fn clear(&mut self)
+        ensures empty { self.new.runs.items ≡ [] }
+    {
+        self.runs.clear();
+    }
+
+    /// Whether a run lives.
+    pub fn contains(&self, run: RunId) -> bool
+        ensures live { IsTrue result ↔ Contains self.now.runs.items run }
+    {
+        self.runs.iter().any(|live| live.get() == run.get())
+    }
+}

@@ -1,0 +1,180 @@
+//! Children that play a script.
+ghost use Rattle.std.specs.Prelude.{◌≡◌, ◌-◌, ◌<◌, ◌==◌, [], Contains, IfOk, drop, length};
+ghost use Rattle.std.specs.VecDeque.{deque_items};
+ghost use Rattle.exec_journal.specs.Journal.{journal_disk};
+ghost use Rattle.child_keeper.specs.Children.{after_kill, after_poll, after_start};
+ghost use Rattle.child_keeper.specs.MayStart.{MayStart};
+ghost use Rattle.child_keeper.specs.Scripts.{head_or, killed_on, next_kill, next_poll, next_start, polled_on, started_on};
+
+use crate::book::Book;
+use crate::live::LiveRuns;
+use crate::{Answer, Children, Entry, KillFault, Poll, Script};
+use disk_model::Disk;
+use exec_journal::Journal;
+use ocf_env::Launch;
+use ocf_types::{RunId, StartFault};
+use std::alloc::{AllocError, Allocator, Global};
+use std::collections::VecDeque;
+
+/// Children that answer what a script says, and start nothing. They take no memory once they are made.
+#[derive(Drop)]
+pub struct Scripted<A: Allocator = Global> {
+    script: Script<A>,
+    fault_in: u64,
+    book: Book<A>,
+    live: LiveRuns<A>,
+    last_run: u64,
+}
+
+impl<A: Allocator + Copy> Scripted<A> {
+    ghost use Rattle.child_keeper.specs.Scripted.{children_of, planned_in, script_of, script_view};
+
+    /// Children that play a script, with a book of so many entries. It fails only where memory is refused.
+    pub fn new(alloc: A, script: Script<A>, book: usize) -> Result<Scripted<A>, AllocError>
+        ensures children { IfOk result (λ c. children_of c ≡ record { book = []; room = book; last_run = 0; live = [] }) }
+        ensures script { IfOk result (λ c. script_of c ≡ script_view script) }
+    {
+        Ok(Scripted {
+            script,
+            fault_in: 0,
+            book: Book::new(alloc, book)?,
+            live: LiveRuns::new(alloc)?,
+            last_run: 0,
+        })
+    }
+
+    /// The start, poll or kill that is so many calls ahead, 1 for the next one, is to fault; 0 takes the plan back. The
+    /// answer of its list is taken and not given.
+    pub fn plan_fault(&mut self, calls: u64)
+        ensures planned { script_of self.new ≡ planned_in calls (script_of self.old) }
+        ensures children { children_of self.new ≡ children_of self.old }
+    {
+        self.fault_in = calls;
+    }
+
+    // One call more: whether it is to fault.
+    fn faults(&mut self) -> bool
+        ensures counted { self.new ≡ record self.old { fault_in = self.old.fault_in - 1 } }
+        ensures value { result ≡ (self.old.fault_in == 1) }
+    {
+        let faults = self.fault_in == 1;
+        self.fault_in = self.fault_in.saturating_sub(1);
+        faults
+    }
+}
+
+// The next answer of a list, and behind its end the last one.
+fn next_of<T: Drop, A: Allocator>(list: &mut VecDeque<T, A>, last: T) -> T
+    ensures value { result ≡ head_or last (deque_items list.old) }
+    ensures rest { deque_items list.new ≡ drop 1 (deque_items list.old) }
+{
+    list.pop_front().unwrap_or(last)
+}
+
+impl<A: Allocator + Copy> Children for Scripted<A> {
+    ghost use Rattle.child_keeper.specs.Scripted.{children_of, script_of};
+
+    ghost view = { children_of };
+
+    fn start<D: Disk + Drop, B: Allocator + Copy, L: Allocator>(
+        &mut self,
+        journal: &Journal<D, B>,
+        launch: &Launch<L>,
+    ) -> Result<(), StartFault>
+        requires room { 0 < (children_of self.old).room }
+        requires few { length (children_of self.old).live < LIVE_LIMIT }
+        requires rising { (children_of self.old).last_run < launch.now.run }
+        requires may_start { MayStart journal.now (D.view (journal_disk journal.now)) launch.now.id launch.now.call launch.now.run }
+        ensures started { children_of self.new ≡ after_start (children_of self.old) launch.now.run (D.view (journal_disk journal.now)).clock result }
+        ensures scripted { result ≡ next_start (script_of self.old) }
+        ensures goes_on { script_of self.new ≡ started_on (script_of self.old) }
+    {
+        let faults = self.faults();
+        let scripted = next_of(&mut self.script.starts, Ok(()));
+        let answer = if faults {
+            Err(StartFault::Other)
+        } else {
+            scripted
+        };
+        let run = launch.run;
+        self.book.note(Entry {
+            run,
+            at: journal.clock(),
+            answer: Answer::of_start(answer),
+        });
+        if answer.is_ok() {
+            self.live.add(run);
+        }
+        self.last_run = run.get();
+        answer
+    }
+
+    fn poll(&mut self, run: RunId) -> Poll
+        requires room { 0 < (children_of self.old).room }
+        requires lives { Contains (children_of self.old).live run }
+        ensures polled { children_of self.new ≡ after_poll (children_of self.old) run result }
+        ensures scripted { result ≡ next_poll (script_of self.old) }
+        ensures goes_on { script_of self.new ≡ polled_on (script_of self.old) }
+    {
+        let faults = self.faults();
+        let scripted = next_of(&mut self.script.polls, Poll::Running);
+        let answer = if faults { Poll::Fault } else { scripted };
+        self.book.note(Entry {
+            run,
+            at: 0,
+            answer: Answer::of_poll(answer),
+        });
+        match answer {
+            Poll::Running => {}
+            _ => self.live.remove(run),
+        }
+        answer
+    }
+
+    fn kill(&mut self, run: RunId) -> Result<(), KillFault>
+        requires room { 0 < (children_of self.old).room }
+        requires lives { Contains (children_of self.old).live run }
+        ensures killed { children_of self.new ≡ after_kill (children_of self.old) run result }
+        ensures scripted { result ≡ next_kill (script_of self.old) }
+        ensures goes_on { script_of self.new ≡ killed_on (script_of self.old) }
+    {
+        let faults = self.faults();
+        let scripted = next_of(&mut self.script.kills, Ok(()));
+        let answer = if faults { Err(KillFault) } else { scripted };
+        self.book.note(Entry {
+            run,
+            at: 0,
+            answer: Answer::of_kill(answer),
+        });
+        self.live.remove(run);
+        answer
+    }
+
+    fn give_up_all(&mut self) {
+        self.live.clear();
+    }
+
+    fn clear_book(&mut self) {
+        self.book.clear();
+    }
+
+    fn last_run(&self) -> u64 {
+        self.last_run
+    }
+
+    fn book(&self) -> &[Entry] {
+        self.book.entries.as_slice()
+    }
+
+    fn room(&self) -> usize {
+        self.book.room
+    }
+
+    fn is_live(&self, run: RunId) -> bool {
+        self.live.contains(run)
+    }
+
+    fn live_count(&self) -> usize {
+        self.live.runs.len()
+    }
+}
