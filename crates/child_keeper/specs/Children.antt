@@ -1,5 +1,5 @@
 -- What contracts see of children, and what each call does to it.
-use Rattle.std.specs.Prelude.{◌≡◌, ◌×◌, ℕ, ◌+◌, ◌-◌, ◌==◌, List, [], ◌∷◌, ◌++◌, filter, length, not, Result, Ok, Err, Contains}
+use Rattle.std.specs.Prelude.{◌≡◌, ℕ, ◌+◌, ◌-◌, ◌==◌, List, [], ◌∷◌, ◌++◌, filter, length, not, Result, Ok, Err, Contains}
 use Rattle.ocf_types.specs.declared.outcome.StartFault.{StartFault}
 use Rattle.child_keeper.specs.declared.answer.Answer.{Answer}
 use Rattle.child_keeper.specs.declared.answer.Answer.TheVariants.{Started, StartFault as NotStarted, Running, Exited, Signaled, PollFault, Killed, KillFault as NotKilled}

@@ -1,5 +1,5 @@
 -- When an agent may be started.
-use Rattle.std.specs.Prelude.{◌≡◌, ◌×◌, ℕ, List, Option, Some, option_and_then}
+use Rattle.std.specs.Prelude.{◌≡◌, ℕ, List, Some, option_and_then}
 use Rattle.ocf_types.specs.State.{State, resource_at}
 use Rattle.ocf_types.specs.declared.operation.Running.{Running}
 use Rattle.disk_model.specs.View.{View}

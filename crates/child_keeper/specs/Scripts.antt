@@ -1,5 +1,5 @@
 -- What scripted children answer next.
-use Rattle.std.specs.Prelude.{◌≡◌, ℕ, ◌-◌, ◌==◌, Bool, Unit, tt, List, [], ◌∷◌, Result, Ok, Err, drop, if◌then◌else◌}
+use Rattle.std.specs.Prelude.{ℕ, ◌-◌, ◌==◌, List, [], ◌∷◌, Result, Ok, Err, drop, if◌then◌else◌}
 use Rattle.ocf_types.specs.declared.outcome.StartFault.{StartFault}
 use Rattle.ocf_types.specs.declared.outcome.StartFault.TheVariants.{Other}
 use Rattle.child_keeper.specs.declared.answer.KillFault.{KillFault}

@@ -1,10 +1,10 @@
 //! Children as the executor sees them.
 ghost use Rattle.std.specs.Prelude.{◌≡◌, ◌↔◌, ◌<◌, Contains, IsTrue, length};
 ghost use Rattle.exec_journal.specs.Journal.{journal_disk};
-ghost use Rattle.child_keeper.specs.Children.{ChildrenView, after_kill, after_poll, after_start, emptied, given_up};
+ghost use Rattle.child_keeper.specs.Children.{ChildrenView, after_kill, after_poll, after_start, emptied, given_up, live_limit};
 ghost use Rattle.child_keeper.specs.MayStart.{MayStart};
 
-use crate::{Entry, KillFault, LIVE_LIMIT, Poll};
+use crate::{Entry, KillFault, Poll};
 use disk_model::Disk;
 use exec_journal::Journal;
 use ocf_env::Launch;
@@ -25,7 +25,7 @@ pub trait Children {
         launch: &Launch<L>,
     ) -> Result<(), StartFault>
         requires room { 0 < (view self.old).room }
-        requires few { length (view self.old).live < LIVE_LIMIT }
+        requires few { length (view self.old).live < live_limit }
         requires rising { (view self.old).last_run < launch.now.run }
         requires may_start { MayStart journal.now (D.view (journal_disk journal.now)) launch.now.id launch.now.call launch.now.run }
         ensures started { view self.new ≡ after_start (view self.old) launch.now.run (D.view (journal_disk journal.now)).clock result };

@@ -2,7 +2,7 @@
 ghost use Rattle.std.specs.Prelude.{◌≡◌, ◌-◌, ◌<◌, ◌==◌, [], Contains, IfOk, drop, length};
 ghost use Rattle.std.specs.VecDeque.{deque_items};
 ghost use Rattle.exec_journal.specs.Journal.{journal_disk};
-ghost use Rattle.child_keeper.specs.Children.{after_kill, after_poll, after_start};
+ghost use Rattle.child_keeper.specs.Children.{after_kill, after_poll, after_start, live_limit};
 ghost use Rattle.child_keeper.specs.MayStart.{MayStart};
 ghost use Rattle.child_keeper.specs.Scripts.{head_or, killed_on, next_kill, next_poll, next_start, polled_on, started_on};
 
@@ -82,7 +82,7 @@ impl<A: Allocator + Copy> Children for Scripted<A> {
         launch: &Launch<L>,
     ) -> Result<(), StartFault>
         requires room { 0 < (children_of self.old).room }
-        requires few { length (children_of self.old).live < LIVE_LIMIT }
+        requires few { length (children_of self.old).live < live_limit }
         requires rising { (children_of self.old).last_run < launch.now.run }
         requires may_start { MayStart journal.now (D.view (journal_disk journal.now)) launch.now.id launch.now.call launch.now.run }
         ensures started { children_of self.new ≡ after_start (children_of self.old) launch.now.run (D.view (journal_disk journal.now)).clock result }
