@@ -5,3 +5,4 @@ pub mod Rooms
 pub mod Restored
 pub mod DueSteps
 pub mod DueLaw
+pub mod Examples

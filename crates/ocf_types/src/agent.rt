@@ -9,7 +9,7 @@ use std::marker::Model;
 
 /// The provider of an agent, a folder below `resource.d`: 1 to 64 bytes of ASCII letters, digits, `_`, `-`
 /// and `.`, but neither `.` nor `..`. OCF Resource Agent API 1.1, provider.
-#[derive(Debug, Drop, PartialEq, Eq, PartialOrd, Ord, Hash)]
+#[derive(Drop)]
 pub struct Provider {
     bytes: ArrayVec<u8, { NAME_LIMIT }>,
 }
@@ -64,7 +64,7 @@ impl Provider {
 
 /// The type of an agent, a file in its provider's folder: a name of the same form as a provider's. OCF
 /// Resource Agent API 1.1, OCF_RESOURCE_TYPE.
-#[derive(Debug, Drop, PartialEq, Eq, PartialOrd, Ord, Hash)]
+#[derive(Drop)]
 pub struct AgentType {
     bytes: ArrayVec<u8, { NAME_LIMIT }>,
 }

@@ -9,7 +9,7 @@ use std::marker::Model;
 
 /// The name of an instance parameter: 1 to 64 bytes, an ASCII letter or `_`, then letters, digits and `_`. OCF
 /// Resource Agent API 1.1, OCF_RESKEY_.
-#[derive(Debug, Drop, PartialEq, Eq, PartialOrd, Ord, Hash)]
+#[derive(Drop)]
 pub struct ParamName {
     bytes: ArrayVec<u8, { NAME_LIMIT }>,
 }

@@ -1,0 +1,48 @@
+-- Due moments, replies and the room that is needed, computed on a small state.
+use Rattle.std.proofs.Common.{◌≡◌, ℕ, List, [], ◌∷◌, Option, Some, None, false, refl}
+use Rattle.std.specs.Prelude.{codes}
+use Rattle.ocf_types.specs.declared.action.Level.TheVariants.{Zero}
+use Rattle.ocf_types.specs.declared.operation.Recur.{Recur}
+use Rattle.ocf_types.specs.declared.command.Question.TheVariants as question
+use Rattle.ocf_types.specs.declared.refusal.Refusal.TheVariants.{UnknownResource, Memory}
+use Rattle.ocf_types.specs.declared.reply.ReplyOf.TheVariants.{Refused}
+use Rattle.ocf_types.specs.Resource.{no_history}
+use Rattle.ocf_types.specs.Answer.{reply_to}
+use Rattle.exec_state.specs.Store.{Store, dues}
+use Rattle.exec_state.specs.Answers.{IsReplyOrMemory}
+
+abbrev r1 : List ℕ
+r1 = codes "r1"
+
+abbrev monitor : Recur
+monitor = record { call = 1; interval = 10000; timeout = 20000; level = Zero }
+
+-- r1 with one recurring monitor, which is due at 40
+abbrev small : Store
+small = record {
+  state = record {
+    next_call = 2;
+    next_run = 1;
+    clock = 30;
+    resources = (r1, record { provider = codes "pacemaker"; agent = codes "Dummy"; params = []; history = no_history; recurring = monitor ∷ [] }) ∷ [];
+  };
+  monitors = (r1, record { recur = monitor; due = 40 } ∷ []) ∷ [];
+  ready = false;
+}
+
+-- the moment of the monitor, and none for another call or another id
+due : dues small r1 1 ≡ Some 40
+due = refl
+
+no_call : dues small r1 2 ≡ None
+no_call = refl
+
+no_id : dues small (codes "r2") 1 ≡ None
+no_id = refl
+
+-- a question about an unknown resource is refused as such, and never for memory
+unknown : IsReplyOrMemory (reply_to small.state (question.Info (codes "r2"))) (Refused UnknownResource)
+unknown = refl
+
+never_memory : ¬ (IsReplyOrMemory (reply_to small.state (question.History (codes "r2"))) (Refused Memory))
+never_memory h = let bad : Refused Memory ≡ Refused UnknownResource = h in cc
