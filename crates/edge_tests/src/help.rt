@@ -34,7 +34,7 @@ const RUN: &[&str] = &[
     "ocfexec run --memory",
 ];
 
-const TEXTS: [(&[&str], u8, &[&str]); 4] = [
+const TEXTS: [(&[&str], u8, &[&str]); 5] = [
     (&["--help"], 0, OVERVIEW),
     (&["run", "--help"], 0, RUN),
     (
@@ -42,6 +42,7 @@ const TEXTS: [(&[&str], u8, &[&str]); 4] = [
         0,
         &["Example:", "ocfexec show --memory"],
     ),
+    (&["run"], 2, &["give one of --journal and --memory"]),
     (&["run", "--fast"], 2, &["--fast", "Usage: ocfexec run"]),
 ];
 

@@ -1,12 +1,9 @@
-//! Tests of the edges that no scenario reaches: readers, writers, clocks and the words of a command line; replies and
-//! picks of calls that no line asks for yet; buffers and states of the greatest length. Nothing here is part of the
-//! product.
+//! Tests of the edges that no scenario reaches: readers, writers, clocks and the words of a command line; requests and
+//! replies of drains and metadata; the largest state. Nothing here is part of the product.
 #![tactic(auto)]
 
 #[cfg(test)]
 mod agents;
-#[cfg(test)]
-mod buffers;
 #[cfg(test)]
 mod help;
 #[cfg(test)]
@@ -17,8 +14,6 @@ mod lines;
 mod moments;
 #[cfg(test)]
 mod params;
-#[cfg(test)]
-mod picks;
 #[cfg(test)]
 mod readers;
 #[cfg(test)]

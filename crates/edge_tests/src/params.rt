@@ -3,13 +3,7 @@ use ocf_types::{ParamName, ParamValue, Params, ValueError};
 use std::alloc::Global;
 use std::test::Fail;
 
-/// Sets one parameter.
-pub fn set(
-    alloc: Global,
-    params: &mut Params,
-    name: &[u8],
-    value: &[u8],
-) -> Result<(), ValueError> {
+fn set(alloc: Global, params: &mut Params, name: &[u8], value: &[u8]) -> Result<(), ValueError> {
     let Ok(name) = ParamName::new(name) else {
         return Err(ValueError::BadValue);
     };

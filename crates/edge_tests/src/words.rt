@@ -111,14 +111,3 @@ fn words_that_give_no_options_are_told_apart(rt: HostRuntime) -> Result<(), Fail
     }
     Ok(())
 }
-
-#[test]
-fn faults_of_our_own_have_a_status_and_a_text(rt: HostRuntime) -> Result<(), Fail> {
-    let text = WordsFault::Choice.to_string(rt.alloc())?;
-    assert_eq!(rt; text.as_str(), "give one of --journal and --memory");
-    assert_eq!(rt; WordsFault::Choice.status(), 2);
-    let text = WordsFault::Memory.to_string(rt.alloc())?;
-    assert_eq!(rt; text.as_str(), "memory");
-    assert_eq!(rt; WordsFault::Memory.status(), 4);
-    Ok(())
-}

@@ -1,21 +1,7 @@
-// Writers that take all, and writers that take no more.
+// Writers that take no more.
 use exec_lines::write_flushed;
 use std::io::ErrorKind;
 use std::test::Fail;
-
-#[test]
-fn what_is_written_stands_one_behind_the_other(rt: HostRuntime) -> Result<(), Fail> {
-    let mut written = Vec::new(rt.alloc());
-    for bytes in [
-        b"{\"ok\":true}\n".as_slice(),
-        b"".as_slice(),
-        b"{}\n".as_slice(),
-    ] {
-        write_flushed(&mut written, bytes)?;
-    }
-    assert_eq!(rt; written.as_slice(), b"{\"ok\":true}\n{}\n".as_slice());
-    Ok(())
-}
 
 #[test]
 fn a_writer_that_takes_no_more_is_told(rt: HostRuntime) -> Result<(), Fail> {
