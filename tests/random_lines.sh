@@ -86,6 +86,7 @@ answered=$(wc -l < "$here/replies")
 accepted=$(grep -c '"call"\|^{"ok":true}$' "$here/replies" || true)
 echo "$count lines, $filled of them with bytes: $answered replies, $accepted accepted"
 echo "resident memory: $middle KiB after half of the lines, $end KiB at the end, at most $greatest KiB"
-[ "$answered" -eq "$filled" ] || { echo "as many replies as lines are wanted" >&2; exit 1; }
-[ "$accepted" -eq 0 ] || { echo "no line was to be accepted" >&2; exit 1; }
-[ "$greatest" -lt "$limit" ] || { echo "below $limit KiB are wanted" >&2; exit 1; }
+[ "$answered" -eq "$filled" ] || { echo "random_lines.sh: as many replies as lines are wanted" >&2; exit 1; }
+[ "$accepted" -eq 0 ] || { echo "random_lines.sh: no line was to be accepted" >&2; exit 1; }
+[ "$greatest" -lt "$limit" ] || { echo "random_lines.sh: below $limit KiB are wanted" >&2; exit 1; }
+echo "random_lines.sh: ok"

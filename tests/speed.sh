@@ -63,4 +63,7 @@ echo "list lines a second: $rate (at least 150000 wanted)"
 echo "processor time of $lines lines: $((spent * 1000 / $(getconf CLK_TCK))) milliseconds"
 echo "start to end on empty input: $start microseconds (under 5000 wanted)"
 echo "resident memory: at most $greatest KiB (under 8192 wanted)"
-[ "$rate" -ge 15000 ] && [ "$start" -lt 50000 ] && [ "$greatest" -lt 8192 ]
+[ "$rate" -ge 15000 ] || { echo "speed.sh: too few lines a second" >&2; exit 1; }
+[ "$start" -lt 50000 ] || { echo "speed.sh: too long from start to end" >&2; exit 1; }
+[ "$greatest" -lt 8192 ] || { echo "speed.sh: too much resident memory" >&2; exit 1; }
+echo "speed.sh: ok"

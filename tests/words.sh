@@ -1,29 +1,143 @@
-#!/bin/sh
-# Runs `PROGRAM` with words that the gate cannot give it, one that is not UTF-8 among them, and compares the exit status.
+#!/usr/bin/env bash
+# Runs `PROGRAM` with words and with input and output that the gate cannot give it, and compares the exit status and all
+# that it writes on standard error. Of the statuses 3, 5 and 6 it has none: the journal lies in memory, where no disk fails.
 # Use: words.sh PROGRAM
-set -eu
+set -u
 program=$1
+here=$(mktemp -d)
+trap 'rm -rf "$here"' EXIT
+failed=0
 
-ends_with() {
-    wanted=$1
-    shift
-    status=0
-    "$program" "$@" < /dev/null > /dev/null 2>&1 || status=$?
-    if [ "$status" -ne "$wanted" ]; then
-        echo "words.sh: status $status and not $wanted: $*" >&2
-        exit 1
-    fi
+# What a person can do, as it stands behind the line of a fault.
+give_memory="Give --memory."
+free_memory="Free memory or raise the limit of the process, and start it again."
+check_output="Check what standard input and output are connected to. A command without a reply may be recorded."
+
+# Says what is not as wanted. Use: differs WHAT WANTED FOUND
+differs() {
+    printf 'words.sh: %s: wanted\n%s\nand found\n%s\n' "$1" "$2" "$3" >&2
+    failed=1
 }
 
-ends_with 0 --help
-ends_with 0 run --help
-ends_with 0 run --memory
-ends_with 0 show --memory
-ends_with 2
-ends_with 2 run
-ends_with 2 run --memory --journal folder
-ends_with 2 run --journal folder
-ends_with 2 fly
-ends_with 2 run --memory --via "$(printf 'a\377')"
-ends_with 2 "$(printf '\377')"
-echo "words.sh: all statuses as wanted"
+# Compares the status, and what was written on standard error. Use: ended NAME STATUS WANTED_STATUS TEXT
+ended() {
+    [ "$2" -eq "$3" ] || differs "$1, status" "$3" "$2"
+    [ "$(cat "$here/err")" = "$4" ] || differs "$1, standard error" "$4" "$(cat "$here/err")"
+}
+
+# Runs the program with these words. Use: ends STATUS TEXT WORD..
+ends() {
+    local wanted=$1 text=$2
+    shift 2
+    "$program" "$@" < /dev/null > "$here/out" 2> "$here/err"
+    ended "$*" $? "$wanted" "$text"
+}
+
+# A usage fault that clap tells, in a text of its own that holds this. Use: misused PART WORD..
+misused() {
+    local part=$1 status
+    shift
+    "$program" "$@" < /dev/null > "$here/out" 2> "$here/err"
+    status=$?
+    [ "$status" -eq 2 ] || differs "$*, status" 2 "$status"
+    grep -q -e "$part" "$here/err" || differs "$*, standard error" "$part" "$(cat "$here/err")"
+    [ ! -s "$here/out" ] || differs "$*, standard output" "" "$(cat "$here/out")"
+}
+
+# Whether standard output is this. Use: wrote NAME TEXT
+wrote() {
+    [ "$(cat "$here/out")" = "$2" ] || differs "$1, standard output" "$2" "$(cat "$here/out")"
+}
+
+# Runs the program with standard output on a device that is full. Use: full_output WORD..
+full_output() {
+    printf '{"op":"list"}\n' | "$program" "$@" > /dev/full 2> "$here/err"
+    ended "$* > /dev/full" "${PIPESTATUS[1]}" 7 "ocfexec: input or output
+$check_output"
+}
+
+# Runs the program with standard output closed. Use: closed_output WORD..
+closed_output() {
+    printf '{"op":"list"}\n' | "$program" "$@" >&- 2> "$here/err"
+    ended "$* >&-" "${PIPESTATUS[1]}" 7 "ocfexec: input or output
+$check_output"
+}
+
+# What is asked for
+ends 0 "" --help
+for command in register unregister params exec recur cancel forget list info history README.md docs/FORMAT.md; do
+    grep -q -w -e "$command" "$here/out" || differs "--help" "a line of $command" "$(cat "$here/out")"
+done
+ends 0 "" run --help
+ends 0 "" show --help
+ends 0 "" help run
+ends 0 "" --version
+wrote --version "ocfexec 0.1.0"
+ends 0 "" -V
+ends 0 "" run --memory
+wrote "run --memory" ""
+ends 0 "" show --memory
+wrote "show --memory" '{"ok":true,"resources":[]}'
+
+# Words that are not those of the command line
+ends 2 "ocfexec: give one of --journal and --memory" run
+ends 2 "ocfexec: give one of --journal and --memory" show --root /r
+ends 2 "ocfexec: give one of --journal and --memory" run --memory --journal folder
+ends 2 "ocfexec: --journal is not supported yet
+$give_memory" run --journal folder
+ends 2 "ocfexec: --journal is not supported yet
+$give_memory" show --journal=
+ends 2 "ocfexec: words are not UTF-8" run --memory --via "$(printf 'a\377')"
+ends 2 "ocfexec: words are not UTF-8" "$(printf '\377')"
+misused "Usage: .* <COMMAND>"
+misused "unrecognized subcommand 'fly'" fly
+misused "unexpected argument '--fast'" run --memory --fast
+misused "unexpected argument '--version'" run --version
+misused "a value is required" run --journal
+misused "cannot be used multiple times" run --memory --memory
+
+# Output and input that fail
+full_output --help
+full_output run --help
+full_output --version
+full_output run --memory
+full_output show --memory
+closed_output run --memory
+closed_output show --memory
+"$program" run --memory <&- > "$here/out" 2> "$here/err"
+ended "run --memory <&-" $? 7 "ocfexec: input or output
+$check_output"
+"$program" run --memory < / > "$here/out" 2> "$here/err"
+ended "run --memory < /" $? 7 "ocfexec: input or output
+$check_output"
+
+# Standard error that fails changes no status
+"$program" run --journal folder < /dev/null > "$here/out" 2> /dev/full
+status=$?
+[ "$status" -eq 2 ] || differs "run --journal folder 2> /dev/full, status" 2 "$status"
+
+# Memory that is refused: from little memory to enough, each run ends with 4 and its line, or as it should, or is not
+# started at all. At least one of each kind is wanted.
+refused=0
+answered=0
+for limit in $(seq 1000 100 8000); do
+    printf '{"op":"list"}\n' | (ulimit -v "$limit" && exec "$program" run --memory) > "$here/out" 2> "$here/err"
+    status=${PIPESTATUS[1]}
+    case $status in
+        0) answered=$((answered + 1)) ;;
+        4)
+            refused=$((refused + 1))
+            ended "run --memory in $limit KiB" 4 4 "ocfexec: memory
+$free_memory"
+            wrote "run --memory in $limit KiB" ""
+            ;;
+        7) ended "run --memory in $limit KiB" 7 7 "ocfexec: input or output
+$check_output" ;;
+    esac
+done
+if [ "$refused" -eq 0 ] || [ "$answered" -eq 0 ]; then
+    differs "limits of memory" "some runs refused and some answered" "$refused refused, $answered answered"
+fi
+
+[ "$failed" -eq 0 ] || exit 1
+echo "words.sh: ok"

@@ -29,8 +29,11 @@ with_options_app a =
     let a₄ = with_rule a₃ (text_rule (codes "via")) in
     with_rule a₄ (text_rule_or (codes "path") default_path)
 
+-- a subcommand is asked for; the version is told by `--version`
 abbrev pub top_app : App
-top_app = let a = new_app (codes "ocfexec") in record a { top = record a.top { subcommand_required = true } }
+top_app =
+    let a = new_app (codes "ocfexec") in
+    record a { top = record a.top { has_version = true; subcommand_required = true } }
 
 -- the whole command line
 abbrev pub ocfexec_app : App

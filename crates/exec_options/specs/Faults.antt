@@ -1,6 +1,7 @@
 -- The faults of words that give no options.
-use Rattle.std.specs.Prelude.{◌≡◌, ◌⊎◌, ⊤, ℕ, List, []}
+use Rattle.std.specs.Prelude.{◌≡◌, ◌⊎◌, ⊤, List, []}
 use Rattle.clap.specs.Words.{Kinds, Text, IsAmong, fault_of, kind_of}
+use Rattle.clap.specs.declared.error.Error.{Error}
 use Rattle.clap.specs.declared.error.kind.ErrorKind.{ErrorKind}
 use Rattle.clap.specs.declared.error.kind.ErrorKind.TheVariants.{DisplayHelp, DisplayVersion}
 use Rattle.exec_options.specs.declared.options.Options.{Options}
@@ -25,9 +26,10 @@ abbrev pub IsFault : List Text → WordsFault → Type 0
 IsFault words Choice = (fault_of ocfexec_app words ≡ []) × ((o : Options) → ¬ (Gives words o))
 IsFault words fault = HasFaultKind (fault_of ocfexec_app words) fault
 
--- 0 for help, 2 for a usage fault, 4 for want of memory
-abbrev pub status_of : WordsFault → ℕ
-status_of (Help e) = 0
-status_of (Usage e) = 2
-status_of Choice = 2
-status_of Memory = 4
+-- the words ask for help or the version
+abbrev pub AsksForText : List Text → Type 0
+AsksForText words = (text : Error) × IsFault words (Help text)
+
+-- the words are not those of the command line
+abbrev pub IsMisused : List Text → Type 0
+IsMisused words = (text : Error) × IsFault words (Usage text)

@@ -4,6 +4,7 @@ ghost use Rattle.clap.specs.Words.{app_of, rule_of, new_app};
 ghost use Rattle.clap.specs.declared.builder.command.Command.TheViews.{out-Command};
 ghost use Rattle.exec_options.specs.App.{text_rule, text_rule_or, flag_rule, with_options_app, top_app, ocfexec_app};
 
+use crate::texts;
 use clap::{Arg, ArgAction, Command};
 use std::alloc::{AllocError, Global};
 
@@ -80,11 +81,11 @@ fn with_options<'a>(alloc: Global, command: Command<'a>) -> Result<Command<'a>, 
     ))
 }
 
-fn bare<'a>(alloc: Global, name: &'a str, about: &'a str, example: &'a str) -> Command<'a>
+fn bare<'a>(alloc: Global, name: &'a str, about: &'a str, more: &'a str) -> Command<'a>
     ensures app { app_of result ≡ new_app name.entry.now }
     ensures local { (out-Command result).has_globals ≡ false }
 {
-    Command::new(alloc, name).about(about).after_help(example)
+    Command::new(alloc, name).about(about).after_help(more)
 }
 
 fn top<'a>(alloc: Global) -> Command<'a>
@@ -95,8 +96,9 @@ fn top<'a>(alloc: Global) -> Command<'a>
         alloc,
         "ocfexec",
         "A local executor of OCF resource agents that keeps a journal",
-        "Example:\n  echo '{\"op\":\"list\"}' | ocfexec run --memory",
+        texts::COMMANDS,
     )
+    .version(texts::VERSION)
     .subcommand_required(true)
 }
 
@@ -108,7 +110,7 @@ fn run<'a>(alloc: Global) -> Command<'a>
         alloc,
         "run",
         "Reads commands from standard input, a JSON object a line, and writes a reply line to each",
-        "Give just one of --journal and --memory. No agent is started yet: an exec is recorded and queued.\n\nExample:\n  echo '{\"op\":\"list\"}' | ocfexec run --memory",
+        texts::RUN,
     )
 }
 
@@ -120,7 +122,7 @@ fn show<'a>(alloc: Global) -> Command<'a>
         alloc,
         "show",
         "Prints what a journal holds, as JSON lines: its resources, and each one's state and history",
-        "Give just one of --journal and --memory.\n\nExample:\n  ocfexec show --memory",
+        texts::SHOW,
     )
 }
 

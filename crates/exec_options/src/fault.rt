@@ -1,26 +1,24 @@
 //! Words that give no options.
-ghost use Rattle.std.specs.Prelude.{◌≡◌};
 ghost use Rattle.clap.specs.Words.{HasKind, Kinds};
-ghost use Rattle.exec_options.specs.Faults.{HasFaultKind, status_of};
+ghost use Rattle.exec_options.specs.Faults.{HasFaultKind};
 
 use clap::error::ErrorKind;
-use std::io;
 use thiserror::Error;
 
-/// Why the words give no options.
+/// Why the words give no options. What the program then says and ends with is told by the program.
 #[derive(Debug, Drop, Error)]
 pub enum WordsFault {
-    /// They ask for help: its text.
+    /// They ask for help or for the version: its text, for the standard output.
     #[error("{0}")]
     Help(clap::Error),
-    /// They are not those of the command line: `clap`'s text.
+    /// They are not those of the command line: `clap`'s text, for the standard error.
     #[error("{0}")]
     Usage(clap::Error),
     /// They name both or none of `--journal` and `--memory`.
-    #[error("give one of --journal and --memory")]
+    #[error("just one of --journal and --memory is wanted")]
     Choice,
     /// There was no memory to read them.
-    #[error("memory")]
+    #[error("out of memory")]
     Memory,
 }
 
@@ -35,25 +33,6 @@ impl WordsFault {
             WordsFault::Usage(error)
         } else {
             WordsFault::Help(error)
-        }
-    }
-
-    /// The status that the program ends with: 0 for help, 2 for a usage fault, 4 for want of memory.
-    pub fn status(&self) -> u8
-        ensures { result ≡ status_of self.now }
-    {
-        match self {
-            WordsFault::Help(_) => 0,
-            WordsFault::Usage(_) | WordsFault::Choice => 2,
-            WordsFault::Memory => 4,
-        }
-    }
-
-    /// Prints help to the standard output, and every other fault to the standard error.
-    pub fn print<R: Print + Eprint>(&self, rt: &R) -> io::Result<()> {
-        match self {
-            WordsFault::Help(error) | WordsFault::Usage(error) => error.print(rt),
-            fault => rt.eprintln(format_args!("ocfexec: {fault}")),
         }
     }
 }

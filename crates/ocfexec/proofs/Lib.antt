@@ -1,4 +1,4 @@
 pub mod LineLemmas
-pub mod TextLemmas
 pub mod RunLemmas
 pub mod ReplyLemmas
+pub mod StartLemmas

@@ -1,18 +1,16 @@
 -- What is told of the next line, over what a reader had left.
 use Rattle.std.proofs.Common.{◌≡◌, ◌≢◌, ℕ, ◌&&◌, Bool, true, false, true≢false, List, [], ◌∷◌, Option, Some, None, ◌==◌, IfSome, IfOk, IfErr, Result, Ok, Err, length, refl, sym, ap, subst, ◌∙◌, arith, nat_le, if◌then◌else◌}
-use Rattle.std.specs.Str.{is_utf8}
 use Rattle.std.specs.Io.KnownBytes.{IsAtEnd}
-use Rattle.serde_json.specs.Read.{read}
 use Rattle.ocf_types.specs.declared.refusal.Refusal.{Refusal}
 use Rattle.ocf_types.specs.declared.refusal.Refusal.TheVariants.{Memory, Syntax}
-use Rattle.exec_commands.specs.Keys.{given, typed}
-use Rattle.exec_commands.specs.Lines.{line_of, line_read}
+use Rattle.exec_commands.proofs.ValueLemmas.{long_line}
+use Rattle.exec_commands.specs.Lines.{line_read}
 use Rattle.exec_commands.specs.declared.line.Line.{Line}
 use Rattle.exec_lines.specs.declared.line.Next.{Next}
 use Rattle.exec_lines.specs.declared.line.Next.TheVariants as next
 use Rattle.exec_lines.specs.Lines.{first_line, after_first_line, next_of}
 use Rattle.ocfexec.specs.Answers.{IsReadAs}
-use Rattle.ocfexec.specs.Steps.{PassesLine, ReadsLine}
+use Rattle.ocfexec.specs.Progress.{PassesLine, ReadsLine}
 
 abbrev pub Tells : Option (List ℕ) → Next → Type 0
 Tells a n = IfSome a (λ xs. n ≡ next_of xs)
@@ -51,10 +49,6 @@ pub reads : {E : Type 0} (a c : Option (List ℕ)) (r : Result Next E) (line : L
 reads None c r line found told is some leaves read = tt
 reads (Some xs) c r line found told is some leaves read = (λ none. some (is told ∙ none), leaves, subst (λ l. IsReadAs l found) (is told) read)
 
--- a line that is too long is no JSON
-long_read : (bytes : List ℕ) → nat_le (length bytes) 131072 ≡ false → line_read bytes ≡ Err Syntax
-long_read bytes is = ap (λ b. given (typed (if b && is_utf8 bytes then read bytes else None)) line_of) is
-
 pub too_long : (a c : Option (List ℕ)) (n : Next) → n ≡ next.TooLong → Tells a n → Leaves a c → ReadsLine a c (Err Syntax)
 too_long None c n is tells leaves = tt
 too_long (Some []) c n is tells leaves = absurd cc
@@ -62,5 +56,5 @@ too_long (Some (x ∷ xs)) c n is tells leaves =
     let above : nat_le (length (first_line (x ∷ xs))) 131072 ≡ false = long _ (sym tells ∙ is) in (
       λ none. true≢false (sym (ap (λ l. nat_le (length l) 131072) none) ∙ above),
       leaves,
-      λ _. long_read (first_line (x ∷ xs)) above,
+      λ _. long_line (first_line (x ∷ xs)) above,
     )

@@ -5,9 +5,9 @@ use Rattle.disk_model.specs.View.{View}
 use Rattle.executor.specs.declared.executor.Executor.{Executor}
 use Rattle.executor.specs.declared.report.Report.{Report}
 use Rattle.ocfexec.specs.Runs.{ReachesEnd, Runs, report_text}
-use Rattle.ocfexec.specs.Steps.{Place, Takes}
-use Rattle.ocfexec.specs.declared.session.Step.{Step}
-use Rattle.ocfexec.specs.declared.session.Step.TheVariants.{End}
+use Rattle.ocfexec.specs.Progress.{Place, Takes}
+use Rattle.ocfexec.specs.declared.session.Progress.{Progress}
+use Rattle.ocfexec.specs.declared.session.Progress.TheVariants.{End}
 
 on_ok : {A E P : Type 0} (r : Result A E) → is_err r ≡ false → OnOk r P → P
 on_ok (Ok x) is_false p = p
@@ -28,6 +28,6 @@ ended view report p q written sent answered went went' first lines = record {
 abbrev pub place : {E : Type 0} → E → Option (List ℕ) → Option (List ℕ) → Place E
 place e left written = record { executor = e; left = left; written = written }
 
--- the last step
-pub at_end : {D M : Type 0} (view : D → View) (p q : Place (Executor D M)) (s : Step) → s ≡ End → Takes view s p q → Takes view End p q
+-- the end of the input
+pub at_end : {D M : Type 0} (view : D → View) (p q : Place (Executor D M)) (s : Progress) → s ≡ End → Takes view s p q → Takes view End p q
 at_end view p q s is step = subst (λ x. Takes view x p q) is step

@@ -1,6 +1,5 @@
 -- What the executor answers to a line.
-use Rattle.std.specs.Prelude.{◌≡◌, ◌≢◌, ◌↔◌, ℕ, List, [], ◌∷◌, ◌++◌, true, false, Result, Ok, Err}
-use Rattle.serde_json.specs.Written.{compact_text}
+use Rattle.std.specs.Prelude.{◌≡◌, ◌≢◌, ◌↔◌, ℕ, List, true, false, Result, Ok, Err}
 use Rattle.ocf_types.specs.Answer.{event_of, reply_to}
 use Rattle.ocf_types.specs.Kinds.{Command, Event, Reply, Request}
 use Rattle.ocf_types.specs.declared.command.Question.{Question}
@@ -8,7 +7,6 @@ use Rattle.ocf_types.specs.declared.command.RequestOf.TheVariants as asked
 use Rattle.ocf_types.specs.declared.outcome.StartFault.TheVariants.{Missing}
 use Rattle.ocf_types.specs.declared.refusal.Refusal.{Refusal}
 use Rattle.ocf_types.specs.declared.refusal.Refusal.TheVariants.{Closed, Disk, Memory, UnknownOp}
-use Rattle.ocf_types.specs.declared.reply.Notice.{Notice}
 use Rattle.ocf_types.specs.declared.reply.ReplyOf.TheVariants.{Refused}
 use Rattle.disk_model.specs.View.{View}
 use Rattle.exec_state.specs.Answers.{IsReplyOrMemory}
@@ -16,19 +14,11 @@ use Rattle.executor.specs.declared.executor.Executor.{Executor}
 use Rattle.executor.specs.Commands.{Commanded}
 use Rattle.executor.specs.Executors.{disk_of, is_open, monitors_of, state_of, tail_of}
 use Rattle.exec_commands.specs.Lines.{line_read}
-use Rattle.exec_commands.specs.Replies.{notice_data, reply_data}
 use Rattle.exec_commands.specs.declared.ends.MetaEnd.TheVariants.{NotStarted}
 use Rattle.exec_commands.specs.declared.line.Line.{Line}
 use Rattle.exec_commands.specs.declared.line.Line.TheVariants as line
 use Rattle.exec_commands.specs.declared.reply.LineReply.{LineReply}
 use Rattle.exec_commands.specs.declared.reply.LineReply.TheVariants as answer
-
--- the bytes that a reply and a notice are written as
-abbrev pub reply_line : LineReply → List ℕ
-reply_line reply = compact_text (reply_data reply) ++ 10 ∷ []
-
-abbrev pub notice_line : Notice → List ℕ
-notice_line notice = compact_text (notice_data notice) ++ 10 ∷ []
 
 -- a line of these bytes is read as the definition says, but that memory may be refused in reading it
 abbrev pub IsReadAs : List ℕ → Result Line Refusal → Type 0

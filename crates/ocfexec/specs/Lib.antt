@@ -1,5 +1,4 @@
 pub mod Answers
-pub mod Steps
+pub mod Progress
 pub mod Runs
-pub mod Shown
-pub mod Statuses
+pub mod Starts

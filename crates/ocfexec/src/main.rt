@@ -1,25 +1,45 @@
 //! A local executor of OCF resource agents: reads commands, a JSON object a line, and answers each.
 #![tactic(auto)]
 
-mod output;
+ghost use Rattle.std.specs.Prelude.{◌≡◌};
+ghost use Rattle.std.specs.Process.{exit_status};
+ghost use Rattle.ocfexec.specs.Starts.{status_of_end};
+
+mod report;
 mod session;
-mod show;
 mod start;
-mod status;
 #[cfg(test)]
 mod tests;
 
+use exec_output::Fault;
 pub use session::run_lines;
-pub use status::Status;
 use std::process::ExitCode;
 
 fn main(rt: HostRuntime) -> ExitCode {
-    let status = match start::words_of(&rt) {
-        Ok(words) => start::run(&rt, words.as_slice()),
-        Err(status) => status,
-    };
-    if let Some(text) = status.text() {
-        let _ = rt.eprintln(format_args!("ocfexec: {text}"));
+    let ended = start::start(&rt);
+    if let Err(fault) = ended {
+        tell(&rt, fault);
     }
-    ExitCode::from(status.code())
+    exit_code(ended)
+}
+
+// Says on standard error what ended the program, and what can be done about it in a line behind.
+fn tell(rt: &HostRuntime, fault: Fault) {
+    if fault == Fault::Usage {
+        // `clap` has said it
+        return;
+    }
+    let _ = rt.eprintln(format_args!("ocfexec: {fault}"));
+    if let Some(advice) = fault.advice() {
+        let _ = rt.eprintln(advice);
+    }
+}
+
+fn exit_code(ended: Result<(), Fault>) -> ExitCode
+    ensures { exit_status result ≡ status_of_end ended }
+{
+    match ended {
+        Ok(()) => ExitCode::SUCCESS,
+        Err(fault) => ExitCode::from(fault.status()),
+    }
 }

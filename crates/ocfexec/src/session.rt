@@ -2,14 +2,14 @@
 ghost use Rattle.std.specs.Prelude.{◌≡◌, true, IfOk, OnOk};
 ghost use Rattle.executor.specs.Executors.{IsSound, disk_of, is_open};
 ghost use Rattle.ocfexec.specs.Answers.{IsOpenReply, IsReply, closed_reply, no_metadata, refused};
-ghost use Rattle.ocfexec.specs.Steps.{ReadsInput, Takes};
+ghost use Rattle.ocfexec.specs.Progress.{ReadsInput, Takes};
 ghost use Rattle.ocfexec.specs.Runs.{EndsAs, ReachesEnd};
 
-use crate::output::{Stopped, send_reply, send_report};
-use crate::status::Status;
+use crate::report::send_report;
 use disk_model::Disk;
 use exec_commands::{Line, LineReply, MetaEnd, read_command};
 use exec_lines::{LineBuffer, Next, moment_now, next_line};
+use exec_output::{Fault, Stopped, send_reply};
 use executor::{Executor, Report};
 use ocf_types::{NUM_MAX, Refusal, Reply, StartFault};
 use std::alloc::Global;
@@ -29,7 +29,7 @@ enum Input {
 
 // What was done with what stands next in the input.
 #[derive(Clone, Copy, Debug, PartialEq, Eq)]
-enum Step {
+enum Progress {
     Answered,
     PassedOver,
     End,
@@ -123,21 +123,21 @@ fn next_reply<R: BufRead, W: Write, D: Disk + Drop>(
     executor: &mut Executor<D>,
     clock: &impl Clock,
     buffer: &mut LineBuffer,
-) -> Result<Step, Stopped>
+) -> Result<Progress, Stopped>
     requires sound { IsSound executor.old (D.view (disk_of executor.old)) }
     ensures sound { IsSound executor.new (D.view (disk_of executor.new)) }
-    ensures step { IfOk result (λ s. Takes D.view s
+    ensures progress { IfOk result (λ p. Takes D.view p
         (record { executor = executor.old; left = R.remaining reader.old; written = W.contents writer.old })
         (record { executor = executor.new; left = R.remaining reader.new; written = W.contents writer.new })) }
 {
     let line = match read_input(alloc, reader, buffer)? {
-        Input::End => return Ok(Step::End),
-        Input::Empty => return Ok(Step::PassedOver),
+        Input::End => return Ok(Progress::End),
+        Input::Empty => return Ok(Progress::PassedOver),
         Input::Line(line) => line,
     };
     let reply = reply_to(executor, clock, line);
     send_reply(alloc, writer, &reply)?;
-    Ok(Step::Answered)
+    Ok(Progress::Answered)
 }
 
 // Answers line after line, up to the end of the input.
@@ -155,8 +155,8 @@ fn answer_all<R: BufRead, W: Write, D: Disk + Drop>(
         (record { executor = executor.new; left = R.remaining reader.new; written = W.contents writer.new })) }
 {
     for _ in 0..NUM_MAX {
-        let step = next_reply(alloc, reader, writer, executor, clock, buffer)?;
-        if step == Step::End {
+        let progress = next_reply(alloc, reader, writer, executor, clock, buffer)?;
+        if progress == Progress::End {
             return Ok(());
         }
     }
@@ -164,7 +164,7 @@ fn answer_all<R: BufRead, W: Write, D: Disk + Drop>(
 }
 
 /// Writes what the opening reports, and then answers each line of the input, up to its end. Each reply is flushed before
-/// the next line is read. The end of the input is status 5 where the disk failed; input or output that fails is 7.
+/// the next line is read. Where the disk failed the end of the input is a fault, and input or output that fails is another.
 pub fn run_lines<R: BufRead, W: Write, D: Disk + Drop>(
     alloc: Global,
     reader: &mut R,
@@ -172,24 +172,24 @@ pub fn run_lines<R: BufRead, W: Write, D: Disk + Drop>(
     mut executor: Executor<D>,
     report: &Report,
     clock: &impl Clock,
-) -> Status
+) -> Result<(), Fault>
     requires sound { IsSound executor (D.view (disk_of executor)) }
     ensures { EndsAs D.view report.now
         (record { executor = executor; left = R.remaining reader.old; written = W.contents writer.old })
         (R.remaining reader.new) (W.contents writer.new) result }
 {
     let Ok(mut buffer) = LineBuffer::new(alloc) else {
-        return Status::Memory;
+        return Err(Fault::Memory);
     };
     if send_report(alloc, writer, report).is_err() {
-        return Status::InputOrOutput;
+        return Err(Fault::InputOrOutput);
     }
     if answer_all(alloc, reader, writer, &mut executor, clock, &mut buffer).is_err() {
-        return Status::InputOrOutput;
+        return Err(Fault::InputOrOutput);
     }
     if executor.is_open() {
-        Status::Done
+        Ok(())
     } else {
-        Status::Disk
+        Err(Fault::Disk)
     }
 }

@@ -1,14 +1,14 @@
 // Runs over known and failing input and output, over a disk in memory.
+mod endings;
 mod faults;
 mod journal;
 mod lines;
 mod opening;
 mod shown;
-mod statuses;
 
 use crate::session::run_lines;
-use crate::status::Status;
 use disk_model::MemDisk;
+use exec_output::Fault;
 use executor::Executor;
 use std::alloc::Global;
 use std::io::{BufRead, Write};
@@ -20,13 +20,13 @@ use std::test::Fail;
 pub const OPENED_AT: u64 = 5_000;
 
 /// How a run over this disk ends.
-pub fn status_over<R: BufRead, W: Write>(
+pub fn ended_over<R: BufRead, W: Write>(
     clock: &impl Clock,
     alloc: Global,
     disk: MemDisk,
     reader: &mut R,
     writer: &mut W,
-) -> Result<Status, Fail> {
+) -> Result<Result<(), Fault>, Fail> {
     match Executor::open(alloc, disk, OPENED_AT) {
         Ok((executor, report)) => Ok(run_lines(alloc, reader, writer, executor, &report, clock)),
         Err(fault) => {
@@ -42,11 +42,11 @@ pub fn written_over(
     alloc: Global,
     disk: MemDisk,
     input: &[u8],
-) -> Result<(Status, Vec<u8>), Fail> {
+) -> Result<(Result<(), Fault>, Vec<u8>), Fail> {
     let mut reader = input;
     let mut writer = Vec::new(alloc);
-    let status = status_over(clock, alloc, disk, &mut reader, &mut writer)?;
-    Ok((status, writer))
+    let ended = ended_over(clock, alloc, disk, &mut reader, &mut writer)?;
+    Ok((ended, writer))
 }
 
 /// Whether a run over a fresh disk writes this, and ends with the input.
@@ -56,8 +56,8 @@ pub fn answers<H: Abort + Clock>(
     input: &[u8],
     wanted: &[u8],
 ) -> Result<(), Fail> {
-    let (status, written) = written_over(rt, alloc, MemDisk::new(alloc), input)?;
+    let (ended, written) = written_over(rt, alloc, MemDisk::new(alloc), input)?;
     assert_eq!(rt; written.as_slice(), wanted);
-    assert_eq!(rt; status, Status::Done);
+    assert_eq!(rt; ended, Ok(()));
     Ok(())
 }

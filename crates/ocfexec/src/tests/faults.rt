@@ -1,8 +1,8 @@
 // Disks, readers and writers that fail.
 use super::journal::busy_disk;
-use super::{OPENED_AT, status_over, written_over};
-use crate::status::Status;
+use super::{OPENED_AT, ended_over, written_over};
 use disk_model::{Disk, MemDisk};
+use exec_output::Fault;
 use executor::Executor;
 use std::alloc::Global;
 use std::io::{self, BufReader, ErrorKind, Read, Write};
@@ -35,14 +35,14 @@ fn failing_disk(alloc: Global, call: u64) -> MemDisk {
 fn after_a_disk_fault_every_line_is_closed(rt: HostRuntime) -> Result<(), Fail> {
     // the fourth call is the second sync of the record
     for call in 1..=4 {
-        let (status, written) = written_over(
+        let (ended, written) = written_over(
             &rt,
             rt.alloc(),
             failing_disk(rt.alloc(), call),
             LINES,
         )?;
         assert_eq!(rt; written.as_slice(), REPLIES_WHEN_CLOSED);
-        assert_eq!(rt; status, Status::Disk);
+        assert_eq!(rt; ended, Err(Fault::Disk));
     }
     Ok(())
 }
@@ -50,9 +50,9 @@ fn after_a_disk_fault_every_line_is_closed(rt: HostRuntime) -> Result<(), Fail> 
 #[test]
 fn a_fault_behind_the_last_call_is_none(rt: HostRuntime) -> Result<(), Fail> {
     let line = b"{\"op\":\"register\",\"id\":\"r1\",\"provider\":\"p\",\"type\":\"t\"}";
-    let (status, written) = written_over(&rt, rt.alloc(), failing_disk(rt.alloc(), 5), line)?;
+    let (ended, written) = written_over(&rt, rt.alloc(), failing_disk(rt.alloc(), 5), line)?;
     assert_eq!(rt; written.as_slice(), b"{\"ok\":true}\n".as_slice());
-    assert_eq!(rt; status, Status::Done);
+    assert_eq!(rt; ended, Ok(()));
     Ok(())
 }
 
@@ -76,14 +76,14 @@ fn a_reader_that_fails_ends_the_run(rt: HostRuntime) -> Result<(), Fail> {
     let left = b"{\"op\":\"list\"}\n{\"op\":\"list\"}".as_slice();
     let mut reader = BufReader::with_capacity(rt.alloc(), 5, Failing { left })?;
     let mut written = Vec::new(rt.alloc());
-    let status = status_over(
+    let ended = ended_over(
         &rt,
         rt.alloc(),
         MemDisk::new(rt.alloc()),
         &mut reader,
         &mut written,
     )?;
-    assert_eq!(rt; status, Status::InputOrOutput);
+    assert_eq!(rt; ended, Err(Fault::InputOrOutput));
     assert_eq!(rt;
         written.as_slice(),
         b"{\"ok\":true,\"resources\":[]}\n".as_slice()
@@ -92,21 +92,25 @@ fn a_reader_that_fails_ends_the_run(rt: HostRuntime) -> Result<(), Fail> {
 }
 
 // How a run ends whose output takes so many bytes of two replies of 27 bytes.
-fn status_of_room(clock: &impl Clock, alloc: Global, room: &mut [u8]) -> Result<Status, Fail> {
+fn ended_in_room(
+    clock: &impl Clock,
+    alloc: Global,
+    room: &mut [u8],
+) -> Result<Result<(), Fault>, Fail> {
     let mut reader = b"{\"op\":\"list\"}\n{\"op\":\"list\"}\n".as_slice();
     let mut writer = room;
-    status_over(clock, alloc, MemDisk::new(alloc), &mut reader, &mut writer)
+    ended_over(clock, alloc, MemDisk::new(alloc), &mut reader, &mut writer)
 }
 
 #[test]
 fn a_writer_that_fails_ends_the_run(rt: HostRuntime) -> Result<(), Fail> {
     let mut room = [0u8; 54];
-    assert_eq!(rt; status_of_room(&rt, rt.alloc(), &mut room)?, Status::Done);
+    assert_eq!(rt; ended_in_room(&rt, rt.alloc(), &mut room)?, Ok(()));
     for length in [0, 1, 26, 27, 40, 53] {
         let part = room.get_mut(..length).ok_or("a length")?;
         assert_eq!(rt;
-            status_of_room(&rt, rt.alloc(), part)?,
-            Status::InputOrOutput
+            ended_in_room(&rt, rt.alloc(), part)?,
+            Err(Fault::InputOrOutput)
         );
     }
     Ok(())
@@ -136,8 +140,8 @@ fn each_reply_is_flushed(rt: HostRuntime) -> Result<(), Fail> {
     let mut writer = Marked { bytes };
     let mut reader = b"{\"op\":\"tidy\"}\n\n{\"op\":\"list\"}\n".as_slice();
     let disk = MemDisk::new(rt.alloc());
-    let status = status_over(&rt, rt.alloc(), disk, &mut reader, &mut writer)?;
-    assert_eq!(rt; status, Status::Done);
+    let ended = ended_over(&rt, rt.alloc(), disk, &mut reader, &mut writer)?;
+    assert_eq!(rt; ended, Ok(()));
     assert_eq!(rt;
         writer.bytes.as_slice(),
         b"{\"error\":\"unknown-op\",\"number\":2}\n|{\"ok\":true,\"resources\":[]}\n|".as_slice()
@@ -150,14 +154,14 @@ fn a_report_that_is_not_written_ends_the_run(rt: HostRuntime) -> Result<(), Fail
     let mut room = [0u8; 150];
     let mut writer = room.as_mut_slice();
     let mut reader = b"".as_slice();
-    let status = status_over(
+    let ended = ended_over(
         &rt,
         rt.alloc(),
         busy_disk(rt.alloc())?,
         &mut reader,
         &mut writer,
     )?;
-    assert_eq!(rt; status, Status::InputOrOutput);
+    assert_eq!(rt; ended, Err(Fault::InputOrOutput));
     Ok(())
 }
 
@@ -167,7 +171,7 @@ fn output_that_fails_wins_over_the_disk(rt: HostRuntime) -> Result<(), Fail> {
     let mut writer = room.as_mut_slice();
     let mut reader = LINES;
     let disk = failing_disk(rt.alloc(), 1);
-    let status = status_over(&rt, rt.alloc(), disk, &mut reader, &mut writer)?;
-    assert_eq!(rt; status, Status::InputOrOutput);
+    let ended = ended_over(&rt, rt.alloc(), disk, &mut reader, &mut writer)?;
+    assert_eq!(rt; ended, Err(Fault::InputOrOutput));
     Ok(())
 }

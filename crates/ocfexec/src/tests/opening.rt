@@ -1,7 +1,7 @@
 // What the opening reports.
 use super::journal::busy_disk;
 use super::written_over;
-use crate::status::Status;
+use exec_output::Fault;
 use std::alloc::Global;
 use std::process::Abort;
 use std::rt::Clock;
@@ -17,10 +17,10 @@ fn reports_and_answers<H: Abort + Clock>(
     input: &[u8],
     wanted: &[u8],
 ) -> Result<(), Fail> {
-    let (status, written) = written_over(rt, alloc, busy_disk(alloc)?, input)?;
+    let (ended, written) = written_over(rt, alloc, busy_disk(alloc)?, input)?;
     let replies = written.as_slice().strip_prefix(REPORT);
     assert_eq!(rt; replies.ok_or("a report")?, wanted);
-    assert_eq!(rt; status, Status::Done);
+    assert_eq!(rt; ended, Ok(()));
     Ok(())
 }
 

@@ -1,8 +1,7 @@
 // What `show` prints.
 use super::journal::busy_disk;
-use crate::show::show;
-use crate::status::Status;
 use disk_model::MemDisk;
+use exec_output::{Fault, show};
 use std::alloc::Global;
 use std::process::Abort;
 use std::test::Fail;
@@ -10,9 +9,9 @@ use std::test::Fail;
 // Whether this is printed of what a disk holds.
 fn shows(rt: &impl Abort, alloc: Global, disk: MemDisk, wanted: &[u8]) {
     let mut written = Vec::new(alloc);
-    let status = show(alloc, disk, &mut written);
+    let ended = show(alloc, disk, &mut written);
     assert_eq!(rt; written.as_slice(), wanted);
-    assert_eq!(rt; status, Status::Done);
+    assert_eq!(rt; ended, Ok(()));
 }
 
 #[test]
@@ -41,8 +40,8 @@ fn what_is_queued_and_what_runs_is_shown_without_a_boot(rt: HostRuntime) -> Resu
 fn output_that_fails_is_told(rt: HostRuntime) {
     let mut room = [0u8; 10];
     let mut writer = room.as_mut_slice();
-    let status = show(rt.alloc(), MemDisk::new(rt.alloc()), &mut writer);
-    assert_eq!(rt; status, Status::InputOrOutput);
+    let ended = show(rt.alloc(), MemDisk::new(rt.alloc()), &mut writer);
+    assert_eq!(rt; ended, Err(Fault::InputOrOutput));
 }
 
 #[test]
@@ -50,6 +49,6 @@ fn a_disk_that_fails_is_told(rt: HostRuntime) {
     let mut disk = MemDisk::new(rt.alloc());
     disk.plan_fault(1);
     let mut written = Vec::new(rt.alloc());
-    assert_eq!(rt; show(rt.alloc(), disk, &mut written), Status::Disk);
+    assert_eq!(rt; show(rt.alloc(), disk, &mut written), Err(Fault::Disk));
     assert!(rt; written.is_empty());
 }

@@ -1,25 +1,25 @@
 use Rattle.std.proofs.Common.{◌≡◌, rules}
 use Rattle.ocfexec.specs.Runs.{further, here}
-use Rattle.ocfexec.specs.declared.session.Step.TheVariants.{End}
+use Rattle.ocfexec.specs.declared.session.Progress.TheVariants.{End}
 use Rattle.ocfexec.proofs.RunLemmas.{at_end, place}
 use Rattle.ocfexec.proofs.session.answer_all.Goals as goal
 
 pub loop-init : goal.loop-init
 loop-init g c = record {
   sound = c.requires.sound;
-  steps = here;
+  reached = here;
 }
 
 pub returns-then-eq : goal.returns-then-eq
 returns-then-eq g c =
-    let is : c.in_ok-step.step ≡ End = search (rules, c.eq.ensures, c.if-eq.true) in
+    let is : c.in_ok-progress.progress ≡ End = search (rules, c.eq.ensures, c.if-eq.true) in
     let last = place c.loop.executor (g.R.Read.remaining c.loop.reader) (g.W.Write.contents c.loop.writer) in
     let end = place c.next_reply.new.executor (g.R.Read.remaining c.next_reply.new.reader) (g.W.Write.contents c.next_reply.new.writer) in
     record {
       lines = record {
         last = last;
-        steps = c.loop.invariant.steps;
-        end = at_end g.D.Disk.view last end c.in_ok-step.step is c.in_ok-step.ensures.step;
+        reached = c.loop.invariant.reached;
+        end = at_end g.D.Disk.view last end c.in_ok-progress.progress is c.in_ok-progress.ensures.progress;
       };
     }
 
@@ -28,6 +28,6 @@ loop-preserved g c =
     let last = place c.loop.executor (g.R.Read.remaining c.loop.reader) (g.W.Write.contents c.loop.writer) in
     let next = place c.next_reply.new.executor (g.R.Read.remaining c.next_reply.new.reader) (g.W.Write.contents c.next_reply.new.writer) in
     record {
-      sound = c.in_ok-step.ensures.sound;
-      steps = further last next c.in_ok-step.step c.loop.invariant.steps c.in_ok-step.ensures.step;
+      sound = c.in_ok-progress.ensures.sound;
+      reached = further last next c.in_ok-progress.progress c.loop.invariant.reached c.in_ok-progress.ensures.progress;
     }

@@ -1,0 +1,38 @@
+//! The texts that the command line prints where it is asked for them.
+
+/// The version of the program.
+pub const VERSION: &str = "0.1.0";
+
+/// What stands behind the help of the whole program: the commands that `run` reads, and where all is said.
+pub const COMMANDS: &str =
+    "Commands that run reads, a JSON object a line, and answers in a line each:
+  op          needed keys         other keys      it
+  register    id, provider, type  params          adds a resource
+  unregister  id                                  removes a resource
+  params      id, params                          replaces a resource's parameters
+  exec        id, action          timeout, level  queues an action
+  recur       id, interval        timeout, level  adds a recurring monitor
+  cancel      id, interval                        removes a recurring monitor
+  forget      id                                  empties a resource's history
+  list                                            names the resources
+  info        id                                  tells what a resource is and does
+  history     id                                  tells a resource's last results
+
+Example:
+  echo '{\"op\":\"list\"}' | ocfexec run --memory
+
+Manual: README.md. Commands, replies and refusals: docs/FORMAT.md.";
+
+/// What stands behind the help of `run`.
+pub const RUN: &str =
+    "Give just one of --journal and --memory. No agent is started yet: an exec is recorded and queued.
+The commands: ocfexec --help.
+
+Example:
+  echo '{\"op\":\"list\"}' | ocfexec run --memory";
+
+/// What stands behind the help of `show`.
+pub const SHOW: &str = "Give just one of --journal and --memory.
+
+Example:
+  ocfexec show --memory";

@@ -1,0 +1,46 @@
+-- The faults that end the program: their exit statuses, and the words of their texts.
+use Rattle.std.specs.Prelude.{ℕ, ⊤, List, Result, Ok, Err, codes}
+use Rattle.ocf_types.specs.declared.part.Part.{Part}
+use Rattle.ocf_types.specs.declared.part.Part.TheVariants.{A, B}
+use Rattle.exec_journal.specs.declared.damage.Cause.{Cause}
+use Rattle.exec_journal.specs.declared.damage.Cause.TheVariants as cause
+use Rattle.exec_output.specs.declared.fault.Fault.{Fault}
+use Rattle.exec_output.specs.declared.fault.Fault.TheVariants as fault
+
+-- the exit status of the process
+abbrev pub status_of : Fault → ℕ
+status_of fault.Usage = 2
+status_of fault.Choice = 2
+status_of fault.NoJournal = 2
+status_of fault.NotText = 2
+status_of (fault.Damaged damage) = 3
+status_of fault.Memory = 4
+status_of fault.Disk = 5
+status_of fault.Full = 6
+status_of fault.InputOrOutput = 7
+
+-- the letter of a part
+abbrev pub part_letter : Part → List ℕ
+part_letter A = codes "A"
+part_letter B = codes "B"
+
+-- what is wrong with a part, in a word
+abbrev pub cause_word : Cause → List ℕ
+cause_word cause.Cut = codes "cut"
+cause_word cause.Magic = codes "magic"
+cause_word cause.Version = codes "version"
+cause_word cause.Epoch = codes "epoch"
+cause_word cause.Closed = codes "closed"
+cause_word cause.State = codes "state"
+cause_word cause.Long = codes "long"
+cause_word cause.Event = codes "event"
+cause_word cause.Order = codes "order"
+
+-- how a run and a show may end: well, or by a fault that is not one of the words
+abbrev pub IsRunEnd : {T : Type 0} → Result T Fault → Type 0
+IsRunEnd (Ok done) = ⊤
+IsRunEnd (Err fault.Usage) = ⊥
+IsRunEnd (Err fault.Choice) = ⊥
+IsRunEnd (Err fault.NoJournal) = ⊥
+IsRunEnd (Err fault.NotText) = ⊥
+IsRunEnd (Err _) = ⊤

@@ -1,0 +1,36 @@
+-- What a journal's state is shown as.
+use Rattle.std.specs.Prelude.{◌≡◌, ℕ, ⊤, List, ◌++◌, map, Option, Result, Ok, Err}
+use Rattle.std.specs.Io.KnownBytes.{Appends}
+use Rattle.std.specs.List.{flat_map}
+use Rattle.ocf_types.specs.Answer.{reply_to}
+use Rattle.ocf_types.specs.State.{State}
+use Rattle.ocf_types.specs.declared.command.Question.{Question}
+use Rattle.ocf_types.specs.declared.command.Question.TheVariants as question
+use Rattle.disk_model.specs.Image.{Image}
+use Rattle.exec_journal.specs.Found.{Damaged, FoundAs, IsFound}
+use Rattle.exec_commands.specs.declared.reply.LineReply.TheVariants.{Request}
+use Rattle.exec_commands.specs.Replies.{reply_line}
+use Rattle.exec_output.specs.declared.fault.Fault.{Fault}
+use Rattle.exec_output.specs.declared.fault.Fault.TheVariants as fault
+
+-- the line that a question is answered
+abbrev pub answer_line : State → Question → List ℕ
+answer_line s q = reply_line (Request (reply_to s q))
+
+-- the lines of `info` and `history` of one resource
+abbrev pub resource_lines : State → List ℕ → List ℕ
+resource_lines s id = answer_line s (question.Info id) ++ answer_line s (question.History id)
+
+-- the line of `list`, and then those of each resource, in order of registration
+abbrev pub shown : State → List ℕ
+shown s = answer_line s question.List ++ flat_map (resource_lines s) (map (λ e. e.0) s.resources)
+
+-- what is written, by how it ended: all that the state holds that is found on these parts, or nothing where the pair is not
+-- read; damage that is told is the one that is found
+abbrev pub ShowsAs : {T : Type 0} → Image → Option (List ℕ) → Option (List ℕ) → Result T Fault → Type 0
+ShowsAs reads old new (Ok done) = (s : State) × FoundAs s reads × Appends old new (shown s)
+ShowsAs reads old new (Err (fault.Damaged damage)) = IsFound reads (Damaged damage) × (new ≡ old)
+ShowsAs reads old new (Err fault.Disk) = new ≡ old
+ShowsAs reads old new (Err fault.Memory) = new ≡ old
+ShowsAs reads old new (Err fault.InputOrOutput) = ⊤
+ShowsAs reads old new (Err _) = ⊥

@@ -1,0 +1,58 @@
+//! Replies and notices, as they go out.
+ghost use Rattle.std.specs.Prelude.{OnOk};
+ghost use Rattle.std.specs.Io.KnownBytes.{Appends};
+ghost use Rattle.std.specs.List.{flat_map};
+ghost use Rattle.exec_commands.specs.Replies.{notice_line, reply_line};
+
+use exec_commands::{LineReply, write_notice, write_reply};
+use exec_lines::write_flushed;
+use ocf_types::Notice;
+use std::alloc::{AllocError, Global};
+use std::io::{self, Write};
+
+/// Why a run stops before its input ends: standard input or output failed, or a reply found no memory.
+#[derive(Drop)]
+pub struct Stopped;
+
+impl From<io::Error> for Stopped {
+    fn from(_: io::Error) -> Stopped {
+        Stopped
+    }
+}
+
+impl From<AllocError> for Stopped {
+    fn from(_: AllocError) -> Stopped {
+        Stopped
+    }
+}
+
+/// Writes a reply's line, and flushes it.
+pub fn send_reply<W: Write>(alloc: Global, writer: &mut W, reply: &LineReply) -> Result<(), Stopped>
+    ensures { OnOk result (Appends (W.contents writer.old) (W.contents writer.new) (reply_line reply.now)) }
+{
+    let bytes = write_reply(alloc, reply)?;
+    write_flushed(writer, bytes.as_slice())?;
+    Ok(())
+}
+
+fn send_notice<W: Write>(alloc: Global, writer: &mut W, notice: &Notice) -> Result<(), Stopped>
+    ensures { OnOk result (Appends (W.contents writer.old) (W.contents writer.new) (notice_line notice.now)) }
+{
+    let bytes = write_notice(alloc, notice)?;
+    write_flushed(writer, bytes.as_slice())?;
+    Ok(())
+}
+
+/// Writes notices, a line each, and flushes each line.
+pub fn send_notices<W: Write>(
+    alloc: Global,
+    writer: &mut W,
+    notices: &[Notice],
+) -> Result<(), Stopped>
+    ensures { OnOk result (Appends (W.contents writer.old) (W.contents writer.new) (flat_map notice_line notices.now)) }
+{
+    for notice in notices {
+        send_notice(alloc, writer, notice)?;
+    }
+    Ok(())
+}

@@ -1,0 +1,86 @@
+//! What a journal holds.
+ghost use Rattle.std.specs.Prelude.{OnOk};
+ghost use Rattle.std.specs.Io.KnownBytes.{Appends};
+ghost use Rattle.std.specs.List.{flat_map};
+ghost use Rattle.exec_output.specs.Faults.{IsRunEnd};
+ghost use Rattle.exec_output.specs.Shown.{ShowsAs, answer_line, resource_lines, shown};
+
+use crate::fault::Fault;
+use crate::send::{Stopped, send_reply};
+use disk_model::Disk;
+use exec_commands::LineReply;
+use exec_journal::{Journal, JournalFault};
+use exec_state::State;
+use ocf_types::{Question, Reply, RscId};
+use std::alloc::Global;
+use std::io::Write;
+
+// Answers a question; it stops where memory is refused.
+fn write_answer<W: Write>(
+    alloc: Global,
+    writer: &mut W,
+    state: &State,
+    question: &Question,
+) -> Result<(), Stopped>
+    ensures { OnOk result (Appends (W.contents writer.old) (W.contents writer.new) (answer_line state.now.state question.now)) }
+{
+    match state.answer(alloc, question) {
+        Reply::Refused(_) => Err(Stopped),
+        reply => send_reply(alloc, writer, &LineReply::Request(reply)),
+    }
+}
+
+fn write_resource<W: Write>(
+    alloc: Global,
+    writer: &mut W,
+    state: &State,
+    id: &RscId,
+) -> Result<(), Stopped>
+    ensures { OnOk result (Appends (W.contents writer.old) (W.contents writer.new) (resource_lines state.now.state id.now)) }
+{
+    write_answer(alloc, writer, state, &Question::Info(id.copied()))?;
+    write_answer(alloc, writer, state, &Question::History(id.copied()))
+}
+
+fn write_resources<W: Write>(
+    alloc: Global,
+    writer: &mut W,
+    state: &State,
+    ids: &[RscId],
+) -> Result<(), Stopped>
+    ensures { OnOk result (Appends (W.contents writer.old) (W.contents writer.new) (flat_map (resource_lines state.now.state) ids.now)) }
+{
+    for id in ids {
+        write_resource(alloc, writer, state, id)?;
+    }
+    Ok(())
+}
+
+// The reply of `list`, and then of each resource those of `info` and `history`.
+fn write_state<W: Write>(alloc: Global, writer: &mut W, state: &State) -> Result<(), Stopped>
+    ensures { OnOk result (Appends (W.contents writer.old) (W.contents writer.new) (shown state.now.state)) }
+{
+    let reply = LineReply::Request(state.answer(alloc, &Question::List));
+    let LineReply::Request(Reply::List(ids)) = &reply else {
+        return Err(Stopped);
+    };
+    send_reply(alloc, writer, &reply)?;
+    write_resources(alloc, writer, state, ids.as_slice())
+}
+
+/// Opens a journal without a boot and writes what it holds: the reply of `list`, and then of each resource those of `info`
+/// and `history`. It is all written, or the fault is that of input or output.
+pub fn show<D: Disk + Drop, W: Write>(alloc: Global, disk: D, writer: &mut W) -> Result<(), Fault>
+    ensures shown { (D.view disk).honest → ShowsAs (D.view disk).reads (W.contents writer.old) (W.contents writer.new) result }
+    ensures ends { IsRunEnd result }
+{
+    match Journal::open(alloc, disk) {
+        Ok((_, state)) => match write_state(alloc, writer, &state) {
+            Ok(()) => Ok(()),
+            Err(_) => Err(Fault::InputOrOutput),
+        },
+        Err((JournalFault::Damaged(damage), _)) => Err(Fault::Damaged(damage)),
+        Err((JournalFault::Memory, _)) => Err(Fault::Memory),
+        Err((JournalFault::Disk, _)) => Err(Fault::Disk),
+    }
+}

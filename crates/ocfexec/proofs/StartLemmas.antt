@@ -1,0 +1,65 @@
+-- Why a program ends as it does.
+use Rattle.std.proofs.Common.{◌≡◌, inl, inr, ℕ, List, Result, Ok, Err, Option, is_some, true, subst, sym}
+use Rattle.disk_model.specs.View.{View}
+use Rattle.executor.specs.declared.executor.Executor.{Executor}
+use Rattle.executor.specs.declared.opening.OpenError.{OpenError}
+use Rattle.executor.specs.declared.opening.OpenError.TheVariants as opening
+use Rattle.executor.specs.declared.report.Report.{Report}
+use Rattle.exec_options.specs.Faults.{IsFault}
+use Rattle.exec_options.specs.Words.{Gives, folder_of}
+use Rattle.exec_options.specs.declared.fault.WordsFault.{WordsFault}
+use Rattle.exec_options.specs.declared.fault.WordsFault.TheVariants as words_fault
+use Rattle.exec_options.specs.declared.options.JournalPlace.TheVariants as place
+use Rattle.exec_options.specs.declared.options.Options.{Options}
+use Rattle.exec_output.specs.Faults.{IsRunEnd}
+use Rattle.exec_output.specs.declared.fault.Fault.{Fault}
+use Rattle.exec_output.specs.declared.fault.Fault.TheVariants as fault
+use Rattle.ocfexec.specs.Progress.{Place}
+use Rattle.ocfexec.specs.Runs.{EndsAs}
+use Rattle.ocfexec.specs.Starts.{EndsFor, IsToldAs, opening_fault}
+
+-- a run does not end by its words
+pub run_ends : {D M N T : Type 0} (view : D → View) (report : Report N) (p : Place (Executor D M)) (left written : Option (List ℕ)) (r : Result T Fault)
+    → EndsAs view report p left written r → IsRunEnd r
+run_ends view report p left written (Ok done) ends = tt
+run_ends view report p left written (Err fault.Usage) ends = absurd ends
+run_ends view report p left written (Err fault.Choice) ends = absurd ends
+run_ends view report p left written (Err fault.NoJournal) ends = absurd ends
+run_ends view report p left written (Err fault.NotText) ends = absurd ends
+run_ends view report p left written (Err (fault.Damaged damage)) ends = tt
+run_ends view report p left written (Err fault.Memory) ends = tt
+run_ends view report p left written (Err fault.Disk) ends = tt
+run_ends view report p left written (Err fault.Full) ends = tt
+run_ends view report p left written (Err fault.InputOrOutput) ends = tt
+
+-- nor does an executor that is not opened
+pub opening_ends : {T : Type 0} (why : OpenError) (f : Fault) → f ≡ opening_fault why → IsRunEnd {T} (Err f)
+opening_ends {T} opening.Disk f is = subst (λ x. IsRunEnd {T} (Err x)) (sym is) tt
+opening_ends {T} (opening.Damaged damage) f is = subst (λ x. IsRunEnd {T} (Err x)) (sym is) tt
+opening_ends {T} opening.Memory f is = subst (λ x. IsRunEnd {T} (Err x)) (sym is) tt
+opening_ends {T} opening.Full f is = subst (λ x. IsRunEnd {T} (Err x)) (sym is) tt
+
+-- words that give no options
+pub refused_ends : {T : Type 0} (words : List (List ℕ)) (f : WordsFault) (r : Result T Fault) → IsFault words f → IsToldAs f r → EndsFor words r
+refused_ends words (words_fault.Help text) (Ok done) is told = inl (text, is)
+refused_ends {T} words (words_fault.Help text) (Err f) is told = subst (λ x. EndsFor {T} words (Err x)) (sym told) (inl (text, is))
+refused_ends words (words_fault.Usage text) r is told = subst (λ x. EndsFor words x) (sym told) (text, is)
+refused_ends words words_fault.Choice r is told = subst (λ x. EndsFor words x) (sym told) is
+refused_ends words words_fault.Memory r is told = subst (λ x. EndsFor words x) (sym told) tt
+
+-- words that ask for a journal in memory
+pub memory_ends : {T : Type 0} (words : List (List ℕ)) (o : Options) (r : Result T Fault) → Gives words o → o.journal ≡ place.Memory → IsRunEnd r → EndsFor words r
+memory_ends words o (Ok done) gives is ends = inr (o, gives, is)
+memory_ends words o (Err fault.Usage) gives is ends = absurd ends
+memory_ends words o (Err fault.Choice) gives is ends = absurd ends
+memory_ends words o (Err fault.NoJournal) gives is ends = absurd ends
+memory_ends words o (Err fault.NotText) gives is ends = absurd ends
+memory_ends words o (Err (fault.Damaged damage)) gives is ends = (o, gives, is)
+memory_ends words o (Err fault.Memory) gives is ends = tt
+memory_ends words o (Err fault.Disk) gives is ends = (o, gives, is)
+memory_ends words o (Err fault.Full) gives is ends = (o, gives, is)
+memory_ends words o (Err fault.InputOrOutput) gives is ends = inr (o, gives, is)
+
+-- words that ask for a journal in a folder
+pub folder_ends : {T : Type 0} (words : List (List ℕ)) (o : Options) → Gives words o → is_some (folder_of o.journal) ≡ true → EndsFor {T} words (Err fault.NoJournal)
+folder_ends words o gives is = (o, gives, is)

@@ -1,7 +1,0 @@
-use Rattle.ocfexec.specs.Answers.{notice_line}
-use Rattle.ocfexec.proofs.TextLemmas.{sends_more}
-use Rattle.ocfexec.proofs.output.send_notices.Goals as goal
-
-pub loop-notice-preserved : goal.loop-notice-preserved
-loop-notice-preserved g c =
-    sends_more notice_line c.args.notices.now c.loop-notice.notice-index c.notice-item.result _ _ _ c.loop-notice-test.true c.notice-item.is c.loop-notice.invariant c.in_ok-send_notice.ensures

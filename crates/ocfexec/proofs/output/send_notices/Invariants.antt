@@ -1,8 +1,0 @@
-use Rattle.std.proofs.Common.{take}
-use Rattle.std.specs.Io.KnownBytes.{Appends}
-use Rattle.std.specs.List.{flat_map}
-use Rattle.ocfexec.specs.Answers.{notice_line}
-use Rattle.ocfexec.proofs.output.send_notices.Given as goal
-
-abbrev pub invariant-loop-notice : goal.invariant-loop-notice
-invariant-loop-notice g l = Appends (g.W.Write.contents l.fn.writer) (g.W.Write.contents l.writer) (flat_map notice_line (take l.notice-index l.notices))

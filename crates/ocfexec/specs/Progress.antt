@@ -1,0 +1,55 @@
+-- How a run goes on, line by line of the input.
+use Rattle.std.specs.Prelude.{◌≡◌, ◌≢◌, ℕ, ◌<◌, ⊤, List, [], length, Option, Some, None, Result}
+use Rattle.std.specs.Io.KnownBytes.{Appends, IsAtEnd}
+use Rattle.ocf_types.specs.declared.refusal.Refusal.{Refusal}
+use Rattle.disk_model.specs.View.{View}
+use Rattle.executor.specs.declared.executor.Executor.{Executor}
+use Rattle.exec_lines.specs.Lines.{first_line, after_first_line}
+use Rattle.exec_commands.specs.Replies.{reply_line}
+use Rattle.exec_commands.specs.declared.line.Line.{Line}
+use Rattle.exec_commands.specs.declared.reply.LineReply.{LineReply}
+use Rattle.ocfexec.specs.declared.session.Input.{Input}
+use Rattle.ocfexec.specs.declared.session.Input.TheVariants as input
+use Rattle.ocfexec.specs.declared.session.Progress.{Progress}
+use Rattle.ocfexec.specs.declared.session.Progress.TheVariants as progress
+use Rattle.ocfexec.specs.Answers.{IsReadAs, IsReply}
+
+-- where it is known what a reader has left: the next line has no bytes, and what stands behind it is left
+abbrev pub PassesLine : Option (List ℕ) → Option (List ℕ) → Type 0
+PassesLine None new = ⊤
+PassesLine (Some xs) new = (0 < length xs) × (first_line xs ≡ []) × (new ≡ Some (after_first_line xs))
+
+-- where it is known what a reader has left: the next line is read as this, and what stands behind it is left
+abbrev pub ReadsLine : Option (List ℕ) → Option (List ℕ) → Result Line Refusal → Type 0
+ReadsLine None new found = ⊤
+ReadsLine (Some xs) new found = (first_line xs ≢ []) × (new ≡ Some (after_first_line xs)) × IsReadAs (first_line xs) found
+
+-- what stands next in the input, from what a reader has left to what it has left then
+abbrev pub ReadsInput : Option (List ℕ) → Option (List ℕ) → Input → Type 0
+ReadsInput old new input.End = IsAtEnd old
+ReadsInput old new input.Empty = PassesLine old new
+ReadsInput old new (input.Line found) = ReadsLine old new found
+
+-- where a run is: its executor, what the reader has left, and what the writer holds
+pub record Place (E : Type 0) : Type 0 where
+  pub executor : E
+  pub left : Option (List ℕ)
+  pub written : Option (List ℕ)
+
+-- the next line is read, and what the writer holds grows by just the reply to it
+pub record Answers {D M : Type 0} (view : D → View) (p q : Place (Executor D M)) : Type 0 where
+  pub found : Result Line Refusal
+  pub reply : LineReply
+  pub read : ReadsLine p.left q.left found
+  pub answered : IsReply view p.executor q.executor found reply
+  pub written : Appends p.written q.written (reply_line reply)
+
+-- the executor and what the writer holds are the same
+abbrev pub Stays : {E : Type 0} → Place E → Place E → Type 0
+Stays p q = (q.executor ≡ p.executor) × (q.written ≡ p.written)
+
+-- what was done with what stands next in the input
+abbrev pub Takes : {D M : Type 0} → (D → View) → Progress → Place (Executor D M) → Place (Executor D M) → Type 0
+Takes view progress.Answered p q = Answers view p q
+Takes view progress.PassedOver p q = PassesLine p.left q.left × Stays p q
+Takes view progress.End p q = IsAtEnd p.left × Stays p q

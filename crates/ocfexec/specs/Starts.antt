@@ -1,0 +1,48 @@
+-- From the words to a run.
+use Rattle.std.specs.Prelude.{◌≡◌, ◌⊎◌, ℕ, ⊤, true, List, is_some, Result, Ok, Err}
+use Rattle.exec_options.specs.Faults.{AsksForText, IsFault, IsMisused}
+use Rattle.exec_options.specs.Words.{Gives, folder_of}
+use Rattle.exec_options.specs.declared.fault.WordsFault.{WordsFault}
+use Rattle.exec_options.specs.declared.fault.WordsFault.TheVariants as words_fault
+use Rattle.exec_options.specs.declared.options.JournalPlace.TheVariants as place
+use Rattle.exec_options.specs.declared.options.Options.{Options}
+use Rattle.exec_output.specs.Faults.{status_of}
+use Rattle.exec_output.specs.declared.fault.Fault.{Fault}
+use Rattle.exec_output.specs.declared.fault.Fault.TheVariants as fault
+use Rattle.executor.specs.declared.opening.OpenError.{OpenError}
+use Rattle.executor.specs.declared.opening.OpenError.TheVariants as opening
+
+-- the exit status: 0, or that of the fault
+abbrev pub status_of_end : {T : Type 0} → Result T Fault → ℕ
+status_of_end (Ok done) = 0
+status_of_end (Err f) = status_of f
+
+-- what an executor that was not opened ends the program with
+abbrev pub opening_fault : OpenError → Fault
+opening_fault opening.Disk = fault.Disk
+opening_fault (opening.Damaged damage) = fault.Damaged damage
+opening_fault opening.Memory = fault.Memory
+opening_fault opening.Full = fault.Full
+
+-- how words end that give no options: a text that was asked for is written, or output fails
+abbrev pub IsToldAs : {T : Type 0} → WordsFault → Result T Fault → Type 0
+IsToldAs (words_fault.Help text) (Ok done) = ⊤
+IsToldAs (words_fault.Help text) (Err f) = f ≡ fault.InputOrOutput
+IsToldAs (words_fault.Usage text) ended = ended ≡ Err fault.Usage
+IsToldAs words_fault.Choice ended = ended ≡ Err fault.Choice
+IsToldAs words_fault.Memory ended = ended ≡ Err fault.Memory
+
+-- the words ask for a journal in memory
+abbrev pub IsInMemory : List (List ℕ) → Type 0
+IsInMemory words = (o : Options) × Gives words o × (o.journal ≡ place.Memory)
+
+-- why a program that is given these words ends so
+abbrev pub EndsFor : {T : Type 0} → List (List ℕ) → Result T Fault → Type 0
+EndsFor words (Ok done) = AsksForText words ⊎ IsInMemory words
+EndsFor words (Err fault.Usage) = IsMisused words
+EndsFor words (Err fault.Choice) = IsFault words words_fault.Choice
+EndsFor words (Err fault.NoJournal) = (o : Options) × Gives words o × (is_some (folder_of o.journal) ≡ true)
+EndsFor words (Err fault.NotText) = ⊥
+EndsFor words (Err fault.Memory) = ⊤
+EndsFor words (Err fault.InputOrOutput) = AsksForText words ⊎ IsInMemory words
+EndsFor words (Err _) = IsInMemory words
