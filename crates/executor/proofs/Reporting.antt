@@ -6,12 +6,15 @@ use Rattle.std.proofs.lemmas.List.{append-nil}
 use Rattle.std.proofs.lemmas.List.Concat.{flat_map-cons}
 use Rattle.ocf_types.specs.declared.operation.Op.{Op}
 use Rattle.ocf_types.specs.declared.reply.Notice.{Notice}
-use Rattle.event_wire.proofs.Exact.{some_is}
-use Rattle.event_wire.proofs.PushedLemmas.{item_at}
+use Rattle.std.proofs.lemmas.Option.{slice_get-get_or}
 use Rattle.exec_state.proofs.Choices.{map_more_some}
 use Rattle.ocf_types.specs.Places.{entry_at, no_entry}
 use Rattle.ocf_types.specs.State.{State}
 use Rattle.executor.specs.Reports.{dropped_in, drop_notice, interrupted_in}
+
+-- what is there twice is the same
+some_is : {A : Type 0} (x y : A) → Some x ≡ Some y → x ≡ y
+some_is x y is = cc
 
 flat_more : {A B : Type 0} (f : A → List B) (xs : List A) (i : ℕ) (x : A) → slice_get xs i ≡ Some x → flat_map f (take (i + 1) xs) ≡ flat_map f (take i xs) ++ f x
 flat_more f [] i x e = absurd cc
@@ -24,11 +27,11 @@ flat_more f (y ∷ ys) (suc i) x e =
 -- the notices of one resource more
 pub interrupted_more : (s : State) (at i : ℕ) (out new : List Notice) → i < length s.resources → out ≡ flat_map (interrupted_in at) (take i s.resources) → new ≡ out ++ interrupted_in at (entry_at s i) → new ≡ flat_map (interrupted_in at) (take (i + 1) s.resources)
 interrupted_more s at i out new lt so_far pushed =
-    pushed ∙ ap (λ (t : List Notice). t ++ interrupted_in at (entry_at s i)) so_far ∙ sym (flat_more (interrupted_in at) s.resources i (entry_at s i) (item_at s.resources i no_entry lt))
+    pushed ∙ ap (λ (t : List Notice). t ++ interrupted_in at (entry_at s i)) so_far ∙ sym (flat_more (interrupted_in at) s.resources i (entry_at s i) (slice_get-get_or s.resources i no_entry lt))
 
 pub dropped_more : (s : State) (at i : ℕ) (out new : List Notice) → i < length s.resources → out ≡ flat_map (dropped_in at) (take i s.resources) → new ≡ out ++ dropped_in at (entry_at s i) → new ≡ flat_map (dropped_in at) (take (i + 1) s.resources)
 dropped_more s at i out new lt so_far pushed =
-    pushed ∙ ap (λ (t : List Notice). t ++ dropped_in at (entry_at s i)) so_far ∙ sym (flat_more (dropped_in at) s.resources i (entry_at s i) (item_at s.resources i no_entry lt))
+    pushed ∙ ap (λ (t : List Notice). t ++ dropped_in at (entry_at s i)) so_far ∙ sym (flat_more (dropped_in at) s.resources i (entry_at s i) (slice_get-get_or s.resources i no_entry lt))
 
 -- the notice of one action more
 pub drop_more : (id : List ℕ) (at i : ℕ) (queue : List Op) (o : Op) (old out new : List Notice) (n : Notice) → slice_get queue i ≡ Some o → n ≡ drop_notice id at o → out ≡ old ++ map (drop_notice id at) (take i queue) → new ≡ out ++ n ∷ [] → new ≡ old ++ map (drop_notice id at) (take (i + 1) queue)
