@@ -6,7 +6,7 @@ use ocf_types::{RunId, StartFault};
 use thiserror::Error;
 
 /// What a child answered when it was asked whether it still runs.
-#[derive(Clone, Copy, Debug, PartialEq, Eq)]
+#[derive(Clone, Copy)]
 pub enum Poll {
     /// It does.
     Running,
@@ -24,7 +24,7 @@ pub enum Poll {
 pub struct KillFault;
 
 /// What a child was asked for, and what it answered.
-#[derive(Clone, Copy, Debug, PartialEq, Eq)]
+#[derive(Clone, Copy)]
 pub enum Answer {
     /// To start: it was started.
     Started,
@@ -45,7 +45,7 @@ pub enum Answer {
 }
 
 /// One answer of a child.
-#[derive(Clone, Copy, Debug, PartialEq, Eq)]
+#[derive(Clone, Copy)]
 pub struct Entry {
     /// The run that was asked.
     pub run: RunId,

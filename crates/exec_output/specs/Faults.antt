@@ -4,6 +4,8 @@ use Rattle.ocf_types.specs.declared.part.Part.{Part}
 use Rattle.ocf_types.specs.declared.part.Part.TheVariants.{A, B}
 use Rattle.exec_journal.specs.declared.damage.Cause.{Cause}
 use Rattle.exec_journal.specs.declared.damage.Cause.TheVariants as cause
+use Rattle.exec_journal.specs.declared.fault.JournalFault.{JournalFault}
+use Rattle.exec_journal.specs.declared.fault.JournalFault.TheVariants as journal
 use Rattle.exec_output.specs.declared.fault.Fault.{Fault}
 use Rattle.exec_output.specs.declared.fault.Fault.TheVariants as fault
 
@@ -18,6 +20,12 @@ status_of fault.Memory = 4
 status_of fault.Disk = 5
 status_of fault.Full = 6
 status_of fault.InputOrOutput = 7
+
+-- a journal that was not opened, as the program ends with it
+abbrev pub opening_fault : JournalFault → Fault
+opening_fault journal.Disk = fault.Disk
+opening_fault (journal.Damaged damage) = fault.Damaged damage
+opening_fault journal.Memory = fault.Memory
 
 -- the letter of a part
 abbrev pub part_letter : Part → List ℕ

@@ -1,8 +1,8 @@
 //! What a journal holds.
-ghost use Rattle.std.specs.Prelude.{OnOk};
+ghost use Rattle.std.specs.Prelude.{◌≡◌, OnOk};
 ghost use Rattle.std.specs.Io.KnownBytes.{Appends};
 ghost use Rattle.std.specs.List.{flat_map};
-ghost use Rattle.exec_output.specs.Faults.{IsRunEnd};
+ghost use Rattle.exec_output.specs.Faults.{IsRunEnd, opening_fault};
 ghost use Rattle.exec_output.specs.Shown.{ShowsAs, answer_line, resource_lines, shown};
 
 use crate::fault::Fault;
@@ -68,19 +68,32 @@ fn write_state<W: Write>(alloc: Global, writer: &mut W, state: &State) -> Result
     write_resources(alloc, writer, state, ids.as_slice())
 }
 
+// Why a journal was not opened, as the program ends with it.
+fn opening_fault(fault: JournalFault) -> Fault
+    ensures { result ≡ opening_fault fault }
+{
+    match fault {
+        JournalFault::Damaged(damage) => Fault::Damaged(damage),
+        JournalFault::Memory => Fault::Memory,
+        JournalFault::Disk => Fault::Disk,
+    }
+}
+
 /// Opens a journal without a boot and writes what it holds: the reply of `list`, and then of each resource those of `info`
-/// and `history`. It is all written, or the fault is that of input or output.
-pub fn show<D: Disk + Drop, W: Write>(alloc: Global, disk: D, writer: &mut W) -> Result<(), Fault>
-    ensures shown { (D.view disk).honest → ShowsAs (D.view disk).reads (W.contents writer.old) (W.contents writer.new) result }
-    ensures ends { IsRunEnd result }
+/// and `history`. It is all written, or the fault is that of input or output. The disk is handed back.
+pub fn show<D: Disk + Drop, W: Write>(
+    alloc: Global,
+    disk: D,
+    writer: &mut W,
+) -> (D, Result<(), Fault>)
+    ensures shown { (D.view result.0).honest → ShowsAs (D.view disk).reads (W.contents writer.old) (W.contents writer.new) result.1 }
+    ensures ends { IsRunEnd result.1 }
 {
     match Journal::open(alloc, disk) {
-        Ok((_, state)) => match write_state(alloc, writer, &state) {
-            Ok(()) => Ok(()),
-            Err(_) => Err(Fault::InputOrOutput),
+        Ok((journal, state)) => match write_state(alloc, writer, &state) {
+            Ok(()) => (journal.into_disk(), Ok(())),
+            Err(_) => (journal.into_disk(), Err(Fault::InputOrOutput)),
         },
-        Err((JournalFault::Damaged(damage), _)) => Err(Fault::Damaged(damage)),
-        Err((JournalFault::Memory, _)) => Err(Fault::Memory),
-        Err((JournalFault::Disk, _)) => Err(Fault::Disk),
+        Err((fault, disk)) => (disk, Err(opening_fault(fault))),
     }
 }

@@ -60,7 +60,7 @@ fn run(rt: &HostRuntime, words: &[String]) -> Result<(), Fault>
         (JournalPlace::Folder(_), _) => Err(Fault::NoJournal),
         (JournalPlace::Memory, Subcommand::Run) => run_in_memory(rt),
         (JournalPlace::Memory, Subcommand::Show) => {
-            show(rt.alloc(), MemDisk::new(rt.alloc()), &mut io::writer(rt))
+            show(rt.alloc(), MemDisk::new(rt.alloc()), &mut io::writer(rt)).1
         }
     }
 }

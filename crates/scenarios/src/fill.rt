@@ -5,7 +5,7 @@ use std::alloc::Global;
 use std::fmt;
 
 /// What stands in an image where bytes were written and not yet synced.
-#[derive(Clone, Copy, Debug, PartialEq, Eq)]
+#[derive(Clone, Copy)]
 pub enum Filling {
     /// What was synced last.
     Synced,

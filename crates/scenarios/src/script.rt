@@ -7,7 +7,7 @@ use std::alloc::Global;
 use std::io::{BufRead, Write};
 
 /// How an input ended.
-#[derive(Clone, Copy, Debug, PartialEq, Eq)]
+#[derive(Clone, Copy)]
 pub enum Ending {
     /// All of it was played.
     Played,

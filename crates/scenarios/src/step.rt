@@ -66,7 +66,7 @@ pub enum Line {
 }
 
 // The first word of a step.
-#[derive(Clone, Copy, Debug, PartialEq, Eq)]
+#[derive(Clone, Copy)]
 enum Verb {
     Scenario,
     Part,

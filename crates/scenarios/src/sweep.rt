@@ -8,7 +8,7 @@ use std::alloc::Global;
 use std::io::{self, Write};
 
 // What the call is to do.
-#[derive(Clone, Copy, Debug, PartialEq, Eq)]
+#[derive(Clone, Copy)]
 enum Plan {
     Stop(u64),
     Fault(u64),

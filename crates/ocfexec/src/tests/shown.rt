@@ -9,7 +9,7 @@ use std::test::Fail;
 // Whether this is printed of what a disk holds.
 fn shows(rt: &impl Abort, alloc: Global, disk: MemDisk, wanted: &[u8]) {
     let mut written = Vec::new(alloc);
-    let ended = show(alloc, disk, &mut written);
+    let (_, ended) = show(alloc, disk, &mut written);
     assert_eq!(rt; written.as_slice(), wanted);
     assert_eq!(rt; ended, Ok(()));
 }
@@ -40,7 +40,7 @@ fn what_is_queued_and_what_runs_is_shown_without_a_boot(rt: HostRuntime) -> Resu
 fn output_that_fails_is_told(rt: HostRuntime) {
     let mut room = [0u8; 10];
     let mut writer = room.as_mut_slice();
-    let ended = show(rt.alloc(), MemDisk::new(rt.alloc()), &mut writer);
+    let (_, ended) = show(rt.alloc(), MemDisk::new(rt.alloc()), &mut writer);
     assert_eq!(rt; ended, Err(Fault::InputOrOutput));
 }
 
@@ -49,6 +49,6 @@ fn a_disk_that_fails_is_told(rt: HostRuntime) {
     let mut disk = MemDisk::new(rt.alloc());
     disk.plan_fault(1);
     let mut written = Vec::new(rt.alloc());
-    assert_eq!(rt; show(rt.alloc(), disk, &mut written), Err(Fault::Disk));
+    assert_eq!(rt; show(rt.alloc(), disk, &mut written).1, Err(Fault::Disk));
     assert!(rt; written.is_empty());
 }
