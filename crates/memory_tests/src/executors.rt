@@ -6,53 +6,54 @@ use exec_journal::{Journal, JournalFault};
 use executor::{Executor, OpenError};
 use linked_list_allocator::LocalHeap;
 use ocf_types::{
-    AgentType, CommandOf, Params, Part, Provider, Question, Refusal, Registration, Reply, ReplyOf,
-    Request, RequestOf, RscId, StateView,
+    AgentType, CommandOf, Params, Part, Provider, Refusal, Registration, Reply, ReplyOf, Request,
+    RequestOf, RscId, StateView,
 };
-use std::alloc::{AllocError, Allocator, Global};
-use std::test::Fail;
+use std::alloc::{Allocator, Global};
 
 // A disk with these parts.
-fn disk_with(alloc: Global, a: &[u8], b: &[u8]) -> Result<MemDisk, AllocError> {
-    MemDisk::from_parts(alloc, a.to_vec(alloc)?, b.to_vec(alloc)?)
+fn disk_with<A: Allocator + Copy>(alloc: A, a: &[u8], b: &[u8]) -> Option<MemDisk<A>> {
+    let a = a.to_vec(alloc).ok()?;
+    MemDisk::from_parts(alloc, a, b.to_vec(alloc).ok()?).ok()
+}
+
+// Whether a disk has these parts.
+fn has(disk: &MemDisk, a: &[u8], b: &[u8]) -> bool {
+    disk.bytes(Part::A) == a && disk.bytes(Part::B) == b
 }
 
 // Opens the journal of these parts, in which r1 is registered.
-fn open_journal(alloc: Global, heap: &LocalHeap, a: &[u8], b: &[u8]) -> Result<Ended, Fail> {
-    match Journal::open(heap, disk_with(alloc, a, b)?) {
+fn open_journal(alloc: Global, heap: &LocalHeap, b: &[u8]) -> Option<Ended> {
+    Some(match Journal::open(heap, disk_with(alloc, FIRST, b)?) {
         Ok((_journal, state)) => done(state.len() == 1),
-        Err((fault, disk)) => {
-            let kept = disk.bytes(Part::A) == a && disk.bytes(Part::B) == b;
-            refused(fault == JournalFault::Memory && kept)
-        }
-    }
+        Err((fault, disk)) => refused(fault == JournalFault::Memory && has(&disk, FIRST, b)),
+    })
 }
 
-fn open_records(alloc: Global, heap: &LocalHeap) -> Result<Ended, Fail> {
-    open_journal(alloc, heap, FIRST, &[])
+fn open_records(alloc: Global, heap: &LocalHeap) -> Option<Ended> {
+    open_journal(alloc, heap, &[])
 }
 
-fn open_snapshot(alloc: Global, heap: &LocalHeap) -> Result<Ended, Fail> {
-    open_journal(alloc, heap, FIRST, BEGUN)
+fn open_snapshot(alloc: Global, heap: &LocalHeap) -> Option<Ended> {
+    open_journal(alloc, heap, BEGUN)
 }
 
 // Opens an executor whose journal has a run, so that the opening reports it.
-fn open_executor(alloc: Global, heap: &LocalHeap) -> Result<Ended, Fail> {
-    match Executor::open(heap, disk_with(alloc, FIRST, BEGUN)?, 500) {
-        Ok((_executor, report)) => done(report.interrupted.len() == 1),
-        Err(fault) => {
-            let kept = fault.disk.bytes(Part::A) == FIRST && fault.disk.bytes(Part::B) == BEGUN;
-            refused(fault.why == OpenError::Memory && kept)
-        }
-    }
+fn open_executor(alloc: Global, heap: &LocalHeap) -> Option<Ended> {
+    Some(
+        match Executor::open(heap, disk_with(alloc, FIRST, BEGUN)?, 500) {
+            Ok((_executor, report)) => done(report.interrupted.len() == 1),
+            Err(fault) => refused(fault.why == OpenError::Memory && has(&fault.disk, FIRST, BEGUN)),
+        },
+    )
 }
 
 // Registers r1, with no parameter.
-fn registration<A: Allocator + Copy>(alloc: A) -> Result<Request<A>, Fail> {
-    Ok(RequestOf::Command(CommandOf::Register(Registration {
-        id: RscId::new(b"r1")?,
-        provider: Provider::new(b"pacemaker")?,
-        agent: AgentType::new(b"Dummy")?,
+fn registration<A: Allocator + Copy>(alloc: A) -> Option<Request<A>> {
+    Some(RequestOf::Command(CommandOf::Register(Registration {
+        id: RscId::new(b"r1").ok()?,
+        provider: Provider::new(b"pacemaker").ok()?,
+        agent: AgentType::new(b"Dummy").ok()?,
         params: Params::new(alloc),
     })))
 }
@@ -65,54 +66,50 @@ fn refusal<A: Allocator>(reply: &Reply<A>) -> Option<Refusal> {
     }
 }
 
-// The registration of r1 by an executor in the heap.
-fn register(alloc: Global, heap: &LocalHeap) -> Result<Ended, Fail> {
-    let Ok((mut executor, _report)) = Executor::open(heap, disk_with(alloc, CREATED, &[])?, 0)
-    else {
-        return Ok(Ended::TooSmall);
-    };
-    let why = refusal(&executor.command(0, registration(heap)?));
-    let info = executor.command(0, RequestOf::Question(Question::Info(RscId::new(b"r1")?)));
-    let unknown = refusal(&info) == Some(Refusal::UnknownResource);
-    let open = executor.is_open();
-    let disk = executor.close();
+// How a registration ended, after which the executor is open or not and the disk has this part A.
+fn registered(why: Option<Refusal>, open: bool, part: &[u8]) -> Ended {
     match why {
-        None => done(open && !unknown && disk.bytes(Part::A) == FIRST),
-        Some(why) => {
-            let kept = open && unknown && disk.bytes(Part::A) == CREATED;
-            refused(why == Refusal::Memory && kept)
-        }
+        None => done(open && part == FIRST),
+        Some(Refusal::Memory) => refused(open && part == CREATED),
+        Some(why) => refused(why == Refusal::Disk && !open),
     }
+}
+
+// The registration of r1 by an executor in the heap.
+fn register(alloc: Global, heap: &LocalHeap) -> Option<Ended> {
+    let request = registration(heap)?;
+    let disk = disk_with(alloc, CREATED, &[])?;
+    let Ok((mut executor, _report)) = Executor::open(heap, disk, 0) else {
+        return Some(Ended::TooSmall);
+    };
+    let why = refusal(&executor.command(0, request));
+    let open = executor.is_open();
+    Some(registered(why, open, executor.close().bytes(Part::A)))
 }
 
 // The same by an executor on a disk in the heap: what finds no memory there is a fault of the disk.
-fn register_on_disk(alloc: Global, heap: &LocalHeap) -> Result<Ended, Fail> {
-    let Ok(part) = CREATED.to_vec(heap) else {
-        return Ok(Ended::TooSmall);
-    };
-    let Ok(disk) = MemDisk::from_parts(heap, part, Vec::new(heap)) else {
-        return Ok(Ended::TooSmall);
+fn register_on_disk(alloc: Global, heap: &LocalHeap) -> Option<Ended> {
+    let request = registration(alloc)?;
+    let Some(disk) = disk_with(heap, CREATED, &[]) else {
+        return Some(Ended::TooSmall);
     };
     let Ok((mut executor, _report)) = Executor::open(alloc, disk, 0) else {
-        return Ok(Ended::TooSmall);
+        return Some(Ended::TooSmall);
     };
-    match refusal(&executor.command(0, registration(alloc)?)) {
-        None => done(executor.close().bytes(Part::A) == FIRST),
-        Some(why) => refused(why == Refusal::Disk && !executor.is_open()),
-    }
+    let why = refusal(&executor.command(0, request));
+    let open = executor.is_open();
+    Some(registered(why, open, executor.close().bytes(Part::A)))
 }
 
 #[test]
-fn journals_and_executors(rt: HostRuntime) -> Result<(), Fail> {
+fn journals_and_executors(rt: HostRuntime) {
     let alloc = rt.alloc();
-    grows(&rt, alloc, "Journal::open with a record", open_records)?;
-    grows(&rt, alloc, "Journal::open with a snapshot", open_snapshot)?;
-    grows(&rt, alloc, "Executor::open", open_executor)?;
-    grows(&rt, alloc, "Executor::command", register)?;
-    grows(
-        &rt,
-        alloc,
-        "Executor::command on a small disk",
-        register_on_disk,
-    )
+    let ends = [
+        grows(alloc, open_records),
+        grows(alloc, open_snapshot),
+        grows(alloc, open_executor),
+        grows(alloc, register),
+        grows(alloc, register_on_disk),
+    ];
+    assert_eq!(rt; ends, [true; 5]);
 }

@@ -1,8 +1,6 @@
 // Heaps of growing size.
 use linked_list_allocator::LocalHeap;
 use std::alloc::Global;
-use std::process::Abort;
-use std::test::Fail;
 
 /// How a call in a small heap ended.
 #[derive(Clone, Copy, PartialEq)]
@@ -12,43 +10,49 @@ pub enum Ended {
     /// The call was refused for want of memory.
     Refused,
     Done,
+    /// It was refused for another reason or changed something, or its answer was another.
+    Wrong,
 }
 
 /// The call was refused as it has to be: for want of memory, and with nothing changed.
-pub fn refused(cleanly: bool) -> Result<Ended, Fail> {
+pub fn refused(cleanly: bool) -> Ended {
     if cleanly {
-        return Ok(Ended::Refused);
+        Ended::Refused
+    } else {
+        Ended::Wrong
     }
-    Err("a refusal for another reason, or with something changed")?
 }
 
 /// The call gave what it has to give.
-pub fn done(right: bool) -> Result<Ended, Fail> {
-    if right {
-        return Ok(Ended::Done);
-    }
-    Err("another answer")?
+pub fn done(right: bool) -> Ended {
+    if right { Ended::Done } else { Ended::Wrong }
 }
 
-/// Makes the call in heaps of 0, 64, 128 bytes and so on: it is refused until it is done, and gives all memory back.
-pub fn grows<F: Fn(Global, &LocalHeap) -> Result<Ended, Fail>>(
-    rt: &impl Abort,
+// The call in a heap of that size, to which all memory is given back.
+fn ended_in<F: Fn(Global, &LocalHeap) -> Option<Ended>>(
     alloc: Global,
-    name: &str,
-    call: F,
-) -> Result<(), Fail>
+    size: usize,
+    call: &F,
+) -> Option<Ended>
+    requires callable { F.IsAlwaysCallable call.now }
+{
+    let heap = LocalHeap::new(alloc, size).ok()?;
+    let ended = call(alloc, &heap)?;
+    if heap.used() == 0 { Some(ended) } else { None }
+}
+
+/// Whether the call, made in heaps of 0, 64, 128 bytes and so on, is refused until it is done.
+pub fn grows<F: Fn(Global, &LocalHeap) -> Option<Ended>>(alloc: Global, call: F) -> bool
     requires callable { F.IsAlwaysCallable call }
 {
     let mut refused = false;
     for step in 0..4_096 {
-        let heap = LocalHeap::new(alloc, step * 64)?;
-        let ended = call(alloc, &heap)?;
-        assert_eq!(rt; heap.used(), 0, "{name}: memory was kept");
-        if ended == Ended::Done {
-            assert!(rt; refused, "{name} was never refused");
-            return Ok(());
+        match ended_in(alloc, step * 64, &call) {
+            Some(Ended::TooSmall) => {}
+            Some(Ended::Refused) => refused = true,
+            Some(Ended::Done) => return refused,
+            _ => return false,
         }
-        refused = refused || ended == Ended::Refused;
     }
-    panic!(rt; "{name}: no heap was large enough")
+    false
 }

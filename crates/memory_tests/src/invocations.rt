@@ -6,61 +6,56 @@ use ocf_types::{
     AgentType, CallId, Level, ParamName, ParamValue, Params, Provider, RscId, RunId, Task,
 };
 use std::alloc::Global;
-use std::test::Fail;
 
-fn text(alloc: Global, text: &str) -> Result<Text, Fail> {
-    Ok(Text::new(String::from_str(alloc, text)?))
+fn text(alloc: Global, text: &str) -> Option<Text> {
+    Some(Text::new(String::from_str(alloc, text).ok()?))
 }
 
-fn site(alloc: Global) -> Result<Site, Fail> {
-    let via = text(alloc, "echo")?;
-    Ok(Site::new(
-        text(alloc, "/usr/lib/ocf")?,
-        text(alloc, "/bin")?,
-        Some(via),
-    ))
+fn site(alloc: Global) -> Option<Site> {
+    let (root, path) = (text(alloc, "/usr/lib/ocf")?, text(alloc, "/bin")?);
+    Some(Site::new(root, path, None))
 }
 
-fn params(alloc: Global) -> Result<Params, Fail> {
+fn params(alloc: Global) -> Option<Params> {
     let mut params = Params::new(alloc);
-    params.insert(
-        ParamName::new(b"state")?,
-        ParamValue::new(alloc, b"/tmp/s")?,
-    )?;
-    Ok(params)
+    let value = ParamValue::new(alloc, b"/tmp/s").ok()?;
+    params.insert(ParamName::new(b"state").ok()?, value).ok()?;
+    Some(params)
 }
 
-fn a_launch(alloc: Global, heap: &LocalHeap) -> Result<Ended, Fail> {
-    let (site, params) = (site(alloc)?, params(alloc)?);
-    let instance = Instance {
-        id: &RscId::new(b"r1")?,
-        provider: &Provider::new(b"pacemaker")?,
-        agent: &AgentType::new(b"Dummy")?,
-        params: &params,
-    };
-    let call = CallId::new(3).ok_or("a call id")?;
-    let run = RunId::new(7).ok_or("a run number")?;
-    match launch(heap, &site, &instance, Task::Monitor(Level::Ten), call, run) {
+// The launch of a monitor of a resource of that agent.
+fn launched(site: &Site, instance: &Instance<'_, Params>, heap: &LocalHeap) -> Option<Ended> {
+    let (call, run) = (CallId::new(3)?, RunId::new(7)?);
+    let task = Task::Monitor(Level::Ten);
+    Some(match launch(heap, site, instance, task, call, run) {
         Ok(launch) => done(launch.invocation.environment().len() == 9),
         Err(_) => refused(true),
-    }
+    })
 }
 
-fn a_question(alloc: Global, heap: &LocalHeap) -> Result<Ended, Fail> {
+fn a_launch(alloc: Global, heap: &LocalHeap) -> Option<Ended> {
+    let instance = Instance {
+        id: &RscId::new(b"r1").ok()?,
+        provider: &Provider::new(b"pacemaker").ok()?,
+        agent: &AgentType::new(b"Dummy").ok()?,
+        params: &params(alloc)?,
+    };
+    launched(&site(alloc)?, &instance, heap)
+}
+
+fn a_question(alloc: Global, heap: &LocalHeap) -> Option<Ended> {
+    let provider = Provider::new(b"pacemaker").ok()?;
+    let agent = AgentType::new(b"Dummy").ok()?;
     let site = site(alloc)?;
-    match launch_meta(
-        heap,
-        &site,
-        &Provider::new(b"pacemaker")?,
-        &AgentType::new(b"Dummy")?,
-    ) {
+    Some(match launch_meta(heap, &site, &provider, &agent) {
         Ok(invocation) => done(invocation.environment().len() == 6),
         Err(_) => refused(true),
-    }
+    })
 }
 
 #[test]
-fn launches(rt: HostRuntime) -> Result<(), Fail> {
-    grows(&rt, rt.alloc(), "launch", a_launch)?;
-    grows(&rt, rt.alloc(), "launch_meta", a_question)
+fn launches(rt: HostRuntime) {
+    let alloc = rt.alloc();
+    let ends = [grows(alloc, a_launch), grows(alloc, a_question)];
+    assert_eq!(rt; ends, [true; 2]);
 }

@@ -10,33 +10,37 @@ use ocf_types::{
 };
 use op_history::Ops;
 use std::alloc::{Allocator, Global};
-use std::test::Fail;
 
-// A queue takes no memory after it was made.
-fn ops(_: Global, heap: &LocalHeap) -> Result<Ended, Fail> {
-    let Ok(mut ops) = Ops::new(heap) else {
-        return refused(true);
-    };
-    let used = heap.used();
-    let call = CallId::new(1).ok_or("a call id")?;
-    let (task, timeout) = (Task::Start, Millis::new(1).ok_or("a timeout")?);
-    ops.accept(Op {
+// A start under that call.
+fn start() -> Option<Op> {
+    let (call, task, timeout) = (CallId::new(1)?, Task::Start, Millis::new(1)?);
+    Some(Op {
         call,
         task,
         timeout,
-    })?;
-    ops.drop_all(Moment::cut(8));
-    done(ops.ended_len() == 1 && heap.used() == used)
+    })
 }
 
-fn from_parts(_: Global, heap: &LocalHeap) -> Result<Ended, Fail> {
-    let Ok(parts) = decode_state(heap, BUSY) else {
-        return Ok(Ended::TooSmall);
+// A queue takes no memory after it was made.
+fn ops(_: Global, heap: &LocalHeap) -> Option<Ended> {
+    let op = start()?;
+    let Ok(mut ops) = Ops::new(heap) else {
+        return Some(Ended::Refused);
     };
-    match State::from_parts(heap, parts.ok_or("a state")?) {
+    let used = heap.used();
+    let accepted = ops.accept(op).is_ok();
+    ops.drop_all(Moment::cut(8));
+    Some(done(accepted && ops.ended_len() == 1 && heap.used() == used))
+}
+
+fn from_parts(_: Global, heap: &LocalHeap) -> Option<Ended> {
+    let Ok(parts) = decode_state(heap, BUSY) else {
+        return Some(Ended::TooSmall);
+    };
+    Some(match State::from_parts(heap, parts?) {
         Ok(state) => done(state.len() == 1 && state.next_run().get() == 6),
         Err(_) => refused(true),
-    }
+    })
 }
 
 // The registration of r1, or nothing where the heap is too small.
@@ -45,79 +49,84 @@ fn registration(heap: &LocalHeap) -> Option<Event<&LocalHeap>> {
     Some(read?.0)
 }
 
-fn prepare(_: Global, heap: &LocalHeap) -> Result<Ended, Fail> {
+fn prepare(_: Global, heap: &LocalHeap) -> Option<Ended> {
     let Some(event) = registration(heap) else {
-        return Ok(Ended::TooSmall);
+        return Some(Ended::TooSmall);
     };
     let mut state = State::new(heap);
-    let applies = state.applies(&event);
     let prepared = state.prepare(&event);
-    let unchanged = applies && state.len() == 0 && state.clock().get() == 0;
-    match prepared {
+    let unchanged = state.len() == 0 && state.clock().get() == 0;
+    Some(match prepared {
         Ok(()) => done(unchanged),
         Err(_) => refused(unchanged),
-    }
+    })
 }
 
 // Does what the event says, where it applies and there is the memory for it.
-fn record<A: Allocator + Copy>(state: &mut State<A>, event: Event<A>) -> bool {
+fn record<A: Allocator + Copy>(state: &mut State<A>, event: Event<A>) -> Option<()> {
     if !state.applies(&event) {
-        return false;
+        return None;
     }
-    if state.prepare(&event).is_err() {
-        return false;
-    }
+    state.prepare(&event).ok()?;
     state.apply(event);
-    true
+    Some(())
+}
+
+// A start of r1 is accepted, and dropped by a boot.
+fn drop_start<A: Allocator + Copy>(state: &mut State<A>) -> Option<()> {
+    let id = RscId::new(b"r1").ok()?;
+    let (task, timeout) = (Task::Start, Millis::new(1)?);
+    let event = state.check(0, CommandOf::Exec { id, task, timeout }).ok()?;
+    record(state, event)?;
+    let boot = state.boot(5)?;
+    record(state, boot)
 }
 
 // A state of r1 with a result, or nothing where the heap is too small.
 fn dropped(heap: &LocalHeap) -> Option<State<&LocalHeap>> {
+    let event = registration(heap)?;
     let mut state = State::new(heap);
-    if !record(&mut state, registration(heap)?) {
-        return None;
-    }
-    let id = RscId::new(b"r1").ok()?;
-    let (task, timeout) = (Task::Start, Millis::new(1)?);
-    let start = state.check(0, CommandOf::Exec { id, task, timeout }).ok()?;
-    record(&mut state, start);
-    let boot = state.boot(5)?;
-    record(&mut state, boot);
+    record(&mut state, event)?;
+    drop_start(&mut state)?;
     Some(state)
 }
 
-fn answer(heap: &LocalHeap, question: Question) -> Result<Ended, Fail> {
+// The reply to a question.
+fn answer(heap: &LocalHeap, question: &Question) -> Ended {
     let Some(state) = dropped(heap) else {
-        return Ok(Ended::TooSmall);
+        return Ended::TooSmall;
     };
-    match state.answer(heap, &question) {
+    match state.answer(heap, question) {
         ReplyOf::List(ids) => done(ids.as_slice().len() == 1),
         ReplyOf::Info(info) => done(info.params.as_slice().len() == 1),
         ReplyOf::History(results) => done(results.as_slice().len() == 1),
         ReplyOf::Refused(refusal) => refused(refusal == Refusal::Memory),
-        _ => done(false),
+        _ => Ended::Wrong,
     }
 }
 
-fn list(_: Global, heap: &LocalHeap) -> Result<Ended, Fail> {
-    answer(heap, Question::List)
+fn list(_: Global, heap: &LocalHeap) -> Option<Ended> {
+    Some(answer(heap, &Question::List))
 }
 
-fn info(_: Global, heap: &LocalHeap) -> Result<Ended, Fail> {
-    answer(heap, Question::Info(RscId::new(b"r1")?))
+fn info(_: Global, heap: &LocalHeap) -> Option<Ended> {
+    Some(answer(heap, &Question::Info(RscId::new(b"r1").ok()?)))
 }
 
-fn history(_: Global, heap: &LocalHeap) -> Result<Ended, Fail> {
-    answer(heap, Question::History(RscId::new(b"r1")?))
+fn history(_: Global, heap: &LocalHeap) -> Option<Ended> {
+    Some(answer(heap, &Question::History(RscId::new(b"r1").ok()?)))
 }
 
 #[test]
-fn states(rt: HostRuntime) -> Result<(), Fail> {
+fn states(rt: HostRuntime) {
     let alloc = rt.alloc();
-    grows(&rt, alloc, "Ops::new", ops)?;
-    grows(&rt, alloc, "State::from_parts", from_parts)?;
-    grows(&rt, alloc, "State::prepare", prepare)?;
-    grows(&rt, alloc, "State::answer to a list", list)?;
-    grows(&rt, alloc, "State::answer to an info", info)?;
-    grows(&rt, alloc, "State::answer to a history", history)
+    let ends = [
+        grows(alloc, ops),
+        grows(alloc, from_parts),
+        grows(alloc, prepare),
+        grows(alloc, list),
+        grows(alloc, info),
+        grows(alloc, history),
+    ];
+    assert_eq!(rt; ends, [true; 6]);
 }
