@@ -33,16 +33,16 @@ run_ends view report p left written (Err fault.Full) ends = tt
 run_ends view report p left written (Err fault.InputOrOutput) ends = tt
 
 -- nor does an executor that is not opened
-pub opening_ends : {T : Type 0} (why : OpenError) (f : Fault) → f ≡ opening_fault why → IsRunEnd {T} (Err f)
-opening_ends {T} opening.Disk f is = subst (λ x. IsRunEnd {T} (Err x)) (sym is) tt
-opening_ends {T} (opening.Damaged damage) f is = subst (λ x. IsRunEnd {T} (Err x)) (sym is) tt
-opening_ends {T} opening.Memory f is = subst (λ x. IsRunEnd {T} (Err x)) (sym is) tt
-opening_ends {T} opening.Full f is = subst (λ x. IsRunEnd {T} (Err x)) (sym is) tt
+pub opening_ends : {T : Type 0} (why : OpenError) (f : Fault) → f ≡ opening_fault why → IsRunEnd {T = T} (Err f)
+opening_ends {T} opening.Disk f is = subst (λ x. IsRunEnd {T = T} (Err x)) (sym is) tt
+opening_ends {T} (opening.Damaged damage) f is = subst (λ x. IsRunEnd {T = T} (Err x)) (sym is) tt
+opening_ends {T} opening.Memory f is = subst (λ x. IsRunEnd {T = T} (Err x)) (sym is) tt
+opening_ends {T} opening.Full f is = subst (λ x. IsRunEnd {T = T} (Err x)) (sym is) tt
 
 -- words that give no options
 pub refused_ends : {T : Type 0} (words : List (List ℕ)) (f : WordsFault) (r : Result T Fault) → IsFault words f → IsToldAs f r → EndsFor words r
 refused_ends words (words_fault.Help text) (Ok done) is told = inl (text, is)
-refused_ends {T} words (words_fault.Help text) (Err f) is told = subst (λ x. EndsFor {T} words (Err x)) (sym told) (inl (text, is))
+refused_ends {T} words (words_fault.Help text) (Err f) is told = subst (λ x. EndsFor {T = T} words (Err x)) (sym told) (inl (text, is))
 refused_ends words (words_fault.Usage text) r is told = subst (λ x. EndsFor words x) (sym told) (text, is)
 refused_ends words words_fault.Choice r is told = subst (λ x. EndsFor words x) (sym told) is
 refused_ends words words_fault.Memory r is told = subst (λ x. EndsFor words x) (sym told) tt
@@ -61,5 +61,5 @@ memory_ends words o (Err fault.Full) gives is ends = (o, gives, is)
 memory_ends words o (Err fault.InputOrOutput) gives is ends = inr (o, gives, is)
 
 -- words that ask for a journal in a folder
-pub folder_ends : {T : Type 0} (words : List (List ℕ)) (o : Options) → Gives words o → is_some (folder_of o.journal) ≡ true → EndsFor {T} words (Err fault.NoJournal)
+pub folder_ends : {T : Type 0} (words : List (List ℕ)) (o : Options) → Gives words o → is_some (folder_of o.journal) ≡ true → EndsFor {T = T} words (Err fault.NoJournal)
 folder_ends words o gives is = (o, gives, is)
