@@ -1,5 +1,6 @@
 # The gate, and what it leaves behind.
 PREFIX ?= /usr/local
+PROGRAM := crates/ocfexec/out/ocfexec
 
 .PHONY: run test check mutants bench install clean
 
@@ -23,10 +24,13 @@ mutants:
 bench:
 	cd crates/bench && rt run -- appends 20 && rt run -- events 20 && rt run -- state-reads 20 && rt run -- state-writes 20 && rt run -- triples 20 && rt run -- openings 1
 
-# Proves and builds the program, and installs it.
-install:
+# Installs the program that the gate proved and built, or proves and builds it first.
+install: $(PROGRAM)
+	install -D $(PROGRAM) $(DESTDIR)$(PREFIX)/bin/ocfexec
+
+$(PROGRAM): $(shell find crates -name out -prune -o -type f -print)
 	cd crates/ocfexec && rt run -- --help > /dev/null
-	install -D crates/ocfexec/out/ocfexec $(DESTDIR)$(PREFIX)/bin/ocfexec
+	touch $@
 
 clean:
 	rm -rf crates/*/out
