@@ -1,5 +1,6 @@
 //! Tests of the edges that no scenario reaches: readers, writers, clocks and the words of a command line; requests and
-//! replies of drains and metadata; the largest state. Nothing here is part of the product.
+//! replies of drains and metadata, and what begins next, for which no line asks yet; the largest state. Nothing here is
+//! part of the product.
 #![tactic(auto)]
 
 #[cfg(test)]
@@ -14,6 +15,8 @@ mod lines;
 mod moments;
 #[cfg(test)]
 mod params;
+#[cfg(test)]
+mod picks;
 #[cfg(test)]
 mod readers;
 #[cfg(test)]
