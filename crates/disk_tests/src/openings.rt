@@ -1,14 +1,12 @@
 // Openings at moment 500 in which each device call is stopped or fails, lengths and reads among them.
 use crate::parts::{
-    BEGUN, BEGUN_STATE, CREATED, DROPPED_STATE, EMPTY_STATE, ENDED_STATE, FIRST, FIRST_STATE,
-    QUEUED, QUEUED_STATE, disk_with, found_on,
+    BEGUN, BEGUN_STATE, DROPPED_STATE, EMPTY_STATE, ENDED_STATE, FIRST, FIRST_STATE, QUEUED,
+    QUEUED_STATE, disk_with, found_on,
 };
 use disk_model::{Disk, Fill, MemDisk};
 use executor::{Executor, OpenError};
 use ocf_types::Part;
 use std::alloc::Global;
-use std::process::Abort;
-use std::test::Fail;
 
 // What may stand where bytes were written and not synced, and whether a gate that was opened there is open.
 const FILLS: [(Fill, bool); 5] = [
@@ -58,117 +56,128 @@ fn open(alloc: Global, disk: MemDisk) -> (Option<OpenError>, MemDisk) {
     }
 }
 
-fn is_found(alloc: Global, disk: MemDisk, state: &[u8]) -> Result<bool, Fail> {
-    match found_on(alloc, disk)? {
-        Ok(spelling) => Ok(spelling.as_slice() == state),
-        Err(_) => Ok(false),
+fn is_found(alloc: Global, disk: MemDisk, state: &[u8]) -> bool {
+    match found_on(alloc, disk) {
+        Ok(spelling) => spelling.as_slice() == state,
+        Err(_) => false,
+    }
+}
+
+// An opening of the pair with a stop in that device call.
+fn stopped(alloc: Global, pair: &Pair<'_>, call: u64) -> Option<MemDisk> {
+    let mut disk = disk_with(alloc, pair.a, pair.b)?;
+    disk.plan_stop(call);
+    match open(alloc, disk) {
+        (Some(OpenError::Disk), disk) => Some(disk),
+        _ => None,
     }
 }
 
 // Whether a stop in that device call leaves what it has to leave, with each fill.
-fn stop_leaves(alloc: Global, pair: &Pair<'_>, call: u64, last: bool) -> Result<bool, Fail> {
-    let mut disk = disk_with(alloc, pair.a, pair.b)?;
-    disk.plan_stop(call);
-    let (why, disk) = open(alloc, disk);
-    let mut right = why == Some(OpenError::Disk);
+fn stop_leaves(alloc: Global, pair: &Pair<'_>, call: u64, last: bool) -> Option<bool> {
+    let disk = stopped(alloc, pair, call)?;
+    let mut right = true;
     for (fill, open) in FILLS {
-        let left = disk.image(alloc, call, fill)?;
-        right = right && is_found(alloc, left, pair.found(last, open))?;
+        let left = disk.image(alloc, call, fill).ok()?;
+        right = right && is_found(alloc, left, pair.found(last, open));
     }
-    Ok(right)
+    Some(right)
 }
 
-// Whether an opening in which that device call fails is told, and made again by the next one.
-fn fault_leaves(alloc: Global, pair: &Pair<'_>, call: u64, whole: &MemDisk) -> Result<bool, Fail> {
+// The pair's disk after an opening in which that device call failed, and the next one.
+fn opened_again(alloc: Global, pair: &Pair<'_>, call: u64) -> Option<MemDisk> {
     let mut disk = disk_with(alloc, pair.a, pair.b)?;
     disk.plan_fault(call);
-    let (failed, disk) = open(alloc, disk);
-    let (again, disk) = open(alloc, disk);
-    let right = failed == Some(OpenError::Disk) && again.is_none();
-    let same = disk.bytes(Part::A) == whole.bytes(Part::A)
-        && disk.bytes(Part::B) == whole.bytes(Part::B);
-    let left = disk.image(alloc, u64::MAX, Fill::Synced)?;
-    Ok(right && same && is_found(alloc, left, pair.after)?)
+    let (Some(OpenError::Disk), disk) = open(alloc, disk) else {
+        return None;
+    };
+    match open(alloc, disk) {
+        (None, disk) => Some(disk),
+        _ => None,
+    }
 }
 
-// How many device calls an opening of the pair makes, with each of them stopped, and with each of them failed.
-fn each_call(rt: &impl Abort, alloc: Global, pair: &Pair<'_>) -> Result<u64, Fail> {
-    let (opened, whole) = open(alloc, disk_with(alloc, pair.a, pair.b)?);
-    assert_eq!(rt; opened, None);
+// Whether that disk has the parts of one that never failed, and keeps what is found through a stop.
+fn fault_leaves(alloc: Global, pair: &Pair<'_>, call: u64, whole: &MemDisk) -> Option<bool> {
+    let disk = opened_again(alloc, pair, call)?;
+    let same = |part| disk.bytes(part) == whole.bytes(part);
+    let left = disk.image(alloc, u64::MAX, Fill::Synced).ok()?;
+    Some(same(Part::A) && same(Part::B) && is_found(alloc, left, pair.after))
+}
+
+// How many device calls an opening of the pair makes; nothing where a stop or a fault in one of them went wrong.
+fn each_call(alloc: Global, pair: &Pair<'_>) -> Option<u64> {
+    let (None, whole) = open(alloc, disk_with(alloc, pair.a, pair.b)?) else {
+        return None;
+    };
     let calls = whole.clock();
     for call in 1..=calls {
         let last = call.saturating_add(1) >= calls;
-        assert!(rt;
-            stop_leaves(alloc, pair, call, last)?,
-            "stopped in call {call}"
-        );
-        assert!(rt;
-            fault_leaves(alloc, pair, call, &whole)?,
-            "a fault in call {call}"
-        );
+        let stopped = stop_leaves(alloc, pair, call, last)?;
+        if !stopped || !fault_leaves(alloc, pair, call, &whole)? {
+            return None;
+        }
     }
-    Ok(calls)
+    Some(calls)
 }
 
 #[test]
-fn each_device_call_of_a_creation(rt: HostRuntime) -> Result<(), Fail> {
-    let alloc = rt.alloc();
-    assert_eq!(rt;
-        each_call(&rt, alloc, &Pair::idle(&[], &[], EMPTY_STATE))?,
-        13
-    );
-    each_call(&rt, alloc, &Pair::idle(&[7; 30], &[], EMPTY_STATE))?;
-    each_call(&rt, alloc, &Pair::idle(&[1], &[], EMPTY_STATE))?;
-    let (_, disk) = open(alloc, MemDisk::new(alloc));
-    assert_eq!(rt; disk.bytes(Part::A), CREATED);
-    Ok(())
+fn each_device_call_of_a_creation(rt: HostRuntime) {
+    let calls = each_call(rt.alloc(), &Pair::idle(&[], &[], EMPTY_STATE));
+    assert_eq!(rt; calls, Some(13));
 }
 
 #[test]
-fn each_device_call_of_an_opening_that_writes_nothing(rt: HostRuntime) -> Result<(), Fail> {
-    each_call(&rt, rt.alloc(), &Pair::idle(FIRST, &[], FIRST_STATE))?;
-    Ok(())
+fn each_device_call_of_an_opening_without_a_boot(rt: HostRuntime) {
+    for (a, state) in [
+        (FIRST, FIRST_STATE),
+        (&[1], EMPTY_STATE),
+        (&[7; 30], EMPTY_STATE),
+    ] {
+        let calls = each_call(rt.alloc(), &Pair::idle(a, &[], state));
+        assert!(rt; calls.is_some());
+    }
 }
+
+// A start runs and a monitor is queued.
+const QUEUED_PAIR: Pair<'static> = Pair {
+    a: QUEUED,
+    b: &[],
+    before: QUEUED_STATE,
+    after: DROPPED_STATE,
+};
+
+// Part B is current, and a start runs.
+const BEGUN_PAIR: Pair<'static> = Pair {
+    a: FIRST,
+    b: BEGUN,
+    before: BEGUN_STATE,
+    after: ENDED_STATE,
+};
 
 #[test]
-fn each_device_call_of_an_opening_with_a_boot(rt: HostRuntime) -> Result<(), Fail> {
-    let alloc = rt.alloc();
-    let mut queued = FIRST[..78].to_vec(alloc)?;
-    queued.extend_from_slice(QUEUED)?;
-    let pair = Pair {
-        a: queued.as_slice(),
-        b: &[],
-        before: QUEUED_STATE,
-        after: DROPPED_STATE,
-    };
-    each_call(&rt, alloc, &pair)?;
-    let pair = Pair {
-        a: FIRST,
-        b: BEGUN,
-        before: BEGUN_STATE,
-        after: ENDED_STATE,
-    };
-    each_call(&rt, alloc, &pair)?;
-    Ok(())
+fn each_device_call_of_an_opening_with_a_boot(rt: HostRuntime) {
+    for pair in [QUEUED_PAIR, BEGUN_PAIR] {
+        assert!(rt; each_call(rt.alloc(), &pair).is_some());
+    }
 }
 
-// A creation stopped in a device call, and the next one, on what each fill leaves, in each of its own.
-fn created_twice(rt: &impl Abort, alloc: Global, call: u64) -> Result<(), Fail> {
-    let mut disk = MemDisk::new(alloc);
-    disk.plan_stop(call);
-    let (_, disk) = open(alloc, disk);
+// How often each device call of a creation may be stopped or fail, after a creation that was stopped in that one.
+fn created_twice(alloc: Global, call: u64) -> Option<u32> {
+    let disk = stopped(alloc, &Pair::idle(&[], &[], EMPTY_STATE), call)?;
+    let mut right = 0u32;
     for (fill, _) in FILLS {
-        let left = disk.image(alloc, call, fill)?;
+        let left = disk.image(alloc, call, fill).ok()?;
         let (a, b) = (left.bytes(Part::A), left.bytes(Part::B));
-        each_call(rt, alloc, &Pair::idle(a, b, EMPTY_STATE))?;
+        each_call(alloc, &Pair::idle(a, b, EMPTY_STATE))?;
+        right = right.saturating_add(1);
     }
-    Ok(())
+    Some(right)
 }
 
 #[test]
-fn each_device_call_of_a_second_creation(rt: HostRuntime) -> Result<(), Fail> {
+fn each_device_call_of_a_second_creation(rt: HostRuntime) {
     for call in 7..=13 {
-        created_twice(&rt, rt.alloc(), call)?;
+        assert_eq!(rt; created_twice(rt.alloc(), call), Some(5));
     }
-    Ok(())
 }

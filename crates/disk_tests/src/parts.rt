@@ -2,7 +2,7 @@
 use disk_model::MemDisk;
 use event_wire::encode_state;
 use exec_journal::{Journal, JournalFault};
-use std::alloc::{AllocError, Global};
+use std::alloc::Global;
 
 /// Part A of a new journal.
 pub const CREATED: &[u8] =
@@ -22,11 +22,11 @@ pub const FIRST_STATE: &[u8] =
 /// The registration of r1 at moment 0.
 pub const REGISTER: &[u8] = b"\x01\0\0\0\0\0\0\0\0\x02r\x31\x09pacemaker\x05Dummy\0";
 
-/// Records of r1 behind that: a start and a monitor of level 10 were accepted, and the start began at moment 10.
+/// Part A of a journal in which then a start and a monitor of level 10 were accepted, and the start began at moment 10.
 pub const QUEUED: &[u8] =
-    b"\x01\0\0\0\x1a\x04\0\0\0\0\0\0\0\0\x02r\x31\0\0\0\0\0\0\0\x01\x01\0\0\0N\x20\x01\0\0\0\x1a\x04\0\0\0\0\0\0\0\0\x02r\x31\0\0\0\0\0\0\0\x02\x03\x0a\0\0N\x20\x01\0\0\0\x1c\x08\0\0\0\0\0\0\0\x0a\x02r\x31\0\0\0\0\0\0\0\x01\0\0\0\0\0\0\0\x01\0";
+    b"\x01OCFJ\x01\0\0\0\0\0\0\0\x01\0\0\0\x1a\0\0\0\0\0\0\0\x01\0\0\0\0\0\0\0\x01\0\0\0\0\0\0\0\0\0\0\x01\0\0\0\x1d\x01\0\0\0\0\0\0\0\0\x02r\x31\x09pacemaker\x05Dummy\0\x01\0\0\0\x1a\x04\0\0\0\0\0\0\0\0\x02r\x31\0\0\0\0\0\0\0\x01\x01\0\0\0N\x20\x01\0\0\0\x1a\x04\0\0\0\0\0\0\0\0\x02r\x31\0\0\0\0\0\0\0\x02\x03\x0a\0\0N\x20\x01\0\0\0\x1c\x08\0\0\0\0\0\0\0\x0a\x02r\x31\0\0\0\0\0\0\0\x01\0\0\0\0\0\0\0\x01\0";
 
-/// The state with those.
+/// The state of it.
 pub const QUEUED_STATE: &[u8] =
     b"\0\0\0\0\0\0\0\x03\0\0\0\0\0\0\0\x02\0\0\0\0\0\0\0\x0a\0\x01\x02r\x31\x09pacemaker\x05Dummy\0\x01\0\0\0\0\0\0\0\x02\x03\x0a\0\0N\x20\x01\0\0\0\0\0\0\0\x01\0\0\0\0\0\0\0\x01\x01\0\0\0N\x20\0\0\0\0\0\0\0\0\0\0\0\x0a\0\0";
 
@@ -47,14 +47,15 @@ pub const ENDED_STATE: &[u8] =
     b"\0\0\0\0\0\0\0\x02\0\0\0\0\0\0\0\x02\0\0\0\0\0\0\x01\xf4\0\x01\x02r\x31\x09pacemaker\x05Dummy\0\0\0\0\x01\0\0\0\0\0\0\0\x01\0\0\0\0\0\0\0\x01\x01\0\0\0\0\0\0\0\0\0\0\0\x0a\0\0\0\0\0\0\x01\xf4\x06\0";
 
 /// A disk with these parts.
-pub fn disk_with(alloc: Global, a: &[u8], b: &[u8]) -> Result<MemDisk, AllocError> {
-    MemDisk::from_parts(alloc, a.to_vec(alloc)?, b.to_vec(alloc)?)
+pub fn disk_with(alloc: Global, a: &[u8], b: &[u8]) -> Option<MemDisk> {
+    let a = a.to_vec(alloc).ok()?;
+    MemDisk::from_parts(alloc, a, b.to_vec(alloc).ok()?).ok()
 }
 
 /// Opens the journal on a disk: the spelling of the state that is found, or the fault.
-pub fn found_on(alloc: Global, disk: MemDisk) -> Result<Result<Vec<u8>, JournalFault>, AllocError> {
+pub fn found_on(alloc: Global, disk: MemDisk) -> Result<Vec<u8>, JournalFault> {
     match Journal::open(alloc, disk) {
-        Ok((_, state)) => Ok(Ok(encode_state(alloc, &state)?)),
-        Err((fault, _)) => Ok(Err(fault)),
+        Ok((_, state)) => Ok(encode_state(alloc, &state)?),
+        Err((fault, _)) => Err(fault),
     }
 }

@@ -1,22 +1,27 @@
 // What is done without a device call.
 use crate::parts::{FIRST, disk_with};
-use crate::steps::dummy;
+use crate::steps::{Reached, end_of, registration};
 use disk_model::{Disk, MemDisk};
 use exec_journal::Journal;
 use executor::Executor;
-use ocf_types::{CommandOf, Question, Refusal, Reply, ReplyOf, Request, RequestOf};
+use ocf_types::{Question, Refusal, RequestOf};
 use std::alloc::{AllocError, Global};
-use std::test::Fail;
 
-// The first journal with records behind it, so that the last gate stands at 8,355,805: 255 of 2,730 events each, and one
-// of a parameter.
+// A record of 2,730 events.
+fn push_row(part: &mut Vec<u8>) -> Result<(), AllocError> {
+    part.extend_from_slice(b"\x01\0\0\x7f\xf8")?;
+    for _ in 0..2_730 {
+        part.extend_from_slice(b"\x07\0\0\0\0\0\0\0\0\x02r\x31")?;
+    }
+    Ok(())
+}
+
+// The first journal with 255 such records behind it and one of a parameter: the last gate stands at 8,355,805.
 fn filled(alloc: Global) -> Result<MemDisk, AllocError> {
-    let mut part = FIRST[..78].to_vec(alloc)?;
+    let mut part = FIRST.to_vec(alloc)?;
+    let _ = part.pop();
     for _ in 0..255 {
-        part.extend_from_slice(b"\x01\0\0\x7f\xf8")?;
-        for _ in 0..2_730 {
-            part.extend_from_slice(b"\x07\0\0\0\0\0\0\0\0\x02r\x31")?;
-        }
+        push_row(&mut part)?;
     }
     part.extend_from_slice(b"\x01\0\0\x02\x87\x03\0\0\0\0\0\0\0\0\x02r\x31\x01\x01a\x02\x76")?;
     part.extend_from_slice(&[b'v'; 630])?;
@@ -24,63 +29,54 @@ fn filled(alloc: Global) -> Result<MemDisk, AllocError> {
     MemDisk::from_parts(alloc, part, Vec::new(alloc))
 }
 
-#[test]
-fn what_fits_is_told_without_a_device_call(rt: HostRuntime) -> Result<(), Fail> {
-    let Ok((journal, _state)) = Journal::open(rt.alloc(), filled(rt.alloc())?) else {
-        panic!(rt; "a journal")
-    };
+// Which bodies fit there, and the device calls made meanwhile.
+fn fits(alloc: Global) -> Option<([bool; 3], u64)> {
+    let (journal, _state) = Journal::open(alloc, filled(alloc).ok()?).ok()?;
     let clock = journal.clock();
-    assert!(rt; journal.fits(29));
-    assert!(rt; !journal.fits(30) && !journal.fits(usize::MAX));
-    assert_eq!(rt; journal.clock(), clock);
-    Ok(())
+    let fits = [29, 30, usize::MAX].map(|len| journal.fits(len));
+    Some((fits, journal.clock().saturating_sub(clock)))
 }
 
-fn register(alloc: Global, name: &str) -> Result<Request, Fail> {
-    Ok(RequestOf::Command(CommandOf::Register(dummy(alloc, name)?)))
-}
-
-fn is_refused(reply: &Reply, refusal: Refusal) -> bool {
-    matches!(reply, ReplyOf::Refused(why) if *why == refusal)
+#[test]
+fn what_fits_is_told_without_a_device_call(rt: HostRuntime) {
+    assert_eq!(rt; fits(rt.alloc()), Some(([true, false, false], 0)));
 }
 
 // How many device calls the opening of the first journal makes.
-fn opening_calls(alloc: Global) -> Result<u64, Fail> {
-    match Journal::open(alloc, disk_with(alloc, FIRST, &[])?) {
-        Ok((journal, _state)) => Ok(journal.clock()),
-        Err((fault, _disk)) => Err(fault)?,
-    }
+fn opening_calls(alloc: Global) -> Option<u64> {
+    let (journal, _state) = Journal::open(alloc, disk_with(alloc, FIRST, &[])?).ok()?;
+    Some(journal.clock())
+}
+
+// How many device calls an executor of it makes that is closed at once.
+fn closed_calls(alloc: Global) -> Option<u64> {
+    let (executor, _report) = Executor::open(alloc, disk_with(alloc, FIRST, &[])?, 0).ok()?;
+    Some(executor.close().clock())
 }
 
 #[test]
-fn closing_makes_no_device_call(rt: HostRuntime) -> Result<(), Fail> {
-    let alloc = rt.alloc();
-    let Ok((executor, _report)) = Executor::open(alloc, disk_with(alloc, FIRST, &[])?, 0) else {
-        panic!(rt; "an executor")
-    };
-    assert_eq!(rt; executor.close().clock(), opening_calls(alloc)?);
-    Ok(())
+fn closing_makes_no_device_call(rt: HostRuntime) {
+    let calls = opening_calls(rt.alloc());
+    assert!(rt; calls.is_some() && closed_calls(rt.alloc()) == calls);
 }
 
-// The first journal's disk with a fault in the last sync of the next record.
-fn failing(alloc: Global) -> Result<MemDisk, Fail> {
-    let mut disk = disk_with(alloc, FIRST, &[])?;
-    disk.plan_fault(opening_calls(alloc)?.saturating_add(4));
-    Ok(disk)
-}
-
-#[test]
-fn a_closed_executor_makes_no_device_call(rt: HostRuntime) -> Result<(), Fail> {
-    let alloc = rt.alloc();
-    let Ok((mut executor, _report)) = Executor::open(alloc, failing(alloc)?, 0) else {
-        panic!(rt; "an executor")
-    };
-    let failed = executor.command(0, register(alloc, "r2")?);
-    let command = executor.command(0, register(alloc, "r3")?);
-    let question = executor.command(0, RequestOf::Question(Question::List));
-    assert!(rt; is_refused(&failed, Refusal::Disk));
-    assert!(rt; is_refused(&command, Refusal::Closed) && is_refused(&question, Refusal::Closed));
+// How a registration ends whose last sync fails, a second one and a question; and the device calls since the opening.
+fn closed(alloc: Global) -> Option<([Reached; 3], u64)> {
     let calls = opening_calls(alloc)?;
-    assert_eq!(rt; executor.close().clock(), calls.saturating_add(4));
-    Ok(())
+    let (first, second) = (registration(alloc, "r2")?, registration(alloc, "r3")?);
+    let mut disk = disk_with(alloc, FIRST, &[])?;
+    disk.plan_fault(calls.saturating_add(4));
+    let (mut executor, _report) = Executor::open(alloc, disk, 0).ok()?;
+    let ends = [
+        end_of(&executor.command(0, first)),
+        end_of(&executor.command(0, second)),
+        end_of(&executor.command(0, RequestOf::Question(Question::List))),
+    ];
+    Some((ends, executor.close().clock().saturating_sub(calls)))
+}
+
+#[test]
+fn a_closed_executor_makes_no_device_call(rt: HostRuntime) {
+    let ends = [Refusal::Disk, Refusal::Closed, Refusal::Closed].map(Reached::Refused);
+    assert!(rt; closed(rt.alloc()) == Some((ends, 4)));
 }

@@ -1,47 +1,50 @@
 // Slots read from parts that are whole, cut, damaged and failing.
 use crate::parts::{CREATED, REGISTER, disk_with};
-use crate::steps::{Reached, register};
+use crate::steps::register;
+use disk_model::Disk;
 use disk_model::wild::WildDisk;
-use disk_model::{Disk, MemDisk};
 use gated_slots::{Frame, SlotRead, read_slot};
 use ocf_types::Part;
-use std::alloc::{AllocError, Global};
-use std::test::Fail;
+use std::alloc::Global;
 
-// Reads a slot, and its body.
-fn read<D: Disk>(
-    alloc: Global,
-    disk: &mut D,
-    part: Part,
-    at: u64,
-) -> Result<(SlotRead, Frame), AllocError> {
-    let mut frame = Frame::new(alloc)?;
+// What stands at a gate of a part.
+fn read<D: Disk>(alloc: Global, disk: &mut D, part: Part, at: u64) -> Option<(SlotRead, Frame)> {
+    let mut frame = Frame::new(alloc).ok()?;
     let found = read_slot(disk, part, at, &mut frame);
-    Ok((found, frame))
+    Some((found, frame))
 }
 
-#[test]
-fn a_slot_is_appended_and_read_back(rt: HostRuntime) -> Result<(), Fail> {
-    let alloc = rt.alloc();
-    let (reached, mut disk) = register(&rt, alloc, disk_with(alloc, CREATED, &[])?, "r1")?;
-    assert_eq!(rt; reached, Reached::Acknowledged);
-    for (at, found) in [
-        (43, SlotRead::Closed),
-        (44, SlotRead::Slot),
-        (78, SlotRead::Closed),
-        (79, SlotRead::Truncated),
-        (u64::MAX, SlotRead::Truncated),
-    ] {
-        let (answer, frame) = read(alloc, &mut disk, Part::A, at)?;
-        assert_eq!(rt; answer, found, "at {at}");
-        assert!(rt; found != SlotRead::Slot || frame.body() == REGISTER);
+// What stands at five places of a new journal in which r1 was registered, and whether the slot has its body.
+fn read_back(alloc: Global) -> Option<([SlotRead; 5], bool)> {
+    let (_, mut disk) = register(alloc, disk_with(alloc, CREATED, &[])?, "r1")?;
+    let mut found = [SlotRead::Disk; 5];
+    for (found, at) in found.iter_mut().zip([43, 44, 78, 79, u64::MAX]) {
+        *found = read(alloc, &mut disk, Part::A, at)?.0;
     }
-    Ok(())
+    let (_, frame) = read(alloc, &mut disk, Part::A, 44)?;
+    Some((found, frame.body() == REGISTER))
 }
 
 #[test]
-fn a_damaged_slot_is_told_by_name(rt: HostRuntime) -> Result<(), Fail> {
-    let alloc = rt.alloc();
+fn a_slot_is_appended_and_read_back(rt: HostRuntime) {
+    let found = [
+        SlotRead::Closed,
+        SlotRead::Slot,
+        SlotRead::Closed,
+        SlotRead::Truncated,
+        SlotRead::Truncated,
+    ];
+    assert_eq!(rt; read_back(rt.alloc()), Some((found, true)));
+}
+
+// What stands at the front of a part.
+fn front(alloc: Global, part: &[u8]) -> Option<SlotRead> {
+    let mut disk = disk_with(alloc, &[], part)?;
+    Some(read(alloc, &mut disk, Part::B, 0)?.0)
+}
+
+#[test]
+fn a_damaged_slot_is_told_by_name(rt: HostRuntime) {
     for (part, found) in [
         ([].as_slice(), SlotRead::Truncated),
         (&[2, 0], SlotRead::Closed),
@@ -52,39 +55,36 @@ fn a_damaged_slot_is_told_by_name(rt: HostRuntime) -> Result<(), Fail> {
         (&[1, 0, 0, 0, 1, 5], SlotRead::Truncated),
         (&[1, 0, 0, 0, 1, 5, 1], SlotRead::Slot),
     ] {
-        let mut disk = disk_with(alloc, &[], part)?;
-        assert_eq!(rt; read(alloc, &mut disk, Part::B, 0)?.0, found, "{part:?}");
+        assert_eq!(rt; front(rt.alloc(), part), Some(found));
     }
-    Ok(())
 }
 
-// Whether the reading of a slot stops at a fault in that device call: the length, the gate, the body's length or the body.
-fn fails_in(alloc: Global, call: u64) -> Result<bool, Fail> {
-    let mut disk = MemDisk::from_parts(
-        alloc,
-        Vec::new(alloc),
-        [1, 0, 0, 0, 1, 5, 1].to_vec(alloc)?,
-    )?;
+// What is told where that device call fails, of the length, the gate, the length of the body and the body; and the counts.
+fn failed(alloc: Global, call: u64) -> Option<(SlotRead, u64, u64)> {
+    let mut disk = disk_with(alloc, &[], &[1, 0, 0, 0, 1, 5, 1])?;
     disk.plan_fault(call);
     let (found, _) = read(alloc, &mut disk, Part::B, 0)?;
-    Ok(found == SlotRead::Disk && disk.clock() == call && disk.failures() == 1)
+    Some((found, disk.clock(), disk.failures()))
 }
 
 #[test]
-fn a_reading_in_which_a_device_call_fails_is_told(rt: HostRuntime) -> Result<(), Fail> {
+fn a_reading_in_which_a_device_call_fails_is_told(rt: HostRuntime) {
     for call in 1..=4 {
-        assert!(rt; fails_in(rt.alloc(), call)?, "a fault in call {call}");
+        assert_eq!(rt; failed(rt.alloc(), call), Some((SlotRead::Disk, call, 1)));
     }
-    Ok(())
+}
+
+// Whether a disk that answers anything is read by at most four calls, and a fault is told.
+fn is_short(alloc: Global, seed: u64) -> Option<bool> {
+    let mut disk = WildDisk::new(seed);
+    let (found, _) = read(alloc, &mut disk, Part::B, seed)?;
+    let told = (found == SlotRead::Disk) == (disk.failures() == 1);
+    Some(told && disk.clock() <= 4)
 }
 
 #[test]
-fn a_disk_that_answers_anything_is_read_by_four_calls(rt: HostRuntime) -> Result<(), Fail> {
+fn a_disk_that_answers_anything_is_read_by_four_calls(rt: HostRuntime) {
     for seed in 0..64 {
-        let mut disk = WildDisk::new(seed);
-        let (found, _) = read(rt.alloc(), &mut disk, Part::B, seed)?;
-        assert_eq!(rt; found == SlotRead::Disk, disk.failures() == 1);
-        assert!(rt; disk.clock() <= 4);
+        assert_eq!(rt; is_short(rt.alloc(), seed), Some(true));
     }
-    Ok(())
 }

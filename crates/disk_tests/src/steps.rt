@@ -1,48 +1,46 @@
-// A registration through the journal.
+// A registration by an executor.
 use disk_model::Disk;
-use exec_journal::{Journal, JournalFault};
-use gated_slots::SlotFault;
-use ocf_types::{AgentType, CommandOf, Params, Provider, Registration, RscId};
+use executor::{Executor, OpenError};
+use ocf_types::{
+    AgentType, CommandOf, Params, Provider, Refusal, Registration, Reply, ReplyOf, Request,
+    RequestOf, RscId,
+};
 use std::alloc::Global;
-use std::process::Abort;
-use std::test::Fail;
 
 /// How far a registration came.
-#[derive(Clone, Copy, Debug, PartialEq, Eq)]
+#[derive(Clone, Copy, PartialEq)]
 pub enum Reached {
-    NotOpened(JournalFault),
-    NotAppended(SlotFault),
+    NotOpened(OpenError),
+    Refused(Refusal),
     Acknowledged,
 }
 
-/// A Dummy of the provider pacemaker.
-pub fn dummy(alloc: Global, name: &str) -> Result<Registration<Params>, Fail> {
-    Ok(Registration {
-        id: RscId::new(name.as_bytes())?,
-        provider: Provider::new(b"pacemaker")?,
-        agent: AgentType::new(b"Dummy")?,
+/// Registers a Dummy of the provider pacemaker.
+pub fn registration(alloc: Global, name: &str) -> Option<Request> {
+    Some(RequestOf::Command(CommandOf::Register(Registration {
+        id: RscId::new(name.as_bytes()).ok()?,
+        provider: Provider::new(b"pacemaker").ok()?,
+        agent: AgentType::new(b"Dummy").ok()?,
         params: Params::new(alloc),
-    })
+    })))
 }
 
-/// Opens the journal on a disk and registers a resource at moment 0, by a record of at most four device calls.
-pub fn register<D: Disk + Drop>(
-    rt: &impl Abort,
-    alloc: Global,
-    disk: D,
-    name: &str,
-) -> Result<(Reached, D), Fail> {
-    let (mut journal, state) = match Journal::open(alloc, disk) {
-        Ok(opened) => opened,
-        Err((fault, disk)) => return Ok((Reached::NotOpened(fault), disk)),
-    };
-    let event = state.check(0, CommandOf::Register(dummy(alloc, name)?))?;
-    assert!(rt; state.applies(&event));
-    let before = journal.clock();
-    let reached = match journal.append(&state, &event) {
-        Ok(()) => Reached::Acknowledged,
-        Err(fault) => Reached::NotAppended(fault),
-    };
-    assert!(rt; journal.clock().saturating_sub(before) <= 4);
-    Ok((reached, journal.into_disk()))
+/// How a request ended.
+pub fn end_of(reply: &Reply) -> Reached {
+    match reply {
+        ReplyOf::Refused(refusal) => Reached::Refused(*refusal),
+        _ => Reached::Acknowledged,
+    }
+}
+
+/// Opens an executor on a disk, registers a resource at moment 0, and closes it.
+pub fn register<D: Disk + Drop>(alloc: Global, disk: D, name: &str) -> Option<(Reached, D)> {
+    let request = registration(alloc, name)?;
+    Some(match Executor::open(alloc, disk, 0) {
+        Ok((mut executor, _report)) => {
+            let reached = end_of(&executor.command(0, request));
+            (reached, executor.close())
+        }
+        Err(fault) => (Reached::NotOpened(fault.why), fault.disk),
+    })
 }
