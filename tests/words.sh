@@ -116,13 +116,14 @@ $check_output"
 status=$?
 [ "$status" -eq 2 ] || differs "run --journal folder 2> /dev/full, status" 2 "$status"
 
-# Memory that is refused: from little memory to enough, each run ends with 4 and its line, or as it should, or is not
-# started at all. At least one of each kind is wanted.
+# Memory that is refused: from little memory to enough, each run ends with 4 and its line, or as it should, or is ended by
+# the system before it begins. At least one that is refused and one that is answered are wanted.
+printf '{"op":"list"}\n' > "$here/line"
 refused=0
 answered=0
-for limit in $(seq 1000 100 8000); do
-    printf '{"op":"list"}\n' | (ulimit -v "$limit" && exec "$program" run --memory) > "$here/out" 2> "$here/err"
-    status=${PIPESTATUS[1]}
+for limit in $(seq 1000 16 12000); do
+    { (ulimit -v "$limit" && exec "$program" run --memory) < "$here/line" > "$here/out" 2> "$here/err"; } 2> /dev/null
+    status=$?
     case $status in
         0) answered=$((answered + 1)) ;;
         4)

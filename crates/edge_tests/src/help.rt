@@ -1,15 +1,15 @@
 // The texts that an administrator sees.
 use crate::words::line;
-use exec_options::read_words;
+use exec_options::{VERSION, read_words};
 use std::alloc::Global;
 use std::test::Fail;
 
-// The status that these words end with, and their text.
-fn shown(alloc: Global, words: &[&str]) -> Result<(u8, String), Fail> {
+// The text of words that give no options.
+fn shown(alloc: Global, words: &[&str]) -> Result<String, Fail> {
     let line = line(alloc, words)?;
     match read_words(alloc, line.as_slice()) {
-        Ok(_) => Ok((100, String::new(alloc))),
-        Err(fault) => Ok((fault.status(), fault.to_string(alloc)?)),
+        Ok(_) => Err("a text is wanted")?,
+        Err(fault) => Ok(fault.to_string(alloc)?),
     }
 }
 
@@ -17,8 +17,22 @@ const OVERVIEW: &[&str] = &[
     "Usage: ocfexec",
     "run ",
     "show ",
+    "--version",
+    // the commands of JSON
+    "\n  register ",
+    "\n  unregister ",
+    "\n  params ",
+    "\n  exec ",
+    "\n  recur ",
+    "\n  cancel ",
+    "\n  forget ",
+    "\n  list ",
+    "\n  info ",
+    "\n  history ",
     "Example:",
     "ocfexec run --memory",
+    "README.md",
+    "docs/FORMAT.md",
 ];
 
 const RUN: &[&str] = &[
@@ -34,26 +48,30 @@ const RUN: &[&str] = &[
     "ocfexec run --memory",
 ];
 
-const TEXTS: [(&[&str], u8, &[&str]); 5] = [
-    (&["--help"], 0, OVERVIEW),
-    (&["run", "--help"], 0, RUN),
-    (
-        &["show", "--help"],
-        0,
-        &["Example:", "ocfexec show --memory"],
-    ),
-    (&["run"], 2, &["give one of --journal and --memory"]),
-    (&["run", "--fast"], 2, &["--fast", "Usage: ocfexec run"]),
+const TEXTS: [(&[&str], &[&str]); 4] = [
+    (&["--help"], OVERVIEW),
+    (&["run", "--help"], RUN),
+    (&["show", "--help"], &["Example:", "ocfexec show --memory"]),
+    (&["run", "--fast"], &["--fast", "Usage: ocfexec run"]),
 ];
 
 #[test]
 fn help_names_each_option_and_a_usage_fault_what_is_wrong(rt: HostRuntime) -> Result<(), Fail> {
-    for (words, wanted, parts) in TEXTS {
-        let (status, text) = shown(rt.alloc(), words)?;
-        assert_eq!(rt; status, wanted, "{words:?}");
+    for (words, parts) in TEXTS {
+        let text = shown(rt.alloc(), words)?;
         for part in parts {
             assert!(rt; text.as_str().contains(*part), "{part:?} in {text}");
         }
+    }
+    Ok(())
+}
+
+#[test]
+fn the_version_is_told(rt: HostRuntime) -> Result<(), Fail> {
+    let wanted = format!(in rt.alloc(); "ocfexec {VERSION}\n")?;
+    for word in ["--version", "-V"] {
+        let text = shown(rt.alloc(), &[word])?;
+        assert_eq!(rt; text.as_str(), wanted.as_str());
     }
     Ok(())
 }

@@ -75,7 +75,7 @@ fn fault(alloc: Global, words: &[&str]) -> Result<&'static str, AllocError> {
     })
 }
 
-const FAULTS: [(&[&str], &str); 19] = [
+const FAULTS: [(&[&str], &str); 21] = [
     (&["show", "--journal", "/j"], ""),
     // just one of journal and memory
     (&["run"], "choice"),
@@ -102,6 +102,9 @@ const FAULTS: [(&[&str], &str); 19] = [
     (&["show", "-h"], "help"),
     (&["help", "run"], "help"),
     (&["run", "--memory", "--help"], "help"),
+    // nor is the version, which is that of the whole program
+    (&["--version"], "help"),
+    (&["run", "--version"], "usage"),
 ];
 
 #[test]

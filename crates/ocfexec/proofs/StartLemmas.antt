@@ -1,12 +1,10 @@
 -- Why a program ends as it does.
-use Rattle.std.proofs.Common.{◌≡◌, inl, inr, ℕ, List, Result, Ok, Err, Option, is_some, true, subst, sym}
+use Rattle.std.proofs.Common.{◌≡◌, inl, inr, ℕ, List, Result, Ok, Err, Option, subst, sym}
 use Rattle.disk_model.specs.View.{View}
 use Rattle.executor.specs.declared.executor.Executor.{Executor}
-use Rattle.executor.specs.declared.opening.OpenError.{OpenError}
-use Rattle.executor.specs.declared.opening.OpenError.TheVariants as opening
 use Rattle.executor.specs.declared.report.Report.{Report}
 use Rattle.exec_options.specs.Faults.{IsFault}
-use Rattle.exec_options.specs.Words.{Gives, folder_of}
+use Rattle.exec_options.specs.Words.{Gives}
 use Rattle.exec_options.specs.declared.fault.WordsFault.{WordsFault}
 use Rattle.exec_options.specs.declared.fault.WordsFault.TheVariants as words_fault
 use Rattle.exec_options.specs.declared.options.JournalPlace.TheVariants as place
@@ -16,7 +14,7 @@ use Rattle.exec_output.specs.declared.fault.Fault.{Fault}
 use Rattle.exec_output.specs.declared.fault.Fault.TheVariants as fault
 use Rattle.ocfexec.specs.Progress.{Place}
 use Rattle.ocfexec.specs.Runs.{EndsAs}
-use Rattle.ocfexec.specs.Starts.{EndsFor, IsToldAs, opening_fault}
+use Rattle.ocfexec.specs.Starts.{EndsFor, IsToldAs}
 
 -- a run does not end by its words
 pub run_ends : {D M N T : Type 0} (view : D → View) (report : Report N) (p : Place (Executor D M)) (left written : Option (List ℕ)) (r : Result T Fault)
@@ -31,13 +29,6 @@ run_ends view report p left written (Err fault.Memory) ends = tt
 run_ends view report p left written (Err fault.Disk) ends = tt
 run_ends view report p left written (Err fault.Full) ends = tt
 run_ends view report p left written (Err fault.InputOrOutput) ends = tt
-
--- nor does an executor that is not opened
-pub opening_ends : {T : Type 0} (why : OpenError) (f : Fault) → f ≡ opening_fault why → IsRunEnd {T = T} (Err f)
-opening_ends {T} opening.Disk f is = subst (λ x. IsRunEnd {T = T} (Err x)) (sym is) tt
-opening_ends {T} (opening.Damaged damage) f is = subst (λ x. IsRunEnd {T = T} (Err x)) (sym is) tt
-opening_ends {T} opening.Memory f is = subst (λ x. IsRunEnd {T = T} (Err x)) (sym is) tt
-opening_ends {T} opening.Full f is = subst (λ x. IsRunEnd {T = T} (Err x)) (sym is) tt
 
 -- words that give no options
 pub refused_ends : {T : Type 0} (words : List (List ℕ)) (f : WordsFault) (r : Result T Fault) → IsFault words f → IsToldAs f r → EndsFor words r
@@ -59,7 +50,3 @@ memory_ends words o (Err fault.Memory) gives is ends = tt
 memory_ends words o (Err fault.Disk) gives is ends = (o, gives, is)
 memory_ends words o (Err fault.Full) gives is ends = (o, gives, is)
 memory_ends words o (Err fault.InputOrOutput) gives is ends = inr (o, gives, is)
-
--- words that ask for a journal in a folder
-pub folder_ends : {T : Type 0} (words : List (List ℕ)) (o : Options) → Gives words o → is_some (folder_of o.journal) ≡ true → EndsFor {T = T} words (Err fault.NoJournal)
-folder_ends words o gives is = (o, gives, is)

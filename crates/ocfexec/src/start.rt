@@ -48,7 +48,7 @@ fn refuse(rt: &HostRuntime, fault: &WordsFault) -> Result<(), Fault>
 }
 
 // Does what these words ask for, the program's name first.
-#[tactic(auto, using(crate::proofs::StartLemmas::memory_ends, crate::proofs::StartLemmas::folder_ends))]
+#[tactic(auto, using(crate::proofs::StartLemmas::memory_ends))]
 fn run(rt: &HostRuntime, words: &[String]) -> Result<(), Fault>
     ensures { EndsFor (map string_bytes words.now) result }
 {
@@ -77,7 +77,7 @@ fn opening_fault(why: OpenError) -> Fault
     }
 }
 
-#[tactic(auto, using(crate::proofs::StartLemmas::run_ends, crate::proofs::StartLemmas::opening_ends))]
+#[tactic(auto, using(crate::proofs::StartLemmas::run_ends))]
 fn run_in_memory(rt: &HostRuntime) -> Result<(), Fault>
     ensures { IsRunEnd result }
 {
