@@ -31,12 +31,31 @@ fn bytes_past_the_limit_are_no_part_of_a_part(rt: HostRuntime) {
     assert_eq!(rt; lengths(rt.alloc()), Some([1, PART_LIMIT]));
 }
 
+// A write that begins within the part, and a fault for any other.
+fn put(disk: &mut MemDisk, part: Part, at: u64, bytes: &[u8]) -> Result<(), DiskFault> {
+    let len = disk.bytes(part).len() as u64;
+    if at > len || at > 100 || bytes.len() > 100 {
+        return Err(DiskFault);
+    }
+    disk.write_at(part, at, bytes)
+}
+
+// The first byte of a part, and a fault where there is none.
+fn get(disk: &mut MemDisk, part: Part) -> Result<u8, DiskFault> {
+    let mut byte = [0];
+    if disk.bytes(part).is_empty() {
+        return Err(DiskFault);
+    }
+    disk.read_at(part, 0, &mut byte)?;
+    Ok(byte[0])
+}
+
 // Two writes into part A, one into part B, and a sync of part B.
 fn written(alloc: Global) -> Option<MemDisk> {
     let mut disk = disk_with(alloc, &[1; 4], &[2])?;
-    disk.write_at(Part::A, 1, &[3]).ok()?;
-    disk.write_at(Part::A, 3, &[4, 4, 4]).ok()?;
-    disk.write_at(Part::B, 0, &[5]).ok()?;
+    put(&mut disk, Part::A, 1, &[3]).ok()?;
+    put(&mut disk, Part::A, 3, &[4, 4, 4]).ok()?;
+    put(&mut disk, Part::B, 0, &[5]).ok()?;
     disk.sync(Part::B).ok()?;
     Some(disk)
 }
@@ -69,12 +88,12 @@ fn an_image_has_its_fill_at_each_range_that_was_not_synced(rt: HostRuntime) {
 fn stopped(disk: &mut MemDisk) -> [Result<(), DiskFault>; 6] {
     disk.plan_stop(2);
     [
-        disk.write_at(Part::A, 0, &[2]),
-        disk.write_at(Part::A, 0, &[3]),
-        disk.write_at(Part::A, 0, &[4]),
+        put(disk, Part::A, 0, &[2]),
+        put(disk, Part::A, 0, &[3]),
+        put(disk, Part::A, 0, &[4]),
         disk.sync(Part::A),
         disk.len(Part::A).map(|_| ()),
-        disk.read_at(Part::A, 0, &mut [0]),
+        get(disk, Part::A).map(|_| ()),
     ]
 }
 

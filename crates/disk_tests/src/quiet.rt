@@ -1,10 +1,8 @@
 // What is done without a device call.
 use crate::parts::{FIRST, disk_with};
-use crate::steps::{Reached, end_of, registration};
 use disk_model::{Disk, MemDisk};
 use exec_journal::Journal;
 use executor::Executor;
-use ocf_types::{Question, Refusal, RequestOf};
 use std::alloc::{AllocError, Global};
 
 // A record of 2,730 events.
@@ -58,25 +56,4 @@ fn closed_calls(alloc: Global) -> Option<u64> {
 fn closing_makes_no_device_call(rt: HostRuntime) {
     let calls = opening_calls(rt.alloc());
     assert!(rt; calls.is_some() && closed_calls(rt.alloc()) == calls);
-}
-
-// How a registration ends whose last sync fails, a second one and a question; and the device calls since the opening.
-fn closed(alloc: Global) -> Option<([Reached; 3], u64)> {
-    let calls = opening_calls(alloc)?;
-    let (first, second) = (registration(alloc, "r2")?, registration(alloc, "r3")?);
-    let mut disk = disk_with(alloc, FIRST, &[])?;
-    disk.plan_fault(calls.saturating_add(4));
-    let (mut executor, _report) = Executor::open(alloc, disk, 0).ok()?;
-    let ends = [
-        end_of(&executor.command(0, first)),
-        end_of(&executor.command(0, second)),
-        end_of(&executor.command(0, RequestOf::Question(Question::List))),
-    ];
-    Some((ends, executor.close().clock().saturating_sub(calls)))
-}
-
-#[test]
-fn a_closed_executor_makes_no_device_call(rt: HostRuntime) {
-    let ends = [Refusal::Disk, Refusal::Closed, Refusal::Closed].map(Reached::Refused);
-    assert!(rt; closed(rt.alloc()) == Some((ends, 4)));
 }
