@@ -1,5 +1,5 @@
 -- What contracts see of children, and what each call does to it.
-use Rattle.std.specs.Prelude.{◌≡◌, ℕ, ◌+◌, ◌-◌, ◌==◌, List, [], ◌∷◌, ◌++◌, filter, length, not, Result, Ok, Err, Contains}
+use Rattle.std.specs.Prelude.{ℕ, ◌+◌, ◌-◌, ◌==◌, ⊤, List, [], ◌∷◌, ◌++◌, filter, length, not, Result, Ok, Err, All, Contains}
 use Rattle.ocf_types.specs.declared.outcome.StartFault.{StartFault}
 use Rattle.child_keeper.specs.declared.answer.Answer.{Answer}
 use Rattle.child_keeper.specs.declared.answer.Answer.TheVariants.{Started, StartFault as NotStarted, Running, Exited, Signaled, PollFault, Killed, KillFault as NotKilled}
@@ -76,9 +76,16 @@ given_up v = record { book = v.book; room = v.room; last_run = v.last_run; live 
 abbrev pub emptied : ChildrenView → ChildrenView
 emptied v = record { book = []; room = v.room + length v.book; last_run = v.last_run; live = v.live }
 
--- the book asked for a start of this run when the journal's disk had had so many device calls
-abbrev pub IsAsked : Answer → Type 0
-IsAsked answer = (fault : Result ℕ StartFault) × (answer ≡ start_answer fault)
+-- what the book says of a start, whether or not it was done
+abbrev pub IsOfStart : Answer → Type 0
+IsOfStart Started = ⊤
+IsOfStart (NotStarted fault) = ⊤
+IsOfStart _ = ⊥
 
+-- the book asked for a start of this run when the journal's disk had had so many device calls
 abbrev pub Asked : List Entry → ℕ → ℕ → Type 0
-Asked book run at = (answer : Answer) × IsAsked answer × Contains book (record { run = run; at = at; answer = answer })
+Asked book run at = (answer : Answer) × IsOfStart answer × Contains book (record { run = run; at = at; answer = answer })
+
+-- none of these entries is a start's
+abbrev pub AsksNothing : List Entry → Type 0
+AsksNothing entries = All (λ e. IsOfStart e.answer → ⊥) entries
