@@ -1,5 +1,5 @@
 pub mod Reporting
+pub mod Journaling
 pub mod Booting
 pub mod Recording
-pub mod Requests
-pub mod Rooming
+pub mod OpeningLemmas

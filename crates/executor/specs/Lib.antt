@@ -1,6 +1,5 @@
-pub mod Pieces
+pub mod Sights
 pub mod Replies
 pub mod Reports
 pub mod Commands
 pub mod Openings
-pub mod Executors

@@ -1,54 +1,114 @@
 -- What an opening makes of what it finds, and what it leaves.
-use Rattle.std.specs.Prelude.{◌≡◌, ◌⊎◌, ℕ, ◌+◌, ◌<◌, List, IsTrue}
+use Rattle.std.specs.Prelude.{◌≡◌, ◌⊎◌, ◌↔◌, ℕ, ◌+◌, ◌<◌, Bool, true, false, List, Result, IsErrOf, OnErr, OnOk, IsTrue}
 use Rattle.ocf_types.specs.Answer.{moment}
 use Rattle.ocf_types.specs.Boot.{any_busy, boot}
+use Rattle.ocf_types.specs.Due.{Due, due_at}
+use Rattle.ocf_types.specs.Limits.{boot_room}
 use Rattle.ocf_types.specs.State.{State}
 use Rattle.ocf_types.specs.declared.reply.Notice.{Notice}
 use Rattle.disk_model.specs.Image.{Image, part_limit}
-use Rattle.disk_model.specs.View.{View}
-use Rattle.exec_journal.specs.Found.{FoundAs, StandsAt}
+use Rattle.disk_model.specs.Runs.{Goes}
+use Rattle.disk_model.specs.View.{Grew, Rests, View}
+use Rattle.gated_slots.specs.declared.append.SlotFault.{SlotFault}
+use Rattle.gated_slots.specs.declared.append.SlotFault.TheVariants as slot
+use Rattle.exec_journal.specs.Found.{Damaged, FoundAs, IsFound, IsFreshPair, StandsAt}
 use Rattle.exec_journal.specs.Opening.{OpensLike}
 use Rattle.exec_journal.specs.Place.{Place}
+use Rattle.exec_journal.specs.Room.{AllRoomy, HasRoom, Roomy}
+use Rattle.exec_journal.specs.declared.damage.Damage.{Damage}
 use Rattle.exec_journal.specs.declared.fault.JournalFault.{JournalFault}
 use Rattle.exec_journal.specs.declared.fault.JournalFault.TheVariants as journal
 use Rattle.executor.specs.declared.opening.OpenError.{OpenError}
-use Rattle.executor.specs.declared.opening.OpenError.TheVariants.{Disk, Damaged, Memory}
-use Rattle.exec_state.specs.Store.{Monitors, monitors_due_at}
+use Rattle.executor.specs.declared.opening.OpenError.TheVariants as why
 use Rattle.executor.specs.Reports.{dropped, interrupted}
+use Rattle.executor.specs.Sights.{IsOnJournal, IsSound, Sight}
 
 -- the state after the boot that an opening at this moment needs: the state itself where nothing is queued or running
 abbrev pub booted : State → ℕ → State
 booted s now = boot s (moment s now)
 
--- An opening at this moment of what is found on these parts: the state after its boot, all recurring monitors due at that
--- moment, and the notices of what ran and of what was queued.
-pub record Starts (c : Image) (now : ℕ) (t : State) (monitors : Monitors) (was_running was_queued : List Notice) : Type 0 where
-  pub state : State
-  pub found : FoundAs state c
-  pub boot : t ≡ booted state now
-  pub due : monitors ≡ monitors_due_at (moment state now) t
-  pub ran : was_running ≡ interrupted state (moment state now)
-  pub queued : was_queued ≡ dropped state (moment state now)
+-- a boot is needed, and does not fit behind this offset: its slot, and the gate behind it
+abbrev pub LacksBoot : ℕ → State → Type 0
+LacksBoot tail s = IsTrue (any_busy s) × (part_limit < tail + boot_room)
 
 -- the pair is found as this state, or as its boot
 abbrev pub BootsFrom : State → ℕ → Image → Type 0
 BootsFrom s now c = FoundAs s c ⊎ FoundAs (booted s now) c
 
+-- The boot that is needed, if one is, recorded or not: from one sight of an open executor to another.
+pub record Boots {D : Type 0} (look : D → View) (now : ℕ) (old new : Sight D) (result : Result Unit SlotFault) : Type 0 where
+  pub still_open : new.is_open ≡ true
+  pub settled : OnOk result (IsOnJournal look new)
+  pub state : OnOk result (new.state ≡ booted old.state now)
+  pub goes : Goes (look old.disk) (look new.disk) (BootsFrom old.state now)
+  pub roomy : HasRoom old.place.tail old.state → Goes (look old.disk) (look new.disk) Roomy
+  -- where nothing is queued or running nothing is written
+  pub quiet : any_busy old.state ≡ false → new ≡ old
+  pub full : IsErrOf result slot.Full ↔ LacksBoot old.place.tail old.state
+  pub cause : IsErrOf result slot.Disk → Grew (look old.disk).failures (look new.disk).failures
+
+-- An opening at this moment of what is found on these parts: the state after its boot, all recurring monitors due at that
+-- moment, and the notices of what ran and of what was queued.
+pub record Starts (c : Image) (now : ℕ) (t : State) (due : Due) (was_running was_queued : List Notice) : Type 0 where
+  pub state : State
+  pub found : FoundAs state c
+  pub boot : t ≡ booted state now
+  pub due_is : due ≡ due_at t (moment state now)
+  pub ran : was_running ≡ interrupted state (moment state now)
+  pub queued : was_queued ≡ dropped state (moment state now)
+
 -- a stop might have left the pair before the opening, or it is found as the parts read at its start, or as the boot of that
 abbrev pub StartsLike : View → ℕ → Image → Type 0
 StartsLike old now c = OpensLike old c ⊎ ((s : State) × FoundAs s old.reads × BootsFrom s now c)
 
--- on these parts something is queued or running, and behind the last record is too little room for a boot, of 14 bytes,
--- and the gate behind it
+-- on these parts something is queued or running, and behind the last record is too little room for a boot
 pub record LacksRoom (c : Image) : Type 0 where
   pub place : Place
   pub state : State
   pub stands : StandsAt place state c
-  pub busy : IsTrue (any_busy state)
-  pub short : part_limit < place.tail + 15
+  pub lacks : LacksBoot place.tail state
+
+-- these parts hold a journal in which nothing is queued or running, or a damaged one
+abbrev pub IsQuiet : Image → Type 0
+IsQuiet c = (IsFreshPair c → ⊥) × ((s : State) → FoundAs s c → any_busy s ≡ false)
+
+-- What an opening does to the disk, done or failed.
+pub record OpensDisk (old new : View) (now : ℕ) : Type 0 where
+  -- at any moment a stop leaves what it might have left before, what is found as the parts read, or the boot of that
+  pub goes : Goes old new (StartsLike old now)
+  -- where all that a stop might have left before has room for its boot, all that it leaves has
+  pub roomy : (old.honest → AllRoomy old) → Goes old new Roomy
+  -- nothing is written where nothing is queued or running, and a damaged pair is left as it is
+  pub unwritten : (old.honest → IsQuiet old.reads) → Rests old new
+
+-- The executor was opened: from one view of the disk, and with these notices.
+pub record Opened {D : Type 0} (look : D → View) (old : View) (now : ℕ) (x : Sight D) (was_running was_queued : List Notice) : Type 0 where
+  pub is_open : x.is_open ≡ true
+  pub sound : IsSound look x
+  pub starts : (look x.disk).honest → Starts old.reads now x.state x.due was_running was_queued
+  pub did : OpensDisk old (look x.disk) now
+  -- the boot had room
+  pub fits : (look x.disk).honest → LacksRoom old.reads → ⊥
+
+-- The executor was not opened: from one view of the disk to another.
+pub record NotOpened (old new : View) (now : ℕ) (fault : OpenError) : Type 0 where
+  pub did : OpensDisk old new now
+  -- damage is what was found, and a disk fault has a cause
+  pub damaged : new.honest → (d : Damage) → fault ≡ why.Damaged d → IsFound old.reads (Damaged d)
+  pub cause : fault ≡ why.Disk → Grew old.failures new.failures
+  -- full where a boot is needed and does not fit: never where all that a stop might have left before has room
+  pub full : new.honest → fault ≡ why.Full → LacksRoom old.reads
+  pub never_full : (old.honest → AllRoomy old) → new.honest → fault ≡ why.Full → ⊥
+  -- want of memory comes before the boot's record
+  pub memory : fault ≡ why.Memory → Goes old new (OpensLike old)
 
 -- why the journal was not opened, as the executor tells it
 abbrev pub told_fault : JournalFault → OpenError
-told_fault journal.Disk = Disk
-told_fault (journal.Damaged damage) = Damaged damage
-told_fault journal.Memory = Memory
+told_fault journal.Disk = why.Disk
+told_fault (journal.Damaged damage) = why.Damaged damage
+told_fault journal.Memory = why.Memory
+
+-- why the boot was not recorded, as the executor tells it
+abbrev pub told_slot : SlotFault → OpenError
+told_slot slot.Disk = why.Disk
+told_slot slot.Full = why.Full

@@ -2,6 +2,7 @@
 use Rattle.std.specs.Prelude.{◌≡◌, ◌⊎◌, List, [], ◌∷◌}
 use Rattle.ocf_types.specs.Kinds.{Change, Event, Reply}
 use Rattle.ocf_types.specs.Actions.{action_of}
+use Rattle.ocf_types.specs.Due.{Due, due_after}
 use Rattle.ocf_types.specs.declared.action.Action.TheVariants.{Monitor}
 use Rattle.ocf_types.specs.declared.event.Change.TheVariants as change
 use Rattle.ocf_types.specs.declared.event.Step.TheVariants as step
@@ -9,8 +10,6 @@ use Rattle.ocf_types.specs.declared.refusal.Refusal.TheVariants.{JournalFull, Me
 use Rattle.ocf_types.specs.declared.reply.ReplyOf.TheVariants.{Refused, Done, Accepted}
 use Rattle.ocf_env.specs.Keys.{key_text}
 use Rattle.ocf_types.specs.State.{State}
-use Rattle.exec_state.specs.MonitorsAfter.{monitors_after}
-use Rattle.exec_state.specs.Store.{Monitors}
 
 -- the reply to a command whose event is recorded: an operation gets its call id and its key
 abbrev pub acknowledged : Change → Reply
@@ -28,9 +27,9 @@ pending e (Refused Disk) = e ∷ []
 pending e _ = []
 
 -- the due moments of the recurring monitors after this reply: nothing changes them but an event that is recorded
-abbrev pub monitors_left : State → Event → Reply → Monitors → Monitors
-monitors_left s e (Refused refusal) monitors = monitors
-monitors_left s e _ monitors = monitors_after s e monitors
+abbrev pub due_left : State → Event → Reply → Due → Due
+due_left s e (Refused refusal) due = due
+due_left s e _ due = due_after s due e
 
 -- the reply where the command is this event: acknowledged, or refused for want of room, of memory, or of the disk
 abbrev pub IsReplyTo : Event → Reply → Type 0

@@ -1,0 +1,297 @@
+-- What resources pick: there is always one answer, and what two lists of resources pick is what both together do.
+use Rattle.std.proofs.Common.{◌≡◌, ◌⊎◌, inl, inr, ℕ, zero, suc, ◌+◌, ◌<◌, ◌≤◌, ◌==◌, Bool, true, false, cond, List, [], ◌∷◌, ◌++◌, map, length, take, drop, slice_get, slice_index_or, Option, Some, None, MatchOption, All, Contains, option_map, option_to_list, refl, sym, ap, subst, ◌∙◌, arith}
+use Rattle.std.specs.List.{AllByRecursion, IsDistinct}
+use Rattle.std.specs.Map.{keys_of, lookup}
+use Rattle.std.specs.Str.{bytes_eq}
+use Rattle.std.proofs.lemmas.Bool.{cases_lt, false_from_ne_true}
+use Rattle.std.proofs.lemmas.Bool.Decides.{Decides-eqb}
+use Rattle.std.proofs.lemmas.List.{append-nil, append_assoc, length-append, take-append-drop, take_more}
+use Rattle.std.proofs.lemmas.Map.Keys.{IsDistinct-head, IsDistinct-tail}
+use Rattle.std.proofs.lemmas.Slice.Eq.{bytes_eq-Decides}
+use Rattle.ocf_types.specs.Due.{Due, IsBefore, IsLeastDue, IsPick, IsPickOf, due_pairs}
+use Rattle.ocf_types.specs.Resource.{History, Resource, begun_from, of_call, run_of_monitor, run_of_op}
+use Rattle.ocf_types.specs.State.{Registry, State, resource_at}
+use Rattle.ocf_types.specs.LawfulState.{IsLawfulState}
+use Rattle.ocf_types.specs.Places.{at_place, id_at, no_entry}
+use Rattle.ocf_types.specs.declared.action.Task.TheVariants.{Monitor}
+use Rattle.ocf_types.specs.declared.operation.Op.{Op}
+use Rattle.ocf_types.specs.declared.operation.Recur.{Recur}
+use Rattle.ocf_types.specs.declared.operation.Running.{Running}
+use Rattle.exec_state.specs.Store.{IsChoice, Store, dues}
+use Rattle.exec_turn.specs.Actives.{Active}
+use Rattle.exec_turn.specs.Picks.{ArePicks, begun_in, Chooses}
+
+-- ids that differ from one another, seen from the other
+pub other_way : (a b : List ℕ) → bytes_eq a b ≡ false → bytes_eq b a ≡ false
+other_way a b h = false_from_ne_true _ (λ e. let same : bytes_eq a b ≡ true = (bytes_eq-Decides a b).1 (sym ((bytes_eq-Decides b a).0 e)) in
+    let no : true ≡ false = sym same ∙ h in cc)
+
+-- an id is that of itself
+pub same_id : (id : List ℕ) → bytes_eq id id ≡ true
+same_id id = (bytes_eq-Decides id id).1 refl
+
+-- each entry is found by its id, where these are distinct
+pub own_found : (rs : Registry) → IsDistinct bytes_eq (keys_of rs) → AllByRecursion (λ e. lookup (bytes_eq e.0) rs ≡ Some e.1) rs
+own_found [] h = tt
+own_found (e ∷ es) h =
+    (rw (same_id e.0) refl, behind es (IsDistinct-head bytes_eq e.0 (keys_of es) h) (own_found es (IsDistinct-tail bytes_eq e.0 (keys_of es) h)))
+  where
+    behind : (xs : Registry) → AllByRecursion (λ k. bytes_eq e.0 k ≡ false) (keys_of xs) → AllByRecursion (λ x. lookup (bytes_eq x.0) es ≡ Some x.1) xs
+        → AllByRecursion (λ x. lookup (bytes_eq x.0) (e ∷ es) ≡ Some x.1) xs
+    behind [] a g = tt
+    behind (x ∷ xs) a g = (rw (other_way e.0 x.0 a.0) g.0, behind xs a.1 g.1)
+
+-- a fact of each element is one of that at a place
+pub each_at : {A : Type 0} (P : A → Type 0) (xs : List A) (d : A) (i : ℕ) → i < length xs → AllByRecursion P xs → P (slice_index_or xs i d)
+each_at P [] d i lt h = absurd (omega (arith, lt))
+each_at P (x ∷ xs) d zero lt h = h.0
+each_at P (x ∷ xs) d (suc i) lt h = each_at P xs d i (omega (arith, lt)) h.1
+
+-- the resource at a place is that of its id
+pub found_at : (s : State) (place : ℕ) → IsLawfulState s → place < length s.resources → resource_at s (id_at s place) ≡ Some (at_place s place)
+found_at s place h lt = each_at (λ e. lookup (bytes_eq e.0) s.resources ≡ Some e.1) s.resources no_entry place lt (own_found s.resources h.ids)
+
+pub found_by : (s : State) (place : ℕ) (id own : List ℕ) → IsLawfulState s → place < length s.resources → id ≡ own → own ≡ id_at s place
+    → resource_at s id ≡ Some (at_place s place)
+found_by s place id own h lt is own_is = ap (resource_at s) (is ∙ own_is) ∙ found_at s place h lt
+
+module _ {A : Type 0} where
+  pub all_cons : (P : A → Type 0) (x : A) (xs : List A) → P x → All P xs → All P (x ∷ xs)
+  all_cons P x xs h hs zero d lt = h
+  all_cons P x xs h hs (suc k) d lt = hs k d (omega (arith, lt))
+
+  pub contains_behind : (x y : A) (xs : List A) → Contains xs y → Contains (x ∷ xs) y
+  contains_behind x y xs h = (suc h.0, omega (arith, h.1), h.2)
+
+  pub contains_first : (x : A) (xs : List A) → Contains (x ∷ xs) x
+  contains_first x xs = (0, omega arith, refl)
+
+-- one of two pairs is before the other
+before_or : (x y : ℕ × ℕ) → IsBefore x y ⊎ IsBefore y x
+before_or x y = by (cases_lt x.0 y.0) (cases_lt y.0 x.0) (cases_lt x.1 y.1)
+  where
+    by : (x.0 < y.0) ⊎ (y.0 ≤ x.0) → (y.0 < x.0) ⊎ (x.0 ≤ y.0) → (x.1 < y.1) ⊎ (y.1 ≤ x.1) → IsBefore x y ⊎ IsBefore y x
+    by (inl a) b c = inl (inl a)
+    by (inr a) (inl b) c = inr (inl b)
+    by (inr a) (inr b) (inl c) = inl (inr (omega (arith, a, b), omega (arith, c)))
+    by (inr a) (inr b) (inr c) = inr (inr (omega (arith, a, b), omega (arith, c)))
+
+before_trans : (x y z : ℕ × ℕ) → IsBefore x y → IsBefore y z → IsBefore x z
+before_trans x y z (inl a) (inl b) = inl (omega (arith, a, b))
+before_trans x y z (inl a) (inr b) = inl (omega (arith, a, b.0))
+before_trans x y z (inr a) (inl b) = inl (omega (arith, a.0, b))
+before_trans x y z (inr a) (inr b) = inr (omega (arith, a.0, b.0), omega (arith, a.1, b.1))
+
+before_same : (x : ℕ × ℕ) → IsBefore x x
+before_same x = inr (refl, omega arith)
+
+-- there is a least pair that is due, or none is due
+least_due : (ps : List (ℕ × ℕ)) (now : ℕ) → (pick : Option ℕ) × IsLeastDue ps now pick
+least_due [] now = (None, λ k d lt. absurd (omega (arith, lt)))
+least_due (p ∷ ps) now = by (cases_lt now p.0) (least_due ps now)
+  where
+    Later : ℕ × ℕ → Type 0
+    Later q = now < q.0
+
+    by : (now < p.0) ⊎ (p.0 ≤ now) → (pick : Option ℕ) × IsLeastDue ps now pick → (pick : Option ℕ) × IsLeastDue (p ∷ ps) now pick
+    by (inl late) (None, h) = (None, all_cons Later p ps late h)
+    by (inl late) (Some call, (due, in_it, is_due, least)) = (
+      Some call,
+      (
+        due,
+        contains_behind p (due, call) ps in_it,
+        is_due,
+        all_cons (λ q. q.0 ≤ now → IsBefore (due, call) q) p ps (λ le. absurd (omega (arith, late, le))) least,
+      ),
+    )
+    by (inr now_due) (None, h) = (
+      Some p.1,
+      (
+        p.0,
+        contains_first p ps,
+        now_due,
+        all_cons (λ q. q.0 ≤ now → IsBefore p q) p ps (λ le. before_same p) (λ k d lt le. absurd (omega (arith, h k d lt, le))),
+      ),
+    )
+    by (inr now_due) (Some call, (due, in_it, is_due, least)) = choose (before_or p (due, call))
+      where
+        choose : IsBefore p (due, call) ⊎ IsBefore (due, call) p → (pick : Option ℕ) × IsLeastDue (p ∷ ps) now pick
+        choose (inl b) = (
+          Some p.1,
+          (
+            p.0,
+            contains_first p ps,
+            now_due,
+            all_cons (λ q. q.0 ≤ now → IsBefore p q) p ps (λ le. before_same p) (λ k d lt le. before_trans p (due, call) (slice_index_or ps k d) b (least k d lt le)),
+          ),
+        )
+        choose (inr b) = (
+          Some call,
+          (
+            due,
+            contains_behind p (due, call) ps in_it,
+            is_due,
+            all_cons (λ q. q.0 ≤ now → IsBefore (due, call) q) p ps (λ le. b) least,
+          ),
+        )
+
+-- a resource always picks: a call or none
+some_pick : (r : Resource) (due : ℕ → Option ℕ) (now : ℕ) → (pick : Option ℕ) × IsPick r due now pick
+some_pick r due now = by r.history.running r.history.queue
+  where
+    by : (x : Option Running) (queue : List Op) → (pick : Option ℕ) × IsPickOf x queue (due_pairs r.recurring due) now pick
+    by (Some x) queue = (None, refl)
+    by None (o ∷ os) = (Some o.call, refl)
+    by None [] = least_due (due_pairs r.recurring due) now
+
+-- and so do resources
+pub some_picks : (due : Due) (at run : ℕ) (rs : Registry) → (bs : List Active) × ArePicks due at run rs bs
+some_picks due at run [] = ([], refl)
+some_picks due at run (e ∷ es) =
+    let p = some_pick e.1 (due e.0) at in
+    let rest = some_picks due at (run + length (begun_in at run e p.0)) es in
+    (begun_in at run e p.0 ++ rest.0, (p.0, rest.0, p.1, rest.1, refl))
+
+-- what two lists of resources pick, one behind the other
+pub picks_append : (due : Due) (at run : ℕ) (xs ys : Registry) (first bs : List Active) → ArePicks due at run xs first → ArePicks due at (run + length first) ys bs
+    → ArePicks due at run (xs ++ ys) (first ++ bs)
+picks_append due at run [] ys first bs h k =
+    let here : run + length first ≡ run = omega (arith, ap (λ (l : List Active). length l) h) in
+    rw h (subst (λ n. ArePicks due at n ys bs) here k)
+picks_append due at run (x ∷ xs) ys first bs (call, rest, pick, more, is) k =
+    let own = begun_in at run x call in
+    let size : length first ≡ length own + length rest = ap (λ (l : List Active). length l) is ∙ length-append own rest in
+    let from : run + length first ≡ run + length own + length rest = omega (arith, size) in
+    let behind = picks_append due at (run + length own) xs ys rest bs more (subst (λ n. ArePicks due at n ys bs) from k) in
+    (call, rest ++ bs, pick, behind, ap (λ (l : List Active). l ++ bs) is ∙ append_assoc own rest bs)
+
+-- what an entry begins, as it will run
+abbrev pub list_of : List ℕ → Option Running → List Active
+list_of id chosen = map (λ x. record { id = id; running = x }) (option_to_list chosen)
+
+-- what one resource picks
+one_pick : (due : Due) (at run : ℕ) (e : List ℕ × Resource) (chosen : Option Running) → Chooses due at run e chosen → ArePicks due at run (e ∷ []) (list_of e.0 chosen)
+one_pick due at run e chosen (call, pick, is) = (call, [], pick, refl, sym is ∙ sym (append-nil _))
+
+-- what the resources up to a place pick, and that at the place
+pub picks_more : (due : Due) (at run next : ℕ) (rs : Registry) (place : ℕ) (bs : List Active) (chosen : Option Running) → place < length rs
+    → ArePicks due at run (take place rs) bs → next ≡ run + length bs → Chooses due at next (slice_index_or rs place no_entry) chosen
+    → ArePicks due at run (take (place + 1) rs) (bs ++ list_of (slice_index_or rs place no_entry).0 chosen)
+picks_more due at run next rs place bs chosen lt before is now =
+    let e = slice_index_or rs place no_entry in
+    let one = subst (λ n. ArePicks due at n (e ∷ []) (list_of e.0 chosen)) is (one_pick due at next e chosen now) in
+    rw (take_more rs place no_entry lt) (picks_append due at run (take place rs) (e ∷ []) bs (list_of e.0 chosen) before one)
+
+-- those up to a place that begin something, and all the others behind it
+pub picks_cut : (due : Due) (at run next : ℕ) (rs : Registry) (place : ℕ) (bs : List Active) (x : Running) → place < length rs
+    → ArePicks due at run (take place rs) bs → next ≡ run + length bs → Chooses due at next (slice_index_or rs place no_entry) (Some x)
+    → (later : List Active) × ArePicks due at run rs (bs ++ record { id = (slice_index_or rs place no_entry).0; running = x } ∷ later)
+picks_cut due at run next rs place bs x lt before is now =
+    let e = slice_index_or rs place no_entry in
+    let a : Active = record { id = e.0; running = x } in
+    let front = picks_more due at run next rs place bs (Some x) lt before is now in
+    let later = some_picks due at (run + length (bs ++ a ∷ [])) (drop (place + 1) rs) in
+    let all = picks_append due at run (take (place + 1) rs) (drop (place + 1) rs) (bs ++ a ∷ []) later.0 front later.1 in
+    let whole : take (place + 1) rs ++ drop (place + 1) rs ≡ rs = take-append-drop (place + 1) rs in (
+      later.0,
+      subst (λ (l : List Active). ArePicks due at run rs l) (append_assoc bs (a ∷ []) later.0)
+          (subst (λ (l : Registry). ArePicks due at run l ((bs ++ a ∷ []) ++ later.0)) whole all),
+    )
+
+-- what is chosen is a pick
+pub is_pick : (s : Store) (place at : ℕ) (id : List ℕ) (pick : Option ℕ) → IsLawfulState s.state → place < length s.state.resources → id ≡ id_at s.state place
+    → IsChoice s id at pick → IsPick (at_place s.state place) (dues s (id_at s.state place)) at pick
+is_pick s place at id pick lawful lt is h =
+    subst (λ (o : Option Resource). MatchOption o (pick ≡ None) (λ r. IsPick r (dues s (id_at s.state place)) at pick)) (found_at s.state place lawful lt)
+    (subst (λ (i : List ℕ). IsChoice s i at pick) is h)
+
+-- the first queued action runs
+pub runs_op : (queue : List Op) (monitor : Option Recur) (run at : ℕ) (h : History) (o : Op) → slice_get queue 0 ≡ Some o
+    → (begun_from queue monitor run at h).running ≡ Some (run_of_op run at o)
+runs_op [] monitor run at h o is = absurd (let no : None ≡ Some o = is in cc)
+runs_op (q ∷ qs) monitor run at h o is = ap (λ (x : Option Op). option_map (run_of_op run at) x) is
+
+-- with an empty queue the monitor does
+pub runs_monitor : (queue : List Op) (monitor : Option Recur) (run at : ℕ) (h : History) → length queue ≡ 0
+    → (begun_from queue monitor run at h).running ≡ option_map (run_of_monitor run at) monitor
+runs_monitor [] monitor run at h none = refl
+runs_monitor (q ∷ qs) monitor run at h none = absurd (omega (arith, none))
+
+-- the call of a pick is that of the first queued action
+picks_op : (x : Option Running) (queue : List Op) (pairs : List (ℕ × ℕ)) (now call : ℕ) (o : Op) → IsPickOf x queue pairs now (Some call) → slice_get queue 0 ≡ Some o → o.call ≡ call
+picks_op (Some x) queue pairs now call o pick is = absurd (let no : Some call ≡ None = pick in cc)
+picks_op None [] pairs now call o pick is = absurd (let no : None ≡ Some o = is in cc)
+picks_op None (q ∷ qs) pairs now call o pick is =
+    let same : Some q ≡ Some o = is in
+    let this : q ≡ o = cc in
+    let said : Some call ≡ Some q.call = pick in
+    let call_is : call ≡ q.call = cc in
+    ap (λ (y : Op). y.call) (sym this) ∙ sym call_is
+
+-- the monitor of a call has that call
+pub call_of : (call : ℕ) (monitors : List Recur) (m : Recur) → of_call call monitors ≡ Some m → m.call ≡ call
+call_of call [] m h = absurd (let no : None ≡ Some m = h in cc)
+call_of call (x ∷ xs) m h = by (x.call == call) refl (call_of call xs m)
+  where
+    by : (b : Bool) → (x.call == call) ≡ b → (of_call call xs ≡ Some m → m.call ≡ call) → m.call ≡ call
+    by true is rest =
+        let here : Some x ≡ Some m = rw is at h in
+        let this : x ≡ m = cc in
+        ap (λ (y : Recur). y.call) (sym this) ∙ (Decides-eqb x.call call).0 is
+    by false is rest = rest (rw is at h)
+
+-- what a resource begins where an action is queued
+pub begins_op : (due : Due) (at run call : ℕ) (e : List ℕ × Resource) (o : Op) → IsPick e.1 (due e.0) at (Some call) → slice_get e.1.history.queue 0 ≡ Some o
+    → Chooses due at run e (Some (record { call = call; run = run; task = o.task; timeout = o.timeout; interval = 0; since = at }))
+begins_op due at run call e o pick is =
+    let r = e.1 in
+    let call_is : o.call ≡ call = picks_op r.history.running r.history.queue (due_pairs r.recurring (due e.0)) at call o pick is in (
+      Some call,
+      pick,
+      ap (λ (x : Option Running). list_of e.0 x) (runs_op r.history.queue (of_call call r.recurring) run at r.history o is)
+          ∙ ap (λ n. list_of e.0 (Some (record { call = n; run = run; task = o.task; timeout = o.timeout; interval = 0; since = at }))) call_is,
+    )
+
+-- what it begins where none is
+pub begins_monitor : (due : Due) (at run call interval : ℕ) (e : List ℕ × Resource) (m : Recur) → IsPick e.1 (due e.0) at (Some call)
+    → length e.1.history.queue ≡ 0 → Some m ≡ of_call call e.1.recurring → interval ≡ m.interval
+    → Chooses due at run e (Some (record { call = call; run = run; task = Monitor m.level; timeout = m.timeout; interval = interval; since = at }))
+begins_monitor due at run call interval e m pick none is every =
+    let r = e.1 in
+    let call_is : m.call ≡ call = call_of call r.recurring m (sym is) in
+    let runs = runs_monitor r.history.queue (of_call call r.recurring) run at r.history none ∙ ap (λ (o : Option Recur). option_map (run_of_monitor run at) o) (sym is) in (
+      Some call,
+      pick,
+      ap (λ (x : Option Running). list_of e.0 x) runs
+          ∙ (λ k. list_of e.0 (Some (record { call = call_is k; run = run; task = Monitor m.level; timeout = m.timeout; interval = sym every k; since = at }))),
+    )
+
+-- and where no monitor has that call
+pub begins_no_monitor : (due : Due) (at run call : ℕ) (e : List ℕ × Resource) → IsPick e.1 (due e.0) at (Some call)
+    → length e.1.history.queue ≡ 0 → None ≡ of_call call e.1.recurring → Chooses due at run e None
+begins_no_monitor due at run call e pick none is =
+    let r = e.1 in
+    let runs = runs_monitor r.history.queue (of_call call r.recurring) run at r.history none ∙ ap (λ (o : Option Recur). option_map (run_of_monitor run at) o) (sym is) in
+    (Some call, pick, ap (λ (x : Option Running). list_of e.0 x) runs)
+
+-- it begins nothing where it picks nothing
+pub begins_none : (due : Due) (at run : ℕ) (e : List ℕ × Resource) → IsPick e.1 (due e.0) at None → Chooses due at run e None
+begins_none due at run e h = (None, h, refl)
+
+-- from a place on
+from_get : {A : Type 0} (xs : List A) (i : ℕ) (x : A) → slice_get xs i ≡ Some x → drop i xs ≡ x ∷ drop (suc i) xs
+from_get [] i x h = absurd (let no : None ≡ Some x = h in cc)
+from_get (y ∷ ys) zero x h = let same : Some y ≡ Some x = h in let this : y ≡ x = cc in ap (λ z. z ∷ ys) this
+from_get (y ∷ ys) (suc i) x h = from_get ys i x h
+
+-- a search for a monitor by its call, up to a place
+pub search_more : (call : ℕ) (monitors : List Recur) (i : ℕ) (m : Recur) → of_call call monitors ≡ of_call call (drop i monitors) → slice_get monitors i ≡ Some m
+    → (m.call == call) ≡ false → of_call call monitors ≡ of_call call (drop (i + 1) monitors)
+search_more call monitors i m so_far h is =
+    let on : suc i ≡ i + 1 = omega arith in
+    so_far ∙ ap (of_call call) (from_get monitors i m h) ∙ ap (λ b. cond b (Some m) (of_call call (drop (suc i) monitors))) is ∙ ap (λ n. of_call call (drop n monitors)) on
+
+pub search_found : (call : ℕ) (monitors : List Recur) (i : ℕ) (m : Recur) → of_call call monitors ≡ of_call call (drop i monitors) → slice_get monitors i ≡ Some m
+    → (m.call == call) ≡ true → Some m ≡ of_call call monitors
+search_found call monitors i m so_far h is =
+    sym (so_far ∙ ap (of_call call) (from_get monitors i m h) ∙ ap (λ b. cond b (Some m) (of_call call (drop (suc i) monitors))) is)

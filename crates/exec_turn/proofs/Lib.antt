@@ -1,0 +1,13 @@
+pub mod PollSteps
+pub mod Polling
+pub mod Results
+pub mod Pieces
+pub mod Ending
+pub mod Starting
+pub mod Choosing
+pub mod PickSteps
+pub mod Begun
+pub mod Picking
+pub mod Tending
+pub mod Turning
+pub mod Ends

@@ -1,0 +1,46 @@
+use Rattle.std.proofs.Common.{◌≡◌, ◌∙◌, ℕ, List, [], ◌∷◌, ◌++◌, sym, subst, append-nil, Some, None}
+use Rattle.ocf_types.specs.Places.{entry_at}
+use Rattle.ocf_types.specs.declared.operation.Ended.{Ended}
+use Rattle.ocf_types.specs.declared.reply.Notice.{Notice}
+use Rattle.exec_turn.specs.Actives.{Active, notice_of, result_of}
+use Rattle.exec_turn.proofs.PollSteps.{polled_none, polled_one}
+use Rattle.exec_turn.proofs.polls.poll_at.Goals as goal
+
+pub returns-in_default-clause-polled : goal.returns-in_default-clause-polled
+returns-in_default-clause-polled g c =
+    let e = entry_at c.args.state.now.state c.args.place in
+    let none = polled_none c.args.at e.0 e.1.history.running (g.C.Children.view c.args.children.now) (sym c.running_at.ensures ∙ c.in_default.is) in
+    ([], [], none, sym (append-nil _), sym (append-nil _))
+
+pub returns-in_default-ask-clause-polled : goal.returns-in_default-ask-clause-polled
+returns-in_default-ask-clause-polled g c =
+    let e = entry_at c.args.state.now.state c.args.place in
+    let h = c.in_default-ask.ensures.polled in
+    let one = polled_one c.args.at e.0 c.in-Some.running e.1.history.running h.0 h.1 (g.C.Children.view c.args.children.now) (g.C.Children.view c.ask.new.children) None
+    (sym c.running_at.ensures ∙ c.in-Some.is) h.2 h.3 h.4 in
+    ([], [], one, sym (append-nil _), sym (append-nil _))
+
+abbrev notice : List ℕ → Ended → Notice
+notice id r = record { id = id; result = r }
+
+same_notice : (id other : List ℕ) (r s : Ended) → id ≡ other → r ≡ s → notice id r ≡ notice other s
+same_notice id other r s is same = cc
+
+pub returns-clause-polled : goal.returns-clause-polled
+returns-clause-polled g c =
+    let e = entry_at c.args.state.now.state c.args.place in
+    let h = c.in-Some-ask.ensures.polled in
+    let end = c.in-Some-ask.end in
+    let who : Active = record { id = e.0; running = c.in-Some.running } in
+    let row_id : c.copied-id.result ≡ e.0 = ◌∙◌ {c = e.0} c.copied-id.ensures c.id_at.ensures in
+    let told_id : c.copied-id-2.result ≡ e.0 = ◌∙◌ {c = e.0} c.copied-id-2.ensures c.id_at-2.ensures in
+    let one = polled_one c.args.at e.0 c.in-Some.running e.1.history.running h.0 h.1 (g.C.Children.view c.args.children.now) (g.C.Children.view c.ask.new.children) (Some end)
+    (sym c.running_at.ensures ∙ c.in-Some.is) h.2 h.3 h.4 in (
+      result_of c.args.at who end ∷ [],
+      notice_of c.args.at who end ∷ [],
+      one,
+      subst (λ (id : List ℕ). c.push_reserved.new.self.items ≡ c.args.row.now.items ++ result_of c.args.at (record { id = id; running = c.in-Some.running }) end ∷ [])
+          row_id c.push_reserved.ensures.items,
+      subst (λ (n : Notice). c.push_reserved-2.new.self.items ≡ c.args.notices.now.items ++ n ∷ [])
+          (same_notice c.copied-id-2.result e.0 c.ended_of-result.result (notice_of c.args.at who end).result told_id c.ended_of-result.ensures) c.push_reserved-2.ensures.items,
+    )

@@ -1,0 +1,24 @@
+use Rattle.std.proofs.Common.{◌≡◌, ◌≤◌, ◌+◌, ◌++◌, List, take, drop, length, vec_len}
+use Rattle.std.specs.Vec.{vec_capacity}
+use Rattle.ocf_types.specs.declared.reply.Notice.{Notice}
+use Rattle.child_keeper.specs.Children.{live_limit}
+use Rattle.exec_journal.specs.Journal.{journal_disk}
+use Rattle.exec_turn.specs.Launches.{all_starting}
+use Rattle.exec_turn.specs.Starts.{Rising, Starts}
+use Rattle.exec_turn.proofs.starts.start_all.Given as goal
+
+abbrev pub invariant-loop-start : goal.invariant-loop-start
+invariant-loop-start g l =
+    let view = g.C.Children.view in
+    let clock = (g.D.Disk.view (journal_disk l.journal)).clock in
+    let i = l.start-index in
+    record {
+      started : (told : List Notice) × Starts l.at clock (all_starting (take i l.starts)) (view l.fn.children) (view l.children) l.row.items told × (l.notices.items ≡ l.fn.notices.items ++ told);
+      rising : Rising (view l.children).last_run (all_starting (drop i l.starts));
+      few : length (view l.children).live + length l.starts ≤ live_limit + i;
+      room : length l.starts ≤ (view l.children).room + i;
+      row_len : vec_len l.row ≤ i;
+      notice_len : vec_len l.notices ≤ vec_len l.fn.notices + i;
+      row_room : vec_capacity l.row ≡ vec_capacity l.fn.row;
+      notice_room : vec_capacity l.notices ≡ vec_capacity l.fn.notices;
+    }

@@ -1,0 +1,65 @@
+-- The second row of a turn: what each resource begins, and under which run.
+use Rattle.std.specs.Prelude.{◌≡◌, ℕ, ◌+◌, ◌<◌, ◌≤◌, List, [], ◌∷◌, ◌++◌, map, length, Option, Some, None, option_to_list}
+use Rattle.ocf_types.specs.Due.{Due, IsPick}
+use Rattle.ocf_types.specs.Kinds.{Event}
+use Rattle.ocf_types.specs.Limits.{num_max}
+use Rattle.ocf_types.specs.Resource.{Resource}
+use Rattle.ocf_types.specs.State.{Registry, State, stepped}
+use Rattle.ocf_types.specs.declared.event.Change.TheVariants as change
+use Rattle.ocf_types.specs.declared.event.Step.TheVariants as step
+use Rattle.ocf_types.specs.declared.operation.Running.{Running}
+use Rattle.ocf_types.specs.declared.reply.TurnEnd.{TurnEnd}
+use Rattle.ocf_types.specs.declared.reply.TurnEnd.TheVariants as turn_end
+use Rattle.exec_journal.specs.Rows.{IsTooLong}
+use Rattle.exec_turn.specs.Actives.{Active, active_in}
+
+-- what runs in a resource once it has begun this call, under this run
+abbrev pub begun_in : ℕ → ℕ → List ℕ × Resource → Option ℕ → List Active
+begun_in at run e None = []
+begun_in at run e (Some call) = active_in (e.0, stepped at (step.Begin call run) e.1)
+
+-- What these resources begin at a moment under these due moments, in order of registration: each the call that it picks,
+-- if any, under the next run number.
+abbrev pub ArePicks : Due → ℕ → ℕ → Registry → List Active → Type 0
+ArePicks due at run [] begun = begun ≡ []
+ArePicks due at run (e ∷ es) begun = (call : Option ℕ) × (rest : List Active) × IsPick e.1 (due e.0) at call
+    × ArePicks due at (run + length (begun_in at run e call)) es rest × (begun ≡ begun_in at run e call ++ rest)
+
+-- what the resource of an entry begins at a moment under this run, as it will run, if it begins anything
+abbrev pub Chooses : Due → ℕ → ℕ → List ℕ × Resource → Option Running → Type 0
+Chooses due at run e chosen = (call : Option ℕ) × IsPick e.1 (due e.0) at call
+    × (begun_in at run e call ≡ map (λ x. record { id = e.0; running = x }) (option_to_list chosen))
+
+-- the begin of an action, as an event
+abbrev pub begin_of : ℕ → Active → Event
+begin_of at a = record { at = at; change = change.Step a.id (step.Begin a.running.call a.running.run) }
+
+-- the row of begins
+abbrev pub begins : ℕ → List Active → List Event
+begins at begun = map (begin_of at) begun
+
+-- At this state, and with the journal's last gate at this offset, so many begins find a run number each and leave the
+-- reserve free; none is always possible.
+pub record MayBegin (s : State) (tail at : ℕ) (begun : List Active) : Type 0 where
+  pub runs : s.next_run + length begun ≤ num_max
+  pub room : 0 < length begun → IsTooLong tail (begins at begun) → ⊥
+
+-- The picks were cut before one of them, for a reason that holds of what would have been begun with it.
+pub record Cut (s : State) (due : Due) (at : ℕ) (begun : List Active) (Why : List Active → Type 0) : Type 0 where
+  pub next : Active
+  pub later : List Active
+  pub picks : ArePicks due at s.next_run s.resources (begun ++ next ∷ later)
+  pub why : Why (begun ++ next ∷ [])
+
+-- what is begun, by what ended the picks: the first of these that holds at a pick ends them before it
+abbrev pub PickedAs : TurnEnd → State → Due → ℕ → ℕ → List Active → Type 0
+PickedAs turn_end.Done s due tail at begun = ArePicks due at s.next_run s.resources begun
+PickedAs turn_end.RunsSpent s due tail at begun = Cut s due at begun (λ more. num_max < s.next_run + length more)
+PickedAs turn_end.Full s due tail at begun = Cut s due at begun (λ more. (s.next_run + length more ≤ num_max) × IsTooLong tail (begins at more))
+PickedAs turn_end.Memory s due tail at begun = Cut s due at begun (MayBegin s tail at)
+PickedAs turn_end.Closed s due tail at begun = ⊥
+PickedAs turn_end.BookFull s due tail at begun = ⊥
+PickedAs turn_end.Disk s due tail at begun = ⊥
+
+abbrev pub Picked : TurnEnd → State → Due → ℕ → ℕ → List Active → Type 0
+Picked end s due tail at begun = PickedAs end s due tail at begun × MayBegin s tail at begun

@@ -1,0 +1,55 @@
+-- The third row of a turn: what has begun is started, and each refused start makes a result.
+use Rattle.std.specs.Prelude.{◌≡◌, ℕ, ◌<◌, List, [], ◌∷◌, map, fold, Result, Ok, Err, ⊤}
+use Rattle.std.specs.List.{flat_map, AllByRecursion}
+use Rattle.ocf_types.specs.Kinds.{Event}
+use Rattle.ocf_types.specs.State.{State}
+use Rattle.ocf_types.specs.declared.outcome.RunEnd.{RunEnd}
+use Rattle.ocf_types.specs.declared.outcome.RunEnd.TheVariants.{NotStarted}
+use Rattle.ocf_types.specs.declared.outcome.StartFault.{StartFault}
+use Rattle.ocf_types.specs.declared.reply.Notice.{Notice}
+use Rattle.child_keeper.specs.Children.{ChildrenView, after_start, start_answer}
+use Rattle.child_keeper.specs.MayStart.{RunsUnder}
+use Rattle.child_keeper.specs.declared.answer.Entry.{Entry}
+use Rattle.exec_turn.specs.Actives.{Active, notice_of, result_of}
+
+-- one start: of what, and what it answered
+pub record Started : Type 0 where
+  pub what : Active
+  pub answer : Result Unit StartFault
+
+-- how a start that was refused ended
+abbrev pub refused_end : Result Unit StartFault → List RunEnd
+refused_end (Ok x) = []
+refused_end (Err fault) = NotStarted fault ∷ []
+
+-- the entries of these starts, asked when the journal's disk had had so many device calls, and the children after them
+abbrev pub starts : ℕ → List Started → List Entry
+starts clock xs = map (λ x. record { run = x.what.running.run; at = clock; answer = start_answer x.answer }) xs
+
+abbrev pub after_starts : ℕ → ChildrenView → List Started → ChildrenView
+after_starts clock v xs = fold (λ w x. after_start w x.what.running.run clock x.answer) v xs
+
+-- the row of results of those that were refused, and what is told of it
+abbrev pub refusals : ℕ → List Started → List Event
+refusals at xs = flat_map (λ x. map (result_of at x.what) (refused_end x.answer)) xs
+
+abbrev pub refusal_notices : ℕ → List Started → List Notice
+refusal_notices at xs = flat_map (λ x. map (notice_of at x.what) (refused_end x.answer)) xs
+
+-- These were started once each, in this order: from one view of the children to another, with this row of results and
+-- these notices.
+pub record Starts (at clock : ℕ) (all : List Active) (old new : ChildrenView) (row : List Event) (told : List Notice) : Type 0 where
+  pub answers : List Started
+  pub each : map (λ x. x.what) answers ≡ all
+  pub children : new ≡ after_starts clock old answers
+  pub row_is : row ≡ refusals at answers
+  pub told_is : told ≡ refusal_notices at answers
+
+-- each of these runs under its call and its run
+abbrev pub AllRun : State → List Active → Type 0
+AllRun s begun = AllByRecursion (λ a. RunsUnder s a.id a.running.call a.running.run) begun
+
+-- each run is above the one before it, the first above this one
+abbrev pub Rising : ℕ → List Active → Type 0
+Rising last [] = ⊤
+Rising last (a ∷ rest) = (last < a.running.run) × Rising a.running.run rest

@@ -1,0 +1,98 @@
+-- A turn: from what the children answered, its entries in their book, its events, the row that a
+-- disk fault left pending, and what is told.
+use Rattle.std.specs.Prelude.{◌≡◌, ◌⊎◌, ℕ, List, [], ◌∷◌, ◌++◌, map}
+use Rattle.std.specs.List.{AllByRecursion}
+use Rattle.ocf_types.specs.Due.{Due, due_after}
+use Rattle.ocf_types.specs.Kinds.{Event}
+use Rattle.ocf_types.specs.State.{State, after, after_all}
+use Rattle.ocf_types.specs.declared.reply.TurnEnd.{TurnEnd}
+use Rattle.ocf_types.specs.declared.reply.TurnEnd.TheVariants as turn_end
+use Rattle.ocf_types.specs.declared.reply.Notice.{Notice}
+use Rattle.child_keeper.specs.declared.answer.Entry.{Entry}
+use Rattle.exec_journal.specs.Place.{Place, place_after}
+use Rattle.exec_turn.specs.Actives.{Active, active}
+use Rattle.exec_turn.specs.Picks.{Picked, begins}
+use Rattle.exec_turn.specs.Polls.{IsPoll, Polled, polls, result_notices, results}
+use Rattle.exec_turn.specs.Starts.{Started, refusal_notices, refusals, starts}
+
+-- the due moments after these events
+abbrev pub due_after_all : State → Due → List Event → Due
+due_after_all s due [] = due
+due_after_all s due (e ∷ es) = due_after_all (after s e) (due_after s due e) es
+
+-- the place behind a row that was recorded at this one; an empty row is none
+abbrev pub place_behind : Place → List Event → Place
+place_behind p [] = p
+place_behind p (e ∷ es) = place_after p (e ∷ es)
+
+-- what the turn finds: the state, the due moments, the place in the journal, and the moment
+pub record Scene : Type 0 where
+  pub state : State
+  pub due : Due
+  pub place : Place
+  pub at : ℕ
+
+abbrev pub scene : State → Due → Place → ℕ → Scene
+scene s due p at = record { state = s; due = due; place = p; at = at }
+
+-- the same behind a row that was recorded
+abbrev pub behind : Scene → List Event → Scene
+behind x es = scene (after_all x.state es) (due_after_all x.state x.due es) (place_behind x.place es) x.at
+
+-- one answer to a poll of each action that runs, in order of registration
+pub record EachPolled (x : Scene) (ps : List Polled) : Type 0 where
+  pub each : map (λ p. p.who) ps ≡ active x.state
+  pub bytes : AllByRecursion (λ p. IsPoll p.poll) ps
+
+-- what is begun here, by what ended the picks
+abbrev pub PickedAt : TurnEnd → Scene → List Active → Type 0
+PickedAt end x bs = Picked end x.state x.due x.place.tail x.at bs
+
+-- the same behind the row of results of these polls
+abbrev pub PicksBehind : TurnEnd → Scene → List Polled → List Active → Type 0
+PicksBehind end x ps bs = PickedAt end (behind x (results x.at ps)) bs
+
+-- What a turn was told: a poll of each action that runs, what is begun behind their results, and a start of each of
+-- these, all in order of registration, when the journal's disk had had so many device calls.
+pub record Told (end : TurnEnd) (x : Scene) : Type 0 where
+  pub polled : List Polled
+  pub begun : List Active
+  pub started : List Started
+  pub clock : ℕ
+  pub each_polled : EachPolled x polled
+  pub picked : PicksBehind end x polled begun
+  pub each_started : map (λ a. a.what) started ≡ begun
+
+-- a turn that was told so: its entries, its events, and nothing pending
+abbrev pub Whole : TurnEnd → Scene → List Entry → List Event → List Event → List Notice → Type 0
+Whole end x entries events pending told = (t : Told end x)
+    × (entries ≡ polls x.at t.polled ++ starts t.clock t.started)
+    × (events ≡ results x.at t.polled ++ begins x.at t.begun ++ refusals x.at t.started)
+    × (pending ≡ []) × (told ≡ result_notices x.at t.polled ++ refusal_notices x.at t.started)
+
+-- one whose row of results failed: it was polled, and no more
+abbrev pub NoResults : Scene → List Entry → List Event → List Event → List Notice → Type 0
+NoResults x entries events pending told = (ps : List Polled) × EachPolled x ps
+    × (entries ≡ polls x.at ps) × (events ≡ []) × (pending ≡ results x.at ps) × (told ≡ [])
+
+-- one whose row of begins failed: nothing was started
+abbrev pub NoBegins : Scene → List Entry → List Event → List Event → List Notice → Type 0
+NoBegins x entries events pending told = (ps : List Polled) × (end : TurnEnd) × (bs : List Active) × EachPolled x ps × PicksBehind end x ps bs
+    × (entries ≡ polls x.at ps) × (events ≡ results x.at ps) × (pending ≡ begins x.at bs) × (told ≡ result_notices x.at ps)
+
+-- one whose row of refused starts failed
+abbrev pub NoRefusals : Scene → List Entry → List Event → List Event → List Notice → Type 0
+NoRefusals x entries events pending told = (end : TurnEnd) × (t : Told end x)
+    × (entries ≡ polls x.at t.polled ++ starts t.clock t.started)
+    × (events ≡ results x.at t.polled ++ begins x.at t.begun)
+    × (pending ≡ refusals x.at t.started) × (told ≡ result_notices x.at t.polled)
+
+-- a turn of an open executor, by its end
+abbrev pub IsTurn : TurnEnd → Scene → List Entry → List Event → List Event → List Notice → Type 0
+IsTurn turn_end.Closed x entries events pending told = ⊥
+IsTurn turn_end.BookFull x entries events pending told = (entries ≡ []) × (events ≡ []) × (pending ≡ []) × (told ≡ [])
+IsTurn turn_end.Done x entries events pending told = Whole turn_end.Done x entries events pending told
+IsTurn turn_end.RunsSpent x entries events pending told = Whole turn_end.RunsSpent x entries events pending told
+IsTurn turn_end.Full x entries events pending told = Whole turn_end.Full x entries events pending told
+IsTurn turn_end.Memory x entries events pending told = Whole turn_end.Memory x entries events pending told
+IsTurn turn_end.Disk x entries events pending told = NoResults x entries events pending told ⊎ (NoBegins x entries events pending told ⊎ NoRefusals x entries events pending told)

@@ -1,0 +1,78 @@
+-- What a turn's call does, and what its steps hand on.
+use Rattle.std.specs.Prelude.{◌≡◌, ◌≢◌, ℕ, ◌*◌, ◌+◌, ◌<◌, ◌≤◌, List, [], ◌++◌, length, map, Result, Ok, Err, is_ok, if◌then◌else◌}
+use Rattle.ocf_types.specs.Due.{Due}
+use Rattle.ocf_types.specs.Kinds.{Event}
+use Rattle.ocf_types.specs.State.{State}
+use Rattle.ocf_types.specs.declared.reply.Notice.{Notice}
+use Rattle.ocf_types.specs.declared.reply.TurnEnd.{TurnEnd}
+use Rattle.ocf_types.specs.declared.reply.TurnEnd.TheVariants as turn_end
+use Rattle.disk_model.specs.Runs.{Goes}
+use Rattle.disk_model.specs.View.{Grew, View}
+use Rattle.disk_model.specs.declared.disk.DiskFault.{DiskFault}
+use Rattle.child_keeper.specs.Children.{ChildrenView}
+use Rattle.child_keeper.specs.declared.answer.Entry.{Entry}
+use Rattle.exec_journal.specs.Room.{Roomy}
+use Rattle.exec_turn.specs.Actives.{Active}
+use Rattle.exec_turn.specs.Lives.{Tends}
+use Rattle.exec_turn.specs.Picks.{begins}
+use Rattle.exec_turn.specs.Pieces.{Leaves}
+use Rattle.exec_turn.specs.Polls.{Polled, polls, result_notices, results}
+use Rattle.exec_turn.specs.Starts.{Started, refusal_notices, refusals, starts}
+use Rattle.exec_turn.specs.Turn.{EachPolled, IsTurn, PickedAt, Scene, behind, due_after_all}
+
+-- the agents of all that runs live, and the next run is above all that were asked to start
+pub record Tended (s : State) (v : ChildrenView) : Type 0 where
+  pub tends : Tends s v.live
+  pub rising : v.last_run < s.next_run
+
+-- A row that was recorded leads from one scene to another; one that was not leaves all but perhaps the disk as it was.
+abbrev pub Moves : Scene → Scene → List Event → Result Unit DiskFault → Type 0
+Moves x y row (Ok done) = y ≡ behind x row
+Moves x y row (Err fault) = (y.state ≡ x.state) × (y.due ≡ x.due)
+
+-- what a step leaves that makes these entries, and whose row was recorded or not
+abbrev pub LeavesRow : View → View → Scene → Scene → List Entry → List Event → Result Unit DiskFault → Type 0
+LeavesRow old new x y entries row (Ok done) = Leaves old new x.state y.state entries row []
+LeavesRow old new x y entries row (Err fault) = Leaves old new x.state y.state entries [] row
+
+-- The first step: polls, and the row of their results.
+pub record PollsRow (old new : View) (x y : Scene) (from to : ChildrenView) (told : List Notice) (result : Result Unit DiskFault) : Type 0 where
+  pub answers : List Polled
+  pub each : EachPolled x answers
+  pub book : to.book ≡ from.book ++ polls x.at answers
+  pub left : from.room ≤ to.room + 2 * length x.state.resources
+  pub moves : Moves x y (results x.at answers) result
+  pub leaves : LeavesRow old new x y (polls x.at answers) (results x.at answers) result
+  pub told_is : told ≡ (if is_ok result then result_notices x.at answers else [])
+
+-- The second: what is begun, and the row of begins.
+pub record BeginsRow (old new : View) (x y : Scene) (begun : List Active) (end : TurnEnd) (result : Result Unit DiskFault) : Type 0 where
+  pub picked : PickedAt end x begun
+  pub moves : Moves x y (begins x.at begun) result
+  pub leaves : LeavesRow old new x y [] (begins x.at begun) result
+
+-- The third: starts, and the row of results of those that were refused.
+pub record StartsRow (old new : View) (x y : Scene) (begun : List Active) (from to : ChildrenView) (was told : List Notice) (result : Result Unit DiskFault) : Type 0 where
+  pub answers : List Started
+  pub each : map (λ a. a.what) answers ≡ begun
+  pub book : to.book ≡ from.book ++ starts old.clock answers
+  pub moves : Moves x y (refusals x.at answers) result
+  pub leaves : LeavesRow old new x y [] (refusals x.at answers) result
+  pub told_is : told ≡ (if is_ok result then was ++ refusal_notices x.at answers else was)
+
+-- A turn of an open executor: from what it finds to a state, due moments and children, with what is told.
+pub record Turns (old new : View) (x : Scene) (t : State) (due : Due) (from to : ChildrenView) (told : List Notice) (end : TurnEnd) : Type 0 where
+  -- its entries in the children's book, its events, and those that a disk fault left pending
+  pub entries : List Entry
+  pub events : List Event
+  pub pending : List Event
+  pub book : to.book ≡ from.book ++ entries
+  pub does : IsTurn end x entries events pending told
+  -- what it recorded, what a stop at any moment of it leaves, and that no agent was started without its synced begin
+  pub leaves : Leaves old new x.state t entries events pending
+  pub due_is : due ≡ due_after_all x.state x.due events
+  -- nothing is pending but after a disk fault, which has a cause
+  pub whole : end ≢ turn_end.Disk → pending ≡ []
+  pub cause : end ≡ turn_end.Disk → Grew old.failures new.failures
+  -- what a stop leaves since its start has room for its boot
+  pub roomy : Goes old new Roomy

@@ -1,0 +1,14 @@
+//! A turn over a journal and children, in rows: what runs is polled and its results are recorded, what is picked is begun
+//! and recorded, and what has begun is started. No step has both a loop and a device call.
+#![tactic(auto)]
+
+mod picks;
+mod polls;
+mod records;
+mod rows;
+mod starts;
+mod turn;
+
+pub use picks::{Start, StartOf};
+pub use rows::Rows;
+pub use turn::take_turn;

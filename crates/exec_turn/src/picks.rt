@@ -1,0 +1,180 @@
+//! The picks of a turn.
+ghost use Rattle.std.specs.Prelude.{◌≡◌, ◌<◌, ◌≤◌, IfOk, length, vec_len};
+ghost use Rattle.std.specs.List.{AllByRecursion};
+ghost use Rattle.std.specs.Vec.{vec_capacity};
+ghost use Rattle.exec_journal.specs.Journal.{journal_place};
+ghost use Rattle.exec_state.specs.Store.{dues};
+ghost use Rattle.ocf_types.specs.Limits.{longest_begin};
+ghost use Rattle.ocf_types.specs.Places.{at_place, entry_at, id_at};
+ghost use Rattle.ocf_types.specs.Resource.{of_call};
+ghost use Rattle.ocf_types.specs.Spelling.{spelled_event};
+ghost use Rattle.exec_turn.specs.Launches.{IsStart, all_starting, what_starts};
+ghost use Rattle.exec_turn.specs.Picks.{Chooses, Picked, begin_of, begins};
+
+use disk_model::Disk;
+use exec_journal::Journal;
+use exec_state::State;
+use ocf_env::{Instance, Invocation, LaunchOf, Site, launch};
+use ocf_types::laws::lengths;
+use ocf_types::{
+    CallId, Change, Event, EventOf, Moment, Recur, RunId, Running, StateView, Step, Task, TurnEnd,
+};
+use std::alloc::{AllocError, Allocator, Global};
+
+/// What is started: the launch of an action that has begun, and the action. `I` is the type of the call.
+#[derive(Drop)]
+pub struct StartOf<I> {
+    pub launch: LaunchOf<I>,
+    pub running: Running,
+}
+
+/// A start whose texts lie in memory of the allocator.
+pub type Start<A = Global> = StartOf<Invocation<A>>;
+
+// The recurring monitor of a call, of the resource at a place.
+fn find_monitor<A: Allocator + Copy>(state: &State<A>, place: usize, call: CallId) -> Option<Recur>
+    requires place { place < length state.now.state.resources }
+    ensures monitor { result ≡ of_call call (at_place state.now.state place).recurring }
+{
+    for index in 0..state.recurring_len(place) {
+        let monitor = state.recurring_at(place, index);
+        if monitor.call == call {
+            return Some(monitor);
+        }
+    }
+    None
+}
+
+// What the resource at a place begins at a moment, as it will run: the first queued action, else the recurring monitor
+// that is due first.
+fn chosen<A: Allocator + Copy>(
+    state: &State<A>,
+    place: usize,
+    run: RunId,
+    at: Moment,
+) -> Option<Running>
+    requires place { place < length state.now.state.resources }
+    ensures chosen { Chooses (dues state.now) at run (entry_at state.now.state place) result }
+{
+    state.known();
+    let call = state.choose(state.id_at(place), at)?;
+    if state.queue_len(place) > 0 {
+        let op = state.queued_at(place, 0);
+        return Some(Running {
+            call,
+            run,
+            task: op.task,
+            timeout: op.timeout,
+            interval: 0,
+            since: at,
+        });
+    }
+    let monitor = find_monitor(state, place, call)?;
+    Some(Running {
+        call,
+        run,
+        task: Task::Monitor(monitor.level),
+        timeout: monitor.timeout,
+        interval: monitor.interval.get(),
+        since: at,
+    })
+}
+
+// The begin of an action of the resource at a place.
+fn begin_at<A: Allocator + Copy>(
+    state: &State<A>,
+    place: usize,
+    running: &Running,
+    at: Moment,
+) -> Event<A>
+    requires place { place < length state.now.state.resources }
+    ensures begin { result ≡ begin_of at (record { id = id_at state.now.state place; running = running.now }) }
+    ensures short { length (spelled_event result) ≤ longest_begin }
+{
+    lengths();
+    let id = state.id_at(place).copied();
+    let step = Step::Begin {
+        call: running.call,
+        run: running.run,
+    };
+    EventOf {
+        at,
+        change: Change::Step(id, step),
+    }
+}
+
+// The start of an action of the resource at a place: the only error is want of memory.
+fn start_of<A: Allocator + Copy, S: Allocator>(
+    alloc: A,
+    site: &Site<S>,
+    state: &State<A>,
+    place: usize,
+    running: Running,
+) -> Result<Start<A>, AllocError>
+    requires place { place < length state.now.state.resources }
+    ensures start { IfOk result (IsStart site.now state.now.state) }
+    ensures what { IfOk result (λ start. what_starts start ≡ record { id = id_at state.now.state place; running = running }) }
+{
+    state.known();
+    let instance = Instance {
+        id: state.id_at(place),
+        provider: state.provider_at(place),
+        agent: state.agent_at(place),
+        params: state.params_at(place),
+    };
+    let launch = launch(
+        alloc,
+        site,
+        &instance,
+        running.task,
+        running.call,
+        running.run,
+    )?;
+    Ok(StartOf { launch, running })
+}
+
+/// Picks what each resource has to begin, in order of registration: the row of their begins, and what is to be started
+/// then. It ends before the first pick that finds no run number, no room in the journal, or no memory for its launch.
+pub(crate) fn pick_all<D: Disk + Drop, A: Allocator + Copy, S: Allocator>(
+    alloc: A,
+    site: &Site<S>,
+    state: &State<A>,
+    journal: &Journal<D, A>,
+    at: Moment,
+    row: &mut Vec<Event<A>, A>,
+    starts: &mut Vec<Start<A>, A>,
+) -> TurnEnd
+    requires row_room { length state.now.state.resources ≤ vec_capacity row.old }
+    requires start_room { length state.now.state.resources ≤ vec_capacity starts.old }
+    ensures picked { Picked result state.now.state (dues state.now) (journal_place journal.now).tail at (all_starting starts.new.items) }
+    ensures row { row.new.items ≡ begins at (all_starting starts.new.items) }
+    ensures are_starts { AllByRecursion (IsStart site.now state.now.state) starts.new.items }
+    ensures few { vec_len starts.new ≤ length state.now.state.resources }
+    ensures row_room { vec_capacity row.new ≡ vec_capacity row.old }
+    ensures start_room { vec_capacity starts.new ≡ vec_capacity starts.old }
+{
+    row.clear();
+    starts.clear();
+    let mut run = state.next_run();
+    let mut len = 0;
+    for place in 0..state.len() {
+        let Some(running) = chosen(state, place, run, at) else {
+            continue;
+        };
+        let Some(next) = RunId::new(run.get() + 1) else {
+            return TurnEnd::RunsSpent;
+        };
+        let begin = begin_at(state, place, &running, at);
+        len += begin.spelled_len();
+        if !journal.fits(len) {
+            return TurnEnd::Full;
+        }
+        let Ok(start) = start_of(alloc, site, state, place, running) else {
+            return TurnEnd::Memory;
+        };
+        row.push_reserved(begin);
+        starts.push_reserved(start);
+        run = next;
+    }
+    TurnEnd::Done
+}

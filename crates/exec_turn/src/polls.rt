@@ -1,0 +1,109 @@
+//! The polls of a turn.
+ghost use Rattle.std.specs.Prelude.{◌≡◌, ◌<◌, ◌≤◌, ◌+◌, ◌*◌, ◌++◌, [], List, Contains, length, vec_len, Result};
+ghost use Rattle.std.specs.List.{AllByRecursion};
+ghost use Rattle.std.specs.Vec.{vec_capacity};
+ghost use Rattle.ocf_types.specs.Kinds.{Event};
+ghost use Rattle.ocf_types.specs.Places.{entry_at};
+ghost use Rattle.ocf_types.specs.declared.reply.Notice.{Notice};
+ghost use Rattle.child_keeper.specs.declared.answer.KillFault.{KillFault};
+ghost use Rattle.child_keeper.specs.declared.answer.Poll.{Poll};
+ghost use Rattle.exec_turn.specs.Actives.{active, active_in, runs_of};
+ghost use Rattle.exec_turn.specs.Lives.{Tends};
+ghost use Rattle.exec_turn.specs.Polls.{IsPoll, Polls, ending, is_late, polled_on};
+
+use child_keeper::{Children, Poll};
+use exec_state::State;
+use ocf_types::{
+    Change, Event, EventOf, Moment, Notice, Outcome, RunEnd, Running, StateView, Step,
+};
+use op_history::ended_of;
+use std::alloc::Allocator;
+
+// Whether the timeout of an action has passed.
+fn is_late(running: &Running, at: Moment) -> bool
+    ensures value { result ≡ is_late at running.now }
+{
+    running.since.get() + u64::from(running.timeout.get()) <= at.get()
+}
+
+// Polls one action, kills it where it runs past its timeout, and says how it ended.
+fn ask<C: Children>(children: &mut C, running: &Running, at: Moment) -> Option<RunEnd>
+    requires room { 2 ≤ (C.view children.old).room }
+    requires lives { Contains (C.view children.old).live running.now.run }
+    ensures polled { (answer : Poll) × (kill : Result Unit KillFault) × IsPoll answer
+        × (C.view children.new ≡ polled_on at running.now answer kill (C.view children.old)) × (result ≡ ending at running.now answer) }
+{
+    match children.poll(running.run) {
+        Poll::Exited(code) => Some(RunEnd::Done(code)),
+        Poll::Signaled => Some(RunEnd::Signaled),
+        Poll::Fault => Some(RunEnd::Lost),
+        Poll::Running => {
+            if !is_late(running, at) {
+                return None;
+            }
+            let _ = children.kill(running.run);
+            Some(RunEnd::TimedOut)
+        }
+    }
+}
+
+// Polls what runs in the resource at a place: its result, where it has ended, goes to the end of the row, and what is told
+// of it to the end of the notices.
+fn poll_at<C: Children, A: Allocator + Copy>(
+    state: &State<A>,
+    place: usize,
+    children: &mut C,
+    at: Moment,
+    row: &mut Vec<Event<A>, A>,
+    notices: &mut Vec<Notice, A>,
+)
+    requires place { place < length state.now.state.resources }
+    requires lives { AllByRecursion (λ run. Contains (C.view children.old).live run) (runs_of (active_in (entry_at state.now.state place))) }
+    requires room { 2 * length (active_in (entry_at state.now.state place)) ≤ (C.view children.old).room }
+    requires row_room { vec_len row.old < vec_capacity row.old }
+    requires notice_room { vec_len notices.old < vec_capacity notices.old }
+    ensures polled { (more : List Event) × (told : List Notice) × Polls at (active_in (entry_at state.now.state place)) (C.view children.old) (C.view children.new) more told
+        × (row.new.items ≡ row.old.items ++ more) × (notices.new.items ≡ notices.old.items ++ told) }
+    ensures row_few { vec_len row.new ≤ vec_len row.old + 1 }
+    ensures notices_few { vec_len notices.new ≤ vec_len notices.old + 1 }
+    ensures row_room { vec_capacity row.new ≡ vec_capacity row.old }
+    ensures notice_room { vec_capacity notices.new ≡ vec_capacity notices.old }
+{
+    let Some(running) = state.running_at(place) else {
+        return;
+    };
+    let Some(end) = ask(children, &running, at) else {
+        return;
+    };
+    let id = state.id_at(place).copied();
+    let run = running.run;
+    let result = ended_of(running, Outcome::Run(end), at);
+    let change = Change::Step(id, Step::Result { run, end });
+    row.push_reserved(EventOf { at, change });
+    let id = state.id_at(place).copied();
+    notices.push_reserved(Notice { id, result });
+}
+
+/// Polls every action that runs, in order of registration: the row of their results, and what is told of them.
+pub(crate) fn poll_all<C: Children, A: Allocator + Copy>(
+    state: &State<A>,
+    children: &mut C,
+    at: Moment,
+    row: &mut Vec<Event<A>, A>,
+    notices: &mut Vec<Notice, A>,
+)
+    requires tends { Tends state.now.state (C.view children.old).live }
+    requires room { 2 * length (active state.now.state) ≤ (C.view children.old).room }
+    requires row_room { length state.now.state.resources ≤ vec_capacity row.old }
+    requires notice_room { length state.now.state.resources ≤ vec_capacity notices.old }
+    ensures polled { Polls at (active state.now.state) (C.view children.old) (C.view children.new) row.new.items notices.new.items }
+    ensures few { vec_len notices.new ≤ length state.now.state.resources }
+    ensures row_room { vec_capacity row.new ≡ vec_capacity row.old }
+    ensures notice_room { vec_capacity notices.new ≡ vec_capacity notices.old }
+{
+    row.clear();
+    notices.clear();
+    for place in 0..state.len() {
+        poll_at(state, place, children, at, row, notices);
+    }
+}

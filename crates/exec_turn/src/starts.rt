@@ -1,0 +1,91 @@
+//! The starts of a turn.
+ghost use Rattle.std.specs.Prelude.{◌≡◌, ◌<◌, ◌≤◌, ◌+◌, ◌++◌, List, Result, length, map, vec_len};
+ghost use Rattle.std.specs.List.{AllByRecursion};
+ghost use Rattle.std.specs.Vec.{vec_capacity};
+ghost use Rattle.ocf_types.specs.declared.outcome.StartFault.{StartFault};
+ghost use Rattle.ocf_types.specs.declared.reply.Notice.{Notice};
+ghost use Rattle.child_keeper.specs.Children.{after_start, live_limit};
+ghost use Rattle.child_keeper.specs.MayStart.{RunsUnder};
+ghost use Rattle.exec_journal.specs.Journal.{Settled, journal_disk};
+ghost use Rattle.exec_turn.specs.Actives.{notice_of, result_of};
+ghost use Rattle.exec_turn.specs.Launches.{IsOfOne, all_starting, what_starts};
+ghost use Rattle.exec_turn.specs.Starts.{AllRun, Rising, Starts, refused_end};
+
+use crate::Start;
+use child_keeper::Children;
+use disk_model::Disk;
+use exec_journal::Journal;
+use exec_state::State;
+use ocf_types::{Change, Event, EventOf, Moment, Notice, Outcome, RunEnd, Step};
+use op_history::ended_of;
+use std::alloc::Allocator;
+
+// Starts one of them: where that is refused, its result is in the row, and what is told of it among the notices.
+fn start_one<D: Disk + Drop, C: Children, A: Allocator + Copy>(
+    state: &State<A>,
+    journal: &Journal<D, A>,
+    children: &mut C,
+    start: &Start<A>,
+    at: Moment,
+    row: &mut Vec<Event<A>, A>,
+    notices: &mut Vec<Notice, A>,
+)
+    requires settled { Settled journal.now (D.view (journal_disk journal.now)) state.now.state }
+    requires runs { RunsUnder state.now.state start.now.launch.id start.now.running.call start.now.running.run }
+    requires of_one { IsOfOne start.now }
+    requires rising { (C.view children.old).last_run < start.now.running.run }
+    requires few { length (C.view children.old).live < live_limit }
+    requires room { 0 < (C.view children.old).room }
+    requires row_room { vec_len row.old < vec_capacity row.old }
+    requires notice_room { vec_len notices.old < vec_capacity notices.old }
+    ensures started { (answer : Result Unit StartFault)
+        × (C.view children.new ≡ after_start (C.view children.old) start.now.running.run (D.view (journal_disk journal.now)).clock answer)
+        × (row.new.items ≡ row.old.items ++ map (result_of at (what_starts start.now)) (refused_end answer))
+        × (notices.new.items ≡ notices.old.items ++ map (notice_of at (what_starts start.now)) (refused_end answer)) }
+    ensures row_len { vec_len row.new ≤ vec_len row.old + 1 }
+    ensures notice_len { vec_len notices.new ≤ vec_len notices.old + 1 }
+    ensures row_room { vec_capacity row.new ≡ vec_capacity row.old }
+    ensures notice_room { vec_capacity notices.new ≡ vec_capacity notices.old }
+{
+    let Err(fault) = children.start(journal, &start.launch) else {
+        return;
+    };
+    let (run, end) = (start.running.run, RunEnd::NotStarted(fault));
+    let result = ended_of(start.running, Outcome::Run(end), at);
+    let change = Change::Step(start.launch.id.copied(), Step::Result { run, end });
+    row.push_reserved(EventOf { at, change });
+    notices.push_reserved(Notice {
+        id: start.launch.id.copied(),
+        result,
+    });
+}
+
+/// Starts each of these, in order, where the journal is settled at a state in which all of them run: the row of results of
+/// those that were refused, and what is told of them.
+pub(crate) fn start_all<D: Disk + Drop, C: Children, A: Allocator + Copy>(
+    state: &State<A>,
+    journal: &Journal<D, A>,
+    children: &mut C,
+    starts: &[Start<A>],
+    at: Moment,
+    row: &mut Vec<Event<A>, A>,
+    notices: &mut Vec<Notice, A>,
+)
+    requires settled { Settled journal.now (D.view (journal_disk journal.now)) state.now.state }
+    requires run { AllRun state.now.state (all_starting starts.now) }
+    requires of_one { AllByRecursion IsOfOne starts.now }
+    requires rising { Rising (C.view children.old).last_run (all_starting starts.now) }
+    requires few { length (C.view children.old).live + length starts.now ≤ live_limit }
+    requires room { length starts.now ≤ (C.view children.old).room }
+    requires row_room { length starts.now ≤ vec_capacity row.old }
+    requires notice_room { vec_len notices.old + length starts.now ≤ vec_capacity notices.old }
+    ensures started { (told : List Notice) × Starts at (D.view (journal_disk journal.now)).clock (all_starting starts.now) (C.view children.old) (C.view children.new) row.new.items told
+        × (notices.new.items ≡ notices.old.items ++ told) }
+    ensures row_room { vec_capacity row.new ≡ vec_capacity row.old }
+    ensures notice_room { vec_capacity notices.new ≡ vec_capacity notices.old }
+{
+    row.clear();
+    for start in starts {
+        start_one(state, journal, children, start, at, row, notices);
+    }
+}

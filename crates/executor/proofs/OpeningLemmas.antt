@@ -1,0 +1,179 @@
+-- An opening of the journal, and then its boot.
+use Rattle.std.proofs.Common.{◌≡◌, inl, inr, ℕ, ◌+◌, ◌<◌, ◌≤◌, Bool, true, false, cond, List, [], ◌∷◌, Ok, Err, refl, sym, ◌∙◌, ap, subst, arith}
+use Rattle.std.specs.List.{list_any}
+use Rattle.ocf_types.specs.Answer.{moment}
+use Rattle.ocf_types.specs.Boot.{any_busy, boot, boot_at}
+use Rattle.ocf_types.specs.Due.{due_at}
+use Rattle.ocf_types.specs.Resource.{is_busy}
+use Rattle.ocf_types.specs.State.{Registry, State, after, changed}
+use Rattle.ocf_types.specs.declared.event.Change.TheVariants as change
+use Rattle.ocf_types.specs.declared.reply.Notice.{Notice}
+use Rattle.disk_model.specs.Image.{Image, part_limit}
+use Rattle.disk_model.specs.Laws.{joined, passed_on, supposed, weakened}
+use Rattle.disk_model.specs.Runs.{Goes}
+use Rattle.disk_model.specs.View.{Passed, Rests, View}
+use Rattle.gated_slots.specs.declared.append.SlotFault.{SlotFault}
+use Rattle.gated_slots.specs.declared.append.SlotFault.TheVariants as slot
+use Rattle.exec_journal.specs.Found.{FoundAs, IsFreshPair, StandsAt, Whole}
+use Rattle.exec_journal.specs.Opening.{FailsToOpen, OpensAt, OpensLike}
+use Rattle.exec_journal.specs.Room.{AllRoomy, HasRoom, Roomy}
+use Rattle.exec_journal.specs.Settled.{IsSettled}
+use Rattle.exec_journal.specs.declared.damage.Damage.{Damage}
+use Rattle.exec_journal.specs.declared.fault.JournalFault.{JournalFault}
+use Rattle.exec_journal.specs.declared.fault.JournalFault.TheVariants as journal
+use Rattle.executor.specs.declared.opening.OpenError.{OpenError}
+use Rattle.executor.specs.declared.opening.OpenError.TheVariants as why
+use Rattle.executor.specs.Openings.{Boots, BootsFrom, IsQuiet, LacksBoot, LacksRoom, NotOpened, Opened, OpensDisk, Starts, StartsLike, booted, told_fault, told_slot}
+use Rattle.executor.specs.Reports.{dropped, interrupted}
+use Rattle.executor.specs.Sights.{Sight}
+use Rattle.executor.proofs.Booting.{not_both}
+use Rattle.executor.proofs.Journaling.{WhatStands}
+
+-- after a boot nothing is queued or running
+quiet : (at : ℕ) (rs : Registry) → list_any (λ e. is_busy e.1.history) (changed at change.Boot rs) ≡ false
+quiet at [] = refl
+quiet at (e ∷ es) = quiet at es
+
+boot_quiet : (s : State) (m : ℕ) → any_busy (boot s m) ≡ false
+boot_quiet s m = by (any_busy s) refl
+  where
+    by : (b : Bool) → any_busy s ≡ b → any_busy (cond b (after s (boot_at m)) s) ≡ false
+    by true e = quiet m s.resources
+    by false e = e
+
+pub same_whole : (s t : State) → Whole s ≡ Whole t → s ≡ t
+same_whole s t is = cc
+
+opens_like : (old new : View) (now : ℕ) → Goes old new (OpensLike old) → Goes old new (StartsLike old now)
+opens_like old new now goes = weakened old new (OpensLike old) (StartsLike old now) (λ h c left. inl left) goes
+
+-- only the journal was opened, or not even that
+read_only : (old new : View) (now : ℕ) → Goes old new (OpensLike old) → ((old.honest → AllRoomy old) → Goes old new Roomy) → ((old.honest → IsFreshPair old.reads → ⊥) → Rests old new) → OpensDisk old new now
+read_only old new now goes roomy unwritten = record { goes = opens_like old new now goes; roomy = roomy; unwritten = λ quiet. unwritten (λ h. (quiet h).0) }
+
+module _ (old new : View) (now : ℕ) where
+  -- the journal was not opened
+  pub journal_refused : (fault : JournalFault) → FailsToOpen fault old new → NotOpened old new now (told_fault fault)
+  journal_refused fault fails = record {
+    did = read_only old new now fails.opens.goes fails.opens.roomy fails.opens.unwritten;
+    damaged = λ h d is. fails.damaged h d (as_damaged fault d is);
+    cause = λ is. fails.cause (as_disk fault is);
+    full = λ h is. absurd (never_full fault is);
+    never_full = λ roomy h is. never_full fault is;
+    memory = λ is. fails.opens.goes;
+  }
+    where
+      as_damaged : (f : JournalFault) (d : Damage) → told_fault f ≡ why.Damaged d → f ≡ journal.Damaged d
+      as_damaged journal.Disk d is = absurd cc
+      as_damaged (journal.Damaged x) d is = let same : x ≡ d = cc in ap journal.Damaged same
+      as_damaged journal.Memory d is = absurd cc
+
+      as_disk : (f : JournalFault) → told_fault f ≡ why.Disk → f ≡ journal.Disk
+      as_disk journal.Disk is = refl
+      as_disk (journal.Damaged x) is = absurd cc
+      as_disk journal.Memory is = absurd cc
+
+      never_full : (f : JournalFault) → told_fault f ≡ why.Full → ⊥
+      never_full journal.Disk is = cc
+      never_full (journal.Damaged x) is = cc
+      never_full journal.Memory is = cc
+
+module _ {D : Type 0} (look : D → View) (law : WhatStands) (once : (c : Image) (s t : State) → FoundAs s c → FoundAs t c → s ≡ t) (old : View) (now : ℕ) (mid : Sight D) (opens : OpensAt mid.place mid.state old (look mid.disk)) where
+  -- memory was refused before the boot
+  pub report_refused : (d : D) → d ≡ mid.disk → NotOpened old (look d) now why.Memory
+  report_refused d same = subst (λ (x : D). NotOpened old (look x) now why.Memory) (sym same) (record {
+    did = read_only old (look mid.disk) now opens.opens.goes opens.opens.roomy opens.opens.unwritten;
+    damaged = λ h x is. let none : ⊥ = cc in absurd none;
+    cause = λ is. let none : ⊥ = cc in absurd none;
+    full = λ h is. let none : ⊥ = cc in absurd none;
+    never_full = λ roomy h is. cc;
+    memory = λ is. opens.opens.goes;
+  })
+
+  module _ (new : Sight D) where
+    both_passed : Passed (look mid.disk) (look new.disk) → Passed old (look new.disk)
+    both_passed passed = passed_on old (look mid.disk) (look new.disk) opens.opens.goes.passed passed
+
+    did_both : (goes : Goes (look mid.disk) (look new.disk) (BootsFrom mid.state now)) → (HasRoom mid.place.tail mid.state → Goes (look mid.disk) (look new.disk) Roomy) → (any_busy mid.state ≡ false → new ≡ mid) → OpensDisk old (look new.disk) now
+    did_both goes roomy quiet = record {
+      goes = joined old (look mid.disk) (look new.disk) (StartsLike old now)
+          (opens_like old (look mid.disk) now opens.opens.goes)
+          (weakened (look mid.disk) (look new.disk) (BootsFrom mid.state now) (StartsLike old now) (λ h c left. inr (mid.state, opens.found (goes.passed.honest h), left)) goes);
+      roomy = λ all. joined old (look mid.disk) (look new.disk) Roomy (opens.opens.roomy all) (supposed (look mid.disk) (look new.disk) Roomy goes.passed (λ h. roomy (opens.room all (goes.passed.honest h))));
+      unwritten = λ is_quiet. rests is_quiet (any_busy mid.state) refl;
+    }
+      where
+        rests : (old.honest → IsQuiet old.reads) → (b : Bool) → any_busy mid.state ≡ b → Rests old (look new.disk)
+        rests is_quiet false not = subst (λ (x : Sight D). Rests old (look x.disk)) (sym (quiet not)) (opens.opens.unwritten (λ h. (is_quiet h).0))
+        rests is_quiet true busy =
+            let never : (look new.disk).honest → ⊥ = λ h. let mid_h = goes.passed.honest h in not_both busy ((is_quiet (opens.opens.goes.passed.honest mid_h)).1 mid.state (opens.found mid_h)) in
+            record { passed = both_passed goes.passed; same = λ h. absurd (never h); still = λ h. absurd (never h); since = λ h. absurd (never h) }
+
+    -- what has to be booted is no fresh pair, so it stands where it was found
+    stands_before : (look mid.disk).honest → any_busy mid.state ≡ true → StandsAt mid.place mid.state old.reads
+    stands_before h busy =
+        let not_fresh : old.honest → IsFreshPair old.reads → ⊥ = λ _ fresh. not_both busy (ap any_busy (law.fresh mid.state old.reads (opens.found h) fresh)) in
+        subst (λ (c : Image). StandsAt mid.place mid.state c) ((opens.opens.unwritten not_fresh).same h) (opens.settled h).stands
+
+    lacks_room : (look mid.disk).honest → LacksBoot mid.place.tail mid.state → LacksRoom old.reads
+    lacks_room h lacks = record { place = mid.place; state = mid.state; stands = stands_before h lacks.0; lacks = lacks }
+
+    lacks_boot : (look mid.disk).honest → LacksRoom old.reads → LacksBoot mid.place.tail mid.state
+    lacks_boot h lacks =
+        let same = once old.reads lacks.state mid.state (law.found lacks.place lacks.state old.reads lacks.stands) (opens.found h) in
+        let here = subst (λ (s : State). LacksBoot lacks.place.tail s) same lacks.lacks in
+        let at = (law.once lacks.place mid.place lacks.state mid.state old.reads lacks.stands (stands_before h here.0)).0 in
+        subst (λ p. LacksBoot p.tail mid.state) at here
+
+    pub opened : (x : Unit) (final : Sight D) (ran queued : List Notice) → Boots look now mid new (Ok x) → final.is_open ≡ true → final.state ≡ new.state → final.disk ≡ new.disk → final.place ≡ new.place
+        → final.due ≡ due_at final.state (moment mid.state now) → ran ≡ interrupted mid.state (moment mid.state now) → queued ≡ dropped mid.state (moment mid.state now) → Opened look old now final ran queued
+    opened x final ran queued boots is_open state disk place due ran_is queued_is =
+        let honest_new : (look final.disk).honest → (look new.disk).honest = λ h. subst (λ (d : D). (look d).honest) disk h in
+        let done : final.state ≡ booted mid.state now = state ∙ boots.state in record {
+          is_open = is_open;
+          sound = λ _. (
+            (λ h. subst (λ p. IsSettled p final.state (look final.disk)) (sym place) (subst (λ (s : State). IsSettled new.place s (look final.disk)) (sym state) (subst (λ (d : D). IsSettled new.place new.state (look d)) (sym disk) (boots.settled (honest_new h))))),
+            λ busy. absurd (not_both busy (ap any_busy done ∙ boot_quiet mid.state (moment mid.state now))),
+          );
+          starts = λ h. record {
+            state = mid.state;
+            found = opens.found (boots.goes.passed.honest (honest_new h));
+            boot = done;
+            due_is = due;
+            ran = ran_is;
+            queued = queued_is;
+          };
+          did = subst (λ (d : D). OpensDisk old (look d) now) (sym disk) (did_both boots.goes boots.roomy boots.quiet);
+          fits = λ h lacks. let bad = boots.full.1 (lacks_boot (boots.goes.passed.honest (honest_new h)) lacks) in let none : ⊥ = cc in none;
+        }
+
+    -- the boot failed
+    pub boot_refused : (fault : SlotFault) (d : D) → Boots look now mid new (Err fault) → d ≡ new.disk → NotOpened old (look d) now (told_slot fault)
+    boot_refused fault d boots same = subst (λ (x : D). NotOpened old (look x) now (told_slot fault)) (sym same) (record {
+      did = did_both boots.goes boots.roomy boots.quiet;
+      damaged = λ h x is. absurd (no_damage fault x is);
+      cause = λ is. let grew = boots.cause (ap Err (as_disk fault is)) in let before = opens.opens.goes.passed.failures in omega (arith, grew, before);
+      full = λ h is. lacks_room (boots.goes.passed.honest h) (boots.full.0 (ap Err (as_full fault is)));
+      never_full = λ roomy h is.
+          let lacks = boots.full.0 (ap Err (as_full fault is)) in
+          let room = opens.room roomy (boots.goes.passed.honest h) lacks.0 in
+          let short = lacks.1 in
+          omega (arith, room, short);
+      memory = λ is. absurd (no_memory fault is);
+    })
+      where
+        no_damage : (f : SlotFault) (x : Damage) → told_slot f ≡ why.Damaged x → ⊥
+        no_damage slot.Disk x is = cc
+        no_damage slot.Full x is = cc
+
+        as_disk : (f : SlotFault) → told_slot f ≡ why.Disk → f ≡ slot.Disk
+        as_disk slot.Disk is = refl
+        as_disk slot.Full is = absurd cc
+
+        as_full : (f : SlotFault) → told_slot f ≡ why.Full → f ≡ slot.Full
+        as_full slot.Disk is = absurd cc
+        as_full slot.Full is = refl
+
+        no_memory : (f : SlotFault) → told_slot f ≡ why.Memory → ⊥
+        no_memory slot.Disk is = cc
+        no_memory slot.Full is = cc
