@@ -18,9 +18,9 @@ use Rattle.exec_turn.specs.Actives.{Active}
 use Rattle.exec_turn.specs.Laws.{after_all-append, joined, then_started}
 use Rattle.exec_turn.specs.Picks.{begins}
 use Rattle.exec_turn.specs.Pieces.{Leaves}
-use Rattle.exec_turn.specs.Polls.{polls, result_notices, results}
+use Rattle.exec_turn.specs.Polls.{polls, results}
 use Rattle.exec_turn.specs.Starts.{Started, refusal_notices, refusals, starts}
-use Rattle.exec_turn.specs.Turn.{IsTurn, PickedAt, PicksBehind, Scene, Told, Whole, behind, due_after_all, scene}
+use Rattle.exec_turn.specs.Turn.{IsTurn, PickedAt, PicksBehind, Scene, Told, Whole, due_after_all, scene}
 use Rattle.exec_turn.specs.Turns.{BeginsRow, PollsRow, StartsRow, Turns}
 
 due_after_all-append : (s : State) (due : Due) (es fs : List Event) → due_after_all s due (es ++ fs) ≡ due_after_all (after_all s es) (due_after_all s due es) fs

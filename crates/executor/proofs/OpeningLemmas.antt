@@ -1,5 +1,5 @@
 -- An opening of the journal, and then its boot.
-use Rattle.std.proofs.Common.{◌≡◌, inl, inr, ℕ, ◌+◌, ◌<◌, ◌≤◌, Bool, true, false, cond, List, [], ◌∷◌, Ok, Err, refl, sym, ◌∙◌, ap, subst, arith}
+use Rattle.std.proofs.Common.{◌≡◌, inl, inr, ℕ, Bool, true, false, cond, List, [], ◌∷◌, Ok, Err, refl, sym, ◌∙◌, ap, subst, arith}
 use Rattle.std.specs.List.{list_any}
 use Rattle.ocf_types.specs.Answer.{moment}
 use Rattle.ocf_types.specs.Boot.{any_busy, boot, boot_at}
@@ -8,7 +8,7 @@ use Rattle.ocf_types.specs.Resource.{is_busy}
 use Rattle.ocf_types.specs.State.{Registry, State, after, changed}
 use Rattle.ocf_types.specs.declared.event.Change.TheVariants as change
 use Rattle.ocf_types.specs.declared.reply.Notice.{Notice}
-use Rattle.disk_model.specs.Image.{Image, part_limit}
+use Rattle.disk_model.specs.Image.{Image}
 use Rattle.disk_model.specs.Laws.{joined, passed_on, supposed, weakened}
 use Rattle.disk_model.specs.Runs.{Goes}
 use Rattle.disk_model.specs.View.{Passed, Rests, View}
@@ -21,9 +21,8 @@ use Rattle.exec_journal.specs.Settled.{IsSettled}
 use Rattle.exec_journal.specs.declared.damage.Damage.{Damage}
 use Rattle.exec_journal.specs.declared.fault.JournalFault.{JournalFault}
 use Rattle.exec_journal.specs.declared.fault.JournalFault.TheVariants as journal
-use Rattle.executor.specs.declared.opening.OpenError.{OpenError}
 use Rattle.executor.specs.declared.opening.OpenError.TheVariants as why
-use Rattle.executor.specs.Openings.{Boots, BootsFrom, IsQuiet, LacksBoot, LacksRoom, NotOpened, Opened, OpensDisk, Starts, StartsLike, booted, told_fault, told_slot}
+use Rattle.executor.specs.Openings.{Boots, BootsFrom, IsQuiet, LacksBoot, LacksRoom, NotOpened, Opened, OpensDisk, StartsLike, booted, told_fault, told_slot}
 use Rattle.executor.specs.Reports.{dropped, interrupted}
 use Rattle.executor.specs.Sights.{Sight}
 use Rattle.executor.proofs.Booting.{not_both}

@@ -1,5 +1,5 @@
 -- What an opening makes of what it finds, and what it leaves.
-use Rattle.std.specs.Prelude.{◌≡◌, ◌⊎◌, ◌↔◌, ℕ, ◌+◌, ◌<◌, Bool, true, false, List, Result, IsErrOf, OnErr, OnOk, IsTrue}
+use Rattle.std.specs.Prelude.{◌≡◌, ◌⊎◌, ◌↔◌, ℕ, ◌+◌, ◌<◌, true, false, List, Result, IsErrOf, OnOk, IsTrue}
 use Rattle.ocf_types.specs.Answer.{moment}
 use Rattle.ocf_types.specs.Boot.{any_busy, boot}
 use Rattle.ocf_types.specs.Due.{Due, due_at}
