@@ -1,18 +1,14 @@
 -- What the executor answers to a line.
 use Rattle.std.specs.Prelude.{◌≡◌, ◌≢◌, ◌↔◌, ℕ, List, true, false, Result, Ok, Err}
-use Rattle.ocf_types.specs.Answer.{event_of, reply_to}
-use Rattle.ocf_types.specs.Kinds.{Command, Event, Reply, Request}
-use Rattle.ocf_types.specs.declared.command.Question.{Question}
-use Rattle.ocf_types.specs.declared.command.RequestOf.TheVariants as asked
+use Rattle.ocf_types.specs.Kinds.{Reply}
 use Rattle.ocf_types.specs.declared.outcome.StartFault.TheVariants.{Missing}
 use Rattle.ocf_types.specs.declared.refusal.Refusal.{Refusal}
 use Rattle.ocf_types.specs.declared.refusal.Refusal.TheVariants.{Closed, Disk, Memory, UnknownOp}
 use Rattle.ocf_types.specs.declared.reply.ReplyOf.TheVariants.{Refused}
 use Rattle.disk_model.specs.View.{View}
-use Rattle.exec_state.specs.Answers.{IsReplyOrMemory}
 use Rattle.executor.specs.declared.executor.Executor.{Executor}
-use Rattle.executor.specs.Commands.{Commanded}
-use Rattle.executor.specs.Executors.{disk_of, is_open, monitors_of, state_of, tail_of}
+use Rattle.executor.specs.Commands.{Serves}
+use Rattle.executor.specs.Sights.{sight_of}
 use Rattle.exec_commands.specs.Lines.{line_read}
 use Rattle.exec_commands.specs.declared.ends.MetaEnd.TheVariants.{NotStarted}
 use Rattle.exec_commands.specs.declared.line.Line.{Line}
@@ -39,25 +35,16 @@ closed_reply (Ok (line.Request request)) = refused Closed
 closed_reply (Ok (line.Drain limit)) = refused Closed
 closed_reply (Err refusal) = refused Closed
 
--- The reply of an open executor to a request at this moment: to a question from its state, and to a command the refusal
--- that it is, or the event's, recorded. It goes from one executor to another.
-pub record Requested {D M : Type 0} (view : D → View) (old new : Executor D M) (now : ℕ) (request : Request) (reply : Reply) : Type 0 where
-  pub question : (q : Question) → request ≡ asked.Question q → IsReplyOrMemory (reply_to (state_of old) q) reply × (new ≡ old)
-  pub refused : (c : Command) (refusal : Refusal) → request ≡ asked.Command c → event_of (state_of old) now c ≡ Err refusal
-      → (reply ≡ Refused refusal) × (new ≡ old)
-  pub accepted : (c : Command) (e : Event) → request ≡ asked.Command c → event_of (state_of old) now c ≡ Ok e
-      → Commanded (view (disk_of old)) (view (disk_of new)) (state_of old) (state_of new) (monitors_of old) (monitors_of new) (tail_of old) e reply
-  pub closes : is_open new ≡ false ↔ (reply ≡ Refused Disk)
-
--- what an open executor answers to a line: to a request as above, at the moment that the clock shows, whatever that is
+-- what an open executor answers to a line: to a request what it serves at the moment that the clock shows, whatever that is
 abbrev pub IsOpenReply : {D M : Type 0} → (D → View) → Executor D M → Executor D M → Result Line Refusal → LineReply → Type 0
 IsOpenReply view old new (Ok (line.Request request)) reply =
-    (now : ℕ) × (given : Reply) × (reply ≡ answer.Request given) × Requested view old new now request given
+    (now : ℕ) × (given : Reply) × (reply ≡ answer.Request given) × Serves view now request (sight_of old) (sight_of new) given
+    × ((sight_of new).is_open ≡ false ↔ (given ≡ Refused Disk))
 IsOpenReply view old new (Ok (line.Drain limit)) reply = (reply ≡ refused UnknownOp) × (new ≡ old)
 IsOpenReply view old new (Ok (line.Meta provider agent)) reply = (reply ≡ no_metadata) × (new ≡ old)
 IsOpenReply view old new (Err refusal) reply = (reply ≡ refused refusal) × (new ≡ old)
 
 -- what an executor answers to a line
 pub record IsReply {D M : Type 0} (view : D → View) (old new : Executor D M) (found : Result Line Refusal) (reply : LineReply) : Type 0 where
-  pub while_open : is_open old ≡ true → IsOpenReply view old new found reply
-  pub once_closed : is_open old ≡ false → (reply ≡ closed_reply found) × (new ≡ old)
+  pub while_open : (sight_of old).is_open ≡ true → IsOpenReply view old new found reply
+  pub once_closed : (sight_of old).is_open ≡ false → (reply ≡ closed_reply found) × (new ≡ old)

@@ -3,7 +3,7 @@ use Rattle.std.specs.Prelude.{◌≡◌, ℕ, ⊤, List, ◌++◌, Option, true,
 use Rattle.std.specs.Io.KnownBytes.{Appends}
 use Rattle.std.specs.List.{flat_map}
 use Rattle.disk_model.specs.View.{View}
-use Rattle.executor.specs.Executors.{is_open}
+use Rattle.executor.specs.Sights.{sight_of}
 use Rattle.executor.specs.declared.executor.Executor.{Executor}
 use Rattle.executor.specs.declared.report.Report.{Report}
 use Rattle.exec_commands.specs.Replies.{notice_line}
@@ -37,9 +37,9 @@ pub record Runs {D M N : Type 0} (view : D → View) (report : Report N) (p q : 
 -- how a run ends that begins at this place, with what the reader has left then and what the writer holds
 abbrev pub EndsAs : {D M N T : Type 0} → (D → View) → Report N → Place (Executor D M) → Option (List ℕ) → Option (List ℕ) → Result T Fault → Type 0
 EndsAs {D} {M} view report p left written (Ok done) =
-    (e : Executor D M) × Runs view report p (record { executor = e; left = left; written = written }) × (is_open e ≡ true)
+    (e : Executor D M) × Runs view report p (record { executor = e; left = left; written = written }) × ((sight_of e).is_open ≡ true)
 EndsAs {D} {M} view report p left written (Err Disk) =
-    (e : Executor D M) × Runs view report p (record { executor = e; left = left; written = written }) × (is_open e ≡ false)
+    (e : Executor D M) × Runs view report p (record { executor = e; left = left; written = written }) × ((sight_of e).is_open ≡ false)
 EndsAs view report p left written (Err Memory) = (left ≡ p.left) × (written ≡ p.written)
 EndsAs view report p left written (Err InputOrOutput) = ⊤
 EndsAs view report p left written (Err _) = ⊥

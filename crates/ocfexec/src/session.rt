@@ -1,6 +1,6 @@
 //! Command lines answered one by one.
 ghost use Rattle.std.specs.Prelude.{◌≡◌, true, IfOk, OnOk};
-ghost use Rattle.executor.specs.Executors.{IsSound, disk_of, is_open};
+ghost use Rattle.executor.specs.Sights.{IsSound, sight_of};
 ghost use Rattle.ocfexec.specs.Answers.{IsOpenReply, IsReply, closed_reply, no_metadata, refused};
 ghost use Rattle.ocfexec.specs.Progress.{ReadsInput, Takes};
 ghost use Rattle.ocfexec.specs.Runs.{EndsAs, ReachesEnd};
@@ -64,9 +64,9 @@ fn open_reply<D: Disk + Drop>(
     clock: &impl Clock,
     line: Result<Line, Refusal>,
 ) -> LineReply
-    requires open { is_open executor.old ≡ true }
-    requires sound { IsSound executor.old (D.view (disk_of executor.old)) }
-    ensures sound { IsSound executor.new (D.view (disk_of executor.new)) }
+    requires open { (sight_of executor.old).is_open ≡ true }
+    requires sound { IsSound D.view (sight_of executor.old) }
+    ensures sound { IsSound D.view (sight_of executor.new) }
     ensures reply { IsOpenReply D.view executor.old executor.new line result }
 {
     match line {
@@ -84,8 +84,8 @@ fn reply_to<D: Disk + Drop>(
     clock: &impl Clock,
     line: Result<Line, Refusal>,
 ) -> LineReply
-    requires sound { IsSound executor.old (D.view (disk_of executor.old)) }
-    ensures sound { IsSound executor.new (D.view (disk_of executor.new)) }
+    requires sound { IsSound D.view (sight_of executor.old) }
+    ensures sound { IsSound D.view (sight_of executor.new) }
     ensures reply { IsReply D.view executor.old executor.new line result }
 {
     if executor.is_open() {
@@ -124,8 +124,8 @@ fn next_reply<R: BufRead, W: Write, D: Disk + Drop>(
     clock: &impl Clock,
     buffer: &mut LineBuffer,
 ) -> Result<Progress, Stopped>
-    requires sound { IsSound executor.old (D.view (disk_of executor.old)) }
-    ensures sound { IsSound executor.new (D.view (disk_of executor.new)) }
+    requires sound { IsSound D.view (sight_of executor.old) }
+    ensures sound { IsSound D.view (sight_of executor.new) }
     ensures progress { IfOk result (λ p. Takes D.view p
         (record { executor = executor.old; left = R.remaining reader.old; written = W.contents writer.old })
         (record { executor = executor.new; left = R.remaining reader.new; written = W.contents writer.new })) }
@@ -149,7 +149,7 @@ fn answer_all<R: BufRead, W: Write, D: Disk + Drop>(
     clock: &impl Clock,
     buffer: &mut LineBuffer,
 ) -> Result<(), Stopped>
-    requires sound { IsSound executor.old (D.view (disk_of executor.old)) }
+    requires sound { IsSound D.view (sight_of executor.old) }
     ensures lines { OnOk result (ReachesEnd D.view
         (record { executor = executor.old; left = R.remaining reader.old; written = W.contents writer.old })
         (record { executor = executor.new; left = R.remaining reader.new; written = W.contents writer.new })) }
@@ -173,7 +173,7 @@ pub fn run_lines<R: BufRead, W: Write, D: Disk + Drop>(
     report: &Report,
     clock: &impl Clock,
 ) -> Result<(), Fault>
-    requires sound { IsSound executor (D.view (disk_of executor)) }
+    requires sound { IsSound D.view (sight_of executor) }
     ensures { EndsAs D.view report.now
         (record { executor = executor; left = R.remaining reader.old; written = W.contents writer.old })
         (R.remaining reader.new) (W.contents writer.new) result }

@@ -1,10 +1,10 @@
-use Rattle.executor.specs.Executors.{IsSound, disk_of}
+use Rattle.executor.specs.Sights.{IsSound, sight_of}
 use Rattle.ocfexec.specs.Runs.{Reaches}
 use Rattle.ocfexec.proofs.session.answer_all.Given as goal
 
 abbrev pub invariant-loop : goal.invariant-loop
 invariant-loop g l = record {
-  sound : IsSound l.executor (g.D.Disk.view (disk_of l.executor));
+  sound : IsSound g.D.Disk.view (sight_of l.executor);
   reached : Reaches g.D.Disk.view
       (record { executor = l.fn.executor; left = g.R.Read.remaining l.fn.reader; written = g.W.Write.contents l.fn.writer })
       (record { executor = l.executor; left = g.R.Read.remaining l.reader; written = g.W.Write.contents l.writer });

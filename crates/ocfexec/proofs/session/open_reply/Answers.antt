@@ -6,9 +6,5 @@ pub returns-in-Ok-Request-clause-reply : goal.returns-in-Ok-Request-clause-reply
 returns-in-Ok-Request-clause-reply g c =
     let told = c.command.ensures in
     let h = c.in-Ok-Request in
-    requested g.D.Disk.view c.args.executor.now c.command.new.self c.args.line c.get.result h.request c.command.result (h.is ∙ ap Ok h.field-0-is) (record {
-      question = λ q is. told.question c.requires.open q is;
-      refused = λ k e is event. told.refused c.requires.open k e is event;
-      accepted = λ k e is event. told.accepted c.requires.open k e is event;
-      closes = told.closes c.requires.open;
-    })
+    requested g.D.Disk.view c.args.executor.now c.command.new.self c.args.line c.get.result h.request c.command.result (h.is ∙ ap Ok h.field-0-is) told.serves
+    (told.closes c.requires.open)
