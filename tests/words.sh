@@ -49,6 +49,15 @@ wrote() {
     [ "$(cat "$here/out")" = "$2" ] || differs "$1, standard output" "$2" "$(cat "$here/out")"
 }
 
+# Whether each of these parts stands in standard output. Use: holds NAME PART..
+holds() {
+    local name=$1 part
+    shift
+    for part in "$@"; do
+        grep -q -F -e "$part" "$here/out" || differs "$name, standard output" "$part" "$(cat "$here/out")"
+    done
+}
+
 # Runs the program with standard output on a device that is full. Use: full_output WORD..
 full_output() {
     printf '{"op":"list"}\n' | "$program" "$@" > /dev/full 2> "$here/err"
@@ -65,15 +74,22 @@ $check_output"
 
 # What is asked for
 ends 0 "" --help
-for command in register unregister params exec recur cancel forget list info history README.md docs/FORMAT.md; do
-    grep -q -w -e "$command" "$here/out" || differs "--help" "a line of $command" "$(cat "$here/out")"
+holds --help "Usage: ocfexec" "run " "show " --version Example: "ocfexec run --memory" README.md docs/FORMAT.md
+for command in register unregister params exec recur cancel forget list info history; do
+    grep -q -e "^  $command " "$here/out" || differs "--help" "a line of $command" "$(cat "$here/out")"
 done
 ends 0 "" run --help
+holds "run --help" "--journal <DIR>" --memory "--root <DIR>" "--via <PROGRAM>" "--path <PATH>" "[default: /usr/lib/ocf]" \
+    "[default: /usr/sbin:/usr/bin:/sbin:/bin]" "just one of --journal and --memory" Example: "ocfexec run --memory"
 ends 0 "" show --help
+holds "show --help" Example: "ocfexec show --memory"
+ends 0 "" show -h
 ends 0 "" help run
+ends 0 "" run --memory --help
 ends 0 "" --version
 wrote --version "ocfexec 0.1.0"
 ends 0 "" -V
+wrote -V "ocfexec 0.1.0"
 ends 0 "" run --memory
 wrote "run --memory" ""
 ends 0 "" show --memory
@@ -92,6 +108,13 @@ ends 2 "ocfexec: words are not UTF-8" "$(printf '\377')"
 misused "Usage: .* <COMMAND>"
 misused "unrecognized subcommand 'fly'" fly
 misused "unexpected argument '--fast'" run --memory --fast
+misused "Usage: ocfexec run" run --fast
+misused "^error: " --memory
+misused "^error: " run --memory more
+misused "^error: " run --fast --memory
+misused "^error: " run --memory=yes
+misused "^error: " run --memory --via -x
+misused "cannot be used multiple times" run --memory --root /r --root /r
 misused "unexpected argument '--version'" run --version
 misused "a value is required" run --journal
 misused "cannot be used multiple times" run --memory --memory

@@ -6,8 +6,6 @@
 #[cfg(test)]
 mod agents;
 #[cfg(test)]
-mod help;
-#[cfg(test)]
 mod largest;
 #[cfg(test)]
 mod lines;
@@ -25,5 +23,3 @@ mod replies;
 mod requests;
 #[cfg(test)]
 mod words;
-#[cfg(test)]
-mod writers;

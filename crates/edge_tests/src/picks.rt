@@ -1,10 +1,8 @@
 // What a resource begins next. No line asks for a begin.
 use event_wire::decode_event;
 use exec_state::State;
-use ocf_types::{Moment, RscId};
+use ocf_types::{Event, Moment, RscId};
 use std::alloc::Global;
-use std::process::Abort;
-use std::test::Fail;
 
 // r1 is registered at moment 0.
 const REGISTER: &[u8] = b"\x01\0\0\0\0\0\0\0\0\x02r1\x01p\x01t\0";
@@ -44,72 +42,109 @@ const END_LATE: &[u8] = b"\x09\0\x1f\xff\xff\xff\xff\xff\xff\x02r1\0\0\0\0\0\0\0
 
 const GREATEST: u64 = 9_007_199_254_740_991;
 
-// After these events the call that is picked at a moment, or 0 where none is.
-const PICKS: [(&[&[u8]], &[(u64, u64)]); 13] = [
-    (&[], &[(0, 0)]),
-    (&[REGISTER], &[(0, 0)]),
-    // a monitor is due at once, not while it runs, and then its interval after the end
-    (&[REGISTER, RECUR], &[(0, 1)]),
-    (&[REGISTER, RECUR, BEGIN], &[(20, 0), (20_000, 0)]),
-    (&[REGISTER, RECUR, BEGIN, END], &[(10_029, 0), (10_030, 1)]),
-    // what is queued is first
-    (&[REGISTER, RECUR, START], &[(0, 2)]),
-    (&[REGISTER, RECUR, START, BEGIN_START], &[(0, 0)]),
-    (&[REGISTER, RECUR, START, BEGIN_START, END], &[(30, 1)]),
-    // of two that are due at one moment, the lower call
-    (&[REGISTER, RECUR, OTHER, BEGIN, END], &[(30, 2)]),
-    (
-        &[REGISTER, RECUR, OTHER, BEGIN, END, BEGIN_OTHER, END_OTHER],
-        &[(10_029, 0), (10_030, 1)],
-    ),
-    // the run of a monitor that was cancelled does not move the new one
-    (
-        &[REGISTER, RECUR, BEGIN, CANCEL, AGAIN, END],
-        &[(19, 0), (20, 2)],
-    ),
-    // after the greatest moment nothing is due
-    (&[REGISTER, LATE], &[(GREATEST - 1, 0), (GREATEST, 1)]),
-    (&[REGISTER, LATE, BEGIN_LATE, END_LATE], &[(GREATEST, 0)]),
-];
+// Does what the event says, where it applies.
+fn record(state: &mut State, event: Event) -> Option<()> {
+    if !state.applies(&event) {
+        return None;
+    }
+    state.prepare(&event).ok()?;
+    state.apply(event);
+    Some(())
+}
 
 // The state after these events.
-fn after(rt: &impl Abort, alloc: Global, events: &[&[u8]]) -> Result<State, Fail> {
+fn after(alloc: Global, events: &[&[u8]]) -> Option<State> {
     let mut state = State::new(alloc);
     for spelling in events {
-        let (event, _) = decode_event(alloc, spelling)?.ok_or("an event")?;
-        assert!(rt; state.applies(&event));
-        state.prepare(&event)?;
-        state.apply(event);
+        let (event, _) = decode_event(alloc, spelling).ok()??;
+        record(&mut state, event)?;
     }
-    Ok(state)
+    Some(state)
 }
 
-fn picks(rt: &impl Abort, state: &State, wanted: &[(u64, u64)]) -> Result<(), Fail> {
-    for (now, call) in wanted {
-        let picked = match state.choose(&RscId::new(b"r1")?, Moment::cut(*now)) {
-            Some(call) => call.get(),
-            None => 0,
-        };
-        assert_eq!(rt; picked, *call, "at {now}");
-    }
-    Ok(())
+// The call that is picked for r1 at a moment, or 0 where none is.
+fn picked(state: &State, now: u64) -> Option<u64> {
+    let id = RscId::new(b"r1").ok()?;
+    Some(match state.choose(&id, Moment::cut(now)) {
+        Some(call) => call.get(),
+        None => 0,
+    })
 }
 
-#[test]
-fn what_begins_next_is_what_the_table_says(rt: HostRuntime) -> Result<(), Fail> {
-    for (events, wanted) in PICKS {
-        let state = after(&rt, rt.alloc(), events)?;
-        picks(&rt, &state, wanted)?;
-    }
-    Ok(())
+// The calls that are picked at two moments after these events.
+fn picks(alloc: Global, events: &[&[u8]], first: u64, second: u64) -> Option<[u64; 2]> {
+    let state = after(alloc, events)?;
+    Some([picked(&state, first)?, picked(&state, second)?])
 }
 
 #[test]
-fn after_an_opening_each_monitor_is_due(rt: HostRuntime) -> Result<(), Fail> {
-    let mut state = after(&rt, rt.alloc(), &[REGISTER, RECUR, BEGIN, END])?;
+fn a_monitor_is_due_at_once_and_its_interval_after_its_end(rt: HostRuntime) {
+    let alloc = rt.alloc();
+    assert_eq!(rt; picks(alloc, &[], 0, 1), Some([0, 0]));
+    assert_eq!(rt; picks(alloc, &[REGISTER], 0, 1), Some([0, 0]));
+    assert_eq!(rt; picks(alloc, &[REGISTER, RECUR], 0, 1), Some([1, 1]));
+    assert_eq!(rt;
+        picks(alloc, &[REGISTER, RECUR, BEGIN], 20, 20_000),
+        Some([0, 0])
+    );
+    assert_eq!(rt;
+        picks(alloc, &[REGISTER, RECUR, BEGIN, END], 10_029, 10_030),
+        Some([0, 1])
+    );
+}
+
+#[test]
+fn what_is_queued_is_first(rt: HostRuntime) {
+    let alloc = rt.alloc();
+    assert_eq!(rt; picks(alloc, &[REGISTER, RECUR, START], 0, 1), Some([2, 2]));
+    assert_eq!(rt;
+        picks(alloc, &[REGISTER, RECUR, START, BEGIN_START], 0, 1),
+        Some([0, 0])
+    );
+    assert_eq!(rt;
+        picks(alloc, &[REGISTER, RECUR, START, BEGIN_START, END], 30, 31),
+        Some([1, 1])
+    );
+}
+
+#[test]
+fn of_two_that_are_due_at_one_moment_the_lower_call_is_first(rt: HostRuntime) {
+    let both = [REGISTER, RECUR, OTHER, BEGIN, END, BEGIN_OTHER, END_OTHER];
+    assert_eq!(rt; picks(rt.alloc(), &both[..5], 30, 31), Some([2, 2]));
+    assert_eq!(rt; picks(rt.alloc(), &both, 10_029, 10_030), Some([0, 1]));
+}
+
+#[test]
+fn the_run_of_a_cancelled_monitor_does_not_move_the_new_one(rt: HostRuntime) {
+    let events = [REGISTER, RECUR, BEGIN, CANCEL, AGAIN, END];
+    assert_eq!(rt; picks(rt.alloc(), &events, 19, 20), Some([0, 2]));
+}
+
+#[test]
+fn after_the_greatest_moment_nothing_is_due(rt: HostRuntime) {
+    let events = [REGISTER, LATE, BEGIN_LATE, END_LATE];
+    assert_eq!(rt;
+        picks(rt.alloc(), &events[..2], GREATEST - 1, GREATEST),
+        Some([0, 1])
+    );
+    assert_eq!(rt;
+        picks(rt.alloc(), &events, GREATEST, GREATEST),
+        Some([0, 0])
+    );
+}
+
+// The calls that are picked at two moments after an opening at 500, and whether one is for another resource.
+fn restarted(alloc: Global) -> Option<([u64; 2], bool)> {
+    let mut state = after(alloc, &[REGISTER, RECUR, BEGIN, END])?;
     state.restart(Moment::cut(500));
-    picks(&rt, &state, &[(499, 0), (500, 1)])?;
-    let other = state.choose(&RscId::new(b"zz")?, Moment::cut(500));
-    assert_eq!(rt; other, None);
-    Ok(())
+    let other = state.choose(&RscId::new(b"zz").ok()?, Moment::cut(500));
+    Some((
+        [picked(&state, 499)?, picked(&state, 500)?],
+        other.is_some(),
+    ))
+}
+
+#[test]
+fn after_an_opening_each_monitor_is_due(rt: HostRuntime) {
+    assert_eq!(rt; restarted(rt.alloc()), Some(([0, 1], false)));
 }

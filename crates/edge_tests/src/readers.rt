@@ -1,7 +1,8 @@
-// Readers that stumble and fail.
-use exec_lines::{LineBuffer, Next, next_line};
+// Readers that stumble and fail, and writers that take no more.
+use crate::lines::has_lines;
+use exec_lines::{LineBuffer, next_line, write_flushed};
+use std::alloc::Global;
 use std::io::{self, BufReader, ErrorKind, Read};
-use std::test::Fail;
 
 // Gives these bytes, each read after an interrupted one, and then fails.
 #[derive(Drop)]
@@ -23,22 +24,36 @@ impl Read for Stumbling<'_> {
     }
 }
 
-#[test]
-fn interrupted_reads_are_made_again_and_a_failed_one_is_told(rt: HostRuntime) -> Result<(), Fail> {
-    let stumbling = Stumbling {
-        left: b"one\ntwo and half of three\nthr",
-        stumbles: false,
-    };
-    let mut reader = BufReader::with_capacity(rt.alloc(), 5, stumbling)?;
-    let mut buffer = LineBuffer::new(rt.alloc())?;
-    for line in [b"one".as_slice(), b"two and half of three".as_slice()] {
-        assert_eq!(rt; next_line(&mut reader, &mut buffer)?, Next::Line);
-        assert_eq!(rt; buffer.line(), line);
+// How the reading fails behind two lines.
+fn failure(alloc: Global) -> Option<ErrorKind> {
+    let left = b"one\ntwo and half of three\nthr";
+    let stumbles = false;
+    let mut reader = BufReader::with_capacity(alloc, 5, Stumbling { left, stumbles }).ok()?;
+    let mut buffer = LineBuffer::new(alloc).ok()?;
+    if !has_lines(
+        &mut reader,
+        &mut buffer,
+        &[b"one", b"two and half of three"],
+    ) {
+        return None;
     }
-    let failed = match next_line(&mut reader, &mut buffer) {
-        Ok(_) => None,
-        Err(error) => Some(error.kind()),
-    };
-    assert_eq!(rt; failed, Some(ErrorKind::BrokenPipe));
-    Ok(())
+    Some(next_line(&mut reader, &mut buffer).err()?.kind())
+}
+
+#[test]
+fn interrupted_reads_are_made_again_and_a_failed_one_is_told(rt: HostRuntime) {
+    assert_eq!(rt; failure(rt.alloc()), Some(ErrorKind::BrokenPipe));
+}
+
+// How writing a reply of 12 bytes into this room fails.
+fn refusal(room: &mut [u8]) -> Option<ErrorKind> {
+    let mut writer = room;
+    Some(write_flushed(&mut writer, b"{\"ok\":true}\n").err()?.kind())
+}
+
+#[test]
+fn a_writer_that_takes_no_more_is_told(rt: HostRuntime) {
+    let zero = Some(ErrorKind::WriteZero);
+    assert_eq!(rt; [refusal(&mut []), refusal(&mut [0; 11])], [zero; 2]);
+    assert_eq!(rt; [refusal(&mut [0; 12]), refusal(&mut [0; 13])], [None; 2]);
 }

@@ -4,110 +4,106 @@ use ocf_types::{
     Action, CallId, Ended, Moment, Notice, Outcome, Refusal, Reply, RscId, RunEnd, StartFault,
     TurnEnd,
 };
-use std::alloc::{AllocError, Global};
-use std::process::Abort;
-use std::test::Fail;
+use std::alloc::Global;
 
-fn says(rt: &impl Abort, alloc: Global, reply: &LineReply, line: &[u8]) -> Result<(), AllocError> {
-    let written = write_reply(alloc, reply)?;
-    assert_eq!(rt; written.as_slice(), line);
-    Ok(())
+fn says(alloc: Global, reply: LineReply, line: &str) -> bool {
+    matches!(write_reply(alloc, &reply), Ok(written) if written.as_slice() == line.as_bytes())
 }
 
-const DRAINS: [(DrainEnd, &[u8]); 9] = [
-    (DrainEnd::Idle, b"{\"end\":\"idle\"}\n"),
-    (DrainEnd::Limit, b"{\"end\":\"limit\"}\n"),
-    (DrainEnd::Turns, b"{\"end\":\"turns\"}\n"),
-    (DrainEnd::Turn(TurnEnd::Memory), b"{\"end\":\"memory\"}\n"),
-    (DrainEnd::Turn(TurnEnd::Full), b"{\"end\":\"full\"}\n"),
-    (
-        DrainEnd::Turn(TurnEnd::RunsSpent),
-        b"{\"end\":\"runs-spent\"}\n",
-    ),
-    (
-        DrainEnd::Turn(TurnEnd::BookFull),
-        b"{\"end\":\"book-full\"}\n",
-    ),
-    (DrainEnd::Turn(TurnEnd::Disk), b"{\"end\":\"disk\"}\n"),
-    (DrainEnd::Turn(TurnEnd::Closed), b"{\"end\":\"closed\"}\n"),
-];
+fn drain_says(alloc: Global, end: DrainEnd, line: &str) -> bool {
+    says(alloc, LineReply::Drain(end), line)
+}
 
-const METADATA: [(MetaEnd, &[u8]); 8] = [
-    (
-        MetaEnd::NotStarted(StartFault::Missing),
-        b"{\"end\":\"missing\"}\n",
-    ),
-    (
-        MetaEnd::NotStarted(StartFault::Denied),
-        b"{\"end\":\"denied\"}\n",
-    ),
-    (
-        MetaEnd::NotStarted(StartFault::Other),
-        b"{\"end\":\"other\"}\n",
-    ),
-    (MetaEnd::Given(46), b"{\"meta\":46}\n"),
-    (MetaEnd::Read, b"{\"end\":\"read\"}\n"),
-    (MetaEnd::TooLong, b"{\"end\":\"too-long\"}\n"),
-    (MetaEnd::Memory, b"{\"end\":\"memory\"}\n"),
-    (MetaEnd::Failed(5), b"{\"code\":5,\"end\":\"failed\"}\n"),
-];
+fn turn_says(alloc: Global, end: TurnEnd, line: &str) -> bool {
+    drain_says(alloc, DrainEnd::Turn(end), line)
+        && says(alloc, LineReply::Request(Reply::Turn(end)), line)
+}
+
+fn meta_says(alloc: Global, end: MetaEnd, line: &str) -> bool {
+    says(alloc, LineReply::Meta(end), line)
+}
+
+fn start_says(alloc: Global, fault: StartFault, line: &str) -> bool {
+    meta_says(alloc, MetaEnd::NotStarted(fault), line)
+}
 
 #[test]
-fn ends_of_drains_metadata_and_turns_and_want_of_memory_have_their_lines(
-    rt: HostRuntime,
-) -> Result<(), Fail> {
-    for (end, line) in DRAINS {
-        says(&rt, rt.alloc(), &LineReply::Drain(end), line)?;
-    }
-    for (end, line) in METADATA {
-        says(&rt, rt.alloc(), &LineReply::Meta(end), line)?;
-    }
-    let turned = LineReply::Request(Reply::Turn(TurnEnd::Done));
-    says(&rt, rt.alloc(), &turned, b"{\"end\":\"done\"}\n")?;
-    let refused = LineReply::Request(Reply::Refused(Refusal::Memory));
-    says(
-        &rt,
-        rt.alloc(),
-        &refused,
-        b"{\"error\":\"memory\",\"number\":15}\n",
-    )?;
-    Ok(())
+fn ends_of_drains_and_turns_have_their_lines(rt: HostRuntime) {
+    let alloc = rt.alloc();
+    let drains = [
+        drain_says(alloc, DrainEnd::Idle, "{\"end\":\"idle\"}\n"),
+        drain_says(alloc, DrainEnd::Limit, "{\"end\":\"limit\"}\n"),
+        drain_says(alloc, DrainEnd::Turns, "{\"end\":\"turns\"}\n"),
+    ];
+    let turns = [
+        turn_says(alloc, TurnEnd::Done, "{\"end\":\"done\"}\n"),
+        turn_says(alloc, TurnEnd::Memory, "{\"end\":\"memory\"}\n"),
+        turn_says(alloc, TurnEnd::Full, "{\"end\":\"full\"}\n"),
+        turn_says(alloc, TurnEnd::RunsSpent, "{\"end\":\"runs-spent\"}\n"),
+        turn_says(alloc, TurnEnd::BookFull, "{\"end\":\"book-full\"}\n"),
+        turn_says(alloc, TurnEnd::Disk, "{\"end\":\"disk\"}\n"),
+        turn_says(alloc, TurnEnd::Closed, "{\"end\":\"closed\"}\n"),
+    ];
+    assert!(rt; drains == [true; 3] && turns == [true; 7]);
 }
 
-fn ended(action: Action, interval: u32, outcome: Outcome) -> Result<Ended, Fail> {
-    Ok(Ended {
-        call: CallId::new(9).ok_or("a call id")?,
+#[test]
+fn ends_of_metadata_and_want_of_memory_have_their_lines(rt: HostRuntime) {
+    let alloc = rt.alloc();
+    let refused = LineReply::Request(Reply::Refused(Refusal::Memory));
+    let lines = [
+        start_says(alloc, StartFault::Missing, "{\"end\":\"missing\"}\n"),
+        start_says(alloc, StartFault::Denied, "{\"end\":\"denied\"}\n"),
+        start_says(alloc, StartFault::Other, "{\"end\":\"other\"}\n"),
+        meta_says(alloc, MetaEnd::Given(46), "{\"meta\":46}\n"),
+        meta_says(alloc, MetaEnd::Read, "{\"end\":\"read\"}\n"),
+        meta_says(alloc, MetaEnd::TooLong, "{\"end\":\"too-long\"}\n"),
+        meta_says(alloc, MetaEnd::Memory, "{\"end\":\"memory\"}\n"),
+        meta_says(
+            alloc,
+            MetaEnd::Failed(5),
+            "{\"code\":5,\"end\":\"failed\"}\n",
+        ),
+        says(alloc, refused, "{\"error\":\"memory\",\"number\":15}\n"),
+    ];
+    assert_eq!(rt; lines, [true; 9]);
+}
+
+// The notice of a run of r1.
+fn notice(action: Action, interval: u32, end: RunEnd) -> Option<Notice> {
+    let result = Ended {
+        call: CallId::new(9)?,
         run: 12,
         action,
         interval,
         since: Moment::cut(400),
         at: Moment::cut(500),
-        outcome,
+        outcome: Outcome::Run(end),
+    };
+    Some(Notice {
+        id: RscId::new(b"r1").ok()?,
+        result,
     })
 }
 
+fn notice_says(alloc: Global, notice: Option<Notice>, line: &str) -> Option<bool> {
+    Some(write_notice(alloc, &notice?).ok()?.as_slice() == line.as_bytes())
+}
+
+const DONE: &str =
+    "{\"action\":\"start\",\"call\":9,\"code\":0,\"id\":\"r1\",\"interval\":0,\"name\":\"OCF_SUCCESS\",\"outcome\":\"done\",\"run\":12}\n";
+
+const NOT_STARTED: &str =
+    "{\"action\":\"monitor\",\"call\":9,\"code\":5,\"id\":\"r1\",\"interval\":10000,\"name\":\"OCF_ERR_INSTALLED\",\"outcome\":\"not-started\",\"run\":12}\n";
+
 #[test]
-fn a_notice_tells_how_a_run_ended(rt: HostRuntime) -> Result<(), Fail> {
-    let missing = RunEnd::NotStarted(StartFault::Missing);
-    let table: [(Action, u32, RunEnd, &[u8]); 2] = [
-        (
-            Action::Start,
-            0,
-            RunEnd::Done(0),
-            b"{\"action\":\"start\",\"call\":9,\"code\":0,\"id\":\"r1\",\"interval\":0,\"name\":\"OCF_SUCCESS\",\"outcome\":\"done\",\"run\":12}\n",
-        ),
-        (
-            Action::Monitor,
-            10_000,
-            missing,
-            b"{\"action\":\"monitor\",\"call\":9,\"code\":5,\"id\":\"r1\",\"interval\":10000,\"name\":\"OCF_ERR_INSTALLED\",\"outcome\":\"not-started\",\"run\":12}\n",
-        ),
-    ];
-    for (action, interval, end, line) in table {
-        let result = ended(action, interval, Outcome::Run(end))?;
-        let id = RscId::new(b"r1")?;
-        let written = write_notice(rt.alloc(), &Notice { id, result })?;
-        assert_eq!(rt; written.as_slice(), line);
-    }
-    Ok(())
+fn a_notice_tells_how_a_run_ended(rt: HostRuntime) {
+    let done = notice(Action::Start, 0, RunEnd::Done(0));
+    assert_eq!(rt; notice_says(rt.alloc(), done, DONE), Some(true));
+    let missing = notice(
+        Action::Monitor,
+        10_000,
+        RunEnd::NotStarted(StartFault::Missing),
+    );
+    assert_eq!(rt; notice_says(rt.alloc(), missing, NOT_STARTED), Some(true));
 }

@@ -1,5 +1,5 @@
 //! What a journal holds, as a text.
-use crate::print::{print_damage, push_reply};
+use crate::print::{print_damaged, push_reply};
 use anyhow::{Result, bail};
 use disk_model::MemDisk;
 use exec_commands::LineReply;
@@ -7,7 +7,6 @@ use exec_journal::{Journal, JournalFault};
 use exec_state::State;
 use ocf_types::{Question, Reply, RscId};
 use std::alloc::Global;
-use std::io::Write;
 
 // The replies of `info` and `history` of a resource.
 fn push_resource(alloc: Global, text: &mut Vec<u8>, state: &State, id: &RscId) -> Result<()> {
@@ -36,8 +35,7 @@ pub fn found_on(alloc: Global, disk: MemDisk) -> Result<Vec<u8>> {
         Ok((_journal, state)) => state_text(alloc, &state),
         Err((JournalFault::Damaged(damage), _)) => {
             let mut text = Vec::new(alloc);
-            print_damage(&mut text, &damage)?;
-            writeln!(text)?;
+            print_damaged(&mut text, "", &damage)?;
             Ok(text)
         }
         Err((fault, _)) => bail!("{fault}"),

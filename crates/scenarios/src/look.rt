@@ -1,14 +1,16 @@
 //! Looks at a world.
 use crate::fill::Filling;
 use crate::finding::found_on;
-use crate::print::{print_bytes, print_codes, print_launch, print_part, print_rows, push_reply};
+use crate::print::{
+    hex_text, print_codes, print_launch, print_line, print_part, print_rows, push_reply,
+};
 use crate::step::Look;
 use crate::world::World;
 use anyhow::{Context, Result};
 use event_wire::{decode_event, decode_state, encode_event, encode_state};
 use exec_commands::LineReply;
-use ocf_env::{Instance, Site, launch};
-use ocf_types::{CallId, EVENT_LIMIT, Info, Part, Question, Reply, RscId, RunId, Task};
+use ocf_env::{Instance, Launch, Site, launch};
+use ocf_types::{CallId, EVENT_LIMIT, Event, Info, Part, Question, Reply, RscId, RunId, Task};
 use std::alloc::Global;
 use std::io::Write;
 
@@ -43,8 +45,7 @@ impl World {
 
     fn show_launch<W: Write>(&mut self, id: &RscId, task: Task, writer: &mut W) -> Result<()> {
         let Some(session) = &mut self.session else {
-            writeln!(writer, "no executor")?;
-            return Ok(());
+            return print_line(writer, "no executor");
         };
         match session.ask(Question::Info(id.copied())) {
             Reply::Info(info) => show_start(self.alloc, session.site(), &info, task, writer),
@@ -66,13 +67,8 @@ impl World {
     }
 }
 
-fn show_start<W: Write>(
-    alloc: Global,
-    site: &Site,
-    info: &Info,
-    task: Task,
-    writer: &mut W,
-) -> Result<()> {
+// The first call of a resource's task at a site.
+fn first_launch(alloc: Global, site: &Site, info: &Info, task: Task) -> Result<Launch> {
     let instance = Instance {
         id: &info.id,
         provider: &info.provider,
@@ -81,25 +77,41 @@ fn show_start<W: Write>(
     };
     let call = CallId::new(1).context("1 is a call id")?;
     let run = RunId::new(1).context("1 is a run number")?;
-    let launch = launch(alloc, site, &instance, task, call, run)?;
+    Ok(launch(alloc, site, &instance, task, call, run)?)
+}
+
+fn show_start<W: Write>(
+    alloc: Global,
+    site: &Site,
+    info: &Info,
+    task: Task,
+    writer: &mut W,
+) -> Result<()> {
+    let launch = first_launch(alloc, site, info, task)?;
     print_launch(writer, &launch)
 }
 
-fn show_event<W: Write>(alloc: Global, bytes: &[u8], writer: &mut W) -> Result<()> {
-    let Some((event, len)) = decode_event(alloc, bytes)? else {
-        writeln!(writer, "no event")?;
-        return Ok(());
-    };
+fn respelled(alloc: Global, event: &Event) -> Result<Vec<u8>> {
     let mut room = vec![in alloc; 0u8; EVENT_LIMIT]?;
-    let spelled = encode_event(&event, room.as_mut_slice())?;
-    write!(writer, "event {len} ")?;
-    print_bytes(
-        alloc,
-        writer,
-        room.get(..spelled).context("a spelling fits")?,
-    )?;
-    writeln!(writer)?;
-    Ok(())
+    let len = encode_event(event, room.as_mut_slice())?;
+    room.truncate(len);
+    Ok(room)
+}
+
+fn event_text(alloc: Global, event: &Event) -> Result<String> {
+    let bytes = respelled(alloc, event)?;
+    Ok(hex_text(alloc, bytes.as_slice())?)
+}
+
+fn show_event<W: Write>(alloc: Global, bytes: &[u8], writer: &mut W) -> Result<()> {
+    match decode_event(alloc, bytes)? {
+        None => print_line(writer, "no event"),
+        Some((event, len)) => {
+            let text = event_text(alloc, &event)?;
+            writeln!(writer, "event {len} {text}")?;
+            Ok(())
+        }
+    }
 }
 
 fn state_word(alloc: Global, bytes: &[u8]) -> Result<&'static str> {
@@ -115,7 +127,5 @@ fn state_word(alloc: Global, bytes: &[u8]) -> Result<&'static str> {
 }
 
 fn show_state<W: Write>(alloc: Global, bytes: &[u8], writer: &mut W) -> Result<()> {
-    let word = state_word(alloc, bytes)?;
-    writeln!(writer, "{word}")?;
-    Ok(())
+    print_line(writer, state_word(alloc, bytes)?)
 }

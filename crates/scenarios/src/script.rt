@@ -54,6 +54,16 @@ impl Script {
             Line::Sweep(sweep) => sweep.play(self.alloc, self.acts.as_slice(), writer),
         }
     }
+
+    // Whether these bytes were a step, which is then played.
+    fn read<W: Write>(&mut self, bytes: &[u8], writer: &mut W) -> Result<bool> {
+        match Line::read(self.alloc, bytes) {
+            Ok(line) => self.play(line, writer)?,
+            Err(BadLine::Memory) => bail!("out of memory"),
+            Err(BadLine::NoStep) => return Ok(false),
+        }
+        Ok(true)
+    }
 }
 
 // Reads the next line without its newline; there is none at the end of the input.
@@ -68,26 +78,47 @@ fn read_line<R: BufRead>(reader: &mut R, line: &mut Vec<u8>) -> Result<bool> {
     Ok(true)
 }
 
+impl Script {
+    // Plays the next line, unless the input ends with it.
+    fn next<R: BufRead, W: Write>(
+        &mut self,
+        number: u64,
+        bytes: &mut Vec<u8>,
+        reader: &mut R,
+        writer: &mut W,
+    ) -> Result<Option<Ending>> {
+        if !read_line(reader, bytes)? {
+            return Ok(Some(Ending::Played));
+        }
+        if self.read(bytes.as_slice(), writer)? {
+            return Ok(None);
+        }
+        writeln!(writer, "line {number} is no step")?;
+        Ok(Some(Ending::NoStep))
+    }
+
+    fn play_all<R: BufRead, W: Write>(
+        &mut self,
+        bytes: &mut Vec<u8>,
+        reader: &mut R,
+        writer: &mut W,
+    ) -> Result<Ending> {
+        for number in 1..u64::MAX {
+            if let Some(ending) = self.next(number, bytes, reader, writer)? {
+                return Ok(ending);
+            }
+        }
+        bail!("too many lines")
+    }
+}
+
 /// Plays line after line, up to the end of the input or to a line that is no step.
 pub fn play_lines<R: BufRead, W: Write>(
     alloc: Global,
     reader: &mut R,
     writer: &mut W,
 ) -> Result<Ending> {
-    let mut script = Script::new(alloc)?;
     let mut bytes = Vec::new(alloc);
-    for number in 1..u64::MAX {
-        if !read_line(reader, &mut bytes)? {
-            return Ok(Ending::Played);
-        }
-        match Line::read(alloc, bytes.as_slice()) {
-            Ok(line) => script.play(line, writer)?,
-            Err(BadLine::Memory) => bail!("out of memory"),
-            Err(BadLine::NoStep) => {
-                writeln!(writer, "line {number} is no step")?;
-                return Ok(Ending::NoStep);
-            }
-        }
-    }
-    bail!("too many lines")
+    let mut script = Script::new(alloc)?;
+    script.play_all(&mut bytes, reader, writer)
 }

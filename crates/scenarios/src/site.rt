@@ -1,49 +1,71 @@
 //! The site of a scenario's agents.
+use crate::words::{BadLine, Words, text_of};
 use ocf_env::{Site, Text};
 use std::alloc::{AllocError, Global};
 
-/// The words of a site: a root, a search path, and perhaps a program to run agents through.
+// The words of every scenario, until it names others.
+const USUAL: &str = "/usr/lib/ocf /usr/sbin:/usr/bin:/sbin:/bin -";
+
+/// The words of a site: a root, a search path, and a program to run agents through, or `-` for none.
 #[derive(Drop)]
 pub struct SiteWords {
-    pub root: String,
-    pub path: String,
-    pub via: Option<String>,
+    words: String,
 }
 
-fn copied_text(alloc: Global, text: &str) -> Result<Text, AllocError> {
-    Ok(Text::new(String::from_str(alloc, text)?))
+fn text(alloc: Global, word: &str) -> Result<Text, AllocError> {
+    Ok(Text::new(String::from_str(alloc, word)?))
+}
+
+fn via(alloc: Global, word: &str) -> Result<Option<Text>, AllocError> {
+    if word == "-" {
+        return Ok(None);
+    }
+    Ok(Some(text(alloc, word)?))
+}
+
+fn site_of(alloc: Global, root: &str, path: &str, last: &str) -> Result<Site, AllocError> {
+    let via = via(alloc, last)?;
+    let root = text(alloc, root)?;
+    Ok(Site::new(root, text(alloc, path)?, via))
+}
+
+// Three words and no further one.
+fn has_three_words(line: &str) -> Result<(), BadLine> {
+    let mut words = Words::new(line.as_bytes());
+    for _ in 0..3 {
+        words.word()?;
+    }
+    words.end()
 }
 
 impl SiteWords {
     /// The site of every scenario, until it names another.
     pub fn usual(alloc: Global) -> Result<SiteWords, AllocError> {
         Ok(SiteWords {
-            root: String::from_str(alloc, "/usr/lib/ocf")?,
-            path: String::from_str(alloc, "/usr/sbin:/usr/bin:/sbin:/bin")?,
-            via: None,
+            words: String::from_str(alloc, USUAL)?,
+        })
+    }
+
+    /// The site that the rest of a line names.
+    pub fn read(alloc: Global, words: &mut Words) -> Result<SiteWords, BadLine> {
+        let line = text_of(words.rest()?)?;
+        has_three_words(line)?;
+        Ok(SiteWords {
+            words: String::from_str(alloc, line)?,
         })
     }
 
     /// The same words again.
     pub fn copied(&self) -> Result<SiteWords, AllocError> {
-        let via = match &self.via {
-            Some(via) => Some(via.clone()?),
-            None => None,
-        };
         Ok(SiteWords {
-            root: self.root.clone()?,
-            path: self.path.clone()?,
-            via,
+            words: self.words.clone()?,
         })
     }
 
     /// The site that they name.
-    pub fn site(&self, alloc: Global) -> Result<Site, AllocError> {
-        let via = match &self.via {
-            Some(via) => Some(copied_text(alloc, via.as_str())?),
-            None => None,
-        };
-        let root = copied_text(alloc, self.root.as_str())?;
-        Ok(Site::new(root, copied_text(alloc, self.path.as_str())?, via))
+    pub fn site(&self, alloc: Global) -> Result<Site, BadLine> {
+        let mut words = Words::new(self.words.as_bytes());
+        let (root, path) = (words.text()?, words.text()?);
+        Ok(site_of(alloc, root, path, words.text()?)?)
     }
 }

@@ -147,27 +147,55 @@ impl Line {
 }
 
 fn read_line(alloc: Global, verb: Verb, words: &mut Words) -> Result<Line, BadLine> {
-    Ok(match verb {
-        Verb::Scenario => Line::Scenario(read_name(alloc, words)?),
-        Verb::Part => Line::Act(Act::Part(read_part(words)?, words.part_bytes(alloc)?)),
-        Verb::Site => Line::Act(Act::Site(read_site(alloc, words)?)),
-        Verb::Open => Line::Act(Act::Open(words.number()?)),
-        Verb::At => Line::Act(Act::Command(words.number()?, words.tail().to_vec(alloc)?)),
-        Verb::Bytes => Line::Act(Act::Command(words.number()?, words.bytes(alloc)?)),
-        Verb::Close => Line::Act(Act::Close),
-        Verb::Stop => Line::Act(Act::Stop(words.count()?)),
-        Verb::Fault => Line::Act(Act::Fault(words.count()?)),
-        Verb::Image => Line::Act(Act::Image(words.count()?, Filling::named(alloc, words.word()?)?)),
-        Verb::Parts => Line::Look(Look::Parts),
-        Verb::Found => Line::Look(Look::Found),
-        Verb::Stops => Line::Look(Look::Stops(read_fillings(alloc, words)?)),
-        Verb::Event => Line::Look(Look::Event(words.bytes(alloc)?)),
-        Verb::State => Line::Look(Look::State(words.bytes(alloc)?)),
-        Verb::Launch => Line::Look(Look::Launch(read_id(words)?, read_task(words)?)),
-        Verb::Codes => Line::Look(Look::Codes),
-        Verb::Faults => Line::Sweep(read_faults(words)?),
-        Verb::Stopped => Line::Sweep(Sweep::Stopped(read_fillings(alloc, words)?)),
-    })
+    match verb {
+        Verb::Scenario => read_name(alloc, words).map(Line::Scenario),
+        Verb::Part | Verb::Site | Verb::At | Verb::Bytes | Verb::Image => {
+            read_act(alloc, verb, words).map(Line::Act)
+        }
+        Verb::Open | Verb::Close | Verb::Stop | Verb::Fault => {
+            read_short_act(verb, words).map(Line::Act)
+        }
+        Verb::Faults => read_faults(words).map(Line::Sweep),
+        Verb::Stopped => read_stopped(alloc, words).map(Line::Sweep),
+        _ => read_look(alloc, verb, words).map(Line::Look),
+    }
+}
+
+// An act with bytes or words.
+fn read_act(alloc: Global, verb: Verb, words: &mut Words) -> Result<Act, BadLine> {
+    match verb {
+        Verb::Part => read_part(alloc, words),
+        Verb::Site => SiteWords::read(alloc, words).map(Act::Site),
+        Verb::At => read_command(alloc, words),
+        Verb::Bytes => read_bytes(alloc, words),
+        _ => read_image(alloc, words),
+    }
+}
+
+// An act with at most a number.
+fn read_short_act(verb: Verb, words: &mut Words) -> Result<Act, BadLine> {
+    match verb {
+        Verb::Open => words.number().map(Act::Open),
+        Verb::Stop => words.count().map(Act::Stop),
+        Verb::Fault => words.count().map(Act::Fault),
+        _ => Ok(Act::Close),
+    }
+}
+
+fn read_look(alloc: Global, verb: Verb, words: &mut Words) -> Result<Look, BadLine> {
+    match verb {
+        Verb::Parts => Ok(Look::Parts),
+        Verb::Found => Ok(Look::Found),
+        Verb::Stops => read_fillings(alloc, words).map(Look::Stops),
+        Verb::Event => words.bytes(alloc).map(Look::Event),
+        Verb::State => words.bytes(alloc).map(Look::State),
+        Verb::Launch => read_launch(words),
+        _ => Ok(Look::Codes),
+    }
+}
+
+fn read_stopped(alloc: Global, words: &mut Words) -> Result<Sweep, BadLine> {
+    read_fillings(alloc, words).map(Sweep::Stopped)
 }
 
 fn read_name(alloc: Global, words: &mut Words) -> Result<String, BadLine> {
@@ -178,22 +206,28 @@ fn read_name(alloc: Global, words: &mut Words) -> Result<String, BadLine> {
     Ok(String::from_str(alloc, name)?)
 }
 
-fn read_part(words: &mut Words) -> Result<Part, BadLine> {
-    match words.word()? {
-        b"A" => Ok(Part::A),
-        b"B" => Ok(Part::B),
-        _ => Err(BadLine::NoStep),
-    }
+fn read_part(alloc: Global, words: &mut Words) -> Result<Act, BadLine> {
+    let part = match words.word()? {
+        b"A" => Part::A,
+        b"B" => Part::B,
+        _ => return Err(BadLine::NoStep),
+    };
+    Ok(Act::Part(part, words.part_bytes(alloc)?))
 }
 
-fn read_site(alloc: Global, words: &mut Words) -> Result<SiteWords, BadLine> {
-    let root = String::from_str(alloc, words.text()?)?;
-    let path = String::from_str(alloc, words.text()?)?;
-    let via = match words.text()? {
-        "-" => None,
-        via => Some(String::from_str(alloc, via)?),
-    };
-    Ok(SiteWords { root, path, via })
+fn read_command(alloc: Global, words: &mut Words) -> Result<Act, BadLine> {
+    let now = words.number()?;
+    Ok(Act::Command(now, words.tail().to_vec(alloc)?))
+}
+
+fn read_bytes(alloc: Global, words: &mut Words) -> Result<Act, BadLine> {
+    let now = words.number()?;
+    Ok(Act::Command(now, words.bytes(alloc)?))
+}
+
+fn read_image(alloc: Global, words: &mut Words) -> Result<Act, BadLine> {
+    let call = words.count()?;
+    Ok(Act::Image(call, Filling::named(alloc, words.word()?)?))
 }
 
 fn read_fillings(alloc: Global, words: &mut Words) -> Result<Vec<Filling>, BadLine> {
@@ -204,6 +238,11 @@ fn read_fillings(alloc: Global, words: &mut Words) -> Result<Vec<Filling>, BadLi
             .map_err(AllocError::from)?;
     }
     Ok(fillings)
+}
+
+fn read_launch(words: &mut Words) -> Result<Look, BadLine> {
+    let id = read_id(words)?;
+    Ok(Look::Launch(id, read_task(words)?))
 }
 
 fn read_id(words: &mut Words) -> Result<RscId, BadLine> {

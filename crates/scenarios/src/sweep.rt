@@ -5,13 +5,16 @@ use crate::step::{Act, Sweep};
 use crate::world::World;
 use anyhow::Result;
 use std::alloc::Global;
+use std::fmt::Display;
 use std::io::{self, Write};
 
-// What the call is to do.
+// How a call fails, and what is looked at then.
 #[derive(Clone, Copy)]
-enum Plan {
-    Stop(u64),
-    Fault(u64),
+enum Failing {
+    // It faults alone; what the disk reads.
+    Fault,
+    // It is the last one; its image with this filling.
+    Stop(Filling),
 }
 
 impl Act {
@@ -29,53 +32,70 @@ fn split_at_disk(acts: &[Act]) -> (&[Act], &[Act]) {
     }
 }
 
-// The world after these acts, with a call of the last disk planned to fail.
-fn world_after(alloc: Global, acts: &[Act], plan: Plan) -> Result<World> {
+impl Failing {
+    fn plan(self, world: &mut World, call: u64) -> Result<()> {
+        match self {
+            Failing::Fault => world.plan_fault(call),
+            Failing::Stop(_) => world.plan_stop(call),
+        }
+    }
+
+    fn finding(self, world: &World, call: u64) -> Result<u64> {
+        match self {
+            Failing::Fault => world.finding(),
+            Failing::Stop(filling) => world.finding_on_image(call, &filling),
+        }
+    }
+}
+
+// Plays these acts, with this call of the last disk planned to fail.
+fn play_failing(world: &mut World, acts: &[Act], failing: Failing, call: u64) -> Result<()> {
     let (before, behind) = split_at_disk(acts);
-    let mut world = World::new(alloc)?;
     world.play_all(before, &mut io::sink())?;
-    match plan {
-        Plan::Stop(call) => world.plan_stop(call)?,
-        Plan::Fault(call) => world.plan_fault(call)?,
-    }
-    world.play_all(behind, &mut io::sink())?;
-    Ok(world)
+    failing.plan(world, call)?;
+    world.play_all(behind, &mut io::sink())
 }
 
-// What is found after a fault of each call in turn.
-fn findings_after_faults(alloc: Global, acts: &[Act]) -> Result<Vec<u64>> {
-    let mut findings = Vec::new(alloc);
+// What is found after these acts, if the call came.
+fn finding_in(world: &mut World, acts: &[Act], failing: Failing, call: u64) -> Result<Option<u64>> {
+    play_failing(world, acts, failing, call)?;
+    if world.call_count()? < call {
+        return Ok(None);
+    }
+    Ok(Some(failing.finding(world, call)?))
+}
+
+fn finding_after(alloc: Global, acts: &[Act], failing: Failing, call: u64) -> Result<Option<u64>> {
+    let mut world = World::new(alloc)?;
+    finding_in(&mut world, acts, failing, call)
+}
+
+// What is found for each call in turn.
+fn push_findings(
+    alloc: Global,
+    acts: &[Act],
+    failing: Failing,
+    findings: &mut Vec<u64>,
+) -> Result<()> {
     for call in 1..u64::MAX {
-        let world = world_after(alloc, acts, Plan::Fault(call))?;
-        if world.call_count()? < call {
-            break;
+        match finding_after(alloc, acts, failing, call)? {
+            Some(finding) => findings.push(finding)?,
+            None => return Ok(()),
         }
-        findings.push(world.finding()?)?;
     }
-    Ok(findings)
+    Ok(())
 }
 
-// The worlds that were stopped in each call in turn.
-fn stopped_worlds(alloc: Global, acts: &[Act]) -> Result<Vec<World>> {
-    let mut worlds = Vec::new(alloc);
-    for call in 1..u64::MAX {
-        let world = world_after(alloc, acts, Plan::Stop(call))?;
-        if world.call_count()? < call {
-            break;
-        }
-        worlds.push(world)?;
-    }
-    Ok(worlds)
-}
-
-// What is found on the image of the call that each world was stopped in.
-fn findings_on_images(alloc: Global, worlds: &[World], filling: &Filling) -> Result<Vec<u64>> {
+fn print_swept<W: Write>(
+    alloc: Global,
+    acts: &[Act],
+    failing: Failing,
+    label: &impl Display,
+    writer: &mut W,
+) -> Result<()> {
     let mut findings = Vec::new(alloc);
-    for (place, world) in worlds.iter().enumerate() {
-        let call = place as u64 + 1;
-        findings.push(world.finding_on_image(call, filling)?)?;
-    }
-    Ok(findings)
+    push_findings(alloc, acts, failing, &mut findings)?;
+    print_rows(writer, label, findings.as_slice())
 }
 
 fn print_stopped<W: Write>(
@@ -84,14 +104,9 @@ fn print_stopped<W: Write>(
     fillings: &[Filling],
     writer: &mut W,
 ) -> Result<()> {
-    let worlds = stopped_worlds(alloc, acts)?;
     for filling in fillings {
-        let findings = findings_on_images(alloc, worlds.as_slice(), filling)?;
-        print_rows(
-            writer,
-            &format_args!("stopped {filling}"),
-            findings.as_slice(),
-        )?;
+        let label = format_args!("stopped {filling}");
+        print_swept(alloc, acts, Failing::Stop(*filling), &label, writer)?;
     }
     Ok(())
 }
@@ -100,10 +115,7 @@ impl Sweep {
     /// Plays these acts as long as the planned call comes, and prints what is found.
     pub fn play<W: Write>(&self, alloc: Global, acts: &[Act], writer: &mut W) -> Result<()> {
         match self {
-            Sweep::DiskFaults => {
-                let findings = findings_after_faults(alloc, acts)?;
-                print_rows(writer, &"faults disk", findings.as_slice())
-            }
+            Sweep::DiskFaults => print_swept(alloc, acts, Failing::Fault, &"faults disk", writer),
             Sweep::Stopped(fillings) => print_stopped(alloc, acts, fillings.as_slice(), writer),
         }
     }

@@ -2,12 +2,13 @@
 use crate::disk::{Device, SharedDisk};
 use crate::fill::Filling;
 use crate::finding::finding_on;
-use crate::print::{print_open_error, print_report, push_reply};
+use crate::print::{print_line, print_open_error, print_opened, push_reply};
 use crate::session::Session;
 use crate::site::SiteWords;
 use crate::step::Act;
 use anyhow::Result;
 use disk_model::MemDisk;
+use executor::{OpenError, Report};
 use ocf_types::Part;
 use std::alloc::{AllocError, Global};
 use std::cell::{Ref, RefCell};
@@ -33,12 +34,14 @@ fn shared(alloc: Global, disk: MemDisk) -> Result<Rc<RefCell<Device>>, AllocErro
 impl World {
     /// The world in which a scenario begins: an empty pair, and no executor.
     pub fn new(alloc: Global) -> Result<World> {
+        let site = SiteWords::usual(alloc)?;
+        let device = shared(alloc, MemDisk::new(alloc))?;
         Ok(World {
             alloc,
             a: Vec::new(alloc),
             b: Vec::new(alloc),
-            device: shared(alloc, MemDisk::new(alloc))?,
-            site: SiteWords::usual(alloc)?,
+            device,
+            site,
             session: None,
         })
     }
@@ -91,16 +94,18 @@ impl World {
         Ok(self.device()?.image(self.alloc, call, filling.fill())?)
     }
 
+    fn open_session(&self, now: u64) -> Result<Result<(Session, Report), OpenError>> {
+        let site = self.site.site(self.alloc)?;
+        let disk = SharedDisk::new(&self.device)?;
+        Ok(Session::open(self.alloc, disk, site, now))
+    }
+
     fn open<W: Write>(&mut self, now: u64, writer: &mut W) -> Result<()> {
         self.session = None;
-        let disk = SharedDisk::new(&self.device)?;
-        let site = self.site.site(self.alloc)?;
-        match Session::open(self.alloc, disk, site, now) {
+        match self.open_session(now)? {
             Ok((session, report)) => {
                 self.session = Some(session);
-                print_report(self.alloc, writer, &report)?;
-                writeln!(writer, "opened")?;
-                Ok(())
+                print_opened(self.alloc, writer, &report)
             }
             Err(why) => print_open_error(writer, &why),
         }
@@ -108,23 +113,18 @@ impl World {
 
     fn close<W: Write>(&mut self, writer: &mut W) -> Result<()> {
         match self.session.take() {
-            Some(_) => writeln!(writer, "closed")?,
-            None => writeln!(writer, "no executor")?,
+            Some(_) => print_line(writer, "closed"),
+            None => print_line(writer, "no executor"),
         }
-        Ok(())
     }
 
     fn command<W: Write>(&mut self, now: u64, line: &[u8], writer: &mut W) -> Result<()> {
         let Some(session) = &mut self.session else {
-            writeln!(writer, "no executor")?;
-            return Ok(());
+            return print_line(writer, "no executor");
         };
         match session.answer(self.alloc, now, line) {
             Some(reply) => push_reply(self.alloc, writer, &reply),
-            None => {
-                writeln!(writer, "no step")?;
-                Ok(())
-            }
+            None => print_line(writer, "no step"),
         }
     }
 
