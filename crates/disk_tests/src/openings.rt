@@ -3,6 +3,7 @@ use crate::parts::{
     BEGUN, BEGUN_STATE, DROPPED_STATE, EMPTY_STATE, ENDED_STATE, FIRST, FIRST_STATE, QUEUED,
     QUEUED_STATE, disk_with, found_on,
 };
+use crate::steps::{no_children, nowhere};
 use disk_model::{Disk, Fill, MemDisk};
 use executor::{Executor, OpenError};
 use ocf_types::Part;
@@ -49,11 +50,12 @@ impl<'a> Pair<'a> {
 }
 
 // Opens an executor and closes it.
-fn open(alloc: Global, disk: MemDisk) -> (Option<OpenError>, MemDisk) {
-    match Executor::open(alloc, disk, 500) {
-        Ok((executor, _report)) => (None, executor.close()),
+fn open(alloc: Global, disk: MemDisk) -> Option<(Option<OpenError>, MemDisk)> {
+    let (children, site) = (no_children(alloc)?, nowhere(alloc));
+    Some(match Executor::open(alloc, disk, children, site, 500) {
+        Ok((executor, _report)) => (None, executor.close().0),
         Err(fault) => (Some(fault.why), fault.disk),
-    }
+    })
 }
 
 fn is_found(alloc: Global, disk: MemDisk, state: &[u8]) -> bool {
@@ -67,7 +69,7 @@ fn is_found(alloc: Global, disk: MemDisk, state: &[u8]) -> bool {
 fn stopped(alloc: Global, pair: &Pair<'_>, call: u64) -> Option<MemDisk> {
     let mut disk = disk_with(alloc, pair.a, pair.b)?;
     disk.plan_stop(call);
-    match open(alloc, disk) {
+    match open(alloc, disk)? {
         (Some(OpenError::Disk), disk) => Some(disk),
         _ => None,
     }
@@ -88,10 +90,10 @@ fn stop_leaves(alloc: Global, pair: &Pair<'_>, call: u64, last: bool) -> Option<
 fn opened_again(alloc: Global, pair: &Pair<'_>, call: u64) -> Option<MemDisk> {
     let mut disk = disk_with(alloc, pair.a, pair.b)?;
     disk.plan_fault(call);
-    let (Some(OpenError::Disk), disk) = open(alloc, disk) else {
+    let (Some(OpenError::Disk), disk) = open(alloc, disk)? else {
         return None;
     };
-    match open(alloc, disk) {
+    match open(alloc, disk)? {
         (None, disk) => Some(disk),
         _ => None,
     }
@@ -107,7 +109,7 @@ fn fault_leaves(alloc: Global, pair: &Pair<'_>, call: u64, whole: &MemDisk) -> O
 
 // How many device calls an opening of the pair makes; nothing where a stop or a fault in one of them went wrong.
 fn each_call(alloc: Global, pair: &Pair<'_>) -> Option<u64> {
-    let (None, whole) = open(alloc, disk_with(alloc, pair.a, pair.b)?) else {
+    let (None, whole) = open(alloc, disk_with(alloc, pair.a, pair.b)?)? else {
         return None;
     };
     let calls = whole.clock();

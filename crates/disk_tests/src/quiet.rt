@@ -1,5 +1,6 @@
 // What is done without a device call.
 use crate::parts::{FIRST, disk_with};
+use crate::steps::{no_children, nowhere};
 use disk_model::{Disk, MemDisk};
 use exec_journal::Journal;
 use executor::Executor;
@@ -48,8 +49,10 @@ fn opening_calls(alloc: Global) -> Option<u64> {
 
 // How many device calls an executor of it makes that is closed at once.
 fn closed_calls(alloc: Global) -> Option<u64> {
-    let (executor, _report) = Executor::open(alloc, disk_with(alloc, FIRST, &[])?, 0).ok()?;
-    Some(executor.close().clock())
+    let disk = disk_with(alloc, FIRST, &[])?;
+    let (children, site) = (no_children(alloc)?, nowhere(alloc));
+    let (executor, _report) = Executor::open(alloc, disk, children, site, 0).ok()?;
+    Some(executor.close().0.clock())
 }
 
 #[test]

@@ -1,11 +1,30 @@
-// A registration by an executor.
+// Executors that start nothing, and a registration by one.
+use child_keeper::{Script, Scripted};
 use disk_model::Disk;
 use executor::{Executor, OpenError};
+use ocf_env::{Site, Text};
 use ocf_types::{
     AgentType, CommandOf, Params, Provider, Refusal, Registration, Reply, ReplyOf, Request,
     RequestOf, RscId,
 };
 use std::alloc::Global;
+use std::collections::VecDeque;
+
+/// Children for an executor that starts nothing: their book has no room.
+pub fn no_children(alloc: Global) -> Option<Scripted> {
+    let script = Script {
+        starts: VecDeque::new(alloc),
+        polls: VecDeque::new(alloc),
+        kills: VecDeque::new(alloc),
+    };
+    Scripted::new(alloc, script, 0).ok()
+}
+
+/// A site for the same: no agent is there.
+pub fn nowhere(alloc: Global) -> Site {
+    let (root, path) = (String::new(alloc), String::new(alloc));
+    Site::new(Text::new(root), Text::new(path), None)
+}
 
 /// How far a registration came.
 #[derive(Clone, Copy, PartialEq)]
@@ -36,10 +55,11 @@ pub fn end_of(reply: &Reply) -> Reached {
 /// Opens an executor on a disk, registers a resource at moment 0, and closes it.
 pub fn register<D: Disk + Drop>(alloc: Global, disk: D, name: &str) -> Option<(Reached, D)> {
     let request = registration(alloc, name)?;
-    Some(match Executor::open(alloc, disk, 0) {
+    let (children, site) = (no_children(alloc)?, nowhere(alloc));
+    Some(match Executor::open(alloc, disk, children, site, 0) {
         Ok((mut executor, _report)) => {
             let reached = end_of(&executor.command(0, request));
-            (reached, executor.close())
+            (reached, executor.close().0)
         }
         Err(fault) => (Reached::NotOpened(fault.why), fault.disk),
     })

@@ -18,6 +18,7 @@ use Rattle.exec_turn.specs.Picks.{begins}
 use Rattle.exec_turn.specs.Pieces.{Leaves}
 use Rattle.exec_turn.specs.Polls.{Polled, polls, result_notices, results}
 use Rattle.exec_turn.specs.Starts.{Started, refusal_notices, refusals, starts}
+use Rattle.exec_turn.specs.declared.rows.Rows.{Rows}
 use Rattle.exec_turn.specs.Turn.{EachPolled, IsTurn, PickedAt, Scene, behind, due_after_all}
 
 -- the agents of all that runs live, and the next run is above all that were asked to start
@@ -76,3 +77,7 @@ pub record Turns (old new : View) (x : Scene) (t : State) (due : Due) (from to :
   pub cause : end ≡ turn_end.Disk → Grew old.failures new.failures
   -- what a stop leaves since its start has room for its boot
   pub roomy : Goes old new Roomy
+
+-- what is told of the last turn
+abbrev pub told_of : {M : Type 0} → Rows M → List Notice
+told_of rows = rows.notices.items

@@ -1,5 +1,6 @@
 pub mod Reporting
 pub mod Journaling
 pub mod Booting
-pub mod Recording
+pub mod Keeping
 pub mod OpeningLemmas
+pub mod Recording

@@ -1,5 +1,5 @@
 -- An opening of the journal, and then its boot.
-use Rattle.std.proofs.Common.{◌≡◌, inl, inr, ℕ, Bool, true, false, cond, List, [], ◌∷◌, Ok, Err, refl, sym, ◌∙◌, ap, subst, arith}
+use Rattle.std.proofs.Common.{◌≡◌, ◌<◌, ◌≤◌, inl, inr, ℕ, Bool, true, false, cond, List, [], ◌∷◌, Result, IsErrAnd, IfErr, Ok, Err, refl, sym, ◌∙◌, ap, subst, arith}
 use Rattle.std.specs.List.{list_any}
 use Rattle.ocf_types.specs.Answer.{moment}
 use Rattle.ocf_types.specs.Boot.{any_busy, boot, boot_at}
@@ -8,6 +8,7 @@ use Rattle.ocf_types.specs.Resource.{is_busy}
 use Rattle.ocf_types.specs.State.{Registry, State, after, changed}
 use Rattle.ocf_types.specs.declared.event.Change.TheVariants as change
 use Rattle.ocf_types.specs.declared.reply.Notice.{Notice}
+use Rattle.child_keeper.specs.Children.{ChildrenView, given_up}
 use Rattle.disk_model.specs.Image.{Image}
 use Rattle.disk_model.specs.Laws.{joined, passed_on, supposed, weakened}
 use Rattle.disk_model.specs.Runs.{Goes}
@@ -15,17 +16,21 @@ use Rattle.disk_model.specs.View.{Passed, Rests, View}
 use Rattle.gated_slots.specs.declared.append.SlotFault.{SlotFault}
 use Rattle.gated_slots.specs.declared.append.SlotFault.TheVariants as slot
 use Rattle.exec_journal.specs.Found.{FoundAs, IsFreshPair, StandsAt, Whole}
-use Rattle.exec_journal.specs.Opening.{FailsToOpen, OpensAt, OpensLike}
+use Rattle.exec_journal.specs.Opening.{FailsToOpen, Opens, OpensAt, OpensLike}
+use Rattle.exec_journal.specs.Place.{Place}
 use Rattle.exec_journal.specs.Room.{AllRoomy, HasRoom, Roomy}
 use Rattle.exec_journal.specs.Settled.{IsSettled}
 use Rattle.exec_journal.specs.declared.damage.Damage.{Damage}
 use Rattle.exec_journal.specs.declared.fault.JournalFault.{JournalFault}
 use Rattle.exec_journal.specs.declared.fault.JournalFault.TheVariants as journal
+use Rattle.executor.specs.declared.opening.OpenError.{OpenError}
 use Rattle.executor.specs.declared.opening.OpenError.TheVariants as why
-use Rattle.executor.specs.Openings.{Boots, BootsFrom, IsQuiet, LacksBoot, LacksRoom, NotOpened, Opened, OpensDisk, StartsLike, booted, told_fault, told_slot}
+use Rattle.executor.specs.Openings.{Boots, BootsFrom, IsQuiet, LacksBoot, LacksRoom, NotOpened, Opened, OpensDisk, StartsLike, booted, told_fault, told_slot, IsOver, IsForeign, IsUnready}
 use Rattle.executor.specs.Reports.{dropped, interrupted}
 use Rattle.executor.specs.Sights.{Sight}
 use Rattle.executor.proofs.Booting.{not_both}
+use Rattle.exec_turn.specs.Turns.{Tended}
+use Rattle.executor.proofs.Keeping.{quiet_tended}
 use Rattle.executor.proofs.Journaling.{WhatStands}
 
 -- after a boot nothing is queued or running
@@ -43,6 +48,13 @@ boot_quiet s m = by (any_busy s) refl
 pub same_whole : (s t : State) → Whole s ≡ Whole t → s ≡ t
 same_whole s t is = cc
 
+boot_next : (s : State) (m : ℕ) → (boot s m).next_run ≡ s.next_run
+boot_next s m = by (any_busy s)
+  where
+    by : (b : Bool) → (cond b (after s (boot_at m)) s).next_run ≡ s.next_run
+    by true = omega arith
+    by false = refl
+
 opens_like : (old new : View) (now : ℕ) → Goes old new (OpensLike old) → Goes old new (StartsLike old now)
 opens_like old new now goes = weakened old new (OpensLike old) (StartsLike old now) (λ h c left. inl left) goes
 
@@ -50,11 +62,14 @@ opens_like old new now goes = weakened old new (OpensLike old) (StartsLike old n
 read_only : (old new : View) (now : ℕ) → Goes old new (OpensLike old) → ((old.honest → AllRoomy old) → Goes old new Roomy) → ((old.honest → IsFreshPair old.reads → ⊥) → Rests old new) → OpensDisk old new now
 read_only old new now goes roomy unwritten = record { goes = opens_like old new now goes; roomy = roomy; unwritten = λ quiet. unwritten (λ h. (quiet h).0) }
 
-module _ (old new : View) (now : ℕ) where
+module _ (old new : View) (from : ChildrenView) (now : ℕ) where
   -- the journal was not opened
-  pub journal_refused : (fault : JournalFault) → FailsToOpen fault old new → NotOpened old new now (told_fault fault)
+  pub journal_refused : (fault : JournalFault) → FailsToOpen fault old new → NotOpened old new from from now (told_fault fault)
   journal_refused fault fails = record {
     did = read_only old new now fails.opens.goes fails.opens.roomy fails.opens.unwritten;
+    children = inl refl;
+    untouched = λ d is. refl;
+    foreign = λ is. absurd (never_foreign fault is);
     damaged = λ h d is. fails.damaged h d (as_damaged fault d is);
     cause = λ is. fails.cause (as_disk fault is);
     full = λ h is. absurd (never_full fault is);
@@ -72,22 +87,54 @@ module _ (old new : View) (now : ℕ) where
       as_disk (journal.Damaged x) is = absurd cc
       as_disk journal.Memory is = absurd cc
 
+      never_foreign : (f : JournalFault) → told_fault f ≡ why.Foreign → ⊥
+      never_foreign journal.Disk is = cc
+      never_foreign (journal.Damaged x) is = cc
+      never_foreign journal.Memory is = cc
+
       never_full : (f : JournalFault) → told_fault f ≡ why.Full → ⊥
       never_full journal.Disk is = cc
       never_full (journal.Damaged x) is = cc
       never_full journal.Memory is = cc
 
-module _ {D : Type 0} (look : D → View) (law : WhatStands) (once : (c : Image) (s t : State) → FoundAs s c → FoundAs t c → s ≡ t) (old : View) (now : ℕ) (mid : Sight D) (opens : OpensAt mid.place mid.state old (look mid.disk)) where
+-- memory was refused once the journal was opened, and the children were given up
+pub unready_memory : (old new : View) (from to : ChildrenView) (now : ℕ) → Opens old new → to ≡ given_up from → NotOpened old new from to now why.Memory
+unready_memory old new from to now opens kids = record {
+  did = read_only old new now opens.goes opens.roomy opens.unwritten;
+  children = inr kids;
+  untouched = λ d is. let none : ⊥ = cc in absurd none;
+  foreign = λ is. let none : ⊥ = cc in absurd none;
+  damaged = λ h x is. let none : ⊥ = cc in absurd none;
+  cause = λ is. let none : ⊥ = cc in absurd none;
+  full = λ h is. let none : ⊥ = cc in absurd none;
+  never_full = λ roomy h is. cc;
+  memory = λ is. opens.goes;
+}
+
+-- the children are another journal's
+unready_foreign : (old new : View) (p : Place) (s : State) (from to : ChildrenView) (now : ℕ) → OpensAt p s old new → to ≡ from → s.next_run ≤ from.last_run → NotOpened old new from to now why.Foreign
+unready_foreign old new p s from to now opens kids later = record {
+  did = read_only old new now opens.opens.goes opens.opens.roomy opens.opens.unwritten;
+  children = inl kids;
+  untouched = λ d is. kids;
+  foreign = λ is. (kids, λ h. record { state = s; found = opens.found h; later = later });
+  damaged = λ h x is. let none : ⊥ = cc in absurd none;
+  cause = λ is. let none : ⊥ = cc in absurd none;
+  full = λ h is. let none : ⊥ = cc in absurd none;
+  never_full = λ roomy h is. cc;
+  memory = λ is. opens.opens.goes;
+}
+
+pub unready : (old new : View) (p : Place) (s : State) (from to : ChildrenView) (now : ℕ) (fault : OpenError) → OpensAt p s old new → IsUnready from to s fault → NotOpened old new from to now fault
+unready old new p s from to now fault opens is = elim is.either [
+  | inl foreign ↦ (let kids = is.foreign foreign in subst (λ (w : OpenError). NotOpened old new from to now w) (sym foreign) (unready_foreign old new p s from to now opens kids.0 kids.1))
+  | inr memory ↦ subst (λ (w : OpenError). NotOpened old new from to now w) (sym memory) (unready_memory old new from to now opens.opens (is.memory memory))
+]
+
+module _ {D : Type 0} (look : D → View) (law : WhatStands) (once : (c : Image) (s t : State) → FoundAs s c → FoundAs t c → s ≡ t) (old : View) (from : ChildrenView) (now : ℕ) (mid : Sight D) (over : IsOver from mid) (opens : OpensAt mid.place mid.state old (look mid.disk)) where
   -- memory was refused before the boot
-  pub report_refused : (d : D) → d ≡ mid.disk → NotOpened old (look d) now why.Memory
-  report_refused d same = subst (λ (x : D). NotOpened old (look x) now why.Memory) (sym same) (record {
-    did = read_only old (look mid.disk) now opens.opens.goes opens.opens.roomy opens.opens.unwritten;
-    damaged = λ h x is. let none : ⊥ = cc in absurd none;
-    cause = λ is. let none : ⊥ = cc in absurd none;
-    full = λ h is. let none : ⊥ = cc in absurd none;
-    never_full = λ roomy h is. cc;
-    memory = λ is. opens.opens.goes;
-  })
+  pub report_refused : (d : D) (to : ChildrenView) → d ≡ mid.disk → to ≡ mid.children → NotOpened old (look d) from to now why.Memory
+  report_refused d to same kids = subst (λ (x : D). NotOpened old (look x) from to now why.Memory) (sym same) (unready_memory old (look mid.disk) from to now opens.opens (kids ∙ over.children))
 
   module _ (new : Sight D) where
     both_passed : Passed (look mid.disk) (look new.disk) → Passed old (look new.disk)
@@ -125,15 +172,21 @@ module _ {D : Type 0} (look : D → View) (law : WhatStands) (once : (c : Image)
         subst (λ p. LacksBoot p.tail mid.state) at here
 
     pub opened : (x : Unit) (final : Sight D) (ran queued : List Notice) → Boots look now mid new (Ok x) → final.is_open ≡ true → final.state ≡ new.state → final.disk ≡ new.disk → final.place ≡ new.place
-        → final.due ≡ due_at final.state (moment mid.state now) → ran ≡ interrupted mid.state (moment mid.state now) → queued ≡ dropped mid.state (moment mid.state now) → Opened look old now final ran queued
-    opened x final ran queued boots is_open state disk place due ran_is queued_is =
+        → final.due ≡ due_at final.state (moment mid.state now) → final.children ≡ new.children → final.told ≡ new.told → ran ≡ interrupted mid.state (moment mid.state now) → queued ≡ dropped mid.state (moment mid.state now) → Opened look old from now final ran queued
+    opened x final ran queued boots is_open state disk place due kids tells ran_is queued_is =
         let honest_new : (look final.disk).honest → (look new.disk).honest = λ h. subst (λ (d : D). (look d).honest) disk h in
-        let done : final.state ≡ booted mid.state now = state ∙ boots.state in record {
-          is_open = is_open;
-          sound = λ _. (
-            (λ h. subst (λ p. IsSettled p final.state (look final.disk)) (sym place) (subst (λ (s : State). IsSettled new.place s (look final.disk)) (sym state) (subst (λ (d : D). IsSettled new.place new.state (look d)) (sym disk) (boots.settled (honest_new h))))),
-            λ busy. absurd (not_both busy (ap any_busy done ∙ boot_quiet mid.state (moment mid.state now))),
-          );
+        let done : final.state ≡ booted mid.state now = state ∙ boots.state in
+        let quiet_now : any_busy final.state ≡ false = ap any_busy done ∙ boot_quiet mid.state (moment mid.state now) in
+        let given : final.children ≡ given_up from = kids ∙ boots.children ∙ over.children in
+        let next = ap (λ (u : State). u.next_run) done ∙ boot_next mid.state (moment mid.state now) in
+        let low = over.rising in
+        let rising : from.last_run < final.state.next_run = omega (arith, next, low) in record {
+          over = record { is_open = is_open; children = given; told = tells ∙ boots.told ∙ over.told; rising = rising };
+          sound = λ _. record {
+            journal = λ h. subst (λ p. IsSettled p final.state (look final.disk)) (sym place) (subst (λ (s : State). IsSettled new.place s (look final.disk)) (sym state) (subst (λ (d : D). IsSettled new.place new.state (look d)) (sym disk) (boots.settled (honest_new h))));
+            room = λ busy. absurd (not_both busy quiet_now);
+            tended = subst (λ (v : ChildrenView). Tended final.state v) (sym given) (quiet_tended final.state from quiet_now rising);
+          };
           starts = λ h. record {
             state = mid.state;
             found = opens.found (boots.goes.passed.honest (honest_new h));
@@ -147,9 +200,12 @@ module _ {D : Type 0} (look : D → View) (law : WhatStands) (once : (c : Image)
         }
 
     -- the boot failed
-    pub boot_refused : (fault : SlotFault) (d : D) → Boots look now mid new (Err fault) → d ≡ new.disk → NotOpened old (look d) now (told_slot fault)
-    boot_refused fault d boots same = subst (λ (x : D). NotOpened old (look x) now (told_slot fault)) (sym same) (record {
+    pub boot_refused : (fault : SlotFault) (d : D) (to : ChildrenView) → Boots look now mid new (Err fault) → d ≡ new.disk → to ≡ new.children → NotOpened old (look d) from to now (told_slot fault)
+    boot_refused fault d to boots same kids = subst (λ (x : D). NotOpened old (look x) from to now (told_slot fault)) (sym same) (record {
       did = did_both boots.goes boots.roomy boots.quiet;
+      children = inr (kids ∙ boots.children ∙ over.children);
+      untouched = λ x is. absurd (no_damage fault x is);
+      foreign = λ is. absurd (no_foreign fault is);
       damaged = λ h x is. absurd (no_damage fault x is);
       cause = λ is. let grew = boots.cause (ap Err (as_disk fault is)) in let before = opens.opens.goes.passed.failures in omega (arith, grew, before);
       full = λ h is. lacks_room (boots.goes.passed.honest h) (boots.full.0 (ap Err (as_full fault is)));
@@ -173,6 +229,15 @@ module _ {D : Type 0} (look : D → View) (law : WhatStands) (once : (c : Image)
         as_full slot.Disk is = absurd cc
         as_full slot.Full is = refl
 
+        no_foreign : (f : SlotFault) → told_slot f ≡ why.Foreign → ⊥
+        no_foreign slot.Disk is = cc
+        no_foreign slot.Full is = cc
+
         no_memory : (f : SlotFault) → told_slot f ≡ why.Memory → ⊥
         no_memory slot.Disk is = cc
         no_memory slot.Full is = cc
+
+-- what holds of a fault that is handed on holds of the answer
+pub if_err : {T E : Type 0} (r : Result T E) (f : E) (P : E → Type 0) → IsErrAnd r (λ e. e ≡ f) → P f → IfErr r P
+if_err (Ok x) f P none p = absurd none
+if_err (Err e) f P is p = subst P (sym is) p

@@ -3,3 +3,4 @@ pub mod Replies
 pub mod Reports
 pub mod Commands
 pub mod Openings
+pub mod TurnCalls

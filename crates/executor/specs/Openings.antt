@@ -1,5 +1,5 @@
 -- What an opening makes of what it finds, and what it leaves.
-use Rattle.std.specs.Prelude.{◌≡◌, ◌⊎◌, ◌↔◌, ℕ, ◌+◌, ◌<◌, true, false, List, Result, IsErrOf, OnOk, IsTrue}
+use Rattle.std.specs.Prelude.{◌≡◌, ◌⊎◌, ◌↔◌, ℕ, ◌+◌, ◌<◌, true, false, List, Result, IsErrOf, OnOk, IsTrue, [], ◌≤◌}
 use Rattle.ocf_types.specs.Answer.{moment}
 use Rattle.ocf_types.specs.Boot.{any_busy, boot}
 use Rattle.ocf_types.specs.Due.{Due, due_at}
@@ -9,6 +9,7 @@ use Rattle.ocf_types.specs.declared.reply.Notice.{Notice}
 use Rattle.disk_model.specs.Image.{Image, part_limit}
 use Rattle.disk_model.specs.Runs.{Goes}
 use Rattle.disk_model.specs.View.{Grew, Rests, View}
+use Rattle.child_keeper.specs.Children.{ChildrenView, given_up}
 use Rattle.gated_slots.specs.declared.append.SlotFault.{SlotFault}
 use Rattle.gated_slots.specs.declared.append.SlotFault.TheVariants as slot
 use Rattle.exec_journal.specs.Found.{Damaged, FoundAs, IsFound, IsFreshPair, StandsAt}
@@ -38,6 +39,8 @@ BootsFrom s now c = FoundAs s c ⊎ FoundAs (booted s now) c
 -- The boot that is needed, if one is, recorded or not: from one sight of an open executor to another.
 pub record Boots {D : Type 0} (look : D → View) (now : ℕ) (old new : Sight D) (result : Result Unit SlotFault) : Type 0 where
   pub still_open : new.is_open ≡ true
+  pub children : new.children ≡ old.children
+  pub told : new.told ≡ old.told
   pub settled : OnOk result (IsOnJournal look new)
   pub state : OnOk result (new.state ≡ booted old.state now)
   pub goes : Goes (look old.disk) (look new.disk) (BootsFrom old.state now)
@@ -81,18 +84,42 @@ pub record OpensDisk (old new : View) (now : ℕ) : Type 0 where
   -- nothing is written where nothing is queued or running, and a damaged pair is left as it is
   pub unwritten : (old.honest → IsQuiet old.reads) → Rests old new
 
--- The executor was opened: from one view of the disk, and with these notices.
-pub record Opened {D : Type 0} (look : D → View) (old : View) (now : ℕ) (x : Sight D) (was_running was_queued : List Notice) : Type 0 where
+-- an executor over these children, once they were given up: none of them was started for a later state than its own
+pub record IsOver {D : Type 0} (from : ChildrenView) (x : Sight D) : Type 0 where
   pub is_open : x.is_open ≡ true
+  pub children : x.children ≡ given_up from
+  pub told : x.told ≡ []
+  pub rising : from.last_run < x.state.next_run
+
+-- an opened journal at this state got no executor: its children are another journal's, or there is no memory for the room
+-- of a turn
+pub record IsUnready (from to : ChildrenView) (s : State) (fault : OpenError) : Type 0 where
+  pub either : (fault ≡ why.Foreign) ⊎ (fault ≡ why.Memory)
+  pub foreign : fault ≡ why.Foreign → (to ≡ from) × (s.next_run ≤ from.last_run)
+  pub memory : fault ≡ why.Memory → to ≡ given_up from
+
+-- The executor was opened: from one view of the disk and these children, and with these notices.
+pub record Opened {D : Type 0} (look : D → View) (old : View) (from : ChildrenView) (now : ℕ) (x : Sight D) (was_running was_queued : List Notice) : Type 0 where
+  pub over : IsOver from x
   pub sound : IsSound look x
   pub starts : (look x.disk).honest → Starts old.reads now x.state x.due was_running was_queued
   pub did : OpensDisk old (look x.disk) now
   -- the boot had room
   pub fits : (look x.disk).honest → LacksRoom old.reads → ⊥
 
--- The executor was not opened: from one view of the disk to another.
-pub record NotOpened (old new : View) (now : ℕ) (fault : OpenError) : Type 0 where
+-- the children were started for another journal: the last run is not below the next one of what is found
+pub record IsForeign (c : Image) (from : ChildrenView) : Type 0 where
+  pub state : State
+  pub found : FoundAs state c
+  pub later : state.next_run ≤ from.last_run
+
+-- The executor was not opened: from one view of the disk and of the children to another.
+pub record NotOpened (old new : View) (from to : ChildrenView) (now : ℕ) (fault : OpenError) : Type 0 where
   pub did : OpensDisk old new now
+  -- the children are as they were, or given up: never where the pair is damaged, or where they are another journal's
+  pub children : (to ≡ from) ⊎ (to ≡ given_up from)
+  pub untouched : (d : Damage) → fault ≡ why.Damaged d → to ≡ from
+  pub foreign : fault ≡ why.Foreign → (to ≡ from) × (new.honest → IsForeign old.reads from)
   -- damage is what was found, and a disk fault has a cause
   pub damaged : new.honest → (d : Damage) → fault ≡ why.Damaged d → IsFound old.reads (Damaged d)
   pub cause : fault ≡ why.Disk → Grew old.failures new.failures

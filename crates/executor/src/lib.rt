@@ -5,6 +5,7 @@ mod commands;
 mod executor;
 mod opening;
 mod report;
+mod turns;
 
 pub use executor::Executor;
 pub use opening::{OpenError, OpenFault};

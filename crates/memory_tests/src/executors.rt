@@ -1,15 +1,18 @@
 // Journals and executors.
 use crate::heaps::{Ended, done, grows, refused};
 use crate::parts::{BEGUN, CREATED, FIRST};
+use child_keeper::{Script, Scripted};
 use disk_model::MemDisk;
 use exec_journal::{Journal, JournalFault};
 use executor::{Executor, OpenError};
 use linked_list_allocator::LocalHeap;
+use ocf_env::{Site, Text};
 use ocf_types::{
     AgentType, CommandOf, Params, Part, Provider, Refusal, Registration, Reply, ReplyOf, Request,
     RequestOf, RscId, StateView,
 };
 use std::alloc::{Allocator, Global};
+use std::collections::VecDeque;
 
 // A disk with these parts.
 fn disk_with<A: Allocator + Copy>(alloc: A, a: &[u8], b: &[u8]) -> Option<MemDisk<A>> {
@@ -38,14 +41,30 @@ fn open_snapshot(alloc: Global, heap: &LocalHeap) -> Option<Ended> {
     open_journal(alloc, heap, BEGUN)
 }
 
+// Children for an executor that starts nothing: their book has no room.
+fn no_children(alloc: Global) -> Option<Scripted> {
+    let script = Script {
+        starts: VecDeque::new(alloc),
+        polls: VecDeque::new(alloc),
+        kills: VecDeque::new(alloc),
+    };
+    Scripted::new(alloc, script, 0).ok()
+}
+
+// A site for the same, which takes no memory: no agent is there.
+fn nowhere<A: Allocator + Copy>(alloc: A) -> Site<A> {
+    let (root, path) = (String::new(alloc), String::new(alloc));
+    Site::new(Text::new(root), Text::new(path), None)
+}
+
 // Opens an executor whose journal has a run, so that the opening reports it.
 fn open_executor(alloc: Global, heap: &LocalHeap) -> Option<Ended> {
-    Some(
-        match Executor::open(heap, disk_with(alloc, FIRST, BEGUN)?, 500) {
-            Ok((_executor, report)) => done(report.interrupted.len() == 1),
-            Err(fault) => refused(fault.why == OpenError::Memory && has(&fault.disk, FIRST, BEGUN)),
-        },
-    )
+    let disk = disk_with(alloc, FIRST, BEGUN)?;
+    let (children, site) = (no_children(alloc)?, nowhere(heap));
+    Some(match Executor::open(heap, disk, children, site, 500) {
+        Ok((_executor, report)) => done(report.interrupted.len() == 1),
+        Err(fault) => refused(fault.why == OpenError::Memory && has(&fault.disk, FIRST, BEGUN)),
+    })
 }
 
 // Registers r1, with no parameter.
@@ -79,12 +98,13 @@ fn registered(why: Option<Refusal>, open: bool, part: &[u8]) -> Ended {
 fn register(alloc: Global, heap: &LocalHeap) -> Option<Ended> {
     let request = registration(heap)?;
     let disk = disk_with(alloc, CREATED, &[])?;
-    let Ok((mut executor, _report)) = Executor::open(heap, disk, 0) else {
+    let (children, site) = (no_children(alloc)?, nowhere(heap));
+    let Ok((mut executor, _report)) = Executor::open(heap, disk, children, site, 0) else {
         return Some(Ended::TooSmall);
     };
     let why = refusal(&executor.command(0, request));
     let open = executor.is_open();
-    Some(registered(why, open, executor.close().bytes(Part::A)))
+    Some(registered(why, open, executor.close().0.bytes(Part::A)))
 }
 
 // The same by an executor on a disk in the heap: what finds no memory there is a fault of the disk.
@@ -93,12 +113,13 @@ fn register_on_disk(alloc: Global, heap: &LocalHeap) -> Option<Ended> {
     let Some(disk) = disk_with(heap, CREATED, &[]) else {
         return Some(Ended::TooSmall);
     };
-    let Ok((mut executor, _report)) = Executor::open(alloc, disk, 0) else {
+    let (children, site) = (no_children(alloc)?, nowhere(alloc));
+    let Ok((mut executor, _report)) = Executor::open(alloc, disk, children, site, 0) else {
         return Some(Ended::TooSmall);
     };
     let why = refusal(&executor.command(0, request));
     let open = executor.is_open();
-    Some(registered(why, open, executor.close().bytes(Part::A)))
+    Some(registered(why, open, executor.close().0.bytes(Part::A)))
 }
 
 #[test]

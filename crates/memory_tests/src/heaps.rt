@@ -46,7 +46,7 @@ pub fn grows<F: Fn(Global, &LocalHeap) -> Option<Ended>>(alloc: Global, call: F)
     requires callable { F.IsAlwaysCallable call }
 {
     let mut refused = false;
-    for step in 0..4_096 {
+    for step in 0..8_192 {
         match ended_in(alloc, step * 64, &call) {
             Some(Ended::TooSmall) => {}
             Some(Ended::Refused) => refused = true,

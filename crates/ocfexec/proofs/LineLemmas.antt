@@ -1,5 +1,5 @@
 -- What is told of the next line, over what a reader had left.
-use Rattle.std.proofs.Common.{◌≡◌, ◌≢◌, ℕ, ◌&&◌, Bool, true, false, true≢false, List, [], ◌∷◌, Option, Some, None, ◌==◌, IfSome, IfOk, IfErr, Result, Ok, Err, length, refl, sym, ap, subst, ◌∙◌, arith, nat_le, if◌then◌else◌}
+use Rattle.std.proofs.Common.{◌≡◌, ◌≢◌, ℕ, Bool, true, false, true≢false, List, [], ◌∷◌, Option, Some, None, ◌==◌, IfSome, IfOk, IfErr, Result, Ok, Err, length, refl, sym, ap, subst, ◌∙◌, arith, nat_le, if◌then◌else◌}
 use Rattle.std.specs.Io.KnownBytes.{IsAtEnd}
 use Rattle.ocf_types.specs.declared.refusal.Refusal.{Refusal}
 use Rattle.ocf_types.specs.declared.refusal.Refusal.TheVariants.{Memory, Syntax}

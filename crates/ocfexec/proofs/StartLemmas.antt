@@ -1,6 +1,7 @@
 -- Why a program ends as it does.
 use Rattle.std.proofs.Common.{◌≡◌, inl, inr, ℕ, List, Result, Ok, Err, Option, subst, sym}
 use Rattle.disk_model.specs.View.{View}
+use Rattle.child_keeper.specs.Children.{ChildrenView}
 use Rattle.executor.specs.declared.executor.Executor.{Executor}
 use Rattle.executor.specs.declared.report.Report.{Report}
 use Rattle.exec_options.specs.Faults.{IsFault}
@@ -17,18 +18,18 @@ use Rattle.ocfexec.specs.Runs.{EndsAs}
 use Rattle.ocfexec.specs.Starts.{EndsFor, IsToldAs}
 
 -- a run does not end by its words
-pub run_ends : {D M N T : Type 0} (view : D → View) (report : Report N) (p : Place (Executor D M)) (left written : Option (List ℕ)) (r : Result T Fault)
-    → EndsAs view report p left written r → IsRunEnd r
-run_ends view report p left written (Ok done) ends = tt
-run_ends view report p left written (Err fault.Usage) ends = absurd ends
-run_ends view report p left written (Err fault.Choice) ends = absurd ends
-run_ends view report p left written (Err fault.NoJournal) ends = absurd ends
-run_ends view report p left written (Err fault.NotText) ends = absurd ends
-run_ends view report p left written (Err (fault.Damaged damage)) ends = tt
-run_ends view report p left written (Err fault.Memory) ends = tt
-run_ends view report p left written (Err fault.Disk) ends = tt
-run_ends view report p left written (Err fault.Full) ends = tt
-run_ends view report p left written (Err fault.InputOrOutput) ends = tt
+pub run_ends : {D C M N T : Type 0} (view : D → View) (tend : C → ChildrenView) (report : Report N) (p : Place (Executor D C M)) (left written : Option (List ℕ)) (r : Result T Fault)
+    → EndsAs view tend report p left written r → IsRunEnd r
+run_ends view tend report p left written (Ok done) ends = tt
+run_ends view tend report p left written (Err fault.Usage) ends = absurd ends
+run_ends view tend report p left written (Err fault.Choice) ends = absurd ends
+run_ends view tend report p left written (Err fault.NoJournal) ends = absurd ends
+run_ends view tend report p left written (Err fault.NotText) ends = absurd ends
+run_ends view tend report p left written (Err (fault.Damaged damage)) ends = tt
+run_ends view tend report p left written (Err fault.Memory) ends = tt
+run_ends view tend report p left written (Err fault.Disk) ends = tt
+run_ends view tend report p left written (Err fault.Full) ends = tt
+run_ends view tend report p left written (Err fault.InputOrOutput) ends = tt
 
 -- words that give no options
 pub refused_ends : {T : Type 0} (words : List (List ℕ)) (f : WordsFault) (r : Result T Fault) → IsFault words f → IsToldAs f r → EndsFor words r

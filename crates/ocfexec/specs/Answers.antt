@@ -6,6 +6,7 @@ use Rattle.ocf_types.specs.declared.refusal.Refusal.{Refusal}
 use Rattle.ocf_types.specs.declared.refusal.Refusal.TheVariants.{Closed, Disk, Memory, UnknownOp}
 use Rattle.ocf_types.specs.declared.reply.ReplyOf.TheVariants.{Refused}
 use Rattle.disk_model.specs.View.{View}
+use Rattle.child_keeper.specs.Children.{ChildrenView}
 use Rattle.executor.specs.declared.executor.Executor.{Executor}
 use Rattle.executor.specs.Commands.{Serves}
 use Rattle.executor.specs.Sights.{sight_of}
@@ -36,15 +37,15 @@ closed_reply (Ok (line.Drain limit)) = refused Closed
 closed_reply (Err refusal) = refused Closed
 
 -- what an open executor answers to a line: to a request what it serves at the moment that the clock shows, whatever that is
-abbrev pub IsOpenReply : {D M : Type 0} → (D → View) → Executor D M → Executor D M → Result Line Refusal → LineReply → Type 0
-IsOpenReply view old new (Ok (line.Request request)) reply =
-    (now : ℕ) × (given : Reply) × (reply ≡ answer.Request given) × Serves view now request (sight_of old) (sight_of new) given
-    × ((sight_of new).is_open ≡ false ↔ (given ≡ Refused Disk))
-IsOpenReply view old new (Ok (line.Drain limit)) reply = (reply ≡ refused UnknownOp) × (new ≡ old)
-IsOpenReply view old new (Ok (line.Meta provider agent)) reply = (reply ≡ no_metadata) × (new ≡ old)
-IsOpenReply view old new (Err refusal) reply = (reply ≡ refused refusal) × (new ≡ old)
+abbrev pub IsOpenReply : {D C M : Type 0} → (D → View) → (C → ChildrenView) → Executor D C M → Executor D C M → Result Line Refusal → LineReply → Type 0
+IsOpenReply view tend old new (Ok (line.Request request)) reply =
+    (now : ℕ) × (given : Reply) × (reply ≡ answer.Request given) × Serves view now request (sight_of tend old) (sight_of tend new) given
+    × ((sight_of tend new).is_open ≡ false ↔ (given ≡ Refused Disk))
+IsOpenReply view tend old new (Ok (line.Drain limit)) reply = (reply ≡ refused UnknownOp) × (new ≡ old)
+IsOpenReply view tend old new (Ok (line.Meta provider agent)) reply = (reply ≡ no_metadata) × (new ≡ old)
+IsOpenReply view tend old new (Err refusal) reply = (reply ≡ refused refusal) × (new ≡ old)
 
 -- what an executor answers to a line
-pub record IsReply {D M : Type 0} (view : D → View) (old new : Executor D M) (found : Result Line Refusal) (reply : LineReply) : Type 0 where
-  pub while_open : (sight_of old).is_open ≡ true → IsOpenReply view old new found reply
-  pub once_closed : (sight_of old).is_open ≡ false → (reply ≡ closed_reply found) × (new ≡ old)
+pub record IsReply {D C M : Type 0} (view : D → View) (tend : C → ChildrenView) (old new : Executor D C M) (found : Result Line Refusal) (reply : LineReply) : Type 0 where
+  pub while_open : (sight_of tend old).is_open ≡ true → IsOpenReply view tend old new found reply
+  pub once_closed : (sight_of tend old).is_open ≡ false → (reply ≡ closed_reply found) × (new ≡ old)

@@ -3,6 +3,7 @@ use Rattle.std.specs.Prelude.{◌≡◌, ◌≢◌, ℕ, ◌<◌, ⊤, List, [],
 use Rattle.std.specs.Io.KnownBytes.{Appends, IsAtEnd}
 use Rattle.ocf_types.specs.declared.refusal.Refusal.{Refusal}
 use Rattle.disk_model.specs.View.{View}
+use Rattle.child_keeper.specs.Children.{ChildrenView}
 use Rattle.executor.specs.declared.executor.Executor.{Executor}
 use Rattle.exec_lines.specs.Lines.{first_line, after_first_line}
 use Rattle.exec_commands.specs.Replies.{reply_line}
@@ -37,11 +38,11 @@ pub record Place (E : Type 0) : Type 0 where
   pub written : Option (List ℕ)
 
 -- the next line is read, and what the writer holds grows by just the reply to it
-pub record Answers {D M : Type 0} (view : D → View) (p q : Place (Executor D M)) : Type 0 where
+pub record Answers {D C M : Type 0} (view : D → View) (tend : C → ChildrenView) (p q : Place (Executor D C M)) : Type 0 where
   pub found : Result Line Refusal
   pub reply : LineReply
   pub read : ReadsLine p.left q.left found
-  pub answered : IsReply view p.executor q.executor found reply
+  pub answered : IsReply view tend p.executor q.executor found reply
   pub written : Appends p.written q.written (reply_line reply)
 
 -- the executor and what the writer holds are the same
@@ -49,7 +50,7 @@ abbrev pub Stays : {E : Type 0} → Place E → Place E → Type 0
 Stays p q = (q.executor ≡ p.executor) × (q.written ≡ p.written)
 
 -- what was done with what stands next in the input
-abbrev pub Takes : {D M : Type 0} → (D → View) → Progress → Place (Executor D M) → Place (Executor D M) → Type 0
-Takes view progress.Answered p q = Answers view p q
-Takes view progress.PassedOver p q = PassesLine p.left q.left × Stays p q
-Takes view progress.End p q = IsAtEnd p.left × Stays p q
+abbrev pub Takes : {D C M : Type 0} → (D → View) → (C → ChildrenView) → Progress → Place (Executor D C M) → Place (Executor D C M) → Type 0
+Takes view tend progress.Answered p q = Answers view tend p q
+Takes view tend progress.PassedOver p q = PassesLine p.left q.left × Stays p q
+Takes view tend progress.End p q = IsAtEnd p.left × Stays p q

@@ -1,5 +1,7 @@
 -- From the words to a run.
-use Rattle.std.specs.Prelude.{◌≡◌, ◌⊎◌, ℕ, ⊤, true, List, is_some, Result, Ok, Err}
+use Rattle.std.specs.Prelude.{◌≡◌, ◌⊎◌, ℕ, ⊤, true, List, [], is_some, option_map, Result, Ok, Err}
+use Rattle.ocf_env.specs.Places.{Place}
+use Rattle.child_keeper.specs.Children.{ChildrenView}
 use Rattle.exec_options.specs.Faults.{AsksForText, IsFault, IsMisused}
 use Rattle.exec_options.specs.Words.{Gives, folder_of}
 use Rattle.exec_options.specs.declared.fault.WordsFault.{WordsFault}
@@ -17,11 +19,20 @@ abbrev pub status_of_end : {T : Type 0} → Result T Fault → ℕ
 status_of_end (Ok done) = 0
 status_of_end (Err f) = status_of f
 
--- what an executor that was not opened ends the program with
+-- where these options say that agents are
+abbrev pub site_of : Options → Place
+site_of o = record { root = o.root.now; path = o.path.now; via = option_map (λ s. s.now) o.via }
+
+-- children of which none was started, with no room for an answer
+abbrev pub no_children : ChildrenView
+no_children = record { book = []; room = 0; last_run = 0; live = [] }
+
+-- what an executor that was not opened ends the program with; fresh children are never of another journal
 abbrev pub opening_fault : OpenError → Fault
 opening_fault opening.Disk = fault.Disk
 opening_fault (opening.Damaged damage) = fault.Damaged damage
 opening_fault opening.Memory = fault.Memory
+opening_fault opening.Foreign = fault.Disk
 opening_fault opening.Full = fault.Full
 
 -- how words end that give no options: a text that was asked for is written, or output fails

@@ -6,6 +6,7 @@ ghost use Rattle.ocfexec.specs.Progress.{ReadsInput, Takes};
 ghost use Rattle.ocfexec.specs.Runs.{EndsAs, ReachesEnd};
 
 use crate::report::send_report;
+use child_keeper::Children;
 use disk_model::Disk;
 use exec_commands::{Line, LineReply, MetaEnd, read_command};
 use exec_lines::{LineBuffer, Next, moment_now, next_line};
@@ -59,15 +60,15 @@ fn closed_reply(line: Result<Line, Refusal>) -> LineReply
 }
 
 // What a line is answered. Until the executor starts agents, a drain is no known operation.
-fn open_reply<D: Disk + Drop>(
-    executor: &mut Executor<D>,
+fn open_reply<D: Disk + Drop, C: Children + Drop>(
+    executor: &mut Executor<D, C>,
     clock: &impl Clock,
     line: Result<Line, Refusal>,
 ) -> LineReply
-    requires open { (sight_of executor.old).is_open ≡ true }
-    requires sound { IsSound D.view (sight_of executor.old) }
-    ensures sound { IsSound D.view (sight_of executor.new) }
-    ensures reply { IsOpenReply D.view executor.old executor.new line result }
+    requires open { (sight_of C.view executor.old).is_open ≡ true }
+    requires sound { IsSound D.view (sight_of C.view executor.old) }
+    ensures sound { IsSound D.view (sight_of C.view executor.new) }
+    ensures reply { IsOpenReply D.view C.view executor.old executor.new line result }
 {
     match line {
         Ok(Line::Request(request)) => {
@@ -79,14 +80,14 @@ fn open_reply<D: Disk + Drop>(
     }
 }
 
-fn reply_to<D: Disk + Drop>(
-    executor: &mut Executor<D>,
+fn reply_to<D: Disk + Drop, C: Children + Drop>(
+    executor: &mut Executor<D, C>,
     clock: &impl Clock,
     line: Result<Line, Refusal>,
 ) -> LineReply
-    requires sound { IsSound D.view (sight_of executor.old) }
-    ensures sound { IsSound D.view (sight_of executor.new) }
-    ensures reply { IsReply D.view executor.old executor.new line result }
+    requires sound { IsSound D.view (sight_of C.view executor.old) }
+    ensures sound { IsSound D.view (sight_of C.view executor.new) }
+    ensures reply { IsReply D.view C.view executor.old executor.new line result }
 {
     if executor.is_open() {
         open_reply(executor, clock, line)
@@ -116,17 +117,17 @@ fn read_input<R: BufRead>(
 }
 
 // Answers the next line. One of no bytes is passed over.
-fn next_reply<R: BufRead, W: Write, D: Disk + Drop>(
+fn next_reply<R: BufRead, W: Write, D: Disk + Drop, C: Children + Drop>(
     alloc: Global,
     reader: &mut R,
     writer: &mut W,
-    executor: &mut Executor<D>,
+    executor: &mut Executor<D, C>,
     clock: &impl Clock,
     buffer: &mut LineBuffer,
 ) -> Result<Progress, Stopped>
-    requires sound { IsSound D.view (sight_of executor.old) }
-    ensures sound { IsSound D.view (sight_of executor.new) }
-    ensures progress { IfOk result (λ p. Takes D.view p
+    requires sound { IsSound D.view (sight_of C.view executor.old) }
+    ensures sound { IsSound D.view (sight_of C.view executor.new) }
+    ensures progress { IfOk result (λ p. Takes D.view C.view p
         (record { executor = executor.old; left = R.remaining reader.old; written = W.contents writer.old })
         (record { executor = executor.new; left = R.remaining reader.new; written = W.contents writer.new })) }
 {
@@ -141,16 +142,16 @@ fn next_reply<R: BufRead, W: Write, D: Disk + Drop>(
 }
 
 // Answers line after line, up to the end of the input.
-fn answer_all<R: BufRead, W: Write, D: Disk + Drop>(
+fn answer_all<R: BufRead, W: Write, D: Disk + Drop, C: Children + Drop>(
     alloc: Global,
     reader: &mut R,
     writer: &mut W,
-    executor: &mut Executor<D>,
+    executor: &mut Executor<D, C>,
     clock: &impl Clock,
     buffer: &mut LineBuffer,
 ) -> Result<(), Stopped>
-    requires sound { IsSound D.view (sight_of executor.old) }
-    ensures lines { OnOk result (ReachesEnd D.view
+    requires sound { IsSound D.view (sight_of C.view executor.old) }
+    ensures lines { OnOk result (ReachesEnd D.view C.view
         (record { executor = executor.old; left = R.remaining reader.old; written = W.contents writer.old })
         (record { executor = executor.new; left = R.remaining reader.new; written = W.contents writer.new })) }
 {
@@ -165,16 +166,16 @@ fn answer_all<R: BufRead, W: Write, D: Disk + Drop>(
 
 /// Writes what the opening reports, and then answers each line of the input, up to its end. Each reply is flushed before
 /// the next line is read. Where the disk failed the end of the input is a fault, and input or output that fails is another.
-pub fn run_lines<R: BufRead, W: Write, D: Disk + Drop>(
+pub fn run_lines<R: BufRead, W: Write, D: Disk + Drop, C: Children + Drop>(
     alloc: Global,
     reader: &mut R,
     writer: &mut W,
-    mut executor: Executor<D>,
+    mut executor: Executor<D, C>,
     report: &Report,
     clock: &impl Clock,
 ) -> Result<(), Fault>
-    requires sound { IsSound D.view (sight_of executor) }
-    ensures { EndsAs D.view report.now
+    requires sound { IsSound D.view (sight_of C.view executor) }
+    ensures { EndsAs D.view C.view report.now
         (record { executor = executor; left = R.remaining reader.old; written = W.contents writer.old })
         (R.remaining reader.new) (W.contents writer.new) result }
 {

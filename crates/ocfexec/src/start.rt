@@ -3,10 +3,11 @@ ghost use Rattle.std.specs.Prelude.{◌≡◌, map, string_bytes};
 ghost use Rattle.exec_output.specs.Faults.{IsRunEnd};
 ghost use Rattle.ocfexec.specs.Starts.{EndsFor, IsToldAs, opening_fault};
 
+use crate::agents::{no_children, site_of};
 use crate::session::run_lines;
 use disk_model::MemDisk;
 use exec_lines::moment_now;
-use exec_options::{JournalPlace, Subcommand, WordsFault, read_words};
+use exec_options::{JournalPlace, Options, Subcommand, WordsFault, read_words};
 use exec_output::{Fault, show};
 use executor::{Executor, OpenError};
 use std::env;
@@ -58,7 +59,7 @@ fn run(rt: &HostRuntime, words: &[String]) -> Result<(), Fault>
     };
     match (options.journal, options.subcommand) {
         (JournalPlace::Folder(_), _) => Err(Fault::NoJournal),
-        (JournalPlace::Memory, Subcommand::Run) => run_in_memory(rt),
+        (JournalPlace::Memory, Subcommand::Run) => run_in_memory(rt, options),
         (JournalPlace::Memory, Subcommand::Show) => {
             show(rt.alloc(), MemDisk::new(rt.alloc()), &mut io::writer(rt)).1
         }
@@ -73,19 +74,25 @@ fn opening_fault(why: OpenError) -> Fault
         OpenError::Disk => Fault::Disk,
         OpenError::Damaged(damage) => Fault::Damaged(damage),
         OpenError::Memory => Fault::Memory,
+        // the children are fresh at each opening, and never of another journal
+        OpenError::Foreign => Fault::Disk,
         OpenError::Full => Fault::Full,
     }
 }
 
 #[tactic(auto, using(crate::proofs::StartLemmas::run_ends))]
-fn run_in_memory(rt: &HostRuntime) -> Result<(), Fault>
+fn run_in_memory(rt: &HostRuntime, options: Options) -> Result<(), Fault>
     ensures { IsRunEnd result }
 {
     let alloc = rt.alloc();
     let Ok(mut reader) = BufReader::with_capacity(alloc, READ_SIZE, rt.reader()) else {
         return Err(Fault::Memory);
     };
-    match Executor::open(alloc, MemDisk::new(alloc), moment_now(rt).get()) {
+    let (Ok(children), Ok(site)) = (no_children(alloc), site_of(alloc, options)) else {
+        return Err(Fault::Memory);
+    };
+    let disk = MemDisk::new(alloc);
+    match Executor::open(alloc, disk, children, site, moment_now(rt).get()) {
         Ok((executor, report)) => {
             run_lines(
                 alloc,

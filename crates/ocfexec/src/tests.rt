@@ -1,4 +1,9 @@
 // Runs over known and failing input and output, over a disk in memory.
+ghost use Rattle.std.specs.Prelude.{IfOk};
+ghost use Rattle.child_keeper.specs.Scripted.{children_of};
+ghost use Rattle.disk_model.specs.MemDisk.{view_of};
+ghost use Rattle.executor.specs.Sights.{IsSound, sight_of};
+
 mod endings;
 mod faults;
 mod journal;
@@ -6,18 +11,44 @@ mod lines;
 mod opening;
 mod shown;
 
+use crate::agents::{no_children, site_of};
 use crate::session::run_lines;
+use child_keeper::Scripted;
 use disk_model::MemDisk;
+use exec_options::{JournalPlace, Options, Subcommand};
 use exec_output::Fault;
-use executor::Executor;
+use executor::{Executor, Report};
 use std::alloc::Global;
 use std::io::{BufRead, Write};
 use std::process::Abort;
 use std::rt::Clock;
 use std::test::Fail;
 
-/// The moment at which each executor is opened.
-pub const OPENED_AT: u64 = 5_000;
+// The moment at which each executor is opened.
+const OPENED_AT: u64 = 5_000;
+
+// The options of a run in memory.
+const OPTIONS: Options<'static> = Options {
+    subcommand: Subcommand::Run,
+    journal: JournalPlace::Memory,
+    root: "/usr/lib/ocf",
+    via: None,
+    path: "/usr/sbin:/usr/bin:/sbin:/bin",
+};
+
+/// The executor over this disk and fresh children, and the opening's report.
+pub fn opened(alloc: Global, disk: MemDisk) -> Result<(Executor<MemDisk, Scripted>, Report), Fail>
+    ensures sound { IfOk result (λ r. IsSound view_of (sight_of children_of r.0)) }
+{
+    let site = site_of(alloc, OPTIONS)?;
+    match Executor::open(alloc, disk, no_children(alloc)?, site, OPENED_AT) {
+        Ok(opened) => Ok(opened),
+        Err(fault) => {
+            let why = fault.why;
+            Err(why)?
+        }
+    }
+}
 
 /// How a run over this disk ends.
 pub fn ended_over<R: BufRead, W: Write>(
@@ -27,13 +58,8 @@ pub fn ended_over<R: BufRead, W: Write>(
     reader: &mut R,
     writer: &mut W,
 ) -> Result<Result<(), Fault>, Fail> {
-    match Executor::open(alloc, disk, OPENED_AT) {
-        Ok((executor, report)) => Ok(run_lines(alloc, reader, writer, executor, &report, clock)),
-        Err(fault) => {
-            let why = fault.why;
-            Err(why)?
-        }
-    }
+    let (executor, report) = opened(alloc, disk)?;
+    Ok(run_lines(alloc, reader, writer, executor, &report, clock))
 }
 
 /// What a run over this disk writes, and how it ends.

@@ -2,6 +2,7 @@
 //! memory, and prints what they answer.
 #![tactic(auto)]
 
+mod children;
 mod disk;
 mod fill;
 mod finding;

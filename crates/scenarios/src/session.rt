@@ -1,7 +1,11 @@
 //! An open executor.
-ghost use Rattle.scenarios.specs.Rooms.{KeepsRoom};
+ghost use Rattle.child_keeper.specs.Scripted.{children_of};
+ghost use Rattle.executor.specs.Sights.{IsSound, sight_of};
+ghost use Rattle.scenarios.specs.SharedDisk.{shared_view};
 
+use crate::children::{idle_children, idle_site};
 use crate::disk::SharedDisk;
+use child_keeper::Scripted;
 use exec_commands::{Line, LineReply, read_command};
 use executor::{Executor, OpenError, Report};
 use ocf_env::Site;
@@ -11,9 +15,9 @@ use std::alloc::Global;
 /// An executor on a shared disk, and the site of its agents.
 #[derive(Drop)]
 pub struct Session {
-    executor: Executor<SharedDisk>,
+    executor: Executor<SharedDisk, Scripted>,
     site: Site,
-    pub ghost room: { KeepsRoom executor },
+    pub ghost sound: { ∥ IsSound shared_view (sight_of children_of executor) ∥₁ },
 }
 
 impl Session {
@@ -24,7 +28,10 @@ impl Session {
         site: Site,
         now: u64,
     ) -> Result<(Session, Report), OpenError> {
-        match Executor::open(alloc, disk, now) {
+        let Ok(children) = idle_children(alloc) else {
+            return Err(OpenError::Memory);
+        };
+        match Executor::open(alloc, disk, children, idle_site(alloc), now) {
             Ok((executor, report)) => Ok((Session { executor, site }, report)),
             Err(fault) => Err(fault.why),
         }

@@ -1,9 +1,8 @@
 // Disks, readers and writers that fail.
 use super::journal::busy_disk;
-use super::{OPENED_AT, ended_over, written_over};
+use super::{ended_over, opened, written_over};
 use disk_model::{Disk, MemDisk};
 use exec_output::Fault;
-use executor::Executor;
 use std::alloc::Global;
 use std::io::{self, BufReader, ErrorKind, Read, Write};
 use std::rt::Clock;
@@ -17,18 +16,17 @@ const REPLIES_WHEN_CLOSED: &[u8] =
     b"{\"error\":\"disk\",\"number\":16}\n{\"error\":\"closed\",\"number\":17}\n{\"error\":\"closed\",\"number\":17}\n{\"error\":\"closed\",\"number\":17}\n{\"error\":\"closed\",\"number\":17}\n{\"end\":\"missing\"}\n{\"error\":\"closed\",\"number\":17}\n";
 
 // How many device calls an opening of a fresh disk makes.
-fn opening_calls(alloc: Global) -> u64 {
-    match Executor::open(alloc, MemDisk::new(alloc), OPENED_AT) {
-        Ok((executor, _)) => executor.close().clock(),
-        Err(_) => 0,
-    }
+fn opening_calls(alloc: Global) -> Result<u64, Fail> {
+    let (executor, _) = opened(alloc, MemDisk::new(alloc))?;
+    let (disk, _) = executor.close();
+    Ok(disk.clock())
 }
 
 // A fresh disk that fails in this device call after the opening.
-fn failing_disk(alloc: Global, call: u64) -> MemDisk {
+fn failing_disk(alloc: Global, call: u64) -> Result<MemDisk, Fail> {
     let mut disk = MemDisk::new(alloc);
-    disk.plan_fault(opening_calls(alloc).saturating_add(call));
-    disk
+    disk.plan_fault(opening_calls(alloc)?.saturating_add(call));
+    Ok(disk)
 }
 
 #[test]
@@ -38,7 +36,7 @@ fn after_a_disk_fault_every_line_is_closed(rt: HostRuntime) -> Result<(), Fail> 
         let (ended, written) = written_over(
             &rt,
             rt.alloc(),
-            failing_disk(rt.alloc(), call),
+            failing_disk(rt.alloc(), call)?,
             LINES,
         )?;
         assert_eq!(rt; written.as_slice(), REPLIES_WHEN_CLOSED);
@@ -50,7 +48,7 @@ fn after_a_disk_fault_every_line_is_closed(rt: HostRuntime) -> Result<(), Fail> 
 #[test]
 fn a_fault_behind_the_last_call_is_none(rt: HostRuntime) -> Result<(), Fail> {
     let line = b"{\"op\":\"register\",\"id\":\"r1\",\"provider\":\"p\",\"type\":\"t\"}";
-    let (ended, written) = written_over(&rt, rt.alloc(), failing_disk(rt.alloc(), 5), line)?;
+    let (ended, written) = written_over(&rt, rt.alloc(), failing_disk(rt.alloc(), 5)?, line)?;
     assert_eq!(rt; written.as_slice(), b"{\"ok\":true}\n".as_slice());
     assert_eq!(rt; ended, Ok(()));
     Ok(())
@@ -170,7 +168,7 @@ fn output_that_fails_wins_over_the_disk(rt: HostRuntime) -> Result<(), Fail> {
     let mut room = [0u8; 40];
     let mut writer = room.as_mut_slice();
     let mut reader = LINES;
-    let disk = failing_disk(rt.alloc(), 1);
+    let disk = failing_disk(rt.alloc(), 1)?;
     let ended = ended_over(&rt, rt.alloc(), disk, &mut reader, &mut writer)?;
     assert_eq!(rt; ended, Err(Fault::InputOrOutput));
     Ok(())

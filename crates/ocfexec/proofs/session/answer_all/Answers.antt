@@ -19,7 +19,7 @@ returns-then-eq g c =
       lines = record {
         last = last;
         reached = c.loop.invariant.reached;
-        end = at_end g.D.Disk.view last end c.in_ok-progress.progress is c.in_ok-progress.ensures.progress;
+        end = at_end g.D.Disk.view g.C.Children.view last end c.in_ok-progress.progress is c.in_ok-progress.ensures.progress;
       };
     }
 

@@ -4,8 +4,8 @@ use Rattle.ocfexec.proofs.session.answer_all.Given as goal
 
 abbrev pub invariant-loop : goal.invariant-loop
 invariant-loop g l = record {
-  sound : IsSound g.D.Disk.view (sight_of l.executor);
-  reached : Reaches g.D.Disk.view
+  sound : IsSound g.D.Disk.view (sight_of g.C.Children.view l.executor);
+  reached : Reaches g.D.Disk.view g.C.Children.view
       (record { executor = l.fn.executor; left = g.R.Read.remaining l.fn.reader; written = g.W.Write.contents l.fn.writer })
       (record { executor = l.executor; left = g.R.Read.remaining l.reader; written = g.W.Write.contents l.writer });
 }

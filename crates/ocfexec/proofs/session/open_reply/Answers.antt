@@ -6,5 +6,5 @@ pub returns-in-Ok-Request-clause-reply : goal.returns-in-Ok-Request-clause-reply
 returns-in-Ok-Request-clause-reply g c =
     let told = c.command.ensures in
     let h = c.in-Ok-Request in
-    requested g.D.Disk.view c.args.executor.now c.command.new.self c.args.line c.get.result h.request c.command.result (h.is ∙ ap Ok h.field-0-is) told.serves
+    requested g.D.Disk.view g.C.Children.view c.args.executor.now c.command.new.self c.args.line c.get.result h.request c.command.result (h.is ∙ ap Ok h.field-0-is) told.serves
     (told.closes c.requires.open)

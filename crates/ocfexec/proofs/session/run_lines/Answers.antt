@@ -5,13 +5,13 @@ use Rattle.ocfexec.proofs.session.run_lines.Goals as goal
 pub returns-then-is_open : goal.returns-then-is_open
 returns-then-is_open g c = (
   c.answer_all.new.executor,
-  ended _ _ _ _ _ _ _ (sym c.is_err.ensures.value ∙ c.if-is_err.false) (sym c.is_err-2.ensures.value ∙ c.if-is_err-2.false) c.send_report.ensures c.answer_all.ensures.lines,
+  ended _ _ _ _ _ _ _ _ (sym c.is_err.ensures.value ∙ c.if-is_err.false) (sym c.is_err-2.ensures.value ∙ c.if-is_err-2.false) c.send_report.ensures c.answer_all.ensures.lines,
   sym c.is_open.ensures.value ∙ c.if-is_open.true,
 )
 
 pub returns : goal.returns
 returns g c = (
   c.answer_all.new.executor,
-  ended _ _ _ _ _ _ _ (sym c.is_err.ensures.value ∙ c.if-is_err.false) (sym c.is_err-2.ensures.value ∙ c.if-is_err-2.false) c.send_report.ensures c.answer_all.ensures.lines,
+  ended _ _ _ _ _ _ _ _ (sym c.is_err.ensures.value ∙ c.if-is_err.false) (sym c.is_err-2.ensures.value ∙ c.if-is_err-2.false) c.send_report.ensures c.answer_all.ensures.lines,
   sym c.is_open.ensures.value ∙ c.if-is_open.false,
 )

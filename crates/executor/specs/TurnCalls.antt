@@ -1,0 +1,31 @@
+-- What an executor does in a turn, and as it gives its children up.
+use Rattle.std.specs.Prelude.{◌≡◌, ◌↔◌, ◌*◌, ◌<◌, ℕ, Bool, true, false, [], length}
+use Rattle.ocf_types.specs.Answer.{moment}
+use Rattle.ocf_types.specs.declared.reply.TurnEnd.{TurnEnd}
+use Rattle.ocf_types.specs.declared.reply.TurnEnd.TheVariants.{BookFull, Closed, Disk}
+use Rattle.disk_model.specs.View.{View}
+use Rattle.child_keeper.specs.Children.{emptied, given_up}
+use Rattle.exec_turn.specs.Turn.{scene}
+use Rattle.exec_turn.specs.Turns.{Turns}
+use Rattle.executor.specs.Sights.{Sight}
+
+-- An open executor makes a turn at this moment: from one sight of it to another.
+pub record TakesTurn {D : Type 0} (look : D → View) (now : ℕ) (old new : Sight D) (end : TurnEnd) : Type 0 where
+  pub turns : Turns (look old.disk) (look new.disk) (scene old.state old.due old.place (moment old.state now)) new.state new.due old.children new.children new.told end
+  -- nothing is done just where the book takes less than three entries a resource
+  pub full : (end ≡ BookFull) ↔ (old.children.room < 3 * length old.state.resources)
+  pub unchanged : end ≡ BookFull → new ≡ record old { told = [] }
+  -- a disk fault closes it, and nothing else
+  pub closes : (new.is_open ≡ false) ↔ (end ≡ Disk)
+
+-- the same while it is open or closed: a closed one does nothing
+abbrev pub TurnsWhile : Bool → {D : Type 0} → (D → View) → ℕ → Sight D → Sight D → TurnEnd → Type 0
+TurnsWhile true look now old new end = TakesTurn look now old new end
+TurnsWhile false look now old new end = (end ≡ Closed) × (new ≡ old)
+
+-- the executor with its book emptied, and closed with all of its children given up
+abbrev pub with_empty_book : {D : Type 0} → Sight D → Sight D
+with_empty_book x = record x { children = emptied x.children }
+
+abbrev pub abandoned : {D : Type 0} → Sight D → Sight D
+abandoned x = record x { is_open = false; children = given_up x.children }

@@ -1,0 +1,60 @@
+//! Turns, and what becomes of the children.
+ghost use Rattle.std.specs.Prelude.{◌≡◌};
+ghost use Rattle.executor.specs.Sights.{IsSound, sight_of};
+ghost use Rattle.executor.specs.TurnCalls.{TurnsWhile, abandoned, with_empty_book};
+
+use crate::Executor;
+use child_keeper::Children;
+use disk_model::Disk;
+use exec_turn::take_turn;
+use ocf_types::{Notice, TurnEnd};
+use std::alloc::Allocator;
+
+impl<D: Disk + Drop, C: Children + Drop, A: Allocator + Copy> Executor<D, C, A> {
+    /// A turn at a moment in milliseconds since 1970: polls what runs, begins what has to begin, and starts it.
+    ///
+    /// What ends is recorded before it is told, and what begins before it is started. A disk fault closes the executor. A
+    /// closed one does nothing.
+    pub fn turn(&mut self, now: u64) -> TurnEnd
+        requires sound { IsSound D.view (sight_of C.view self.old) }
+        ensures sound { IsSound D.view (sight_of C.view self.new) }
+        ensures turns { TurnsWhile (sight_of C.view self.old).is_open D.view now (sight_of C.view self.old) (sight_of C.view self.new) result }
+    {
+        if !self.open {
+            return TurnEnd::Closed;
+        }
+        let end = take_turn(
+            &self.site,
+            &mut self.journal,
+            &mut self.state,
+            &mut self.children,
+            &mut self.rows,
+            now,
+        );
+        self.open = end != TurnEnd::Disk;
+        end
+    }
+
+    /// The results that the last turn recorded, in their order.
+    pub fn notices(&self) -> &[Notice]
+        ensures value { result.now ≡ (sight_of C.view self.now).told }
+    {
+        self.rows.notices()
+    }
+
+    /// Empties the children's book.
+    pub fn clear_book(&mut self)
+        ensures cleared { sight_of C.view self.new ≡ with_empty_book (sight_of C.view self.old) }
+    {
+        self.children.clear_book();
+    }
+
+    /// Kills and gives up every child. The executor is closed then: what runs is found as interrupted when the journal is
+    /// opened again.
+    pub fn abandon(&mut self)
+        ensures abandoned { sight_of C.view self.new ≡ abandoned (sight_of C.view self.old) }
+    {
+        self.children.give_up_all();
+        self.open = false;
+    }
+}
