@@ -4,3 +4,4 @@ pub mod Booting
 pub mod Keeping
 pub mod OpeningLemmas
 pub mod Recording
+pub mod SessionLemmas

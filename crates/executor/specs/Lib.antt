@@ -4,3 +4,6 @@ pub mod Reports
 pub mod Commands
 pub mod Openings
 pub mod TurnCalls
+pub mod Sessions
+pub mod Singles
+pub mod Parts

@@ -3,10 +3,13 @@
 
 mod commands;
 mod executor;
+pub mod laws;
 mod opening;
 mod report;
+mod session;
 mod turns;
 
 pub use executor::Executor;
 pub use opening::{OpenError, OpenFault};
 pub use report::Report;
+pub use session::{Input, InputOf};

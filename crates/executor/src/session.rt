@@ -1,0 +1,61 @@
+//! Sessions: many inputs at once.
+ghost use Rattle.std.specs.Prelude.{◌≡◌, ◌++◌, ◌∷◌, [], IfErr, OnOk, List};
+ghost use Rattle.ocf_types.specs.Kinds.{Reply};
+ghost use Rattle.executor.specs.Sessions.{Deeds, Leads, Sits, Takes};
+ghost use Rattle.executor.specs.Sights.{IsSound, sight_of};
+
+use crate::Executor;
+use child_keeper::Children;
+use disk_model::Disk;
+use exec_journal::laws::what_stands;
+use ocf_types::{Params, Reply, ReplyOf, RequestOf};
+use std::alloc::{Allocator, Global};
+
+/// What an executor is handed, at a moment in milliseconds since 1970. `P` is the type of parameters.
+#[derive(Drop)]
+pub enum InputOf<P> {
+    /// A command or a question.
+    Request { now: u64, request: RequestOf<P> },
+    /// A turn.
+    Turn { now: u64 },
+}
+
+/// An input whose parameters lie in memory of the allocator.
+pub type Input<A = Global> = InputOf<Params<A>>;
+
+impl<D: Disk + Drop, C: Children + Drop, A: Allocator + Copy> Executor<D, C, A> {
+    // Takes one input.
+    fn take(&mut self, input: Input<A>) -> Reply<A>
+        requires sound { IsSound D.view (sight_of C.view self.old) }
+        ensures sound { IsSound D.view (sight_of C.view self.new) }
+        ensures takes { (deeds : Deeds) × Takes D.view input (sight_of C.view self.old) (sight_of C.view self.new) result deeds }
+    {
+        match input {
+            InputOf::Request { now, request } => self.command(now, request),
+            InputOf::Turn { now } => ReplyOf::Turn(self.turn(now)),
+        }
+    }
+
+    /// Takes inputs one after the other, and puts one reply to each behind the replies that are there: that of a turn is
+    /// how it ended. The notices are those of the last turn.
+    ///
+    /// Where there is no memory for the replies nothing is done, and the inputs are handed back.
+    pub fn session(&mut self, inputs: Vec<Input<A>, A>, replies: &mut Vec<Reply<A>, A>) -> Result<(), Vec<Input<A>, A>>
+        requires sound { IsSound D.view (sight_of C.view self.old) }
+        ensures sound { IsSound D.view (sight_of C.view self.new) }
+        // each input was taken, in order and none left out, with one reply to each
+        ensures sits { OnOk result ((given : List Reply) × (replies.new.items ≡ replies.old.items ++ given) × Sits D.view inputs.items (sight_of C.view self.old) (sight_of C.view self.new) given) }
+        // without memory for the replies nothing was done
+        ensures refused { IfErr result (λ back. (back ≡ inputs) × (sight_of C.view self.new ≡ sight_of C.view self.old) × (replies.new.items ≡ replies.old.items)) }
+    {
+        what_stands();
+        let Ok(()) = replies.try_reserve(inputs.len()) else {
+            return Err(inputs);
+        };
+        for input in inputs {
+            let reply = self.take(input);
+            replies.push_reserved(reply);
+        }
+        Ok(())
+    }
+}
