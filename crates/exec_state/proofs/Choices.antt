@@ -1,14 +1,9 @@
--- Choices, and what may be there.
-use Rattle.std.proofs.Common.{◌≡◌, ℕ, zero, suc, ◌+◌, ◌++◌, map, take, slice_get, Bool, true, false, cond, List, [], ◌∷◌, Option, Some, None, refl, ap, arith}
+-- What may be there, and the first items of a list.
+use Rattle.std.proofs.Common.{◌≡◌, ℕ, zero, suc, ◌+◌, ◌++◌, map, take, slice_get, List, [], ◌∷◌, Option, Some, None, refl, ap, arith}
 use Rattle.std.specs.Option.{option_map}
 use Rattle.std.proofs.lemmas.List.{map-append}
 use Rattle.recurring.specs.declared.monitor.Monitor.{Monitor}
 use Rattle.recurring.specs.Monitors.{recurs, restarted, all_due_at, monitor_due_at}
-
--- a function goes through a choice
-pub through_cond : {A B : Type 0} (f : A → B) (b : Bool) (x y : A) → f (cond b x y) ≡ cond b (f x) (f y)
-through_cond f true x y = refl
-through_cond f false x y = refl
 
 -- nothing is there where nothing is of its image
 pub none_before : {A B : Type 0} (f : A → B) (o : Option A) → option_map f o ≡ None → o ≡ None

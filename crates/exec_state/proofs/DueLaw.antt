@@ -5,6 +5,7 @@ use Rattle.std.specs.List.{AllByRecursion}
 use Rattle.std.specs.Map.{lookup}
 use Rattle.std.specs.Str.{bytes_eq}
 use Rattle.std.proofs.lemmas.Map.Entries.{lookup-filter-keys}
+use Rattle.std.proofs.lemmas.Map.Made.{lookup-map_values}
 use Rattle.std.proofs.lemmas.Slice.Eq.{bytes_eq-Decides}
 use Rattle.ocf_types.specs.declared.operation.Recur.{Recur}
 use Rattle.ocf_types.specs.declared.event.Change.TheVariants as change
@@ -15,52 +16,15 @@ use Rattle.ocf_types.specs.Due.{due_after, due_at}
 use Rattle.ocf_types.specs.Applies.{Applies, StepApplies, ChangeApplies}
 use Rattle.ocf_types.specs.LawfulState.{IsLawfulResource, IsLawfulState}
 use Rattle.ocf_types.specs.Lawful.{IsLawfulRecur}
-use Rattle.ocf_types.proofs.Lists.{found}
-use Rattle.ocf_types.proofs.Registries.{same_id, apart, lookup-push_other, lookup-at_id_other}
 use Rattle.recurring.specs.declared.monitor.Monitor.{Monitor}
 use Rattle.recurring.specs.Monitors.{recurs, all_due_at}
 use Rattle.exec_state.specs.Store.{Store, Monitors, monitors_at, due_of, dues, monitors_due_at}
 use Rattle.exec_state.specs.MonitorsAfter.{monitors_stepped, monitors_changed, monitors_after}
 use Rattle.exec_state.specs.Lawful.{recurs_by_id, recurring_by_id, IsLawfulStore}
 use Rattle.exec_state.proofs.Choices.{none_before}
-use Rattle.exec_state.proofs.Picks.{due_in, lookup-map, found_fact, recurs-at}
+use Rattle.exec_state.proofs.Lookups.{found, found_fact, same_id, apart, lookup-push_here, lookup-push_other, lookup-at_id_here, lookup-at_id_other, lookup-taken_out}
+use Rattle.exec_state.proofs.Picks.{due_in, recurs-at}
 use Rattle.exec_state.proofs.DueSteps.{due_where, due_there, due_stepped}
-
-module _ {A : Type 0} where
-  -- a new entry is found
-  lookup-push_here : (test : List ℕ → Bool) (es : List (List ℕ × A)) (e : List ℕ × A) → lookup test es ≡ None → test e.0 ≡ true → lookup test (es ++ e ∷ []) ≡ Some e.1
-  lookup-push_here test [] e none is = rw is refl
-  lookup-push_here test (x ∷ xs) e none is = by (test x.0) refl (lookup-push_here test xs e)
-    where
-      by : (b : Bool) → test x.0 ≡ b → (lookup test xs ≡ None → test e.0 ≡ true → lookup test (xs ++ e ∷ []) ≡ Some e.1)
-          → cond b (Some x.1) (lookup test (xs ++ e ∷ [])) ≡ Some e.1
-      by true same rest = absurd (let some : Some x.1 ≡ None = rw same at none in cc)
-      by false other rest = rest (rw other at none) is
-
-  -- what is done to the entry of an id is found there
-  lookup-at_id_here : (id : List ℕ) (f : A → A) (es : List (List ℕ × A)) (v : A) → lookup (bytes_eq id) es ≡ Some v → lookup (bytes_eq id) (at_id id f es) ≡ Some (f v)
-  lookup-at_id_here id f [] v at = absurd (let none : None ≡ Some v = at in cc)
-  lookup-at_id_here id f (e ∷ es) v at = by (bytes_eq id e.0) refl (lookup-at_id_here id f es v)
-    where
-      by : (b : Bool) → bytes_eq id e.0 ≡ b → (lookup (bytes_eq id) es ≡ Some v → lookup (bytes_eq id) (at_id id f es) ≡ Some (f v))
-          → cond b (Some (cond b (f e.1) e.1)) (lookup (bytes_eq id) (at_id id f es)) ≡ Some (f v)
-      by true same rest =
-          let here : Some e.1 ≡ Some v = rw same at at in
-          let is : e.1 ≡ v = cc in
-          ap (λ (x : A). Some (f x)) is
-      by false other rest = rest (rw other at at)
-
-  -- what is taken out is not found
-  lookup-taken_out : (id : List ℕ) (es : List (List ℕ × A)) → lookup (bytes_eq id) (filter (λ e. not (bytes_eq id e.0)) es) ≡ None
-  lookup-taken_out id [] = refl
-  lookup-taken_out id (e ∷ es) = by (bytes_eq id e.0) refl (lookup-taken_out id es)
-    where
-      rest : List (List ℕ × A)
-      rest = filter (λ x. not (bytes_eq id x.0)) es
-
-      by : (b : Bool) → bytes_eq id e.0 ≡ b → lookup (bytes_eq id) rest ≡ None → lookup (bytes_eq id) (cond (not b) (e ∷ rest) rest) ≡ None
-      by true same k = k
-      by false other k = rw other k
 
 -- a monitor of the call is there
 abbrev pub there_at : Option Resource → ℕ → Bool
@@ -69,18 +33,18 @@ there_at o call = option_map_or (λ r. is_some (of_call call r.recurring)) o fal
 -- where there is no resource, it has no monitors
 absent_at : (rs : Registry) (all : Monitors) (id : List ℕ) → recurs_by_id all ≡ recurring_by_id rs → lookup (bytes_eq id) rs ≡ None → lookup (bytes_eq id) all ≡ None
 absent_at rs all id same at =
-    none_before recurs (lookup (bytes_eq id) all) (sym (lookup-map recurs (bytes_eq id) all)
+    none_before recurs (lookup (bytes_eq id) all) (sym (lookup-map_values recurs (bytes_eq id) all)
     ∙ ap (lookup (bytes_eq id)) same
-    ∙ lookup-map (λ (x : Resource). x.recurring) (bytes_eq id) rs
+    ∙ lookup-map_values (λ (x : Resource). x.recurring) (bytes_eq id) rs
     ∙ ap (option_map (λ (x : Resource). x.recurring)) at)
 
 -- where there is one, it has
 present_at : (rs : Registry) (all : Monitors) (id : List ℕ) (r : Resource) → recurs_by_id all ≡ recurring_by_id rs → lookup (bytes_eq id) rs ≡ Some r
     → lookup (bytes_eq id) all ≡ Some (monitors_at all id)
 present_at rs all id r same at =
-    by (lookup (bytes_eq id) all) refl (sym (lookup-map recurs (bytes_eq id) all)
+    by (lookup (bytes_eq id) all) refl (sym (lookup-map_values recurs (bytes_eq id) all)
     ∙ ap (lookup (bytes_eq id)) same
-    ∙ lookup-map (λ (x : Resource). x.recurring) (bytes_eq id) rs
+    ∙ lookup-map_values (λ (x : Resource). x.recurring) (bytes_eq id) rs
     ∙ ap (option_map (λ (x : Resource). x.recurring)) at)
   where
     by : (o : Option (List Monitor)) → lookup (bytes_eq id) all ≡ o → option_map recurs o ≡ Some r.recurring → o ≡ Some (monitors_at all id)
@@ -176,7 +140,7 @@ due_changed s all at (change.Step x what) id call h same a = by (bytes_eq x id) 
         (lookup-at_id_other x id (monitors_stepped at (option_and_then (λ r. r.history.running) (lookup (bytes_eq x) s.resources)) what) all differ) in
         rw other stay
 due_changed s all at change.Boot id call h same a =
-    rw (lookup-map (on_history (booted at)) (bytes_eq id) s.resources) (by (lookup (bytes_eq id) s.resources) (due_kept s.resources all id call same))
+    rw (lookup-map_values (on_history (booted at)) (bytes_eq id) s.resources) (by (lookup (bytes_eq id) s.resources) (due_kept s.resources all id call same))
   where
     by : (o : Option Resource) → due_of all id call ≡ cond (there_at o call) (due_of all id call) None → due_of all id call ≡ cond (there_at (option_map (on_history (booted at)) o) call) (due_of all id call) None
     by None k = k
@@ -198,14 +162,14 @@ due_all at call (x ∷ xs) = by (x.call == call) (due_all at call xs)
     by false k = k
 
 -- the same of the whole map
-pub due_applied : (s t : Store) (e : Event) → IsLawfulStore s → Applies s.state e → t.monitors ≡ monitors_after s.state e s.monitors
-    → dues t ≡ due_after s.state (dues s) e
-due_applied s t e h a is = ap due_of is ∙ (λ i. λ id call. due_by_events s e id call h a i)
+pub due_applied : (s : Store) (all : Monitors) (e : Event) → IsLawfulStore s → Applies s.state e → all ≡ monitors_after s.state e s.monitors
+    → due_of all ≡ due_after s.state (dues s) e
+due_applied s all e h a is = ap due_of is ∙ (λ i. λ id call. due_by_events s e id call h a i)
 
 -- after an opening all are due at its moment
 pub due_by_opening : (s : State) (at : ℕ) (id : List ℕ) (call : ℕ) → due_of (monitors_due_at at s) id call ≡ due_at s at id call
 due_by_opening s at id call =
-    rw (lookup-map (λ (r : Resource). all_due_at at r.recurring) (bytes_eq id) s.resources) (by (lookup (bytes_eq id) s.resources))
+    rw (lookup-map_values (λ (r : Resource). all_due_at at r.recurring) (bytes_eq id) s.resources) (by (lookup (bytes_eq id) s.resources))
   where
     by : (o : Option Resource) → option_map (λ (m : Monitor). m.due) (find (λ m. m.recur.call == call) (unwrap_or (option_map (λ (r : Resource). all_due_at at r.recurring) o) []))
         ≡ cond (there_at o call) (Some at) None
@@ -213,8 +177,8 @@ due_by_opening s at id call =
     by (Some r) = due_all at call r.recurring
 
 -- the same of the whole map
-pub due_opened : (s : State) (t : Store) (at : ℕ) → t.monitors ≡ monitors_due_at at s → dues t ≡ due_at s at
-due_opened s t at is = ap due_of is ∙ (λ i. λ id call. due_by_opening s at id call i)
+pub due_opened : (s : State) (all : Monitors) (at : ℕ) → all ≡ monitors_due_at at s → due_of all ≡ due_at s at
+due_opened s all at is = ap due_of is ∙ (λ i. λ id call. due_by_opening s at id call i)
 
 -- without resources nothing is due
 pub due_empty : (t : Store) → t.monitors ≡ [] → dues t ≡ due_at empty 0

@@ -1,10 +1,12 @@
 -- The registry's entries, each value seen by a function.
-use Rattle.std.proofs.Common.{◌≡◌, ℕ, zero, suc, Bool, true, false, cond, not, ◌||◌, List, [], ◌∷◌, map, length, filter, get_or, set, slice_get, slice_index_or, Option, Some, None, refl, sym, ap, subst, ◌∙◌}
+use Rattle.std.proofs.Common.{◌≡◌, ℕ, zero, suc, Bool, true, false, cond, not, ◌||◌, ◌≤◌, List, [], ◌∷◌, ◌++◌, map, take, drop, length, filter, get_or, set, slice_get, slice_index_or, Option, Some, None, refl, sym, ap, subst, ◌∙◌}
 use Rattle.std.specs.Option.{option_map, option_copied}
 use Rattle.std.specs.Borrow.{Bor}
 use Rattle.std.specs.List.{list_any, IsDistinct, AllByRecursion}
 use Rattle.std.specs.Map.{keys_of, values_of, lookup, set_value, remove_entry}
 use Rattle.std.specs.Str.{bytes_eq}
+use Rattle.std.proofs.lemmas.List.{append-nil, take_all}
+use Rattle.std.proofs.Math.ListN.{drop_of_length-le}
 use Rattle.std.proofs.lemmas.Map.Keys.{IsDistinct-head, IsDistinct-tail}
 use Rattle.std.proofs.lemmas.Slice.Eq.{bytes_eq-Decides}
 use Rattle.indexmap.specs.IndexMap.{set_value_at}
@@ -16,7 +18,6 @@ use Rattle.recurring.specs.declared.monitor.Monitor.{Monitor}
 use Rattle.recurring.specs.Monitors.{recurs, all_due_at}
 use Rattle.exec_state.specs.Seen.{seen, seen_all, monitors_all, look_all}
 use Rattle.exec_state.specs.Lawful.{recurs_by_id, recurring_by_id}
-use Rattle.exec_state.proofs.Choices.{through_cond}
 
 -- no key is the id
 abbrev pub IsAbsent : {A : Type 0} → List ℕ → List (List ℕ × A) → Type 0
@@ -53,12 +54,6 @@ module _ {H A : Type 0} (look : Registered H → A) where
   pub length-look_all : (es : List (List ℕ × Registered H)) → length (look_all look es) ≡ length es
   length-look_all [] = refl
   length-look_all (e ∷ es) = ap suc (length-look_all es)
-
-  pub lookup-look_all : (test : List ℕ → Bool) (es : List (List ℕ × Registered H)) → lookup test (look_all look es) ≡ option_map look (lookup test es)
-  lookup-look_all test [] = refl
-  lookup-look_all test (e ∷ es) =
-      ap (λ (o : Option A). cond (test e.0) (Some (look e.1)) o) (lookup-look_all test es)
-      ∙ sym (through_cond (option_map look) (test e.0) (Some e.1) (lookup test es))
 
   absent_seen : (id : List ℕ) (es : List (List ℕ × Registered H)) → IsAbsent id es → IsAbsent id (look_all look es)
   absent_seen id es h = subst (λ (ks : List (List ℕ)). AllByRecursion (λ k. bytes_eq id k ≡ false) ks) (sym (keys-look_all es)) h
@@ -114,15 +109,19 @@ module _ {H A : Type 0} (look : Registered H → A) where
       ap (λ (r : A). (e.0, r) ∷ look_all look es) (is ∙ ap look (sym value))
   look_all-same_at (e ∷ es) (suc i) v w at is = ap (λ (xs : List (List ℕ × A)). (e.0, look e.1) ∷ xs) (look_all-same_at es i v w at is)
 
+-- what is done to the first ones is done to all, where they are all
+pub map_over_all : {A : Type 0} (f : A → A) (xs ys : List A) (i : ℕ) → length xs ≤ i → ys ≡ map f (take i xs) ++ drop i xs → ys ≡ map f xs
+map_over_all f xs ys i le h = h ∙ rw (take_all i xs le, drop_of_length-le xs le) (append-nil (map f xs))
+
 -- some resource passes
-pub list_any-seen_all : {H : Type 0} (test : Resource → Bool) (es : List (List ℕ × Registered H)) → list_any (λ r. test (seen r)) (values_of es) ≡ list_any (λ e. test e.1) (seen_all es)
-list_any-seen_all test [] = refl
-list_any-seen_all test (e ∷ es) = ap (λ (b : Bool). test (seen e.1) || b) (list_any-seen_all test es)
+pub any_seen : {H : Type 0} (test : Resource → Bool) (es : List (List ℕ × Registered H)) → list_any (λ r. test (seen r)) (values_of es) ≡ list_any (λ e. test e.1) (seen_all es)
+any_seen test [] = refl
+any_seen test (e ∷ es) = ap (λ (b : Bool). test (seen e.1) || b) (any_seen test es)
 
 -- what is lent is seen as what lies there
-pub seen_copied : {H : Type 0} (o : Option (Bor (Registered H))) → option_map (λ r. seen r.now) o ≡ option_map seen (option_copied o)
-seen_copied None = refl
-seen_copied (Some r) = refl
+pub look_copied : {H A : Type 0} (look : Registered H → A) (o : Option (Bor (Registered H))) → option_map (λ r. look r.now) o ≡ option_map look (option_copied o)
+look_copied look None = refl
+look_copied look (Some r) = refl
 
 -- the monitors made due are those of the resources
 pub due_seen : {H : Type 0} (at : ℕ) (es : List (List ℕ × Registered H))

@@ -1,4 +1,5 @@
 pub mod Choices
+pub mod Lookups
 pub mod Entries
 pub mod Picks
 pub mod Rooms

@@ -6,6 +6,7 @@ use Rattle.std.specs.Map.{lookup}
 use Rattle.std.specs.Str.{bytes_eq}
 use Rattle.std.proofs.lemmas.Bool.{false_from_ne_true}
 use Rattle.std.proofs.lemmas.Bool.Decides.{Decides-eqb}
+use Rattle.std.proofs.lemmas.Map.Made.{lookup-map_values}
 use Rattle.ocf_types.specs.declared.operation.Recur.{Recur}
 use Rattle.ocf_types.specs.Resource.{Resource}
 use Rattle.ocf_types.specs.State.{Registry, resource_at}
@@ -15,7 +16,7 @@ use Rattle.recurring.specs.declared.monitor.Monitor.{Monitor}
 use Rattle.recurring.specs.Monitors.{recurs, pairs}
 use Rattle.exec_state.specs.Store.{Store, Monitors, monitors_at, due_of, IsChoice}
 use Rattle.exec_state.specs.Lawful.{recurs_by_id, recurring_by_id, IsLawfulStore}
-use Rattle.exec_state.proofs.Choices.{through_cond}
+use Rattle.exec_state.proofs.Lookups.{found_fact}
 
 -- a lesser number is another one
 pub lesser_differs : (n k : ℕ) → n < k → (n == k) ≡ false
@@ -42,33 +43,13 @@ due_pairs-recurs (m ∷ ms) h =
     let rest : due_pairs (recurs ms) (due_in (m ∷ ms)) ≡ pairs ms = due_pairs_behind m ms (recurs ms) h.0 ∙ due_pairs-recurs ms h.1 in
     rw (same, rest) refl
 
-module _ {A B : Type 0} (f : A → B) where
-  -- what is found among images is the image of what is found
-  pub lookup-map : (test : List ℕ → Bool) (es : List (List ℕ × A)) → lookup test (map (λ (e : List ℕ × A). (e.0, f e.1)) es) ≡ option_map f (lookup test es)
-  lookup-map test [] = refl
-  lookup-map test (e ∷ es) =
-      ap (λ (o : Option B). cond (test e.0) (Some (f e.1)) o) (lookup-map test es)
-      ∙ sym (through_cond (option_map f) (test e.0) (Some e.1) (lookup test es))
-
--- a fact of each value holds of what is found
-pub found_fact : {A : Type 0} (P : A → Type 0) (test : List ℕ → Bool) (es : List (List ℕ × A)) (r : A) → AllByRecursion (λ e. P e.1) es → lookup test es ≡ Some r → P r
-found_fact P test [] r h at = absurd (let none : None ≡ Some r = at in cc)
-found_fact P test (e ∷ es) r h at = by (test e.0) refl (found_fact P test es r h.1)
-  where
-    by : (b : Bool) → test e.0 ≡ b → (lookup test es ≡ Some r → P r) → P r
-    by true is rest =
-        let here : Some e.1 ≡ Some r = rw is at at in
-        let same : e.1 ≡ r = cc in
-        subst P same h.0
-    by false is rest = rest (rw is at at)
-
 -- the monitors of an id are those of its resource
 pub recurs-at : (rs : Registry) (all : Monitors) (id : List ℕ) (r : Resource) → recurs_by_id all ≡ recurring_by_id rs → lookup (bytes_eq id) rs ≡ Some r
     → recurs (monitors_at all id) ≡ r.recurring
 recurs-at rs all id r same at =
-    by (lookup (bytes_eq id) all) (sym (lookup-map recurs (bytes_eq id) all)
+    by (lookup (bytes_eq id) all) (sym (lookup-map_values recurs (bytes_eq id) all)
     ∙ ap (lookup (bytes_eq id)) same
-    ∙ lookup-map (λ (x : Resource). x.recurring) (bytes_eq id) rs
+    ∙ lookup-map_values (λ (x : Resource). x.recurring) (bytes_eq id) rs
     ∙ ap (option_map (λ (x : Resource). x.recurring)) at)
   where
     by : (o : Option (List Monitor)) → option_map recurs o ≡ Some r.recurring → recurs (unwrap_or o []) ≡ r.recurring

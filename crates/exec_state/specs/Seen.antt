@@ -1,7 +1,9 @@
 -- What the journal keeps of a registered resource, and its recurring monitors with their due moments.
 use Rattle.std.specs.Prelude.{ℕ, ◌≤◌, List, map, length}
 use Rattle.ocf_types.specs.Limits.{queue_limit, recurring_limit}
+use Rattle.ocf_types.specs.Kinds.{Step}
 use Rattle.ocf_types.specs.Resource.{Resource, kept}
+use Rattle.ocf_types.specs.Applies.{StepApplies}
 use Rattle.recurring.specs.declared.monitor.Monitor.{Monitor}
 use Rattle.recurring.specs.Monitors.{recurs}
 use Rattle.exec_state.specs.declared.registered.Registered.{Registered}
@@ -22,6 +24,10 @@ seen_all es = look_all seen es
 
 abbrev pub monitors_all : {H : Type 0} → List (List ℕ × Registered H) → List (List ℕ × List Monitor)
 monitors_all es = look_all monitors_of es
+
+-- a step applies to a resource, in a state with some next numbers
+abbrev pub CanTake : Step → Resource → Type 0
+CanTake what r = (next_call : ℕ) × (next_run : ℕ) × StepApplies next_call next_run what r
 
 -- a resource whose lists fit the room that a registered one has
 abbrev pub FitsRoom : Resource → Type 0

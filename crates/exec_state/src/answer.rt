@@ -1,13 +1,12 @@
 //! Replies to questions.
-ghost use Rattle.std.specs.Prelude.{◌≡◌, ◌∷◌, List, map, length, IfOk};
+ghost use Rattle.std.specs.Prelude.{◌≡◌, map, IfOk};
 ghost use Rattle.ocf_types.specs.Answer.{info_of, reply_to};
 ghost use Rattle.recurring.specs.Monitors.{recurs};
-ghost use Rattle.exec_state.specs.Seen.{seen_all};
+ghost use Rattle.exec_state.specs.Seen.{seen};
 ghost use Rattle.exec_state.specs.Answers.{IsReplyOrMemory};
 
-use crate::machine::Machine;
 use crate::registered::Registered;
-use crate::registry::Registry;
+use crate::state::State;
 use arrayvec::ArrayVec;
 use ocf_types::{
     CallId, Ended, Info, InfoOf, Items, QUEUE_LIMIT, Question, RECURRING_LIMIT, Recur, Refusal,
@@ -16,17 +15,6 @@ use ocf_types::{
 use op_history::Ops;
 use recurring::Recurrings;
 use std::alloc::{AllocError, Allocator};
-
-/// The ids, in order of registration.
-fn ids<A: Allocator + Copy>(alloc: A, registry: &Registry<A>) -> Result<Vec<RscId, A>, AllocError>
-    ensures { IfOk result (λ v. v.items ≡ map (λ e. e.0) (seen_all registry.now.entries)) }
-{
-    let mut ids = Vec::new(alloc);
-    for id in registry.keys() {
-        ids.push(id.copied())?;
-    }
-    Ok(ids)
-}
 
 /// The results, oldest first.
 #[tactic(auto, using(crate::proofs::Choices::take_more_some))]
@@ -64,8 +52,6 @@ fn recurring(monitors: &Recurrings) -> ArrayVec<Recur, { RECURRING_LIMIT }>
 }
 
 impl<A: Allocator + Copy> Registered<A> {
-    ghost use Rattle.exec_state.specs.Seen.{seen};
-
     /// What it is, and what it does now.
     fn info(&self, alloc: A, id: &RscId) -> Result<Info<A>, AllocError>
         ensures { IfOk result (λ i. i ≡ info_of id.now (seen self.now)) }
@@ -82,24 +68,25 @@ impl<A: Allocator + Copy> Registered<A> {
     }
 }
 
-impl<A: Allocator + Copy> Machine<A> {
-    /// The reply to a question.
-    pub(crate) fn answer(&self, alloc: A, question: &Question) -> Reply<A>
+impl<A: Allocator + Copy> State<A> {
+    /// The reply to a question: it is refused for an unknown resource; in place of a reply, and of no refusal, it may be
+    /// refused for want of memory.
+    pub fn answer(&self, alloc: A, question: &Question) -> Reply<A>
         ensures { IsReplyOrMemory (reply_to self.now.state question.now) result }
     {
         match question {
-            Question::List => match ids(alloc, &self.registry) {
+            Question::List => match self.registry.ids(alloc) {
                 Ok(ids) => ReplyOf::List(Items::new(ids)),
                 Err(_) => ReplyOf::Refused(Refusal::Memory),
             },
-            Question::Info(id) => match self.resource(id) {
+            Question::Info(id) => match self.registry.get(id) {
                 Some(resource) => match resource.info(alloc, id) {
                     Ok(info) => ReplyOf::Info(info),
                     Err(_) => ReplyOf::Refused(Refusal::Memory),
                 },
                 None => ReplyOf::Refused(Refusal::UnknownResource),
             },
-            Question::History(id) => match self.resource(id) {
+            Question::History(id) => match self.registry.get(id) {
                 Some(resource) => match results(alloc, &resource.ops) {
                     Ok(results) => ReplyOf::History(Items::new(results)),
                     Err(_) => ReplyOf::Refused(Refusal::Memory),

@@ -1,15 +1,13 @@
 //! Which event a command is, or which refusal it meets.
-ghost use Rattle.std.specs.Prelude.{◌≡◌, option_map, length, is_some, nat_le, nat_lt, Ok, Err, if◌then◌else◌};
+ghost use Rattle.std.specs.Prelude.{◌≡◌, length, nat_lt, Ok, Err, if◌then◌else◌};
 ghost use Rattle.ocf_types.specs.Spelling.{spelled_event};
-ghost use Rattle.ocf_types.specs.State.{resource_at};
 ghost use Rattle.ocf_types.specs.Answer.{event_of};
 ghost use Rattle.ocf_types.specs.declared.command.CommandOf.TheVariants as command;
 
-use crate::machine::Machine;
-use crate::registered::Registered;
+use crate::state::State;
 use ocf_types::{
     Change, Command, CommandOf, EVENT_LIMIT, Event, EventOf, Level, Millis, NUM_MAX, Op, Params,
-    QUEUE_LIMIT, RESOURCES_LIMIT, Recur, Refusal, Registration, RscId, Step, Task,
+    QUEUE_LIMIT, Recur, Refusal, Registration, RscId, Step, Task,
 };
 use std::alloc::Allocator;
 
@@ -23,32 +21,10 @@ fn unless_too_large<A: Allocator>(event: Event<A>) -> Result<Event<A>, Refusal>
     Ok(event)
 }
 
-impl<A: Allocator + Copy> Machine<A> {
-    ghost use Rattle.exec_state.specs.Seen.{seen};
-
-    /// The resource of that id.
-    pub(crate) fn resource(&self, id: &RscId) -> Option<&Registered<A>>
-        ensures { option_map (λ r. seen r.now) result ≡ resource_at self.now.state id.now }
-    {
-        self.registry.get(id)
-    }
-
-    /// Whether there is a resource of that id.
-    fn has(&self, id: &RscId) -> bool
-        ensures { result ≡ is_some (resource_at self.now.state id.now) }
-    {
-        self.resource(id).is_some()
-    }
-
-    /// Whether there are as many resources as may be.
-    fn is_full(&self) -> bool
-        ensures { result ≡ nat_le RESOURCES_LIMIT (length self.now.state.resources) }
-    {
-        self.registry.len() >= RESOURCES_LIMIT
-    }
-
-    /// The event that the command is, or the first refusal that it meets.
-    pub(crate) fn check(&self, now: u64, command: Command<A>) -> Result<Event<A>, Refusal>
+impl<A: Allocator + Copy> State<A> {
+    /// The event that the command asks for at that moment, in milliseconds since 1970, or the first refusal that it
+    /// meets. It takes no memory: parameters are moved into the event.
+    pub fn check(&self, now: u64, command: Command<A>) -> Result<Event<A>, Refusal>
         ensures { result ≡ event_of self.now.state now command }
     {
         match command {
@@ -74,10 +50,10 @@ impl<A: Allocator + Copy> Machine<A> {
     ) -> Result<Event<A>, Refusal>
         ensures { result ≡ event_of self.now.state now (command.Register registration) }
     {
-        if self.has(&registration.id) {
+        if self.registry.contains(&registration.id) {
             return Err(Refusal::Exists);
         }
-        if self.is_full() {
+        if self.registry.is_full() {
             return Err(Refusal::TooManyResources);
         }
         let at = self.moment(now);
@@ -88,7 +64,7 @@ impl<A: Allocator + Copy> Machine<A> {
     fn check_unregister(&self, now: u64, id: RscId) -> Result<Event<A>, Refusal>
         ensures { result ≡ event_of self.now.state now (command.Unregister id) }
     {
-        let Some(resource) = self.resource(&id) else {
+        let Some(resource) = self.registry.get(&id) else {
             return Err(Refusal::UnknownResource);
         };
         if resource.ops.is_busy() {
@@ -102,7 +78,7 @@ impl<A: Allocator + Copy> Machine<A> {
     fn check_params(&self, now: u64, id: RscId, params: Params<A>) -> Result<Event<A>, Refusal>
         ensures { result ≡ event_of self.now.state now (command.SetParams id params) }
     {
-        if !self.has(&id) {
+        if !self.registry.contains(&id) {
             return Err(Refusal::UnknownResource);
         }
         let at = self.moment(now);
@@ -119,7 +95,7 @@ impl<A: Allocator + Copy> Machine<A> {
     ) -> Result<Event<A>, Refusal>
         ensures { result ≡ event_of self.now.state now (command.Exec id task timeout) }
     {
-        let Some(resource) = self.resource(&id) else {
+        let Some(resource) = self.registry.get(&id) else {
             return Err(Refusal::UnknownResource);
         };
         if resource.ops.queue_len() >= QUEUE_LIMIT {
@@ -149,7 +125,7 @@ impl<A: Allocator + Copy> Machine<A> {
     ) -> Result<Event<A>, Refusal>
         ensures { result ≡ event_of self.now.state now (command.Recur id interval timeout level) }
     {
-        let Some(resource) = self.resource(&id) else {
+        let Some(resource) = self.registry.get(&id) else {
             return Err(Refusal::UnknownResource);
         };
         if resource.has_interval(interval) {
@@ -176,7 +152,7 @@ impl<A: Allocator + Copy> Machine<A> {
     fn check_cancel(&self, now: u64, id: RscId, interval: Millis) -> Result<Event<A>, Refusal>
         ensures { result ≡ event_of self.now.state now (command.Cancel id interval) }
     {
-        let Some(resource) = self.resource(&id) else {
+        let Some(resource) = self.registry.get(&id) else {
             return Err(Refusal::UnknownResource);
         };
         if !resource.has_interval(interval) {
@@ -190,7 +166,7 @@ impl<A: Allocator + Copy> Machine<A> {
     fn check_forget(&self, now: u64, id: RscId) -> Result<Event<A>, Refusal>
         ensures { result ≡ event_of self.now.state now (command.Forget id) }
     {
-        if !self.has(&id) {
+        if !self.registry.contains(&id) {
             return Err(Refusal::UnknownResource);
         }
         let at = self.moment(now);

@@ -3,9 +3,11 @@
 
 mod answer;
 mod applies;
+mod apply;
+mod boot;
 mod check;
 pub mod laws;
-mod machine;
+mod pick;
 mod registered;
 mod registry;
 mod state;

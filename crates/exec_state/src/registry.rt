@@ -1,195 +1,250 @@
 //! The resources by id, in order of registration.
-ghost use Rattle.std.specs.Prelude.{◌≡◌, ◌<◌, ◌≤◌, length, ◌++◌, ◌∷◌, [], None, map, not, filter, option_and_then, IsSomeAnd, IsOk, IfOk, OnOk};
+ghost use Rattle.std.specs.Prelude.{◌≡◌, ◌<◌, ◌++◌, ◌∷◌, [], None, map, not, filter, length, nat_le, is_some, option_map, option_and_then, slice_index_or, IsTrue, IsSomeAnd, IsOk, IfOk, OnOk};
 ghost use Rattle.std.specs.Map.{keys_of, lookup};
 ghost use Rattle.std.specs.List.{list_any, AllByRecursion, IsDistinct};
 ghost use Rattle.std.specs.Str.{bytes_eq};
 ghost use Rattle.indexmap.specs.IndexMap.{values, spare};
-ghost use Rattle.ocf_types.specs.Resource.{kept, booted, is_busy};
-ghost use Rattle.ocf_types.specs.State.{at_id, others, on_history, stepped, resource_of};
-ghost use Rattle.ocf_types.specs.Applies.{StepApplies};
-ghost use Rattle.recurring.specs.Monitors.{recurs, all_due_at};
-ghost use Rattle.exec_state.specs.Seen.{seen, seen_all, monitors_all, FitsRoom};
+ghost use Rattle.ocf_types.specs.Resource.{booted, is_busy};
+ghost use Rattle.ocf_types.specs.State.{at_id, others, on_history, stepped, registered};
+ghost use Rattle.ocf_types.specs.Places.{no_entry};
+ghost use Rattle.recurring.specs.Monitors.{all_due_at};
+ghost use Rattle.exec_state.specs.Seen.{seen, seen_all, monitors_of, monitors_all, CanTake, FitsRoom};
 ghost use Rattle.exec_state.specs.MonitorsAfter.{monitors_stepped};
+ghost use Rattle.exec_state.specs.Lawful.{recurs_by_id, recurring_by_id};
 
 use crate::registered::Registered;
 use indexmap::IndexMap;
-use ocf_types::{
-    CallId, HistoryParts, Moment, Params, QUEUE_LIMIT, RECURRING_LIMIT, Recur, Registration,
-    ResourceParts, RscId, RunId, Step,
-};
+use ocf_types::{Moment, Params, RESOURCES_LIMIT, Registration, ResourceParts, RscId, Step};
 use op_history::Ops;
 use recurring::Recurrings;
 use std::alloc::{AllocError, Allocator, Global};
 use std::hash::{BuildHasherDefault, FoldHasher};
+use std::marker::Model;
 
-/// The registered resources by id, in order of registration.
-pub(crate) type Registry<A = Global> = IndexMap<
-    RscId,
-    Registered<A>,
-    BuildHasherDefault<FoldHasher>,
-    A,
->;
+/// Resources by id, in order of registration.
+type Resources<A> = IndexMap<RscId, Registered<A>, BuildHasherDefault<FoldHasher>, A>;
 
-/// A resource of this registration, with these operations and recurring monitors, all due at that moment.
-#[tactic(auto, using(crate::proofs::Rooms::recurs_due))]
-fn restored<A: Allocator + Copy>(
-    alloc: A,
-    due: Moment,
-    registration: Registration<Params<A>>,
-    history: &HistoryParts<A>,
-    recurring: &[Recur],
-) -> Result<(RscId, Registered<A>), AllocError>
-    requires queue { length history.now.queue ≤ QUEUE_LIMIT }
-    requires ended { length history.now.ended ≤ kept }
-    requires recurring { length recurring.now ≤ RECURRING_LIMIT }
-    ensures id { IfOk result (λ e. e.0 ≡ registration.id) }
-    ensures state { IfOk result (λ e. seen e.1 ≡ (resource_of registration history.now recurring.now).1) }
-    ensures monitors { IfOk result (λ e. e.1.monitors ≡ all_due_at due recurring.now) }
-{
-    let Registration {
-        id,
-        provider,
-        agent,
-        params,
-    } = registration;
-    let resource = Registered {
-        provider,
-        agent,
-        params,
-        ops: Ops::from_parts(alloc, history)?,
-        monitors: Recurrings::due_at(recurring, due),
-    };
-    Ok((id, resource))
+/// The registered resources, and the operations of the next one that is registered: none.
+#[derive(Drop)]
+pub(crate) struct Registry<A: Allocator + Copy = Global> {
+    resources: Resources<A>,
+    next_ops: Option<Ops<A>>,
 }
 
-/// Adds a resource as these parts say, every recurring monitor due at that moment.
-fn restore<A: Allocator + Copy>(
-    registry: &mut Registry<A>,
-    alloc: A,
-    due: Moment,
-    parts: ResourceParts<A>,
-) -> Result<(), AllocError>
-    requires absent { lookup (bytes_eq parts.0) (seen_all registry.old.entries) ≡ None }
-    requires room { FitsRoom parts.1 }
-    ensures state { OnOk result (seen_all registry.new.entries ≡ seen_all registry.old.entries ++ parts ∷ []) }
-    ensures monitors { OnOk result (monitors_all registry.new.entries
-        ≡ monitors_all registry.old.entries ++ (parts.0, all_due_at due parts.1.recurring) ∷ []) }
-{
-    let (registration, history, recurring) = parts.into_parts();
-    let (id, resource) = restored(alloc, due, registration, &history, recurring.as_slice())?;
-    insert(registry, id, resource)
+impl<A: Allocator + Copy> Model for Registry<A> {
+    ghost use Rattle.std.specs.Prelude.{◌≡◌, ◌&&◌, is_some, nat_lt, IfSome};
+    ghost use Rattle.indexmap.specs.IndexMap.{spare};
+    ghost use Rattle.ocf_types.specs.Resource.{no_history};
+    ghost use Rattle.exec_state.specs.Seen.{seen_all, monitors_all};
+    ghost use Rattle.exec_state.specs.Contents.{Contents};
+
+    ghost Value = { Contents };
+
+    ghost view = { λ r. record {
+      resources = seen_all r.resources.entries;
+      monitors = monitors_all r.resources.entries;
+      ready = is_some r.next_ops && nat_lt 0 (spare r.resources);
+    } };
+
+    ghost invariant = { λ r. IfSome r.next_ops (λ o. o ≡ no_history) };
 }
 
-/// The registry of these parts, every recurring monitor due at that moment.
-pub(crate) fn from_parts<A: Allocator + Copy>(
-    alloc: A,
-    due: Moment,
-    resources: Vec<ResourceParts<A>, A>,
-) -> Result<Registry<A>, AllocError>
-    requires ids { IsDistinct bytes_eq (keys_of resources.items) }
-    requires room { AllByRecursion (λ e. FitsRoom e.1) resources.items }
-    ensures state { IfOk result (λ r. seen_all r.entries ≡ resources.items) }
-    ensures monitors { IfOk result (λ r. monitors_all r.entries ≡ map (λ e. (e.0, all_due_at due e.1.recurring)) resources.items) }
-{
-    let mut registry = IndexMap::new(alloc);
-    for parts in resources {
-        restore(&mut registry, alloc, due, parts)?;
+impl<A: Allocator + Copy> Registry<A> {
+    /// No resources. It takes no memory.
+    pub(crate) fn new(alloc: A) -> Registry<A>
+        ensures resources { result.resources ≡ [] }
+        ensures monitors { result.monitors ≡ [] }
+    {
+        Registry {
+            resources: IndexMap::new(alloc),
+            next_ops: None,
+        }
     }
-    Ok(registry)
+
+    /// The registry of these parts, every recurring monitor due at that moment. The only error is want of memory.
+    pub(crate) fn from_parts(
+        alloc: A,
+        due: Moment,
+        parts: Vec<ResourceParts<A>, A>,
+    ) -> Result<Registry<A>, AllocError>
+        requires ids { IsDistinct bytes_eq (keys_of parts.items) }
+        requires room { AllByRecursion (λ e. FitsRoom e.1) parts.items }
+        ensures resources { IfOk result (λ r. r.resources ≡ parts.items) }
+        ensures monitors { IfOk result (λ r. r.monitors ≡ map (λ e. (e.0, all_due_at due e.1.recurring)) parts.items) }
+    {
+        let mut resources = IndexMap::new(alloc);
+        for part in parts {
+            let (id, resource) = Registered::from_parts(alloc, due, part)?;
+            insert(&mut resources, id, resource)?;
+        }
+        Ok(Registry {
+            resources,
+            next_ops: None,
+        })
+    }
+
+    /// The monitors are those of the resources. It does nothing.
+    pub(crate) fn known(&self)
+        ensures { recurs_by_id self.now.monitors ≡ recurring_by_id self.now.resources }
+    {
+        let _ = self.resources.len();
+    }
+
+    /// How many resources there are.
+    pub(crate) fn len(&self) -> usize
+        ensures { result ≡ length self.now.resources }
+    {
+        self.resources.len()
+    }
+
+    /// Whether there are as many resources as may be.
+    pub(crate) fn is_full(&self) -> bool
+        ensures { result ≡ nat_le RESOURCES_LIMIT (length self.now.resources) }
+    {
+        self.len() >= RESOURCES_LIMIT
+    }
+
+    /// The resource of that id.
+    pub(crate) fn get(&self, id: &RscId) -> Option<&Registered<A>>
+        ensures resource { option_map (λ r. seen r.now) result ≡ lookup (bytes_eq id.now) self.now.resources }
+        ensures monitors { option_map (λ r. monitors_of r.now) result ≡ lookup (bytes_eq id.now) self.now.monitors }
+    {
+        self.resources.get(id)
+    }
+
+    /// Whether there is a resource of that id.
+    pub(crate) fn contains(&self, id: &RscId) -> bool
+        ensures { result ≡ is_some (lookup (bytes_eq id.now) self.now.resources) }
+    {
+        self.get(id).is_some()
+    }
+
+    /// The resource at a place, and its id.
+    pub(crate) fn entry(&self, place: usize) -> (&RscId, &Registered<A>)
+        requires { place < length self.now.resources }
+        ensures id { result.0.now ≡ (slice_index_or self.now.resources place no_entry).0 }
+        ensures resource { seen result.1.now ≡ (slice_index_or self.now.resources place no_entry).1 }
+    {
+        match self.resources.get_index(place) {
+            Some(entry) => entry,
+            None => unreachable!(),
+        }
+    }
+
+    /// The ids, in order of registration.
+    pub(crate) fn ids(&self, alloc: A) -> Result<Vec<RscId, A>, AllocError>
+        ensures { IfOk result (λ v. v.items ≡ map (λ e. e.0) self.now.resources) }
+    {
+        let mut ids = Vec::new(alloc);
+        for id in self.resources.keys() {
+            ids.push(id.copied())?;
+        }
+        Ok(ids)
+    }
+
+    /// Whether some resource has an action queued or running.
+    pub(crate) fn any_busy(&self) -> bool
+        ensures { result ≡ list_any (λ e. is_busy e.1.history) self.now.resources }
+    {
+        is_any_busy(&self.resources)
+    }
+
+    /// Makes the room for one more resource.
+    pub(crate) fn reserve(&mut self) -> Result<(), AllocError>
+        ensures ok { OnOk result (IsTrue self.new.ready) }
+        ensures resources { self.new.resources ≡ self.old.resources }
+        ensures monitors { self.new.monitors ≡ self.old.monitors }
+    {
+        self.resources.reserve(1)?;
+        if self.next_ops.is_none() {
+            self.next_ops = Some(Ops::new(*self.resources.allocator())?);
+        }
+        Ok(())
+    }
+
+    /// Adds a resource, for which there is room.
+    pub(crate) fn register(&mut self, registration: Registration<Params<A>>)
+        requires absent { lookup (bytes_eq registration.id) self.old.resources ≡ None }
+        requires ready { IsTrue self.old.ready }
+        ensures resources { self.new.resources ≡ self.old.resources ++ registered registration ∷ [] }
+        ensures monitors { self.new.monitors ≡ self.old.monitors ++ (registration.id, []) ∷ [] }
+    {
+        let Some(ops) = self.next_ops.take() else {
+            unreachable!()
+        };
+        let (id, resource) = Registered::new(registration, ops, Recurrings::new());
+        if insert(&mut self.resources, id, resource).is_err() {
+            unreachable!()
+        }
+    }
+
+    /// Removes the resource of that id. Those behind it move up.
+    pub(crate) fn remove(&mut self, id: &RscId)
+        ensures resources { self.new.resources ≡ others id.now self.old.resources }
+        ensures monitors { self.new.monitors ≡ filter (λ e. not (bytes_eq id.now e.0)) self.old.monitors }
+    {
+        let _len = self.resources.len();
+        self.resources.shift_remove(id);
+    }
+
+    /// Does what the step of the resource of that id says.
+    pub(crate) fn take_step(&mut self, id: &RscId, at: Moment, step: Step<Params<A>>)
+        requires { IsSomeAnd (lookup (bytes_eq id.now) self.old.resources) (CanTake step) }
+        ensures resources { self.new.resources ≡ at_id id.now (stepped at step) self.old.resources }
+        ensures monitors { self.new.monitors
+            ≡ at_id id.now (monitors_stepped at (option_and_then (λ r. r.history.running) (lookup (bytes_eq id.now) self.old.resources)) step) self.old.monitors }
+    {
+        let Some(resource) = self.resources.get_mut(id) else {
+            unreachable!()
+        };
+        resource.take_step(at, step);
+    }
+
+    /// Boots every resource.
+    pub(crate) fn boot(&mut self, at: Moment)
+        ensures resources { self.new.resources ≡ map (λ e. (e.0, on_history (booted at) e.1)) self.old.resources }
+        ensures monitors { self.new.monitors ≡ self.old.monitors }
+    {
+        let resources = &mut self.resources;
+        for place in 0..resources.len() {
+            let resource = &mut resources[place];
+            resource.boot(at);
+        }
+    }
+
+    /// Makes every recurring monitor due at that moment.
+    pub(crate) fn restart(&mut self, at: Moment)
+        ensures resources { self.new.resources ≡ self.old.resources }
+        ensures monitors { self.new.monitors ≡ map (λ e. (e.0, all_due_at at e.1.recurring)) self.old.resources }
+    {
+        let resources = &mut self.resources;
+        for place in 0..resources.len() {
+            let resource = &mut resources[place];
+            resource.restart(at);
+        }
+    }
 }
 
-/// Does what the step of the resource of that id says.
-pub(crate) fn take_step<A: Allocator + Copy>(
-    registry: &mut Registry<A>,
-    id: &RscId,
-    at: Moment,
-    next_call: CallId,
-    next_run: RunId,
-    step: Step<Params<A>>,
-)
-    requires { IsSomeAnd (lookup (bytes_eq id.now) (seen_all registry.old.entries)) (StepApplies next_call next_run step) }
-    ensures state { seen_all registry.new.entries ≡ at_id id.now (stepped at step) (seen_all registry.old.entries) }
-    ensures monitors { monitors_all registry.new.entries
-        ≡ at_id id.now (monitors_stepped at (option_and_then (λ r. r.history.running) (lookup (bytes_eq id.now) (seen_all registry.old.entries))) step) (monitors_all registry.old.entries) }
+/// Whether one of these has an action queued or running.
+fn is_any_busy<A: Allocator + Copy>(resources: &Resources<A>) -> bool
+    ensures { result ≡ list_any (λ r. is_busy r.ops) (values resources.now) }
 {
-    if let Some(resource) = registry.get_mut(id) {
-        resource.take_step(at, next_call, next_run, step);
-    }
+    resources.values().any(|resource| resource.ops.is_busy())
 }
 
 /// Adds a resource. The only error is want of memory, which does not come where there is room.
 fn insert<A: Allocator + Copy>(
-    registry: &mut Registry<A>,
+    resources: &mut Resources<A>,
     id: RscId,
     resource: Registered<A>,
 ) -> Result<(), AllocError>
-    requires { lookup (bytes_eq id) (seen_all registry.old.entries) ≡ None }
-    ensures state { OnOk result (seen_all registry.new.entries ≡ seen_all registry.old.entries ++ (id, seen resource) ∷ []) }
-    ensures monitors { OnOk result (monitors_all registry.new.entries ≡ monitors_all registry.old.entries ++ (id, resource.monitors) ∷ []) }
-    ensures succeeds { 0 < spare registry.old → IsOk result }
+    requires { lookup (bytes_eq id) (seen_all resources.old.entries) ≡ None }
+    ensures resources { OnOk result (seen_all resources.new.entries ≡ seen_all resources.old.entries ++ (id, seen resource) ∷ []) }
+    ensures monitors { OnOk result (monitors_all resources.new.entries ≡ monitors_all resources.old.entries ++ (id, resource.monitors) ∷ []) }
+    ensures succeeds { 0 < spare resources.old → IsOk result }
 {
-    match registry.insert(id, resource) {
+    match resources.insert(id, resource) {
         Ok(_) => Ok(()),
         Err(_) => Err(AllocError),
     }
-}
-
-/// Adds a resource, for which there is room.
-pub(crate) fn add<A: Allocator + Copy>(
-    registry: &mut Registry<A>,
-    id: RscId,
-    resource: Registered<A>,
-)
-    requires absent { lookup (bytes_eq id) (seen_all registry.old.entries) ≡ None }
-    requires room { 0 < spare registry.old }
-    ensures state { seen_all registry.new.entries ≡ seen_all registry.old.entries ++ (id, seen resource) ∷ [] }
-    ensures monitors { monitors_all registry.new.entries ≡ monitors_all registry.old.entries ++ (id, resource.monitors) ∷ [] }
-{
-    if insert(registry, id, resource).is_err() {
-        unreachable!()
-    }
-}
-
-/// Removes the resource of that id. Those behind it move up.
-pub(crate) fn remove<A: Allocator + Copy>(registry: &mut Registry<A>, id: &RscId)
-    ensures state { seen_all registry.new.entries ≡ others id.now (seen_all registry.old.entries) }
-    ensures monitors { monitors_all registry.new.entries ≡ filter (λ e. not (bytes_eq id.now e.0)) (monitors_all registry.old.entries) }
-{
-    let _len = registry.len();
-    registry.shift_remove(id);
-}
-
-/// Boots every resource.
-pub(crate) fn boot<A: Allocator + Copy>(registry: &mut Registry<A>, at: Moment)
-    ensures state { seen_all registry.new.entries ≡ map (λ e. (e.0, on_history (booted at) e.1)) (seen_all registry.old.entries) }
-    ensures monitors { monitors_all registry.new.entries ≡ monitors_all registry.old.entries }
-{
-    for place in 0..registry.len() {
-        let resource = &mut registry[place];
-        resource.boot(at);
-    }
-}
-
-/// Makes every recurring monitor due at that moment.
-pub(crate) fn restart<A: Allocator + Copy>(registry: &mut Registry<A>, at: Moment)
-    ensures state { seen_all registry.new.entries ≡ seen_all registry.old.entries }
-    ensures monitors { monitors_all registry.new.entries ≡ map (λ e. (e.0, all_due_at at (recurs e.1))) (monitors_all registry.old.entries) }
-{
-    for place in 0..registry.len() {
-        let resource = &mut registry[place];
-        resource.restart(at);
-    }
-}
-
-/// Whether some resource has an action queued or running.
-pub(crate) fn any_busy<A: Allocator + Copy>(registry: &Registry<A>) -> bool
-    ensures { result ≡ list_any (λ e. is_busy e.1.history) (seen_all registry.now.entries) }
-{
-    any_value_busy(registry)
-}
-
-fn any_value_busy<A: Allocator + Copy>(registry: &Registry<A>) -> bool
-    ensures { result ≡ list_any (λ r. is_busy r.ops) (values registry.now) }
-{
-    registry.values().any(|resource| resource.ops.is_busy())
 }

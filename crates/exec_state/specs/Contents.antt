@@ -1,0 +1,18 @@
+-- What contracts see of the registry: its resources and their recurring monitors, by id and in order of registration,
+-- and whether one more resource can be registered without memory.
+use Rattle.std.specs.Prelude.{ℕ, Bool}
+use Rattle.ocf_types.specs.State.{Registry}
+use Rattle.exec_state.specs.Store.{Store, Monitors}
+
+pub record Contents : Type 0 where
+  pub resources : Registry
+  pub monitors : Monitors
+  pub ready : Bool
+
+-- the state machine with these next numbers, this clock and this registry
+abbrev pub store_of : ℕ → ℕ → ℕ → Contents → Store
+store_of next_call next_run clock contents = record {
+  state = record { next_call = next_call; next_run = next_run; clock = clock; resources = contents.resources };
+  monitors = contents.monitors;
+  ready = contents.ready;
+}
