@@ -2,7 +2,7 @@
 use Rattle.std.proofs.Common.{◌≡◌, ℕ, List, true}
 use Rattle.std.specs.Str.{IsAscii, IsUtf8}
 use Rattle.ocf_types.specs.Names.{is_rsc_id, is_provider, is_agent_type, is_param_name}
-use Rattle.ocf_env.proofs.AsciiLemmas as ascii
+use Rattle.ocf_types.specs.NameLaws as ascii
 
 pub texts : (bs : List ℕ) → IsAscii bs → IsUtf8 bs
 texts = ascii.texts

@@ -12,7 +12,7 @@ use Rattle.serde_json.specs.Data.{string, no_members, member, put}
 use Rattle.ocf_types.specs.Names.{is_param_name}
 use Rattle.ocf_types.specs.Values.{is_param_value}
 use Rattle.ocf_types.specs.Params.{ParamList, is_before, is_after, are_params_after, AreParams, last_name}
-use Rattle.ocf_types.proofs.ValueLemmas.{both}
+use Rattle.ocf_types.specs.Laws.{before_trans, both, less_is}
 use Rattle.ocf_types.specs.declared.refusal.Refusal.TheVariants.{BadValue}
 use Rattle.exec_commands.specs.Keys.{TextPair, text_pair, texts_seen, are_ascending}
 use Rattle.exec_commands.specs.Values.{are_names, valued_params}
@@ -71,14 +71,6 @@ pub valued : (ps : ParamList) → AreParams ps → valued_params ps ≡ Ok ps
 valued ps h =
     let few : leb (length ps) 64 ≡ true = le-leb _ _ h.at_most_64 in
     rw (few, all_values None ps h.sorted) refl
-
-less_is : (r : Ordering) → is_lt r ≡ true → r ≡ Less
-less_is Less h = refl
-less_is Equal h = absurd cc
-less_is Greater h = absurd cc
-
-before_trans : (a b c : List ℕ) → is_before a b ≡ true → is_before b c ≡ true → is_before a c ≡ true
-before_trans a b c h k = ap is_lt (nat_list_cmp_total.trans a b c (less_is _ h) (less_is _ k))
 
 greater : (a b : List ℕ) → is_before a b ≡ true → slice_cmp nat_cmp b a ≡ Greater
 greater a b h = nat_list_cmp_total.antisymm b a ∙ ap ordering_reverse (less_is _ h)

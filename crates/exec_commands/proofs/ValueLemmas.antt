@@ -1,13 +1,11 @@
 -- Which JSON value a line is, and lines that are none.
-use Rattle.std.proofs.Common.{◌≡◌, ℕ, ◌<◌, ◌≤◌, Bool, true, false, ◌&&◌, List, length, nat_le, Some, None, Err, leb, refl, ap, if◌then◌else◌}
+use Rattle.std.proofs.Common.{◌≡◌, ℕ, ◌<◌, ◌≤◌, Bool, true, false, ◌&&◌, List, length, Some, None, leb, refl, if◌then◌else◌}
 use Rattle.std.specs.Str.{is_utf8, IsUtf8}
 use Rattle.std.proofs.lemmas.Bool.{le-leb, lt-leb}
 use Rattle.std.proofs.lemmas.Str.{IsUtf8-from_is_utf8, is_utf8-from_IsUtf8}
 use Rattle.serde_json.specs.Data.{Data}
 use Rattle.serde_json.specs.Read.{read}
-use Rattle.ocf_types.specs.declared.refusal.Refusal.TheVariants.{Syntax}
-use Rattle.exec_commands.specs.Keys.{given, typed}
-use Rattle.exec_commands.specs.Lines.{line_of, line_read, value_of}
+use Rattle.exec_commands.specs.Lines.{value_of}
 
 -- bytes that are read
 pub value_there : (bs : List ℕ) (d : Data) → length bs ≤ 131072 → IsUtf8 bs → read bs ≡ Some d → value_of bs ≡ Some d
@@ -25,7 +23,3 @@ no_value bs none = by (leb (length bs) 131072) (is_utf8 bs) refl
 -- more bytes than a line may have
 pub too_long : (bs : List ℕ) → 131072 < length bs → value_of bs ≡ None
 too_long bs long = rw (lt-leb (length bs) 131072 long) refl
-
--- a line that is too long is refused
-pub long_line : (bs : List ℕ) → nat_le (length bs) 131072 ≡ false → line_read bs ≡ Err Syntax
-long_line bs long = ap (λ b. given (typed (if b && is_utf8 bs then read bs else None)) line_of) long

@@ -6,6 +6,7 @@ use Rattle.std.specs.List.{find}
 use Rattle.std.specs.Str.{bytes_eq, is_utf8}
 use Rattle.serde_json.specs.Data.{Data}
 use Rattle.serde_json.specs.Read.{read}
+use Rattle.ocf_types.specs.Limits.{line_limit}
 use Rattle.ocf_types.specs.Names.{is_rsc_id, is_provider, is_agent_type}
 use Rattle.ocf_types.specs.Kinds.{Command}
 use Rattle.ocf_types.specs.declared.command.CommandOf.TheVariants as command
@@ -119,9 +120,9 @@ line_for operation.Meta d = meta_in d
 abbrev pub line_of : Data → Result Line Refusal
 line_of d = given (text_at (codes "op") d) (λ word. given (ok_or (operation_named word) UnknownOp) (λ o. line_for o d))
 
--- the JSON value that a line is: none where it is longer than 131,072 bytes, or no UTF-8, or no JSON that serde_json reads
+-- the JSON value that a line is: none where it is longer than a line may be, or no UTF-8, or no JSON that serde_json reads
 abbrev pub value_of : List ℕ → Option Data
-value_of bytes = if nat_le (length bytes) 131072 && is_utf8 bytes then read bytes else None
+value_of bytes = if nat_le (length bytes) line_limit && is_utf8 bytes then read bytes else None
 
 -- what the bytes of a line ask for, or the first refusal
 abbrev pub line_read : List ℕ → Result Line Refusal

@@ -1,6 +1,7 @@
 -- The lines of an input.
-use Rattle.std.specs.Prelude.{ℕ, Bool, ◌==◌, List, [], ◌∷◌, length, nat_le, if◌then◌else◌}
+use Rattle.std.specs.Prelude.{ℕ, ◌+◌, Bool, ◌==◌, List, [], ◌∷◌, length, nat_le, if◌then◌else◌}
 use Rattle.std.specs.List.{before_first, after_first}
+use Rattle.ocf_types.specs.Limits.{line_limit}
 use Rattle.exec_lines.specs.declared.line.Next.{Next}
 use Rattle.exec_lines.specs.declared.line.Next.TheVariants.{Line, TooLong, End}
 
@@ -16,9 +17,13 @@ first_line = before_first is_newline
 abbrev pub after_first_line : List ℕ → List ℕ
 after_first_line = after_first is_newline
 
--- a line has at most 131,072 bytes
+-- how many bytes of a line are kept: one more than a line may have, so that a longer one shows
+abbrev pub line_room : ℕ
+line_room = line_limit + 1
+
+-- a line, or one that is too long
 abbrev pub line_answer : List ℕ → Next
-line_answer line = if nat_le (length line) 131072 then Line else TooLong
+line_answer line = if nat_le (length line) line_limit then Line else TooLong
 
 -- what stands next in these bytes
 abbrev pub next_of : List ℕ → Next

@@ -1,5 +1,6 @@
 //! The room that a line is read into.
 ghost use Rattle.std.specs.Prelude.{◌≡◌, ◌≤◌, ◌↔◌, [], ◌++◌, IsTrue, IfOk, length, take, vec_len, vec_capacity};
+ghost use Rattle.exec_lines.specs.Lines.{line_room};
 
 use ocf_types::LINE_LIMIT;
 use std::alloc::{AllocError, Allocator, Global};
@@ -12,8 +13,8 @@ const ROOM: usize = LINE_LIMIT + 1;
 #[derive(Drop)]
 pub struct LineBuffer<A: Allocator = Global> {
     bytes: Vec<u8, A>,
-    ghost fits: { vec_len bytes ≤ 131_073 },
-    ghost room: { 131_073 ≤ vec_capacity bytes },
+    ghost fits: { vec_len bytes ≤ line_room },
+    ghost room: { line_room ≤ vec_capacity bytes },
 }
 
 impl<A: Allocator> LineBuffer<A> {
@@ -36,7 +37,7 @@ impl<A: Allocator> LineBuffer<A> {
 
     // Whether what was read passes the greatest length of a line.
     pub(crate) fn is_full(&self) -> bool
-        ensures { IsTrue result ↔ (length (line_bytes self.now) ≡ 131_073) }
+        ensures { IsTrue result ↔ (length (line_bytes self.now) ≡ line_room) }
     {
         self.bytes.len() == ROOM
     }
@@ -49,7 +50,7 @@ impl<A: Allocator> LineBuffer<A> {
 
     // Appends what there is room for.
     pub(crate) fn append(&mut self, part: &[u8])
-        ensures { line_bytes self.new ≡ take 131_073 (line_bytes self.old ++ part.now) }
+        ensures { line_bytes self.new ≡ take line_room (line_bytes self.old ++ part.now) }
     {
         let fitting = part.len().min(ROOM - self.bytes.len());
         let _ = self.bytes.extend_from_slice(&part[..fitting]);

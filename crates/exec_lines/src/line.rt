@@ -3,8 +3,9 @@ ghost use Rattle.std.specs.Prelude.{◌≡◌, ◌≢◌, ◌↔◌, ◌≤◌, 
 ghost use Rattle.std.specs.List.{position_or_len};
 ghost use Rattle.std.specs.IoError.{error_kind};
 ghost use Rattle.std.specs.Io.KnownBytes.{Consumes};
+ghost use Rattle.ocf_types.specs.Limits.{line_limit};
 ghost use Rattle.exec_lines.specs.Buffer.{line_bytes};
-ghost use Rattle.exec_lines.specs.Lines.{is_newline, first_line, after_first_line, line_answer, next_of};
+ghost use Rattle.exec_lines.specs.Lines.{is_newline, first_line, after_first_line, line_answer, line_room, next_of};
 ghost use Rattle.exec_lines.specs.Pieces.{answer_at, newline_count, piece_of, Reads};
 
 use crate::buffer::LineBuffer;
@@ -72,7 +73,7 @@ fn take_piece<R: BufRead, A: Allocator>(
     buffer: &mut LineBuffer<A>,
 ) -> io::Result<Piece>
     ensures read { (part : List ℕ) × All (λ b. b ≢ 10) part
-        × (line_bytes buffer.new ≡ take 131_073 (line_bytes buffer.old ++ part))
+        × (line_bytes buffer.new ≡ take line_room (line_bytes buffer.old ++ part))
         × Reads (R.remaining reader.old) (R.remaining reader.new) part result }
     ensures retried { IfErr result (λ e. error_kind e ≢ ErrorKind.Interrupted) }
 {
@@ -108,7 +109,7 @@ fn is_end<A: Allocator>(buffer: &LineBuffer<A>, piece: Piece) -> bool
 }
 
 fn answer<A: Allocator>(buffer: &LineBuffer<A>, piece: Piece) -> Next
-    ensures { (line : List ℕ) → line_bytes buffer.now ≡ take 131_073 line → result ≡ answer_at piece line }
+    ensures { (line : List ℕ) → line_bytes buffer.now ≡ take line_room line → result ≡ answer_at piece line }
 {
     if is_end(buffer, piece) {
         Next::End
@@ -137,7 +138,7 @@ pub fn next_line<R: BufRead, A: Allocator>(
 
     // At any reader.
     ensures without { All (λ b. b ≢ 10) (line_bytes buffer.new) }
-    ensures fits { result ≡ Ok Next.Line → length (line_bytes buffer.new) ≤ 131_072 }
+    ensures fits { result ≡ Ok Next.Line → length (line_bytes buffer.new) ≤ line_limit }
     ensures retried { IfErr result (λ e. error_kind e ≢ ErrorKind.Interrupted) }
 {
     buffer.clear();

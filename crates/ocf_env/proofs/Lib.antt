@@ -1,4 +1,3 @@
-pub mod AsciiLemmas
 pub mod KeyLemmas
 pub mod PushLemmas
 pub mod PathLemmas

@@ -10,18 +10,10 @@ use Rattle.ocf_types.specs.declared.action.Task.{Task}
 use Rattle.ocf_env.specs.Places.{Place, Pair}
 use Rattle.ocf_env.specs.Variables.{IsVariable, are_ascending_after}
 use Rattle.ocf_env.specs.Lists.{action_pairs}
-use Rattle.ocf_env.proofs.AsciiLemmas.{both}
+use Rattle.ocf_types.specs.Laws.{before_trans, both}
 use Rattle.ocf_env.proofs.Amongs.{Among, among}
 use Rattle.ocf_env.proofs.SortedLemmas.{ascending}
 use Rattle.ocf_env.proofs.MemberLemmas.{members}
-
-less_is : (r : Ordering) → is_lt r ≡ true → r ≡ Less
-less_is Less h = refl
-less_is Equal h = absurd cc
-less_is Greater h = absurd cc
-
-before_trans : (a b c : List ℕ) → is_before a b ≡ true → is_before b c ≡ true → is_before a c ≡ true
-before_trans a b c h k = ap is_lt (nat_list_cmp_total.trans a b c (less_is _ h) (less_is _ k))
 
 not_self : (r : Ordering) → r ≡ ordering_reverse r → is_lt r ≡ false
 not_self Less e = absurd cc

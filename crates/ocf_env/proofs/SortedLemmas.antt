@@ -9,7 +9,7 @@ use Rattle.ocf_types.specs.declared.action.Task.TheVariants as task
 use Rattle.ocf_env.specs.Places.{Place, Pair}
 use Rattle.ocf_env.specs.Variables.{reskey, are_ascending_after, are_ascending}
 use Rattle.ocf_env.specs.Lists.{param_pairs, instance_pair, last_pairs, action_pairs, meta_pairs}
-use Rattle.ocf_env.proofs.AsciiLemmas.{both}
+use Rattle.ocf_types.specs.Laws.{both}
 
 and_true : (a b : Bool) → a ≡ true → b ≡ true → (a && b) ≡ true
 and_true a b h k = rw (h, k) refl

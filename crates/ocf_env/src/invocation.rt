@@ -49,7 +49,7 @@ impl<A: Allocator> Invocation<A> {
 }
 
 /// The agent's file, `<root>/resource.d/<provider>/<type>`. OCF Resource Agent API 1.1, OCF_ROOT.
-#[tactic(auto, using(crate::proofs::AsciiLemmas::providers, crate::proofs::AsciiLemmas::agent_types))]
+#[tactic(auto, using(ocf_types::specs::NameLaws::providers, ocf_types::specs::NameLaws::agent_types))]
 pub fn agent_file<A: Allocator, S: Allocator>(
     alloc: A,
     site: &Site<S>,

@@ -55,7 +55,7 @@ pub fn joined<A: Allocator>(alloc: A, head: &str, tail: &str) -> Result<Text<A>,
 }
 
 /// The text of ASCII bytes.
-#[tactic(auto, using(crate::proofs::AsciiLemmas::texts))]
+#[tactic(auto, using(ocf_types::specs::NameLaws::texts))]
 pub fn ascii(bytes: &[u8]) -> &str
     requires { IsAscii bytes.now }
     ensures { result.now ≡ bytes.now }

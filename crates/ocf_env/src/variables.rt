@@ -63,7 +63,7 @@ pub fn push_version<A: Allocator + Copy>(alloc: A, pairs: &mut Pairs<A>) -> Resu
     Ok(())
 }
 
-#[tactic(auto, using(crate::proofs::AsciiLemmas::param_names))]
+#[tactic(auto, using(ocf_types::specs::NameLaws::param_names))]
 fn push_param<A: Allocator + Copy, P: Allocator>(
     alloc: A,
     pairs: &mut Pairs<A>,
@@ -93,7 +93,7 @@ pub fn push_params<A: Allocator + Copy, P: Allocator>(
 }
 
 /// Appends the instance. OCF Resource Agent API 1.1, OCF_RESOURCE_INSTANCE.
-#[tactic(auto, using(crate::proofs::AsciiLemmas::ids))]
+#[tactic(auto, using(ocf_types::specs::NameLaws::ids))]
 pub fn push_instance<A: Allocator + Copy>(
     alloc: A,
     pairs: &mut Pairs<A>,
@@ -105,7 +105,7 @@ pub fn push_instance<A: Allocator + Copy>(
     Ok(())
 }
 
-#[tactic(auto, using(crate::proofs::AsciiLemmas::providers, crate::proofs::AsciiLemmas::agent_types))]
+#[tactic(auto, using(ocf_types::specs::NameLaws::providers, ocf_types::specs::NameLaws::agent_types))]
 fn push_agent<A: Allocator + Copy>(
     alloc: A,
     pairs: &mut Pairs<A>,

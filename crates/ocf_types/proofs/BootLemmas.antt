@@ -11,11 +11,7 @@ use Rattle.ocf_types.specs.declared.event.Change.TheVariants as change
 use Rattle.ocf_types.specs.Resource.{History, Resource, kept, is_busy, ended_of, dropped_of, last_ended, booted}
 use Rattle.ocf_types.specs.State.{Registry, State, resource_at, after, changed, on_history}
 use Rattle.ocf_types.specs.Boot.{any_busy, boot, boot_at, IsLast}
-
--- after a boot nothing is queued or running
-pub quiet : (at : ℕ) (rs : Registry) → list_any (λ e. is_busy e.1.history) (changed at change.Boot rs) ≡ false
-quiet at [] = refl
-quiet at (e ∷ es) = quiet at es
+use Rattle.ocf_types.specs.Laws.{quiet}
 
 -- a second boot changes nothing
 pub boot_once : (s : State) (m n : ℕ) → boot (boot s m) n ≡ boot s m

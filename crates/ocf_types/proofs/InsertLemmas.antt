@@ -15,16 +15,11 @@ use Rattle.std.proofs.Math.Seq.{set-append_seam}
 use Rattle.ocf_types.specs.Names.{is_param_name}
 use Rattle.ocf_types.specs.Values.{is_param_value}
 use Rattle.ocf_types.specs.Params.{ParamList, is_before, is_after, are_params_after, AreParams, has_param, with_param}
-use Rattle.ocf_types.proofs.ValueLemmas.{both}
+use Rattle.ocf_types.specs.Laws.{before_trans, both, less_is}
 
 either_false : (a b : Bool) → (a || b) ≡ false → (a ≡ false) × (b ≡ false)
 either_false true b h = absurd cc
 either_false false b h = (refl, h)
-
-less_is : (r : Ordering) → is_lt r ≡ true → r ≡ Less
-less_is Less h = refl
-less_is Equal h = absurd cc
-less_is Greater h = absurd cc
 
 -- one name is before another, the same, or after it
 before_cases : (a b : List ℕ) → (is_before a b ≡ true) ⊎ ((a ≡ b) ⊎ (is_before b a ≡ true))
@@ -34,9 +29,6 @@ before_cases a b = by (slice_cmp nat_cmp a b) refl
     by Less e = inl (ap is_lt e)
     by Equal e = inr (inl (exact_bytes a b e))
     by Greater e = inr (inr (ap is_lt (nat_list_cmp_total.antisymm b a ∙ ap ordering_reverse e)))
-
-before_trans : (a b c : List ℕ) → is_before a b ≡ true → is_before b c ≡ true → is_before a c ≡ true
-before_trans a b c h k = ap is_lt (nat_list_cmp_total.trans a b c (less_is _ h) (less_is _ k))
 
 not_back : (a b : List ℕ) → is_before a b ≡ true → is_before b a ≡ false
 not_back a b h = ap is_lt (nat_list_cmp_total.antisymm b a ∙ ap ordering_reverse (less_is _ h))

@@ -16,9 +16,10 @@ use Rattle.ocf_types.specs.State.{State, empty, after, changed, resource_at, on_
 use Rattle.ocf_types.specs.Applies.{Applies, StepApplies, ChangeApplies}
 use Rattle.ocf_types.specs.LawfulState.{IsLawfulResource, IsLawfulState}
 use Rattle.ocf_types.proofs.Lengths.{length-event, length-step, params_shorter}
-use Rattle.ocf_types.proofs.Lists.{found, each_append, each_filter, filter_shorter, distinct_filter}
+use Rattle.ocf_types.specs.Laws.{distinct_none, each_append}
+use Rattle.ocf_types.proofs.Lists.{found, each_filter, filter_shorter, distinct_filter}
 use Rattle.ocf_types.proofs.Registries.{absent_any, keys-at_id, keys-map, ids-at_id, ids-map, values-map, values-at_id}
-use Rattle.ocf_types.proofs.LawfulParts.{distinct_none, lawful_weaken, resources_weaken, lawful_registered}
+use Rattle.ocf_types.proofs.LawfulParts.{lawful_weaken, resources_weaken, lawful_registered}
 use Rattle.ocf_types.proofs.LawfulSteps.{lawful_step, lawful_boot}
 
 -- the state with no resources is lawful

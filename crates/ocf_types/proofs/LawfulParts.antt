@@ -17,7 +17,8 @@ use Rattle.ocf_types.specs.Spelling.{spelled_params}
 use Rattle.ocf_types.specs.State.{Registry, registered}
 use Rattle.ocf_types.specs.Resource.{Resource, kept, last_ended, ended_of, dropped_of, run_of_op, run_of_monitor, of_interval}
 use Rattle.ocf_types.specs.LawfulState.{IsLawfulRunning, IsLawfulEnded, IsLawfulResource, IsOutcome}
-use Rattle.ocf_types.proofs.Lists.{each_weaken, each_append, each_drop}
+use Rattle.ocf_types.specs.Laws.{distinct_none, each_append, each_weaken}
+use Rattle.ocf_types.proofs.Lists.{each_drop}
 
 -- a queued action, with a call below a number
 abbrev pub IsQueued : ℕ → Op → Type 0
@@ -26,11 +27,6 @@ IsQueued n o = IsLawfulOp o × (o.call < n)
 -- a recurring monitor, with a call below a number
 abbrev pub IsRecurring : ℕ → Recur → Type 0
 IsRecurring n m = IsLawfulRecur m × (m.call < n)
-
--- where there are no keys, they are distinct
-pub distinct_none : {K : Type 0} (eq : K → K → Bool) → IsDistinct eq []
-unfolding IsDistinct
-distinct_none eq = tt
 
 module _ (n k clock n' k' clock' : ℕ) (calls : n ≤ n') (runs : k ≤ k') (moments : clock ≤ clock') where
   -- results stay lawful later

@@ -15,7 +15,8 @@ use Rattle.ocf_types.specs.Resource.{Resource, History, kept, accepted, begun, e
 use Rattle.ocf_types.specs.State.{calls_drawn, runs_drawn, on_history, stepped}
 use Rattle.ocf_types.specs.Applies.{StepApplies}
 use Rattle.ocf_types.specs.LawfulState.{IsAscending, IsLawfulRunning, IsLawfulEnded, IsLawfulResource}
-use Rattle.ocf_types.proofs.Lists.{each_weaken, each_append, each_filter, filter_shorter, distinct_filter, ascends_filter, ascends_push}
+use Rattle.ocf_types.specs.Laws.{each_append, each_weaken}
+use Rattle.ocf_types.proofs.Lists.{each_filter, filter_shorter, distinct_filter, ascends_filter, ascends_push}
 use Rattle.ocf_types.proofs.LawfulParts.{IsQueued, IsRecurring, lawful_weaken, length-last, ended_push, ended_running, ended_dropped, running_op, running_monitor, intervals_push}
 
 -- a lawful resource with another history

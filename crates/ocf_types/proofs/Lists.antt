@@ -3,6 +3,7 @@ use Rattle.std.proofs.Common.{◌≡◌, ℕ, ◌≤◌, ◌<◌, Bool, true, fa
 use Rattle.std.specs.List.{AllByRecursion, IsDistinct}
 use Rattle.std.proofs.lemmas.Map.Keys.{IsDistinct-head, IsDistinct-tail, IsDistinct-cons}
 use Rattle.ocf_types.specs.LawfulState.{IsAscending}
+pub use Rattle.ocf_types.specs.Laws.{each_weaken}
 
 -- where a fact holds of what is there, it is there, and the fact holds of it
 pub found : {A : Type 0} (o : Option A) (P : A → Type 0) → IsSomeAnd o P → (x : A) × (o ≡ Some x) × P x
@@ -10,16 +11,6 @@ found None P h = absurd h
 found (Some x) P h = (x, refl, h)
 
 module _ {A : Type 0} where
-  -- a weaker fact
-  pub each_weaken : (P Q : A → Type 0) → ((x : A) → P x → Q x) → (xs : List A) → AllByRecursion P xs → AllByRecursion Q xs
-  each_weaken P Q f [] h = tt
-  each_weaken P Q f (x ∷ xs) h = (f x h.0, each_weaken P Q f xs h.1)
-
-  -- a fact of two lists holds of both together
-  pub each_append : (P : A → Type 0) (xs ys : List A) → AllByRecursion P xs → AllByRecursion P ys → AllByRecursion P (xs ++ ys)
-  each_append P [] ys h k = k
-  each_append P (x ∷ xs) ys h k = (h.0, each_append P xs ys h.1 k)
-
   -- a fact of each holds of the last ones
   pub each_drop : (P : A → Type 0) (n : ℕ) (xs : List A) → AllByRecursion P xs → AllByRecursion P (drop n xs)
   each_drop P zero xs h = h

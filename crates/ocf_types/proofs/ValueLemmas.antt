@@ -4,6 +4,7 @@ use Rattle.std.specs.List.{list_all}
 use Rattle.std.specs.Str.{is_utf8, IsUtf8}
 use Rattle.std.proofs.lemmas.Bool.{le-leb, leb-true}
 use Rattle.std.proofs.lemmas.Str.{IsUtf8-from_is_utf8, is_utf8-from_IsUtf8}
+use Rattle.ocf_types.specs.Laws.{both}
 use Rattle.ocf_types.specs.Values.{is_param_value}
 
 pub is_value : (bs : List ℕ) → length bs ≤ 1024 → list_all (λ b. not (eqb b 0)) bs ≡ true → IsUtf8 bs → is_param_value bs ≡ true
@@ -21,11 +22,6 @@ and_false false = refl
 
 pub is_no_value : (bs : List ℕ) → ¬ (IsUtf8 bs) → is_param_value bs ≡ false
 is_no_value bs bad = rw (not_utf8 bs (is_utf8 bs) refl bad) (and_false _)
-
--- both sides of a test that holds
-pub both : (a b : Bool) → (a && b) ≡ true → (a ≡ true) × (b ≡ true)
-both true b e = (refl, e)
-both false b e = absurd cc
 
 pub value_short : (v : List ℕ) → is_param_value v ≡ true → length v ≤ 1024
 value_short v e = leb-true _ _ (both _ _ (both _ _ e).0).0

@@ -18,3 +18,5 @@ pub mod Due
 pub mod StateSpelling
 pub mod LawfulState
 pub mod Places
+pub mod Laws
+pub mod NameLaws

@@ -3,8 +3,9 @@ use Rattle.std.proofs.Common.{◌≡◌, ◌≢◌, ℕ, Bool, true, false, true
 use Rattle.std.specs.Io.KnownBytes.{IsAtEnd}
 use Rattle.ocf_types.specs.declared.refusal.Refusal.{Refusal}
 use Rattle.ocf_types.specs.declared.refusal.Refusal.TheVariants.{Memory, Syntax}
-use Rattle.exec_commands.proofs.ValueLemmas.{long_line}
-use Rattle.exec_commands.specs.Lines.{line_read}
+use Rattle.ocf_types.specs.Limits.{line_limit}
+use Rattle.exec_commands.specs.Keys.{given, typed}
+use Rattle.exec_commands.specs.Lines.{line_of, line_read, value_of}
 use Rattle.exec_commands.specs.declared.line.Line.{Line}
 use Rattle.exec_lines.specs.declared.line.Next.{Next}
 use Rattle.exec_lines.specs.declared.line.Next.TheVariants as next
@@ -49,12 +50,18 @@ pub reads : {E : Type 0} (a c : Option (List ℕ)) (r : Result Next E) (line : L
 reads None c r line found told is some leaves read = tt
 reads (Some xs) c r line found told is some leaves read = (λ none. some (is told ∙ none), leaves, subst (λ l. IsReadAs l found) (is told) read)
 
+-- a line that is too long is refused
+long_line : (bs : List ℕ) → nat_le (length bs) line_limit ≡ false → line_read bs ≡ Err Syntax
+long_line bs long =
+    let none : value_of bs ≡ None = rw long refl in
+    ap (λ d. given (typed d) line_of) none
+
 pub too_long : (a c : Option (List ℕ)) (n : Next) → n ≡ next.TooLong → Tells a n → Leaves a c → ReadsLine a c (Err Syntax)
 too_long None c n is tells leaves = tt
 too_long (Some []) c n is tells leaves = absurd cc
 too_long (Some (x ∷ xs)) c n is tells leaves =
-    let above : nat_le (length (first_line (x ∷ xs))) 131072 ≡ false = long _ (sym tells ∙ is) in (
-      λ none. true≢false (sym (ap (λ l. nat_le (length l) 131072) none) ∙ above),
+    let above : nat_le (length (first_line (x ∷ xs))) line_limit ≡ false = long _ (sym tells ∙ is) in (
+      λ none. true≢false (sym (ap (λ l. nat_le (length l) line_limit) none) ∙ above),
       leaves,
       λ _. long_line (first_line (x ∷ xs)) above,
     )

@@ -3,21 +3,15 @@ use Rattle.std.proofs.Common.{◌≡◌, ℕ, ◌≤◌, List, [], ◌∷◌, �
 use Rattle.std.specs.Option.{option_map}
 use Rattle.std.proofs.lemmas.List.Elements.{All-push, Contains-append_left, Contains-push}
 use Rattle.ocf_types.specs.Due.{IsBefore, IsLeastDue}
+use Rattle.ocf_types.specs.Laws.{IsBefore-trans}
 use Rattle.recurring.specs.declared.monitor.Monitor.{Monitor}
 use Rattle.recurring.specs.Monitors.{pair, IsFirstDue}
-
--- what comes before what comes before a third comes before it
-before_trans : (x y z : ℕ × ℕ) → IsBefore x y → IsBefore y z → IsBefore x z
-before_trans x y z (inl h) (inl k) = inl (omega arith)
-before_trans x y z (inl h) (inr k) = inl (omega arith)
-before_trans x y z (inr h) (inl k) = inl (omega arith)
-before_trans x y z (inr h) (inr k) = inr (omega arith, omega arith)
 
 -- one more pair that is due: the first of it and the one so far
 pub first_due_of : (xs : List (ℕ × ℕ)) (now : ℕ) (m y w : Monitor) → m.due ≤ now →
     (w ≡ m) ⊎ (w ≡ y) → IsBefore (pair w) (pair m) → IsBefore (pair w) (pair y) → IsFirstDue xs now (Some y) → IsFirstDue (xs ++ pair m ∷ []) now (Some w)
 first_due_of xs now m y w due one before_m before_y h =
-    let first = All-push (λ p. p.0 ≤ now → IsBefore (pair w) p) xs (pair m) (λ k d within here. before_trans (pair w) (pair y) _ before_y (h.2 k d within here)) (λ here. before_m) in
+    let first = All-push (λ p. p.0 ≤ now → IsBefore (pair w) p) xs (pair m) (λ k d within here. IsBefore-trans (pair w) (pair y) _ before_y (h.2 k d within here)) (λ here. before_m) in
     elim one [
       | inl e ↦ (rw e (Contains-push xs (pair m)), rw e due, first)
       | inr e ↦ (rw e (Contains-append_left xs (pair m ∷ []) (pair y) h.0), rw e h.1, first)

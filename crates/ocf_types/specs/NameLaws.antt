@@ -1,10 +1,12 @@
--- Names are ASCII, and ASCII bytes are text.
-use Rattle.std.proofs.Common.{◌≡◌, ℕ, ◌<◌, List, [], ◌∷◌, Bool, true, false, ◌&&◌, refl, arith}
+-- Names are ASCII, and ASCII bytes are text: for proofs in the crates above.
+use Rattle.std.specs.Prelude.{◌≡◌, ℕ, ◌<◌, Bool, true, List, [], ◌∷◌}
+use Rattle.std.proofs.Common.{arith}
 use Rattle.std.specs.List.{list_all}
 use Rattle.std.specs.Str.{IsAscii, IsUtf8}
 use Rattle.std.proofs.lemmas.Str.{IsUtf8-from_ascii}
 use Rattle.std.proofs.lemmas.Str.Ascii.{IsAscii-nil, IsAscii-cons}
 use Rattle.std.proofs.lemmas.Bool.Decides.{nat_tests}
+use Rattle.ocf_types.specs.Laws.{both}
 use Rattle.ocf_types.specs.Names.{is_name_byte, is_id_byte, is_word_byte, is_rsc_id, is_provider, is_agent_type, is_param_name}
 
 pub texts : (bs : List ℕ) → IsAscii bs → IsUtf8 bs
@@ -18,11 +20,6 @@ name_byte b h = grind (arith, nat_tests)
 
 id_byte : (b : ℕ) → is_id_byte b ≡ true → b < 128
 id_byte b h = grind (arith, nat_tests)
-
--- both sides of a test that holds
-pub both : (a b : Bool) → (a && b) ≡ true → (a ≡ true) × (b ≡ true)
-both true b e = (refl, e)
-both false b e = absurd cc
 
 all_ascii : (p : ℕ → Bool) → ((b : ℕ) → p b ≡ true → b < 128) → (bs : List ℕ) → list_all p bs ≡ true → IsAscii bs
 all_ascii p low [] h = IsAscii-nil
