@@ -5,3 +5,13 @@ pub mod Keeping
 pub mod OpeningLemmas
 pub mod Recording
 pub mod SessionLemmas
+pub mod AloneLists
+pub mod AloneChanges
+pub mod AloneRequests
+pub mod AloneReplies
+pub mod AlonePicks
+pub mod AloneRows
+pub mod AloneBegins
+pub mod AloneTurns
+pub mod AloneRuns
+pub mod AloneSessions

@@ -1,5 +1,5 @@
 -- Each resource's part of a session.
-use Rattle.std.specs.Prelude.{◌≡◌, ◌≢◌, ℕ, ◌<◌, ◌≤◌, ◌==◌, Bool, true, false, List, [], ◌∷◌, ◌++◌, map, filter, nat_eq, Option, Some, None, if◌then◌else◌, ⊤, ⊥}
+use Rattle.std.specs.Prelude.{◌≡◌, ℕ, ◌<◌, ◌≤◌, Bool, true, false, List, [], ◌∷◌, ◌++◌, filter, nat_eq, if◌then◌else◌, ⊤}
 use Rattle.std.specs.List.{AllByRecursion, IsDistinct, flat_map, list_any}
 use Rattle.std.specs.Option.{option_map_or}
 use Rattle.std.specs.Map.{keys_of}
@@ -15,7 +15,7 @@ use Rattle.ocf_types.specs.declared.refusal.Refusal.TheVariants.{CallsSpent, Clo
 use Rattle.ocf_types.specs.declared.reply.ReplyOf.TheVariants as reply
 use Rattle.ocf_types.specs.declared.reply.TurnEnd.TheVariants.{Done}
 use Rattle.child_keeper.specs.declared.answer.Entry.{Entry}
-use Rattle.exec_turn.specs.Actives.{Active, active, runs_of}
+use Rattle.exec_turn.specs.Actives.{active, runs_of}
 use Rattle.executor.specs.Sessions.{Input}
 use Rattle.executor.specs.Singles.{cut}
 use Rattle.executor.specs.declared.session.InputOf.TheVariants as input

@@ -1,16 +1,14 @@
 -- One resource by itself: a machine that knows of no other. The numbers of its calls and runs are handed in, each above all
 -- that it knows.
-use Rattle.std.specs.Prelude.{◌≡◌, ◌⊎◌, ℕ, ◌+◌, ◌≤◌, ◌==◌, Bool, true, false, List, [], ◌∷◌, ◌++◌, map, filter, min, length, nat_lt, nat_le, is_some, is_none, Option, Some, None, option_map, option_and_then, option_to_list, Result, Ok, Err, if◌then◌else◌, ⊤, IsTrue}
-use Rattle.std.specs.List.{flat_map, list_any}
+use Rattle.std.specs.Prelude.{◌≡◌, ◌⊎◌, ℕ, ◌+◌, ◌≤◌, Bool, false, List, [], ◌∷◌, ◌++◌, map, min, length, nat_lt, nat_le, is_some, is_none, Option, Some, None, option_map, option_and_then, option_to_list, Result, Ok, Err, if◌then◌else◌}
 use Rattle.std.specs.Option.{option_map_or}
-use Rattle.std.specs.Str.{bytes_eq}
 use Rattle.ocf_types.specs.Answer.{change_of, first_of, info_of}
 use Rattle.ocf_types.specs.Due.{IsPick, or_else, step_sets}
-use Rattle.ocf_types.specs.Kinds.{Change, Command, Event, Reply, Request, Step}
+use Rattle.ocf_types.specs.Kinds.{Change, Command, Event, Reply}
 use Rattle.ocf_types.specs.Limits.{event_limit, num_max, queue_limit, recurring_limit}
 use Rattle.ocf_types.specs.Resource.{Resource, is_busy, of_call, of_interval}
 use Rattle.ocf_types.specs.Spelling.{spelled_event}
-use Rattle.ocf_types.specs.State.{State, named, registered, resource_at, stepped}
+use Rattle.ocf_types.specs.State.{registered, resource_at, stepped}
 use Rattle.ocf_types.specs.declared.command.CommandOf.TheVariants as command
 use Rattle.ocf_types.specs.declared.command.Question.{Question}
 use Rattle.ocf_types.specs.declared.command.Question.TheVariants as question
@@ -20,7 +18,7 @@ use Rattle.ocf_types.specs.declared.event.Step.TheVariants as step
 use Rattle.ocf_types.specs.declared.operation.Running.{Running}
 use Rattle.ocf_types.specs.declared.outcome.StartFault.{StartFault}
 use Rattle.ocf_types.specs.declared.refusal.Refusal.{Refusal}
-use Rattle.ocf_types.specs.declared.refusal.Refusal.TheVariants.{Busy, CallsSpent, Closed, Disk, Exists, JournalFull, Memory, NoSuchRecurring, QueueFull, RecurringFull, TooLarge, TooManyResources, UnknownResource}
+use Rattle.ocf_types.specs.declared.refusal.Refusal.TheVariants.{Busy, Exists, NoSuchRecurring, QueueFull, RecurringFull, TooLarge, UnknownResource}
 use Rattle.ocf_types.specs.declared.reply.ReplyOf.TheVariants as reply
 use Rattle.ocf_types.specs.declared.reply.TurnEnd.TheVariants.{Done}
 use Rattle.child_keeper.specs.Children.{start_answer}
@@ -28,7 +26,7 @@ use Rattle.child_keeper.specs.declared.answer.Entry.{Entry}
 use Rattle.child_keeper.specs.declared.answer.KillFault.{KillFault}
 use Rattle.child_keeper.specs.declared.answer.Poll.{Poll}
 use Rattle.exec_turn.specs.Actives.{result_of}
-use Rattle.exec_turn.specs.Polls.{ending, entries_of}
+use Rattle.exec_turn.specs.Polls.{IsPoll, ending, entries_of}
 use Rattle.exec_turn.specs.Starts.{refused_end}
 use Rattle.executor.specs.Replies.{acknowledged}
 use Rattle.executor.specs.Sessions.{Input}
@@ -136,7 +134,7 @@ running_in x = option_and_then (λ r. r.history.running) x.resource
 -- its own poll, of what runs, if anything runs: the entries, and the result where it ended
 abbrev pub SinglePoll : List ℕ → ℕ → Option Running → List Entry → List Event → Type 0
 SinglePoll id at None entries events = (entries ≡ []) × (events ≡ [])
-SinglePoll id at (Some running) entries events = (poll : Poll) × (kill : Result Unit KillFault)
+SinglePoll id at (Some running) entries events = (poll : Poll) × (kill : Result Unit KillFault) × IsPoll poll
     × (entries ≡ entries_of at running poll kill)
     × (events ≡ map (result_of at (record { id = id; running = running })) (option_to_list (ending at running poll)))
 

@@ -1,0 +1,133 @@
+-- What a request does, and what it is answered.
+use Rattle.std.proofs.Common.{◌≡◌, ◌⊎◌, inl, inr, ℕ, ◌≤◌, false, max, List, [], ◌∷◌, length, Some, Result, Ok, Err, le_of_eq, refl, sym, ap, subst, ◌∙◌, arith}
+use Rattle.std.specs.List.{AllByRecursion}
+use Rattle.ocf_types.specs.Answer.{asked_event, change_of, event_of, moment, tests}
+use Rattle.ocf_types.specs.Due.{Due, due_after}
+use Rattle.ocf_types.specs.Kinds.{Change, Command, Event, Reply}
+use Rattle.ocf_types.specs.Spelling.{spelled_event}
+use Rattle.ocf_types.specs.State.{State, after, after_all, named, resource_at}
+use Rattle.ocf_types.specs.declared.command.CommandOf.TheVariants as command
+use Rattle.ocf_types.specs.declared.command.RequestOf.TheVariants as asked
+use Rattle.ocf_types.specs.declared.event.Change.TheVariants as change
+use Rattle.ocf_types.specs.declared.event.Step.TheVariants as step
+use Rattle.ocf_types.specs.declared.refusal.Refusal.{Refusal}
+use Rattle.ocf_types.specs.declared.refusal.Refusal.TheVariants as refusal
+use Rattle.ocf_types.specs.declared.reply.ReplyOf.TheVariants.{Refused}
+use Rattle.ocf_types.proofs.AskedLemmas.{none_is, passed}
+use Rattle.disk_model.specs.View.{View}
+use Rattle.exec_turn.specs.Turn.{due_after_all}
+use Rattle.executor.specs.Commands.{Obeys, Records}
+use Rattle.executor.specs.Parts.{IsPlain, commanded}
+use Rattle.executor.specs.Replies.{IsReplyTo, acknowledged, due_left, recorded}
+use Rattle.executor.specs.Sessions.{Deeds, TakesRequest, command_deeds}
+use Rattle.executor.specs.Sights.{Sight}
+use Rattle.executor.specs.Singles.{Follows, cut}
+use Rattle.executor.proofs.AloneChanges.{AreFresh, IsFresh}
+
+-- what a call did: the state and the due moments after its events, which are new
+pub record Does {D : Type 0} (now : ℕ) (old new : Sight D) (es : List Event) : Type 0 where
+  pub state : new.state ≡ after_all old.state es
+  pub due : new.due ≡ due_after_all old.state old.due es
+  pub next : AreFresh old.state es
+  pub clock : new.state.clock ≤ cut now
+
+max_is : (a b : ℕ) → a ≤ b → max a b ≡ b
+max_is a b h = omega arith
+
+-- where moments do not go back, a moment is the one that is handed in
+pub moment_is : (s : State) (now : ℕ) → s.clock ≤ cut now → moment s now ≡ cut now
+moment_is s now h = max_is s.clock (cut now) h
+
+-- a call that left the executor as it was
+pub rested : {D : Type 0} (now : ℕ) (old new : Sight D) → old.state.clock ≤ cut now → new ≡ old → Does now old new []
+rested {D} now old new clock same = record {
+  state = ap (λ (x : Sight D). x.state) same;
+  due = ap (λ (x : Sight D). x.due) same;
+  next = tt;
+  clock = subst (λ (x : Sight D). x.state.clock ≤ cut now) (sym same) clock;
+}
+
+-- the event is acknowledged, or refused for a want that resources share
+abbrev IsRefused : Reply → Type 0
+IsRefused reply = (why : Refusal) × (reply ≡ Refused why) × (IsPlain (Refused why) → ⊥)
+
+told_or_refused : (e : Event) (reply : Reply) → IsReplyTo e reply → (reply ≡ acknowledged e.change) ⊎ IsRefused reply
+told_or_refused e reply (inl told) = inl told
+told_or_refused e reply (inr (inl full)) = inr (refusal.JournalFull, full, λ h. h)
+told_or_refused e reply (inr (inr (inl memory))) = inr (refusal.Memory, memory, λ h. h)
+told_or_refused e reply (inr (inr (inr disk))) = inr (refusal.Disk, disk, λ h. h)
+
+-- the event that is acknowledged is recorded
+told_done : (s : State) (e : Event) (c : Change) (moments : Due) → (recorded e (acknowledged c) ≡ e ∷ []) × (due_left s e (acknowledged c) moments ≡ due_after s moments e)
+told_done s e (change.Step i (step.Exec o)) moments = (refl, refl)
+told_done s e (change.Step i (step.Recur m)) moments = (refl, refl)
+told_done s e _ moments = (refl, refl)
+
+-- the event that a command asks for is new where no test held, and names the resource that the command is about
+asked_fresh : (s : State) (c : Command) (size : ℕ) → AllByRecursion (λ t. t.1 ≡ false) (tests s c size) → IsFresh s (change_of s.next_call c)
+asked_fresh s (command.Register r) size h = none_is (resource_at s r.id) h.0
+asked_fresh s (command.Exec i task timeout) size h = refl
+asked_fresh s (command.Recur i interval timeout level) size h = refl
+asked_fresh s _ size h = tt
+
+asked_names : (call : ℕ) (c : Command) → named (change_of call c) ≡ Some (commanded c)
+asked_names call (command.Register r) = refl
+asked_names call _ = refl
+
+-- these events name this resource
+abbrev pub AllName : List ℕ → List Event → Type 0
+AllName id es = AllByRecursion (λ e. named e.change ≡ Some id) es
+
+-- What a command does, and what it is answered where that is plain.
+pub record Commands {D : Type 0} (now : ℕ) (c : Command) (old new : Sight D) (reply : Reply) (deeds : Deeds) : Type 0 where
+  pub no_entries : deeds.entries ≡ []
+  pub names : AllName (commanded c) deeds.events
+  pub does : Does now old new deeds.events
+  pub follows : IsPlain reply → Follows (event_of old.state now c) reply deeds.events
+
+pub commands : {D : Type 0} (look : D → View) (now : ℕ) (c : Command) (old new : Sight D) (reply : Reply) (deeds : Deeds) → old.state.clock ≤ cut now
+    → TakesRequest look now (asked.Command c) old new reply deeds → Commands now c old new reply deeds
+commands {D} look now c old new reply deeds clock takes =
+    subst (λ (x : Deeds). Commands now c old new reply x) (sym takes.does) (by (event_of old.state now c) refl takes.serves)
+  where
+    size : ℕ
+    size = length (spelled_event (asked_event old.state now c))
+
+    by_reply : (e : Event) → event_of old.state now c ≡ Ok e → Records look e old new reply → (reply ≡ acknowledged e.change) ⊎ IsRefused reply → Commands now c old new reply (command_deeds (Ok e) reply)
+    by_reply e is serves (inl told) =
+        let went = passed (tests old.state c size) (asked_event old.state now c) e is in
+        let done = told_done old.state e e.change old.due in
+        let row : recorded e reply ≡ e ∷ [] = ap (recorded e) told ∙ done.0 in
+        let after_one : new.state ≡ after old.state e = serves.leaves.state ∙ ap (after_all old.state) row in record {
+          no_entries = refl;
+          names = subst (AllName (commanded c)) (sym row) (subst (λ (f : Event). AllName (commanded c) (f ∷ [])) went.0 (asked_names old.state.next_call c, tt));
+          does = record {
+            state = serves.leaves.state;
+            due = serves.due ∙ ap (λ (r : Reply). due_left old.state e r old.due) told ∙ done.1 ∙ ap (due_after_all old.state old.due) (sym row);
+            next = subst (AreFresh old.state) (sym row) (subst (λ (f : Event). AreFresh old.state (f ∷ [])) went.0 (asked_fresh old.state c size went.1, tt));
+            clock = subst (λ (x : State). x.clock ≤ cut now) (sym after_one) (subst (λ (f : Event). f.at ≤ cut now) went.0 (le_of_eq (moment_is old.state now clock)));
+          };
+          follows = λ plain. subst (λ (w : Result Event Refusal). Follows w reply (recorded e reply)) (sym is) (told, row);
+        }
+    by_reply e is serves (inr (why, refused, shared)) =
+        let row : recorded e reply ≡ [] = ap (recorded e) refused in
+        let still : new.state ≡ old.state = serves.leaves.state ∙ ap (after_all old.state) row in record {
+          no_entries = refl;
+          names = subst (AllName (commanded c)) (sym row) tt;
+          does = record {
+            state = serves.leaves.state;
+            due = serves.due ∙ ap (λ (r : Reply). due_left old.state e r old.due) refused ∙ ap (due_after_all old.state old.due) (sym row);
+            next = subst (AreFresh old.state) (sym row) tt;
+            clock = subst (λ (x : State). x.clock ≤ cut now) (sym still) clock;
+          };
+          follows = λ plain. absurd (shared (subst IsPlain refused plain));
+        }
+
+    by : (v : Result Event Refusal) → event_of old.state now c ≡ v → Obeys look v old new reply → Commands now c old new reply (command_deeds v reply)
+    by (Err why) is serves = record {
+      no_entries = refl;
+      names = tt;
+      does = rested now old new clock serves.1;
+      follows = λ plain. subst (λ (w : Result Event Refusal). Follows w reply []) (sym is) (serves.0, refl);
+    }
+    by (Ok e) is serves = by_reply e is serves (told_or_refused e reply serves.told)

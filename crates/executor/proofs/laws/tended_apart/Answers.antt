@@ -1,0 +1,5 @@
+use Rattle.executor.proofs.AloneRuns.{tended_apart}
+use Rattle.executor.proofs.laws.tended_apart.Goals as goal
+
+pub returns : goal.returns
+returns c = record { apart = tended_apart }
