@@ -1,5 +1,6 @@
 -- What contracts see of children, and what each call does to it.
 use Rattle.std.specs.Prelude.{ℕ, ◌+◌, ◌-◌, ◌==◌, ⊤, List, [], ◌∷◌, ◌++◌, filter, length, not, Result, Ok, Err, All, Contains}
+use Rattle.ocf_types.specs.Limits.{resources_limit}
 use Rattle.ocf_types.specs.declared.outcome.StartFault.{StartFault}
 use Rattle.child_keeper.specs.declared.answer.Answer.{Answer}
 use Rattle.child_keeper.specs.declared.answer.Answer.TheVariants.{Started, StartFault as NotStarted, Running, Exited, Signaled, PollFault, Killed, KillFault as NotKilled}
@@ -8,9 +9,9 @@ use Rattle.child_keeper.specs.declared.answer.KillFault.{KillFault}
 use Rattle.child_keeper.specs.declared.answer.Poll.{Poll}
 use Rattle.child_keeper.specs.declared.answer.Poll.TheVariants as poll
 
--- how many children may live at once
+-- how many children may live at once: one for each resource
 abbrev pub live_limit : ℕ
-live_limit = 256
+live_limit = resources_limit
 
 -- the book of answers and how many more it takes, the greatest run that was asked to start (0 where none was), and the
 -- runs that live, by their start

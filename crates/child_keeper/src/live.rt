@@ -3,11 +3,11 @@ ghost use Rattle.std.specs.Prelude.{◌≡◌, ◌↔◌, ◌<◌, ◌≤◌, �
 ghost use Rattle.std.specs.Vec.{vec_capacity};
 ghost use Rattle.child_keeper.specs.Children.{without_run, live_limit};
 
-use ocf_types::RunId;
+use ocf_types::{RESOURCES_LIMIT, RunId};
 use std::alloc::{AllocError, Allocator};
 
 /// How many children may live at once: one for each resource that can be registered.
-pub const LIVE_LIMIT: usize = 256;
+pub const LIVE_LIMIT: usize = RESOURCES_LIMIT;
 
 /// The live runs, by their start.
 #[derive(Drop)]

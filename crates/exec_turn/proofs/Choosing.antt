@@ -6,12 +6,14 @@ use Rattle.std.specs.Str.{bytes_eq}
 use Rattle.std.proofs.lemmas.Bool.{cases_lt, false_from_ne_true}
 use Rattle.std.proofs.lemmas.Bool.Decides.{Decides-eqb}
 use Rattle.std.proofs.lemmas.List.{append-nil, append_assoc, length-append, take-append-drop, take_more}
+use Rattle.std.proofs.lemmas.List.Elements.{All-from_recursion}
 use Rattle.std.proofs.lemmas.Map.Keys.{IsDistinct-head, IsDistinct-tail}
 use Rattle.std.proofs.lemmas.Slice.Eq.{bytes_eq-Decides}
 use Rattle.ocf_types.specs.Due.{Due, IsBefore, IsLeastDue, IsPick, IsPickOf, due_pairs}
 use Rattle.ocf_types.specs.Resource.{History, Resource, begun_from, of_call, run_of_monitor, run_of_op}
 use Rattle.ocf_types.specs.State.{Registry, State, resource_at}
 use Rattle.ocf_types.specs.LawfulState.{IsLawfulState}
+use Rattle.ocf_types.specs.Laws.{IsBefore-trans}
 use Rattle.ocf_types.specs.Places.{at_place, id_at, no_entry}
 use Rattle.ocf_types.specs.declared.action.Task.TheVariants.{Monitor}
 use Rattle.ocf_types.specs.declared.operation.Op.{Op}
@@ -41,15 +43,9 @@ own_found (e ∷ es) h =
     behind [] a g = tt
     behind (x ∷ xs) a g = (rw (other_way e.0 x.0 a.0) g.0, behind xs a.1 g.1)
 
--- a fact of each element is one of that at a place
-pub each_at : {A : Type 0} (P : A → Type 0) (xs : List A) (d : A) (i : ℕ) → i < length xs → AllByRecursion P xs → P (slice_index_or xs i d)
-each_at P [] d i lt h = absurd (omega (arith, lt))
-each_at P (x ∷ xs) d zero lt h = h.0
-each_at P (x ∷ xs) d (suc i) lt h = each_at P xs d i (omega (arith, lt)) h.1
-
 -- the resource at a place is that of its id
 pub found_at : (s : State) (place : ℕ) → IsLawfulState s → place < length s.resources → resource_at s (id_at s place) ≡ Some (at_place s place)
-found_at s place h lt = each_at (λ e. lookup (bytes_eq e.0) s.resources ≡ Some e.1) s.resources no_entry place lt (own_found s.resources h.ids)
+found_at s place h lt = All-from_recursion (λ e. lookup (bytes_eq e.0) s.resources ≡ Some e.1) s.resources (own_found s.resources h.ids) place no_entry lt
 
 pub found_by : (s : State) (place : ℕ) (id own : List ℕ) → IsLawfulState s → place < length s.resources → id ≡ own → own ≡ id_at s place
     → resource_at s id ≡ Some (at_place s place)
@@ -75,12 +71,6 @@ before_or x y = by (cases_lt x.0 y.0) (cases_lt y.0 x.0) (cases_lt x.1 y.1)
     by (inr a) (inl b) c = inr (inl b)
     by (inr a) (inr b) (inl c) = inl (inr (omega (arith, a, b), omega (arith, c)))
     by (inr a) (inr b) (inr c) = inr (inr (omega (arith, a, b), omega (arith, c)))
-
-before_trans : (x y z : ℕ × ℕ) → IsBefore x y → IsBefore y z → IsBefore x z
-before_trans x y z (inl a) (inl b) = inl (omega (arith, a, b))
-before_trans x y z (inl a) (inr b) = inl (omega (arith, a, b.0))
-before_trans x y z (inr a) (inl b) = inl (omega (arith, a.0, b))
-before_trans x y z (inr a) (inr b) = inr (omega (arith, a.0, b.0), omega (arith, a.1, b.1))
 
 before_same : (x : ℕ × ℕ) → IsBefore x x
 before_same x = inr (refl, omega arith)
@@ -122,7 +112,7 @@ least_due (p ∷ ps) now = by (cases_lt now p.0) (least_due ps now)
             p.0,
             contains_first p ps,
             now_due,
-            all_cons (λ q. q.0 ≤ now → IsBefore p q) p ps (λ le. before_same p) (λ k d lt le. before_trans p (due, call) (slice_index_or ps k d) b (least k d lt le)),
+            all_cons (λ q. q.0 ≤ now → IsBefore p q) p ps (λ le. before_same p) (λ k d lt le. IsBefore-trans p (due, call) (slice_index_or ps k d) b (least k d lt le)),
           ),
         )
         choose (inr b) = (

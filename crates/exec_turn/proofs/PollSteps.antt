@@ -6,6 +6,7 @@ use Rattle.std.proofs.lemmas.Grind.{flat_map-append}
 use Rattle.std.proofs.lemmas.List.{drop_more, length-map, map-append, take_more}
 use Rattle.std.proofs.lemmas.List.Elements.{Contains-append_cases, Contains-append_left, Contains-append_right}
 use Rattle.std.proofs.lemmas.Map.Keys.{IsDistinct-head, IsDistinct-tail}
+use Rattle.ocf_types.specs.Laws.{each_append}
 use Rattle.ocf_types.specs.Kinds.{Event}
 use Rattle.ocf_types.specs.Places.{entry_at, no_entry}
 use Rattle.ocf_types.specs.State.{State}
@@ -17,9 +18,9 @@ use Rattle.child_keeper.specs.Children.{ChildrenView, after_kill, after_poll, wi
 use Rattle.child_keeper.specs.declared.answer.KillFault.{KillFault}
 use Rattle.child_keeper.specs.declared.answer.Poll.{Poll}
 use Rattle.child_keeper.specs.declared.answer.Poll.TheVariants as poll
-use Rattle.exec_turn.specs.Actives.{Active, active_in, notice_of, result_of, runs_of}
+use Rattle.exec_turn.specs.Actives.{Active, active_in, active_of, notice_of, result_of, runs_of}
 use Rattle.exec_turn.specs.Polls.{IsPoll, Polled, Polls, after_polls, ending, is_late, polled_on, result_notices, results}
-use Rattle.exec_turn.proofs.Results.{active_of, distinct_second, each_append, each_second}
+use Rattle.exec_turn.proofs.Results.{distinct_second, each_second}
 
 abbrev pub whos : List Polled → List Active
 whos ps = map (λ p. p.who) ps

@@ -6,6 +6,7 @@ use Rattle.std.specs.Str.{bytes_eq}
 use Rattle.std.proofs.lemmas.Cmp.{nat_eq_equiv}
 use Rattle.std.proofs.lemmas.List.{length-map, map-append}
 use Rattle.std.proofs.lemmas.List.Elements.{All-from_recursion, Contains-append_cases}
+use Rattle.ocf_types.specs.Laws.{each_append}
 use Rattle.ocf_types.specs.Applies.{Applies, StepApplies}
 use Rattle.ocf_types.specs.Kinds.{Event}
 use Rattle.ocf_types.specs.Lawful.{IsId, IsRunEnd}
@@ -32,7 +33,7 @@ use Rattle.exec_turn.specs.Actives.{Active, active, result_of, runs_of}
 use Rattle.exec_turn.specs.Lives.{Tends}
 use Rattle.exec_turn.specs.Polls.{IsPoll, Polled, after_polls, ending, entries_of, is_late, polled_on, polls, results, said}
 use Rattle.exec_turn.specs.Rows.{MayRecord}
-use Rattle.exec_turn.proofs.Results.{IsActive, RunsIn, distinct_other, each_active, each_append, each_middle, each_other, each_runs, length-all_in, middle_apart, others_run, same_keys}
+use Rattle.exec_turn.proofs.Results.{IsActive, RunsIn, distinct_other, each_active, each_middle, each_other, each_runs, length-all_in, middle_apart, others_run, same_keys}
 use Rattle.exec_turn.proofs.PollSteps.{Live, all_live_after, contains_one, live_after, polled_live, room_after, whos}
 
 -- the entries of one poll

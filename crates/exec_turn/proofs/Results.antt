@@ -8,6 +8,7 @@ use Rattle.std.proofs.lemmas.Cmp.{nat_list_eq_equiv}
 use Rattle.std.proofs.lemmas.List.Elements.{filter-append}
 use Rattle.std.proofs.lemmas.Map.Keys.{IsDistinct-cons, IsDistinct-head, IsDistinct-tail}
 use Rattle.ocf_types.specs.Lawful.{IsId}
+use Rattle.ocf_types.specs.Laws.{each_append}
 use Rattle.ocf_types.specs.LawfulState.{IsLawfulResource, IsLawfulRunning, IsLawfulState}
 use Rattle.ocf_types.specs.Names.{is_rsc_id}
 use Rattle.ocf_types.specs.Numbers.{IsDrawn}
@@ -16,17 +17,10 @@ use Rattle.ocf_types.specs.State.{Registry, State, after, at_id, stepped}
 use Rattle.ocf_types.specs.declared.event.Step.TheVariants as step
 use Rattle.ocf_types.specs.declared.operation.Running.{Running}
 use Rattle.ocf_types.specs.declared.outcome.RunEnd.{RunEnd}
-use Rattle.exec_turn.specs.Actives.{Active, active, active_in, result_of}
+use Rattle.exec_turn.specs.Actives.{Active, active, active_in, active_of, all_in, result_of}
 
 abbrev pub ids_of : List Active → List (List ℕ)
 ids_of all = map (λ a. a.id) all
-
--- what runs in these resources, and in one
-abbrev pub all_in : Registry → List Active
-all_in rs = flat_map active_in rs
-
-abbrev pub active_of : List ℕ → Option Running → List Active
-active_of id o = map (λ x. record { id = id; running = x }) (option_to_list o)
 
 -- a fact of the later ones, and of one more where a resource runs an action
 by_running : (P : List Active → Type 0) (id : List ℕ) (o : Option Running) (rest : List Active) → P rest → ((x : Running) → o ≡ Some x → P (record { id = id; running = x } ∷ rest)) → P (active_of id o ++ rest)
@@ -50,17 +44,12 @@ module _ {A : Type 0} (P : A → Type 0) where
   each_second [] ys h = h
   each_second (x ∷ xs) ys h = each_second xs ys h.1
 
-  -- and a fact of each of both together
-  pub each_append : (xs ys : List A) → AllByRecursion P xs → AllByRecursion P ys → AllByRecursion P (xs ++ ys)
-  each_append [] ys h k = k
-  each_append (x ∷ xs) ys h k = (h.0, each_append xs ys h.1 k)
-
   -- a fact of all holds of the one between the others, and of the others
   pub each_middle : (xs : List A) (y : A) (ys : List A) → AllByRecursion P (xs ++ y ∷ ys) → P y
   each_middle xs y ys h = (each_second xs (y ∷ ys) h).0
 
   pub each_other : (xs : List A) (y : A) (ys : List A) → AllByRecursion P (xs ++ y ∷ ys) → AllByRecursion P (xs ++ ys)
-  each_other xs y ys h = each_append xs ys (each_first xs (y ∷ ys) h) (each_second xs (y ∷ ys) h).1
+  each_other xs y ys h = each_append P xs ys (each_first xs (y ∷ ys) h) (each_second xs (y ∷ ys) h).1
 
 module _ {K : Type 0} (eq : K → K → Bool) (laws : IsEquivalence eq) where
   -- the one between the others is none of them

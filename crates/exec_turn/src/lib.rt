@@ -9,6 +9,5 @@ mod rows;
 mod starts;
 mod turn;
 
-pub use picks::{Start, StartOf};
 pub use rows::Rows;
 pub use turn::take_turn;

@@ -23,13 +23,13 @@ use std::alloc::{AllocError, Allocator, Global};
 
 /// What is started: the launch of an action that has begun, and the action. `I` is the type of the call.
 #[derive(Drop)]
-pub struct StartOf<I> {
-    pub launch: LaunchOf<I>,
-    pub running: Running,
+pub(crate) struct StartOf<I> {
+    pub(crate) launch: LaunchOf<I>,
+    pub(crate) running: Running,
 }
 
 /// A start whose texts lie in memory of the allocator.
-pub type Start<A = Global> = StartOf<Invocation<A>>;
+pub(crate) type Start<A = Global> = StartOf<Invocation<A>>;
 
 // The recurring monitor of a call, of the resource at a place.
 fn find_monitor<A: Allocator + Copy>(state: &State<A>, place: usize, call: CallId) -> Option<Recur>

@@ -11,7 +11,7 @@ ghost use Rattle.exec_turn.specs.Actives.{notice_of, result_of};
 ghost use Rattle.exec_turn.specs.Launches.{IsOfOne, all_starting, what_starts};
 ghost use Rattle.exec_turn.specs.Starts.{AllRun, Rising, Starts, refused_end};
 
-use crate::Start;
+use crate::picks::Start;
 use child_keeper::Children;
 use disk_model::Disk;
 use exec_journal::Journal;

@@ -20,7 +20,7 @@ use Rattle.ocf_types.specs.declared.operation.Running.{Running}
 use Rattle.ocf_types.specs.declared.refusal.Refusal.{Refusal}
 use Rattle.ocf_types.specs.Boot.{any_busy}
 use Rattle.child_keeper.specs.Children.{ChildrenView, given_up}
-use Rattle.exec_turn.specs.Actives.{Active, active, active_in, runs_of}
+use Rattle.exec_turn.specs.Actives.{Active, active, active_in, active_of, all_in, runs_of}
 use Rattle.exec_turn.specs.Lives.{Tends}
 use Rattle.exec_turn.specs.Turns.{Tended}
 use Rattle.executor.specs.Replies.{KeepsRunning}
@@ -52,12 +52,6 @@ step_keeps at id (step.Cancel interval) r keeps = refl
 step_keeps at id step.Forget r keeps = refl
 step_keeps at id (step.Begin call run) r keeps = absurd keeps
 step_keeps at id (step.Result run end) r keeps = absurd keeps
-
-abbrev all_in : Registry → List Active
-all_in rs = flat_map active_in rs
-
-abbrev active_of : List ℕ → Option Running → List Active
-active_of id o = map (λ x. record { id = id; running = x }) (option_to_list o)
 
 steps_same : (at : ℕ) (id : List ℕ) (what : Step) → KeepsRunning (change.Step id what) → (rs : Registry) → all_in (at_id id (stepped at what) rs) ≡ all_in rs
 steps_same at id what keeps [] = refl

@@ -1,12 +1,10 @@
 -- An opening of the journal, and then its boot.
-use Rattle.std.proofs.Common.{◌≡◌, ◌<◌, ◌≤◌, inl, inr, ℕ, Bool, true, false, cond, List, [], ◌∷◌, Result, IsErrAnd, IfErr, Ok, Err, refl, sym, ◌∙◌, ap, subst, arith}
-use Rattle.std.specs.List.{list_any}
+use Rattle.std.proofs.Common.{◌≡◌, ◌<◌, ◌≤◌, inl, inr, ℕ, Bool, true, false, true≢false, cond, List, [], ◌∷◌, Result, IsErrAnd, IfErr, Ok, Err, refl, sym, ◌∙◌, ap, subst, arith}
 use Rattle.ocf_types.specs.Answer.{moment}
 use Rattle.ocf_types.specs.Boot.{any_busy, boot, boot_at}
 use Rattle.ocf_types.specs.Due.{due_at}
-use Rattle.ocf_types.specs.Resource.{is_busy}
-use Rattle.ocf_types.specs.State.{Registry, State, after, changed}
-use Rattle.ocf_types.specs.declared.event.Change.TheVariants as change
+use Rattle.ocf_types.specs.Laws.{quiet}
+use Rattle.ocf_types.specs.State.{State, after}
 use Rattle.ocf_types.specs.declared.reply.Notice.{Notice}
 use Rattle.child_keeper.specs.Children.{ChildrenView, given_up}
 use Rattle.disk_model.specs.Image.{Image}
@@ -15,7 +13,8 @@ use Rattle.disk_model.specs.Runs.{Goes}
 use Rattle.disk_model.specs.View.{Passed, Rests, View}
 use Rattle.gated_slots.specs.declared.append.SlotFault.{SlotFault}
 use Rattle.gated_slots.specs.declared.append.SlotFault.TheVariants as slot
-use Rattle.exec_journal.specs.Found.{FoundAs, IsFreshPair, StandsAt, Whole}
+use Rattle.exec_journal.specs.Found.{FoundAs, IsFreshPair, StandsAt}
+pub use Rattle.exec_journal.specs.Laws.{same_whole}
 use Rattle.exec_journal.specs.Opening.{FailsToOpen, Opens, OpensAt, OpensLike}
 use Rattle.exec_journal.specs.Place.{Place}
 use Rattle.exec_journal.specs.Room.{AllRoomy, HasRoom, Roomy}
@@ -28,25 +27,17 @@ use Rattle.executor.specs.declared.opening.OpenError.TheVariants as why
 use Rattle.executor.specs.Openings.{Boots, BootsFrom, IsQuiet, LacksBoot, LacksRoom, NotOpened, Opened, OpensDisk, StartsLike, booted, told_fault, told_slot, IsOver, IsForeign, IsUnready}
 use Rattle.executor.specs.Reports.{dropped, interrupted}
 use Rattle.executor.specs.Sights.{Sight}
-use Rattle.executor.proofs.Booting.{not_both}
 use Rattle.exec_turn.specs.Turns.{Tended}
 use Rattle.executor.proofs.Keeping.{quiet_tended}
 use Rattle.executor.proofs.Journaling.{WhatStands}
 
 -- after a boot nothing is queued or running
-quiet : (at : ℕ) (rs : Registry) → list_any (λ e. is_busy e.1.history) (changed at change.Boot rs) ≡ false
-quiet at [] = refl
-quiet at (e ∷ es) = quiet at es
-
 boot_quiet : (s : State) (m : ℕ) → any_busy (boot s m) ≡ false
 boot_quiet s m = by (any_busy s) refl
   where
     by : (b : Bool) → any_busy s ≡ b → any_busy (cond b (after s (boot_at m)) s) ≡ false
     by true e = quiet m s.resources
     by false e = e
-
-pub same_whole : (s t : State) → Whole s ≡ Whole t → s ≡ t
-same_whole s t is = cc
 
 boot_next : (s : State) (m : ℕ) → (boot s m).next_run ≡ s.next_run
 boot_next s m = by (any_busy s)
@@ -152,13 +143,13 @@ module _ {D : Type 0} (look : D → View) (law : WhatStands) (once : (c : Image)
         rests : (old.honest → IsQuiet old.reads) → (b : Bool) → any_busy mid.state ≡ b → Rests old (look new.disk)
         rests is_quiet false not = subst (λ (x : Sight D). Rests old (look x.disk)) (sym (quiet not)) (opens.opens.unwritten (λ h. (is_quiet h).0))
         rests is_quiet true busy =
-            let never : (look new.disk).honest → ⊥ = λ h. let mid_h = goes.passed.honest h in not_both busy ((is_quiet (opens.opens.goes.passed.honest mid_h)).1 mid.state (opens.found mid_h)) in
+            let never : (look new.disk).honest → ⊥ = λ h. let mid_h = goes.passed.honest h in true≢false (sym busy ∙ (is_quiet (opens.opens.goes.passed.honest mid_h)).1 mid.state (opens.found mid_h)) in
             record { passed = both_passed goes.passed; same = λ h. absurd (never h); still = λ h. absurd (never h); since = λ h. absurd (never h) }
 
     -- what has to be booted is no fresh pair, so it stands where it was found
     stands_before : (look mid.disk).honest → any_busy mid.state ≡ true → StandsAt mid.place mid.state old.reads
     stands_before h busy =
-        let not_fresh : old.honest → IsFreshPair old.reads → ⊥ = λ _ fresh. not_both busy (ap any_busy (law.fresh mid.state old.reads (opens.found h) fresh)) in
+        let not_fresh : old.honest → IsFreshPair old.reads → ⊥ = λ _ fresh. true≢false (sym busy ∙ ap any_busy (law.fresh mid.state old.reads (opens.found h) fresh)) in
         subst (λ (c : Image). StandsAt mid.place mid.state c) ((opens.opens.unwritten not_fresh).same h) (opens.settled h).stands
 
     lacks_room : (look mid.disk).honest → LacksBoot mid.place.tail mid.state → LacksRoom old.reads
@@ -184,7 +175,7 @@ module _ {D : Type 0} (look : D → View) (law : WhatStands) (once : (c : Image)
           over = record { is_open = is_open; children = given; told = tells ∙ boots.told ∙ over.told; rising = rising };
           sound = λ _. record {
             journal = λ h. subst (λ p. IsSettled p final.state (look final.disk)) (sym place) (subst (λ (s : State). IsSettled new.place s (look final.disk)) (sym state) (subst (λ (d : D). IsSettled new.place new.state (look d)) (sym disk) (boots.settled (honest_new h))));
-            room = λ busy. absurd (not_both busy quiet_now);
+            room = λ busy. absurd (true≢false (sym busy ∙ quiet_now));
             tended = subst (λ (v : ChildrenView). Tended final.state v) (sym given) (quiet_tended final.state from quiet_now rising);
           };
           starts = λ h. record {

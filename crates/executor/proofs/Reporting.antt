@@ -2,12 +2,11 @@
 use Rattle.std.proofs.Common.{◌≡◌, ℕ, zero, suc, ◌+◌, ◌<◌, List, [], ◌∷◌, ◌++◌, length, map, take, Some, sym, ap, ◌∙◌, append_assoc, arith}
 use Rattle.std.specs.Prelude.{slice_get}
 use Rattle.std.specs.List.{flat_map}
-use Rattle.std.proofs.lemmas.List.{append-nil}
+use Rattle.std.proofs.lemmas.List.{append-nil, map_more}
 use Rattle.std.proofs.lemmas.List.Concat.{flat_map-cons}
 use Rattle.ocf_types.specs.declared.operation.Op.{Op}
 use Rattle.ocf_types.specs.declared.reply.Notice.{Notice}
-use Rattle.std.proofs.lemmas.Option.{slice_get-get_or}
-use Rattle.exec_state.proofs.Choices.{map_more_some}
+use Rattle.std.proofs.lemmas.Option.{get_or_from_slice_get, slice_get-get_or, slice_get_within}
 use Rattle.ocf_types.specs.Places.{entry_at, no_entry}
 use Rattle.ocf_types.specs.State.{State}
 use Rattle.executor.specs.Reports.{dropped_in, drop_notice, interrupted_in}
@@ -40,4 +39,5 @@ drop_more id at i queue o old out new n e is so_far pushed =
     ∙ ap (λ (t : List Notice). t ++ n ∷ []) so_far
     ∙ append_assoc old (map (drop_notice id at) (take i queue)) (n ∷ [])
     ∙ ap (λ (m : Notice). old ++ (map (drop_notice id at) (take i queue) ++ m ∷ [])) is
-    ∙ ap (λ (t : List Notice). old ++ t) (sym (map_more_some (drop_notice id at) queue i o e))
+    ∙ ap (λ (m : Notice). old ++ (map (drop_notice id at) (take i queue) ++ m ∷ [])) (ap (drop_notice id at) (sym (get_or_from_slice_get queue i o o e)))
+    ∙ ap (λ (t : List Notice). old ++ t) (sym (map_more (drop_notice id at) queue i o (slice_get_within queue i o e)))
