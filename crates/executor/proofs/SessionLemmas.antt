@@ -1,5 +1,5 @@
 -- Sessions grow by one input at their end, and what their calls leave joins.
-use Rattle.std.proofs.Common.{◌≡◌, ◌↔◌, ℕ, Bool, true, false, Result, Ok, Err, List, [], ◌∷◌, ◌++◌, length, refl, sym, ◌∙◌, ap, subst, append_assoc}
+use Rattle.std.proofs.Common.{◌≡◌, ◌↔◌, ℕ, Bool, true, false, true≢false, Result, Ok, Err, List, [], ◌∷◌, ◌++◌, length, refl, sym, ◌∙◌, ap, subst, append_assoc}
 use Rattle.std.proofs.lemmas.List.{append-nil}
 use Rattle.ocf_types.specs.Kinds.{Event, Reply, Request}
 use Rattle.ocf_types.specs.State.{State, after, after_all}
@@ -29,7 +29,6 @@ use Rattle.executor.specs.Replies.{due_left, pending, recorded}
 use Rattle.executor.specs.Sessions.{Leads, Sits, TakesOpen, command_deeds}
 use Rattle.executor.specs.Sights.{IsSound, Keeps}
 use Rattle.executor.specs.TurnCalls.{TakesTurn}
-use Rattle.executor.proofs.Booting.{not_both}
 use Rattle.executor.proofs.Journaling.{WhatStands, same_roomy, settled_found}
 use Rattle.executor.specs.declared.session.InputOf.TheVariants as input
 
@@ -108,7 +107,7 @@ leads_command look law x y (Ok e) reply lawful keeps records closes = record {
   book = ap (λ (c : ChildrenView). c.book) records.children ∙ sym (append-nil x.children.book);
   due = records.due ∙ due_of_reply x.state x.due e reply;
   roomy = records.roomy;
-  whole = λ is_open. no_pending e reply (λ disk. not_both is_open (closes.1 disk));
+  whole = λ is_open. no_pending e reply (λ disk. absurd (true≢false (sym is_open ∙ closes.1 disk)));
 }
 
 leads_request : {D : Type 0} (look : D → View) (law : WhatStands) (now : ℕ) (request : Request) (x y : Sight D) (reply : Reply) → ((look x.disk).honest → Lawful (look x.disk)) → Keeps look x
@@ -124,7 +123,7 @@ leads_turn look now x y end takes = record {
   book = takes.turns.book;
   due = takes.turns.due_is;
   roomy = takes.turns.roomy;
-  whole = λ is_open. takes.turns.whole (λ disk. not_both is_open (takes.closes.1 disk));
+  whole = λ is_open. takes.turns.whole (λ disk. absurd (true≢false (sym is_open ∙ takes.closes.1 disk)));
 }
 
 -- what one input leaves

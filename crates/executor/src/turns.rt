@@ -4,7 +4,7 @@ ghost use Rattle.executor.specs.Sights.{IsSound, sight_of};
 ghost use Rattle.executor.specs.TurnCalls.{TurnsWhile, abandoned, with_empty_book};
 
 use crate::Executor;
-use child_keeper::Children;
+use child_keeper::{Children, Entry};
 use disk_model::Disk;
 use exec_turn::take_turn;
 use ocf_types::{Notice, TurnEnd};
@@ -40,6 +40,13 @@ impl<D: Disk + Drop, C: Children + Drop, A: Allocator + Copy> Executor<D, C, A> 
         ensures value { result.now ≡ (sight_of C.view self.now).told }
     {
         self.rows.notices()
+    }
+
+    /// The children's book: what each of them answered since it was emptied.
+    pub fn book(&self) -> &[Entry]
+        ensures value { result.now ≡ (sight_of C.view self.now).children.book }
+    {
+        self.children.book()
     }
 
     /// Empties the children's book.

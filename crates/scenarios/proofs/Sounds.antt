@@ -6,6 +6,7 @@ use Rattle.std.proofs.lemmas.Cmp.{nat_eq_equiv}
 use Rattle.std.proofs.lemmas.Map.Views.{Contains-from_any, list_any-from_Contains}
 use Rattle.std.specs.List.{AllByRecursion, list_any}
 use Rattle.executor.specs.Sights.{IsSound, Sight}
+use Rattle.executor.specs.TurnCalls.{with_empty_book}
 use Rattle.scenarios.specs.SharedDisk.{shared_view}
 use Rattle.scenarios.specs.declared.disk.SharedDisk.{SharedDisk}
 
@@ -32,3 +33,10 @@ sound x t is_open = record {
     rising = ∥∥₁_elim t (hlevel props) (λ s. (s is_open).tended.rising);
   };
 }
+
+pub sound_emptied : (x : Sight SharedDisk) → ∥ IsSound shared_view x ∥₁ → ∥ IsSound shared_view (with_empty_book x) ∥₁
+sound_emptied x t = ∥∥₁_map t (λ s is_open. record {
+  journal = λ honest. absurd honest;
+  room = (s is_open).room;
+  tended = record { tends = (s is_open).tended.tends; rising = (s is_open).tended.rising };
+})

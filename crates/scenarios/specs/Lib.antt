@@ -1,1 +1,2 @@
+pub mod PlannedChildren
 pub mod SharedDisk

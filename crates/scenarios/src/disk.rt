@@ -2,6 +2,7 @@
 ghost use Rattle.std.specs.Prelude.{◌≡◌, ◌+◌, ◌≤◌, IfOk, Ok, length};
 ghost use Rattle.disk_model.specs.View.{Called};
 
+use anyhow::Result;
 use disk_model::{Disk, DiskFault, Fill, MemDisk};
 use ocf_types::{PART_LIMIT, Part};
 use std::alloc::{AllocError, Global};
@@ -12,6 +13,8 @@ use std::rc::Rc;
 #[derive(Drop)]
 pub struct Device {
     disk: MemDisk,
+    // How many of its device calls were lengths and reads.
+    lookups: u64,
     // Of each counted call the number that the disk in memory gives it.
     calls: Vec<u64>,
     stop: Option<u64>,
@@ -22,6 +25,7 @@ impl Device {
     pub fn new(alloc: Global, disk: MemDisk) -> Device {
         Device {
             disk,
+            lookups: 0,
             calls: Vec::new(alloc),
             stop: None,
             fault: None,
@@ -31,6 +35,16 @@ impl Device {
     /// How many calls were counted.
     pub fn call_count(&self) -> u64 {
         self.calls.len() as u64
+    }
+
+    /// How many calls were not counted.
+    pub fn lookups(&self) -> u64 {
+        self.lookups
+    }
+
+    // How many calls there were in all.
+    fn clock(&self) -> u64 {
+        self.call_count().saturating_add(self.lookups)
     }
 
     /// This counted call, from now on, is to fault, and all that is asked of the disk later.
@@ -89,12 +103,14 @@ impl Device {
     fn len(&mut self, part: Part) -> Result<u64, DiskFault>
         ensures { IfOk result (λ n. n ≤ PART_LIMIT) }
     {
+        self.lookups = self.lookups.saturating_add(1);
         self.disk.len(part)
     }
 
     fn read_at(&mut self, part: Part, at: u64, buf: &mut [u8]) -> Result<(), DiskFault>
         requires { at + length buf.old ≤ PART_LIMIT }
     {
+        self.lookups = self.lookups.saturating_add(1);
         if at as usize + buf.len() > self.disk.bytes(part).len() {
             return Err(DiskFault);
         }
@@ -128,11 +144,12 @@ pub struct SharedDisk {
 impl SharedDisk {
     ghost use Rattle.scenarios.specs.SharedDisk.{shared_view};
 
-    /// Another hand on this device.
-    pub fn new(device: &Rc<RefCell<Device>>) -> Result<SharedDisk, AllocError> {
+    /// Another hand on this device. Its clock goes on where the device stands.
+    pub fn new(device: &Rc<RefCell<Device>>) -> Result<SharedDisk> {
+        let clock = device.try_borrow()?.clock();
         Ok(SharedDisk {
             device: device.clone()?,
-            clock: 0,
+            clock,
             failures: 0,
         })
     }

@@ -48,7 +48,10 @@ impl World {
             return print_line(writer, "no executor");
         };
         match session.ask(Question::Info(id.copied())) {
-            Reply::Info(info) => show_start(self.alloc, session.site(), &info, task, writer),
+            Reply::Info(info) => {
+                let site = session.site(self.alloc)?;
+                show_start(self.alloc, &site, &info, task, writer)
+            }
             refused => push_reply(self.alloc, writer, &LineReply::Request(refused)),
         }
     }

@@ -2,11 +2,13 @@
 //! memory, and prints what they answer.
 #![tactic(auto)]
 
+mod answers;
 mod children;
 mod disk;
 mod fill;
 mod finding;
 mod look;
+mod planned;
 mod print;
 mod script;
 mod session;

@@ -1,44 +1,88 @@
 //! An open executor.
-ghost use Rattle.child_keeper.specs.Scripted.{children_of};
 ghost use Rattle.executor.specs.Sights.{IsSound, sight_of};
+ghost use Rattle.scenarios.specs.PlannedChildren.{planned_view};
 ghost use Rattle.scenarios.specs.SharedDisk.{shared_view};
 
-use crate::children::{idle_children, idle_site};
 use crate::disk::SharedDisk;
-use child_keeper::Scripted;
+use crate::planned::PlannedChildren;
+use crate::site::SiteWords;
+use crate::words::BadLine;
+use child_keeper::Entry;
 use exec_commands::{Line, LineReply, read_command};
 use executor::{Executor, OpenError, Report};
 use ocf_env::Site;
-use ocf_types::{Question, Refusal, Reply, ReplyOf, Request, RequestOf};
+use ocf_types::{Notice, Question, Refusal, Reply, ReplyOf, Request, RequestOf, TurnEnd};
 use std::alloc::Global;
 
-/// An executor on a shared disk, and the site of its agents.
+/// An executor on a shared disk with the world's children, and the site of its agents.
 #[derive(Drop)]
 pub struct Session {
-    executor: Executor<SharedDisk, Scripted>,
-    site: Site,
-    pub ghost sound: { ∥ IsSound shared_view (sight_of children_of executor) ∥₁ },
+    executor: Executor<SharedDisk, PlannedChildren>,
+    site: SiteWords,
+    pub ghost sound: { ∥ IsSound shared_view (sight_of planned_view executor) ∥₁ },
 }
 
 impl Session {
-    /// Opens an executor at a moment.
+    /// Opens an executor at a moment, at the site that these words name, or tells why not and hands the children back.
     pub fn open(
         alloc: Global,
         disk: SharedDisk,
+        children: PlannedChildren,
         site: Site,
+        words: SiteWords,
         now: u64,
-    ) -> Result<(Session, Report), OpenError> {
-        let Ok(children) = idle_children(alloc) else {
-            return Err(OpenError::Memory);
-        };
-        match Executor::open(alloc, disk, children, idle_site(alloc), now) {
-            Ok((executor, report)) => Ok((Session { executor, site }, report)),
-            Err(fault) => Err(fault.why),
+    ) -> Result<(Session, Report), (OpenError, PlannedChildren)> {
+        match Executor::open(alloc, disk, children, site, now) {
+            Ok((executor, report)) => Ok((
+                Session {
+                    executor,
+                    site: words,
+                },
+                report,
+            )),
+            Err(fault) => Err((fault.why, fault.children)),
         }
     }
 
-    pub fn site(&self) -> &Site {
-        &self.site
+    /// The site that agents are started at.
+    pub fn site(&self, alloc: Global) -> Result<Site, BadLine> {
+        self.site.site(alloc)
+    }
+
+    /// Closes the executor, and hands the children back.
+    pub fn close(self) -> PlannedChildren {
+        let (_disk, children) = self.executor.close();
+        children
+    }
+
+    pub fn turn(&mut self, now: u64) -> TurnEnd {
+        self.executor.turn(now)
+    }
+
+    /// What a turn that ended so told.
+    pub fn told(&self, end: TurnEnd) -> &[Notice] {
+        match end {
+            TurnEnd::Closed => &[],
+            _ => self.executor.notices(),
+        }
+    }
+
+    /// How many entries the children's book has.
+    pub fn book_len(&self) -> usize {
+        self.executor.book().len()
+    }
+
+    /// The entries of the children's book behind so many.
+    pub fn book_behind(&self, known: usize) -> &[Entry] {
+        self.executor.book().get(known..).unwrap_or(&[])
+    }
+
+    pub fn clear_book(&mut self) {
+        self.executor.clear_book();
+    }
+
+    pub fn abandon(&mut self) {
+        self.executor.abandon();
     }
 
     fn request(&mut self, now: u64, request: Request) -> Reply {

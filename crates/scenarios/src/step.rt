@@ -1,26 +1,50 @@
 //! Steps of scenarios.
+use crate::answers::read_list;
 use crate::fill::Filling;
 use crate::site::SiteWords;
 use crate::words::{BadLine, Words, text_of};
-use ocf_types::{Action, Level, Part, RscId, Task};
+use child_keeper::{KillFault, Poll};
+use ocf_types::{Action, Level, Part, RscId, StartFault, Task};
 use std::alloc::{AllocError, Global};
+use std::collections::VecDeque;
+
+// The most entries that a book is asked for.
+const BOOK_LIMIT: usize = 65_536;
 
 /// A step that changes the world.
 #[derive(Drop)]
 pub enum Act {
     /// The disk is made anew with these bytes of a part.
     Part(Part, Vec<u8>),
+    /// The answers of the next fresh children to starts.
+    Starts(VecDeque<Result<(), StartFault>>),
+    /// The same to polls.
+    Polls(VecDeque<Poll>),
+    /// The same to kills.
+    Kills(VecDeque<Result<(), KillFault>>),
+    /// The room of the book of all fresh children from now on.
+    Book(usize),
+    /// Fresh children take the place of the last ones.
+    Children,
     /// Each executor from now on is opened at this site.
     Site(SiteWords),
     /// The executor is opened at this moment.
     Open(u64),
     /// The executor is handed these bytes as a command line, at this moment.
     Command(u64, Vec<u8>),
+    /// The executor makes a turn at this moment.
+    Turn(u64),
+    /// The children's book is emptied.
+    Clear,
+    /// Every child is given up.
+    Abandon,
     Close,
     /// This call of the disk, counted from now, faults, and all that is asked of the disk later.
     Stop(u64),
     /// This call of the disk, counted from now, faults alone.
     Fault(u64),
+    /// This call of the children, counted from now, faults.
+    ChildFault(u64),
     /// The disk is made anew as a stop in this call of it may leave it.
     Image(u64, Filling),
 }
@@ -49,6 +73,8 @@ pub enum Look {
 pub enum Sweep {
     /// Each call of the disk faults alone.
     DiskFaults,
+    /// Each call of the children faults.
+    ChildFaults,
     /// Each call of the disk is the last one.
     Stopped(Vec<Filling>),
 }
@@ -70,13 +96,22 @@ pub enum Line {
 enum Verb {
     Scenario,
     Part,
+    Starts,
+    Polls,
+    Kills,
+    Book,
+    Children,
     Site,
     Open,
     At,
     Bytes,
+    Turn,
+    Clear,
+    Abandon,
     Close,
     Stop,
     Fault,
+    ChildFault,
     Image,
     Parts,
     Found,
@@ -89,16 +124,25 @@ enum Verb {
     Stopped,
 }
 
-const VERBS: [(&str, Verb); 19] = [
+const VERBS: [(&str, Verb); 28] = [
     ("scenario", Verb::Scenario),
     ("part", Verb::Part),
+    ("starts", Verb::Starts),
+    ("polls", Verb::Polls),
+    ("kills", Verb::Kills),
+    ("book", Verb::Book),
+    ("children", Verb::Children),
     ("site", Verb::Site),
     ("open", Verb::Open),
     ("at", Verb::At),
     ("bytes", Verb::Bytes),
+    ("turn", Verb::Turn),
+    ("clear", Verb::Clear),
+    ("abandon", Verb::Abandon),
     ("close", Verb::Close),
     ("stop", Verb::Stop),
     ("fault", Verb::Fault),
+    ("child-fault", Verb::ChildFault),
     ("image", Verb::Image),
     ("parts", Verb::Parts),
     ("found", Verb::Found),
@@ -152,9 +196,12 @@ fn read_line(alloc: Global, verb: Verb, words: &mut Words) -> Result<Line, BadLi
         Verb::Part | Verb::Site | Verb::At | Verb::Bytes | Verb::Image => {
             read_act(alloc, verb, words).map(Line::Act)
         }
-        Verb::Open | Verb::Close | Verb::Stop | Verb::Fault => {
-            read_short_act(verb, words).map(Line::Act)
+        Verb::Starts | Verb::Polls | Verb::Kills => read_lists(alloc, verb, words).map(Line::Act),
+        Verb::Children | Verb::Clear | Verb::Abandon | Verb::Close => {
+            Ok(Line::Act(bare_act(verb)))
         }
+        Verb::Book | Verb::Open | Verb::Turn | Verb::Stop | Verb::Fault | Verb::ChildFault =>
+            read_counted_act(verb, words).map(Line::Act),
         Verb::Faults => read_faults(words).map(Line::Sweep),
         Verb::Stopped => read_stopped(alloc, words).map(Line::Sweep),
         _ => read_look(alloc, verb, words).map(Line::Look),
@@ -172,13 +219,41 @@ fn read_act(alloc: Global, verb: Verb, words: &mut Words) -> Result<Act, BadLine
     }
 }
 
-// An act with at most a number.
-fn read_short_act(verb: Verb, words: &mut Words) -> Result<Act, BadLine> {
+// The answers of children.
+fn read_lists(alloc: Global, verb: Verb, words: &mut Words) -> Result<Act, BadLine> {
     match verb {
+        Verb::Starts => read_list(alloc, words).map(Act::Starts),
+        Verb::Polls => read_list(alloc, words).map(Act::Polls),
+        _ => read_list(alloc, words).map(Act::Kills),
+    }
+}
+
+// An act of a word alone.
+fn bare_act(verb: Verb) -> Act {
+    match verb {
+        Verb::Children => Act::Children,
+        Verb::Clear => Act::Clear,
+        Verb::Abandon => Act::Abandon,
+        _ => Act::Close,
+    }
+}
+
+// An act with a number.
+fn read_counted_act(verb: Verb, words: &mut Words) -> Result<Act, BadLine> {
+    match verb {
+        Verb::Book => read_book(words).map(Act::Book),
         Verb::Open => words.number().map(Act::Open),
+        Verb::Turn => words.number().map(Act::Turn),
         Verb::Stop => words.count().map(Act::Stop),
         Verb::Fault => words.count().map(Act::Fault),
-        _ => Ok(Act::Close),
+        _ => words.count().map(Act::ChildFault),
+    }
+}
+
+fn read_book(words: &mut Words) -> Result<usize, BadLine> {
+    match words.number()? as usize {
+        room if room <= BOOK_LIMIT => Ok(room),
+        _ => Err(BadLine::NoStep),
     }
 }
 
@@ -272,6 +347,7 @@ fn action_named(word: &str) -> Result<Action, BadLine> {
 fn read_faults(words: &mut Words) -> Result<Sweep, BadLine> {
     match words.text()? {
         "disk" => Ok(Sweep::DiskFaults),
+        "children" => Ok(Sweep::ChildFaults),
         _ => Err(BadLine::NoStep),
     }
 }

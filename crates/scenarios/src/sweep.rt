@@ -11,46 +11,61 @@ use std::io::{self, Write};
 // How a call fails, and what is looked at then.
 #[derive(Clone, Copy)]
 enum Failing {
-    // It faults alone; what the disk reads.
-    Fault,
-    // It is the last one; its image with this filling.
+    // A call of the disk faults alone; what the disk reads.
+    DiskFault,
+    // A call of the children faults; what the disk reads.
+    ChildFault,
+    // A call of the disk is the last one; its image with this filling.
     Stop(Filling),
 }
 
-impl Act {
-    // Whether the disk is made anew.
-    fn makes_disk(&self) -> bool {
-        matches!(self, Act::Part(..) | Act::Image(..))
-    }
-}
-
-// These acts in two: up to the last one that makes the disk anew, and from there on.
-fn split_at_disk(acts: &[Act]) -> (&[Act], &[Act]) {
-    match acts.iter().rposition(Act::makes_disk) {
-        Some(place) => acts.split_at(place + 1),
-        None => acts.split_at(0),
-    }
-}
-
 impl Failing {
+    // Whether an act makes anew what fails.
+    fn begins_with(self, act: &Act) -> bool {
+        match self {
+            Failing::ChildFault => matches!(act, Act::Children),
+            _ => matches!(act, Act::Part(..) | Act::Image(..)),
+        }
+    }
+
+    // These acts in two: up to the last one that makes anew what fails, and from there on.
+    fn split(self, acts: &[Act]) -> (&[Act], &[Act]) {
+        match acts.iter().rposition(|act| self.begins_with(act)) {
+            Some(place) => acts.split_at(place + 1),
+            None => acts.split_at(0),
+        }
+    }
+
     fn plan(self, world: &mut World, call: u64) -> Result<()> {
         match self {
-            Failing::Fault => world.plan_fault(call),
+            Failing::DiskFault => world.plan_fault(call),
+            Failing::ChildFault => {
+                world.children.plan_fault(call);
+                Ok(())
+            }
             Failing::Stop(_) => world.plan_stop(call),
+        }
+    }
+
+    // How many calls came of what fails.
+    fn call_count(self, world: &World) -> Result<u64> {
+        match self {
+            Failing::ChildFault => Ok(world.children.call_count()),
+            _ => world.call_count(),
         }
     }
 
     fn finding(self, world: &World, call: u64) -> Result<u64> {
         match self {
-            Failing::Fault => world.finding(),
             Failing::Stop(filling) => world.finding_on_image(call, &filling),
+            _ => world.finding(),
         }
     }
 }
 
-// Plays these acts, with this call of the last disk planned to fail.
+// Plays these acts, with this call of what was made anew last planned to fail.
 fn play_failing(world: &mut World, acts: &[Act], failing: Failing, call: u64) -> Result<()> {
-    let (before, behind) = split_at_disk(acts);
+    let (before, behind) = failing.split(acts);
     world.play_all(before, &mut io::sink())?;
     failing.plan(world, call)?;
     world.play_all(behind, &mut io::sink())
@@ -59,7 +74,7 @@ fn play_failing(world: &mut World, acts: &[Act], failing: Failing, call: u64) ->
 // What is found after these acts, if the call came.
 fn finding_in(world: &mut World, acts: &[Act], failing: Failing, call: u64) -> Result<Option<u64>> {
     play_failing(world, acts, failing, call)?;
-    if world.call_count()? < call {
+    if failing.call_count(world)? < call {
         return Ok(None);
     }
     Ok(Some(failing.finding(world, call)?))
@@ -115,7 +130,12 @@ impl Sweep {
     /// Plays these acts as long as the planned call comes, and prints what is found.
     pub fn play<W: Write>(&self, alloc: Global, acts: &[Act], writer: &mut W) -> Result<()> {
         match self {
-            Sweep::DiskFaults => print_swept(alloc, acts, Failing::Fault, &"faults disk", writer),
+            Sweep::DiskFaults => {
+                print_swept(alloc, acts, Failing::DiskFault, &"faults disk", writer)
+            }
+            Sweep::ChildFaults => {
+                print_swept(alloc, acts, Failing::ChildFault, &"faults children", writer)
+            }
             Sweep::Stopped(fillings) => print_stopped(alloc, acts, fillings.as_slice(), writer),
         }
     }

@@ -104,8 +104,8 @@ pub fn text_of(bytes: &[u8]) -> Result<&str, BadLine> {
     from_utf8(bytes).map_err(|_| BadLine::NoStep)
 }
 
-// A decimal number of at most 20 digits.
-fn number_of(word: &[u8]) -> Result<u64, BadLine> {
+/// A decimal number of at most 20 digits.
+pub fn number_of(word: &[u8]) -> Result<u64, BadLine> {
     if word.len() > 20 || !word.iter().all(|byte| byte.is_ascii_digit()) {
         return Err(BadLine::NoStep);
     }

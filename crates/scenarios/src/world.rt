@@ -1,8 +1,12 @@
 //! The world of a scenario.
+use crate::children::WorldChildren;
 use crate::disk::{Device, SharedDisk};
 use crate::fill::Filling;
 use crate::finding::finding_on;
-use crate::print::{print_line, print_open_error, print_opened, push_reply};
+use crate::planned::PlannedChildren;
+use crate::print::{
+    print_entries, print_line, print_open_error, print_opened, print_turn, push_reply,
+};
 use crate::session::Session;
 use crate::site::SiteWords;
 use crate::step::Act;
@@ -15,7 +19,7 @@ use std::cell::{Ref, RefCell};
 use std::io::Write;
 use std::rc::Rc;
 
-/// A disk, the site of agents, and an executor where one is open.
+/// A disk, children, the site of agents, and an executor where one is open.
 #[derive(Drop)]
 pub struct World {
     pub(crate) alloc: Global,
@@ -23,24 +27,30 @@ pub struct World {
     a: Vec<u8>,
     b: Vec<u8>,
     device: Rc<RefCell<Device>>,
+    pub(crate) children: WorldChildren,
     site: SiteWords,
     pub(crate) session: Option<Session>,
 }
+
+// Why an executor was not opened, and the children.
+type NotOpened = (OpenError, PlannedChildren);
 
 fn shared(alloc: Global, disk: MemDisk) -> Result<Rc<RefCell<Device>>, AllocError> {
     Ok(Rc::new(alloc, RefCell::new(Device::new(alloc, disk)))?)
 }
 
 impl World {
-    /// The world in which a scenario begins: an empty pair, and no executor.
+    /// The world in which a scenario begins: an empty pair, fresh children, and no executor.
     pub fn new(alloc: Global) -> Result<World> {
         let site = SiteWords::usual(alloc)?;
         let device = shared(alloc, MemDisk::new(alloc))?;
+        let children = WorldChildren::new(alloc)?;
         Ok(World {
             alloc,
             a: Vec::new(alloc),
             b: Vec::new(alloc),
             device,
+            children,
             site,
             session: None,
         })
@@ -67,9 +77,20 @@ impl World {
         Ok(())
     }
 
-    // Another disk takes the place of this one. An executor that is open is dropped.
+    // Closes an executor that is open, and keeps its children: whether one was.
+    fn end_session(&mut self) -> bool {
+        match self.session.take() {
+            Some(session) => {
+                self.children.keep(session.close());
+                true
+            }
+            None => false,
+        }
+    }
+
+    // Another disk takes the place of this one. An executor that is open is closed.
     fn put_disk(&mut self, disk: MemDisk) -> Result<()> {
-        self.session = None;
+        self.end_session();
         self.device = shared(self.alloc, disk)?;
         Ok(())
     }
@@ -94,28 +115,67 @@ impl World {
         Ok(self.device()?.image(self.alloc, call, filling.fill())?)
     }
 
-    fn open_session(&self, now: u64) -> Result<Result<(Session, Report), OpenError>> {
+    // Fresh children take the place of these. An executor that is open is closed.
+    fn put_children(&mut self) -> Result<()> {
+        self.end_session();
+        self.children.renew()
+    }
+
+    fn open_session(&mut self, now: u64) -> Result<Result<(Session, Report), NotOpened>> {
         let site = self.site.site(self.alloc)?;
+        let words = self.site.copied()?;
         let disk = SharedDisk::new(&self.device)?;
-        Ok(Session::open(self.alloc, disk, site, now))
+        let children = self.children.take()?;
+        Ok(Session::open(self.alloc, disk, children, site, words, now))
     }
 
     fn open<W: Write>(&mut self, now: u64, writer: &mut W) -> Result<()> {
-        self.session = None;
+        self.end_session();
         match self.open_session(now)? {
             Ok((session, report)) => {
                 self.session = Some(session);
                 print_opened(self.alloc, writer, &report)
             }
-            Err(why) => print_open_error(writer, &why),
+            Err((why, children)) => {
+                self.children.keep(children);
+                print_open_error(writer, &why)
+            }
         }
     }
 
     fn close<W: Write>(&mut self, writer: &mut W) -> Result<()> {
-        match self.session.take() {
-            Some(_) => print_line(writer, "closed"),
-            None => print_line(writer, "no executor"),
+        if self.end_session() {
+            print_line(writer, "closed")
+        } else {
+            print_line(writer, "no executor")
         }
+    }
+
+    fn turn<W: Write>(&mut self, now: u64, writer: &mut W) -> Result<()> {
+        let lookups = self.device()?.lookups();
+        let Some(session) = &mut self.session else {
+            return print_line(writer, "no executor");
+        };
+        let known = session.book_len();
+        let end = session.turn(now);
+        print_entries(writer, session.book_behind(known), lookups)?;
+        print_turn(self.alloc, writer, session.told(end), end)
+    }
+
+    fn clear<W: Write>(&mut self, writer: &mut W) -> Result<()> {
+        match &mut self.session {
+            Some(session) => session.clear_book(),
+            None => return print_line(writer, "no executor"),
+        }
+        Ok(())
+    }
+
+    fn abandon<W: Write>(&mut self, writer: &mut W) -> Result<()> {
+        match &mut self.session {
+            Some(session) => session.abandon(),
+            None => return print_line(writer, "no executor"),
+        }
+        print_line(writer, "abandoned")
     }
 
     fn command<W: Write>(&mut self, now: u64, line: &[u8], writer: &mut W) -> Result<()> {
@@ -132,15 +192,30 @@ impl World {
     pub fn play<W: Write>(&mut self, act: &Act, writer: &mut W) -> Result<()> {
         match act {
             Act::Part(part, bytes) => self.put_part(*part, bytes.as_slice()),
+            Act::Starts(list) => self.children.give_starts(list),
+            Act::Polls(list) => self.children.give_polls(list),
+            Act::Kills(list) => self.children.give_kills(list),
+            Act::Book(room) => {
+                self.children.give_book(*room);
+                Ok(())
+            }
+            Act::Children => self.put_children(),
             Act::Site(words) => {
                 self.site = words.copied()?;
                 Ok(())
             }
             Act::Open(now) => self.open(*now, writer),
             Act::Command(now, line) => self.command(*now, line.as_slice(), writer),
+            Act::Turn(now) => self.turn(*now, writer),
+            Act::Clear => self.clear(writer),
+            Act::Abandon => self.abandon(writer),
             Act::Close => self.close(writer),
             Act::Stop(call) => self.plan_stop(*call),
             Act::Fault(call) => self.plan_fault(*call),
+            Act::ChildFault(call) => {
+                self.children.plan_fault(*call);
+                Ok(())
+            }
             Act::Image(call, filling) => self.put_image(*call, filling),
         }
     }
