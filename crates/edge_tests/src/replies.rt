@@ -1,10 +1,10 @@
 // Replies and notices that no scenario prints: of drains, metadata and turns, and of results that children gave.
-use exec_commands::{DrainEnd, LineReply, MetaEnd, write_notice, write_reply};
+use exec_commands::{DrainEnd, LineReply, MetaFault, write_notice, write_reply};
 use ocf_types::{
     Action, CallId, Ended, Moment, Notice, Outcome, Refusal, Reply, RscId, RunEnd, StartFault,
     TurnEnd,
 };
-use std::alloc::Global;
+use std::alloc::{AllocError, Global};
 
 fn says(alloc: Global, reply: LineReply, line: &str) -> bool {
     matches!(write_reply(alloc, &reply), Ok(written) if written.as_slice() == line.as_bytes())
@@ -19,12 +19,12 @@ fn turn_says(alloc: Global, end: TurnEnd, line: &str) -> bool {
         && says(alloc, LineReply::Request(Reply::Turn(end)), line)
 }
 
-fn meta_says(alloc: Global, end: MetaEnd, line: &str) -> bool {
-    says(alloc, LineReply::Meta(end), line)
+fn meta_says(alloc: Global, fault: MetaFault, line: &str) -> bool {
+    says(alloc, LineReply::Meta(Err(fault)), line)
 }
 
 fn start_says(alloc: Global, fault: StartFault, line: &str) -> bool {
-    meta_says(alloc, MetaEnd::NotStarted(fault), line)
+    meta_says(alloc, MetaFault::NotStarted(fault), line)
 }
 
 #[test]
@@ -48,25 +48,31 @@ fn ends_of_drains_and_turns_have_their_lines(rt: HostRuntime) {
 }
 
 #[test]
-fn ends_of_metadata_and_want_of_memory_have_their_lines(rt: HostRuntime) {
+fn metadata_and_want_of_memory_have_their_lines(rt: HostRuntime) -> Result<(), AllocError> {
     let alloc = rt.alloc();
+    let metadata = b"<resource-agent/>\n".to_vec(alloc)?;
     let refused = LineReply::Request(Reply::Refused(Refusal::Memory));
     let lines = [
         start_says(alloc, StartFault::Missing, "{\"end\":\"missing\"}\n"),
         start_says(alloc, StartFault::Denied, "{\"end\":\"denied\"}\n"),
         start_says(alloc, StartFault::Other, "{\"end\":\"other\"}\n"),
-        meta_says(alloc, MetaEnd::Given(46), "{\"meta\":46}\n"),
-        meta_says(alloc, MetaEnd::Read, "{\"end\":\"read\"}\n"),
-        meta_says(alloc, MetaEnd::TooLong, "{\"end\":\"too-long\"}\n"),
-        meta_says(alloc, MetaEnd::Memory, "{\"end\":\"memory\"}\n"),
+        says(
+            alloc,
+            LineReply::Meta(Ok(metadata)),
+            "{\"meta\":18}\n<resource-agent/>\n\n",
+        ),
+        meta_says(alloc, MetaFault::Read, "{\"end\":\"read\"}\n"),
+        meta_says(alloc, MetaFault::TooLong, "{\"end\":\"too-long\"}\n"),
+        meta_says(alloc, MetaFault::Memory, "{\"end\":\"memory\"}\n"),
         meta_says(
             alloc,
-            MetaEnd::Failed(5),
+            MetaFault::Failed(5),
             "{\"code\":5,\"end\":\"failed\"}\n",
         ),
         says(alloc, refused, "{\"error\":\"memory\",\"number\":15}\n"),
     ];
     assert_eq!(rt; lines, [true; 9]);
+    Ok(())
 }
 
 // The notice of a run of r1.

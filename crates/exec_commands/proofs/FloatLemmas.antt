@@ -1,5 +1,5 @@
 -- No reply and no notice has a float.
-use Rattle.std.proofs.Common.{◌≡◌, ℕ, false, List, [], ◌∷◌, map, Option, Some, None, refl}
+use Rattle.std.proofs.Common.{◌≡◌, ℕ, false, List, [], ◌∷◌, map, Option, Some, None, Ok, Err, refl}
 use Rattle.serde_json.specs.Data.{Data, string}
 use Rattle.serde_json.specs.View.{items_of}
 use Rattle.serde_json.specs.Written.{has_float, items_have_float, members_have_float}
@@ -9,9 +9,9 @@ use Rattle.ocf_types.specs.declared.operation.Running.{Running}
 use Rattle.ocf_types.specs.declared.reply.Notice.{Notice}
 use Rattle.ocf_types.specs.declared.reply.ReplyOf.TheVariants as reply
 use Rattle.exec_commands.specs.Objects.{natural_data, param_members}
-use Rattle.exec_commands.specs.Replies.{recur_data, running_data, info_data, ended_data, notice_data, request_data, reply_data, meta_data}
-use Rattle.exec_commands.specs.declared.ends.MetaEnd.{MetaEnd}
-use Rattle.exec_commands.specs.declared.ends.MetaEnd.TheVariants as metadata
+use Rattle.exec_commands.specs.Replies.{recur_data, running_data, info_data, ended_data, notice_data, request_data, reply_data, fault_data}
+use Rattle.exec_commands.specs.declared.ends.MetaFault.{MetaFault}
+use Rattle.exec_commands.specs.declared.ends.MetaFault.TheVariants as fault
 use Rattle.exec_commands.specs.declared.reply.LineReply.{LineReply}
 use Rattle.exec_commands.specs.declared.reply.LineReply.TheVariants as line
 
@@ -40,18 +40,18 @@ request_no_float (reply.Info i) = info_no_float i
 request_no_float (reply.History es) = rw (items_no_float ended_data (λ e. refl) es) refl
 request_no_float (reply.Turn end) = refl
 
-meta_no_float : (m : MetaEnd) → has_float (meta_data m) ≡ false
-meta_no_float (metadata.Given n) = refl
-meta_no_float (metadata.NotStarted f) = refl
-meta_no_float metadata.Read = refl
-meta_no_float (metadata.Failed c) = refl
-meta_no_float metadata.TooLong = refl
-meta_no_float metadata.Memory = refl
+fault_no_float : (f : MetaFault) → has_float (fault_data f) ≡ false
+fault_no_float (fault.NotStarted why) = refl
+fault_no_float fault.Read = refl
+fault_no_float (fault.Failed c) = refl
+fault_no_float fault.TooLong = refl
+fault_no_float fault.Memory = refl
 
 pub reply_has_no_float : (r : LineReply) → has_float (reply_data r) ≡ false
 reply_has_no_float (line.Request r) = request_no_float r
 reply_has_no_float (line.Drain end) = refl
-reply_has_no_float (line.Meta end) = meta_no_float end
+reply_has_no_float (line.Meta (Ok metadata)) = refl
+reply_has_no_float (line.Meta (Err f)) = fault_no_float f
 
 pub notice_has_no_float : (n : Notice) → has_float (notice_data n) ≡ false
 notice_has_no_float n = refl

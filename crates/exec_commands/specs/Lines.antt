@@ -68,6 +68,10 @@ cancel_in d =
 abbrev pub drain_in : Data → Result Line Refusal
 drain_in d = given (number_or 60000 (codes "limit") d) (λ limit. given (limit_of limit) (λ limit. Ok (line.Drain limit)))
 
+-- a watch names its limit
+abbrev pub watch_in : Data → Result Line Refusal
+watch_in d = given (number_at (codes "limit") d) (λ limit. given (millis_of limit) (λ limit. Ok (line.Watch limit)))
+
 abbrev pub meta_in : Data → Result Line Refusal
 meta_in d =
     given (text_at (codes "provider") d) (λ provider. given (text_at (codes "type") d) (λ agent.
@@ -91,7 +95,7 @@ command_words =
 abbrev pub other_words : List (List ℕ × Operation)
 other_words =
     (codes "list", operation.List) ∷ (codes "info", operation.Info) ∷ (codes "history", operation.History)
-    ∷ (codes "drain", operation.Drain) ∷ (codes "meta", operation.Meta) ∷ []
+    ∷ (codes "drain", operation.Drain) ∷ (codes "watch", operation.Watch) ∷ (codes "meta", operation.Meta) ∷ []
 
 -- the operation that a word has in a table, if it stands there
 abbrev pub operation_in : List (List ℕ × Operation) → List ℕ → Option Operation
@@ -114,6 +118,7 @@ line_for operation.List d = asked (Ok question.List)
 line_for operation.Info d = asked (given (id_in d) (λ id. Ok (question.Info id)))
 line_for operation.History d = asked (given (id_in d) (λ id. Ok (question.History id)))
 line_for operation.Drain d = drain_in d
+line_for operation.Watch d = watch_in d
 line_for operation.Meta d = meta_in d
 
 -- what a JSON value asks for, or the first refusal

@@ -1,5 +1,5 @@
 -- The JSON values of replies and notices, and their lines.
-use Rattle.std.specs.Prelude.{ℕ, List, [], ◌∷◌, ◌++◌, true, Option, Some, None, codes}
+use Rattle.std.specs.Prelude.{ℕ, List, [], ◌∷◌, ◌++◌, length, true, Option, Some, None, Ok, Err, codes}
 use Rattle.serde_json.specs.Data.{Data, null, boolean, string, object}
 use Rattle.serde_json.specs.Written.{compact_text}
 use Rattle.ocf_types.specs.Actions.{action_word, action_of, level_number}
@@ -22,8 +22,8 @@ use Rattle.ocf_env.specs.Keys.{key_text}
 use Rattle.exec_commands.specs.Objects.{object_from, natural_data, array_from, param_members}
 use Rattle.exec_commands.specs.declared.ends.DrainEnd.{DrainEnd}
 use Rattle.exec_commands.specs.declared.ends.DrainEnd.TheVariants as drain
-use Rattle.exec_commands.specs.declared.ends.MetaEnd.{MetaEnd}
-use Rattle.exec_commands.specs.declared.ends.MetaEnd.TheVariants as metadata
+use Rattle.exec_commands.specs.declared.ends.MetaFault.{MetaFault}
+use Rattle.exec_commands.specs.declared.ends.MetaFault.TheVariants as fault
 use Rattle.exec_commands.specs.declared.reply.LineReply.{LineReply}
 use Rattle.exec_commands.specs.declared.reply.LineReply.TheVariants as line
 
@@ -52,13 +52,17 @@ start_word start.Other = codes "other"
 abbrev pub end_data : List ℕ → Data
 end_data word = object_from ((codes "end", string word) ∷ [])
 
-abbrev pub meta_data : MetaEnd → Data
-meta_data (metadata.Given length) = object_from ((codes "meta", natural_data length) ∷ [])
-meta_data (metadata.NotStarted fault) = end_data (start_word fault)
-meta_data metadata.Read = end_data (codes "read")
-meta_data (metadata.Failed code) = object_from ((codes "code", natural_data code) ∷ (codes "end", string (codes "failed")) ∷ [])
-meta_data metadata.TooLong = end_data (codes "too-long")
-meta_data metadata.Memory = end_data (codes "memory")
+-- why there are no metadata
+abbrev pub fault_data : MetaFault → Data
+fault_data (fault.NotStarted why) = end_data (start_word why)
+fault_data fault.Read = end_data (codes "read")
+fault_data (fault.Failed code) = object_from ((codes "code", natural_data code) ∷ (codes "end", string (codes "failed")) ∷ [])
+fault_data fault.TooLong = end_data (codes "too-long")
+fault_data fault.Memory = end_data (codes "memory")
+
+-- how many bytes of metadata follow
+abbrev pub length_data : List ℕ → Data
+length_data metadata = object_from ((codes "meta", natural_data (length metadata)) ∷ [])
 
 abbrev pub refusal_data : Refusal → Data
 refusal_data refusal = object_from ((codes "error", string (refusal_row refusal).1) ∷ (codes "number", natural_data (refusal_row refusal).0) ∷ [])
@@ -124,11 +128,17 @@ request_data (reply.Turn end) = end_data (turn_word end)
 abbrev pub reply_data : LineReply → Data
 reply_data (line.Request r) = request_data r
 reply_data (line.Drain end) = end_data (drain_word end)
-reply_data (line.Meta end) = meta_data end
+reply_data (line.Meta (Ok metadata)) = length_data metadata.items
+reply_data (line.Meta (Err why)) = fault_data why
 
--- the bytes that a reply and a notice are written as: the compact text of its value, and a newline
+-- what follows the line of a reply: metadata, and a newline
+abbrev pub behind : LineReply → List ℕ
+behind (line.Meta (Ok metadata)) = metadata.items ++ 10 ∷ []
+behind _ = []
+
+-- the bytes that a reply and a notice are written as: the compact text of its value, a newline, and what follows
 abbrev pub reply_line : LineReply → List ℕ
-reply_line reply = compact_text (reply_data reply) ++ 10 ∷ []
+reply_line reply = compact_text (reply_data reply) ++ 10 ∷ behind reply
 
 abbrev pub notice_line : Notice → List ℕ
 notice_line notice = compact_text (notice_data notice) ++ 10 ∷ []

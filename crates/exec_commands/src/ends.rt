@@ -1,13 +1,13 @@
 //! Ends of what a line asks for, and of turns.
 ghost use Rattle.std.specs.Prelude.{◌≡◌, IfOk};
 ghost use Rattle.serde_json.specs.View.{view};
-ghost use Rattle.exec_commands.specs.Replies.{turn_word, drain_word, start_word, end_data, meta_data};
+ghost use Rattle.exec_commands.specs.Replies.{turn_word, drain_word, start_word, end_data, fault_data};
 
 use ocf_types::{StartFault, TurnEnd};
 use serde_json::{Value, json};
 use std::alloc::{AllocError, Global};
 
-/// How a drain ended.
+/// How a drain or a watch ended.
 #[derive(Clone, Copy, Debug, PartialEq, Eq)]
 pub enum DrainEnd {
     /// Nothing is queued or running any more.
@@ -20,11 +20,9 @@ pub enum DrainEnd {
     Turn(TurnEnd),
 }
 
-/// How the asking for an agent's metadata ended. OCF Resource Agent API 1.1, meta-data.
+/// Why an agent has no metadata. OCF Resource Agent API 1.1, meta-data.
 #[derive(Clone, Copy, Debug, PartialEq, Eq)]
-pub enum MetaEnd {
-    /// The metadata, this many bytes, follow the reply's line, and then a newline.
-    Given(u32),
+pub enum MetaFault {
     /// The agent was not started.
     NotStarted(StartFault),
     /// What it wrote could not be read.
@@ -52,7 +50,7 @@ pub fn turn_word(end: TurnEnd) -> &'static str
     }
 }
 
-/// The word for the end of a drain.
+/// The word for the end of a drain or a watch.
 pub fn drain_word(end: DrainEnd) -> &'static str
     ensures { result.now ≡ drain_word end }
 {
@@ -81,28 +79,21 @@ pub fn end_value(alloc: Global, word: &str) -> Result<Value, AllocError>
     json!(in alloc; {"end": word})
 }
 
-fn given_value(alloc: Global, length: u32) -> Result<Value, AllocError>
-    ensures { IfOk result (λ v. view v ≡ meta_data (MetaEnd.Given length)) }
-{
-    json!(in alloc; {"meta": length})
-}
-
 fn failed_value(alloc: Global, code: u8) -> Result<Value, AllocError>
-    ensures { IfOk result (λ v. view v ≡ meta_data (MetaEnd.Failed code)) }
+    ensures { IfOk result (λ v. view v ≡ fault_data (MetaFault.Failed code)) }
 {
     json!(in alloc; {"code": code, "end": "failed"})
 }
 
-/// The end of asking for metadata.
-pub fn meta_value(alloc: Global, end: MetaEnd) -> Result<Value, AllocError>
-    ensures { IfOk result (λ v. view v ≡ meta_data end) }
+/// Why there are no metadata.
+pub fn fault_value(alloc: Global, fault: MetaFault) -> Result<Value, AllocError>
+    ensures { IfOk result (λ v. view v ≡ fault_data fault) }
 {
-    match end {
-        MetaEnd::Given(length) => given_value(alloc, length),
-        MetaEnd::NotStarted(fault) => end_value(alloc, start_word(fault)),
-        MetaEnd::Read => end_value(alloc, "read"),
-        MetaEnd::Failed(code) => failed_value(alloc, code),
-        MetaEnd::TooLong => end_value(alloc, "too-long"),
-        MetaEnd::Memory => end_value(alloc, "memory"),
+    match fault {
+        MetaFault::NotStarted(fault) => end_value(alloc, start_word(fault)),
+        MetaFault::Read => end_value(alloc, "read"),
+        MetaFault::Failed(code) => failed_value(alloc, code),
+        MetaFault::TooLong => end_value(alloc, "too-long"),
+        MetaFault::Memory => end_value(alloc, "memory"),
     }
 }

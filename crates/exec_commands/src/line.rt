@@ -8,6 +8,8 @@ pub enum Line {
     Request(Request),
     /// Turns until nothing is queued or running, for this many milliseconds at most: from 0 to 86,400,000.
     Drain(u32),
+    /// Turns for this many milliseconds, whether or not anything is queued or running: from 1 to 4,294,967,295.
+    Watch(u32),
     /// The metadata of an agent. OCF Resource Agent API 1.1, meta-data.
     Meta {
         provider: Provider,

@@ -16,6 +16,7 @@ pub enum Operation {
     Info,
     History,
     Drain,
+    Watch,
     Meta,
 }
 
@@ -52,6 +53,8 @@ fn other_named(word: &str) -> Option<Operation>
         Some(Operation::History)
     } else if word == "drain" {
         Some(Operation::Drain)
+    } else if word == "watch" {
+        Some(Operation::Watch)
     } else if word == "meta" {
         Some(Operation::Meta)
     } else {

@@ -2,13 +2,13 @@
 ghost use Rattle.std.specs.Prelude.{◌≡◌, ◌≢◌, ◌<◌, length, None, Some, Err, Ok, IfOk, IfErr};
 ghost use Rattle.serde_json.specs.View.{view};
 ghost use Rattle.ocf_types.specs.declared.refusal.Refusal.TheVariants.{Syntax, Memory};
-ghost use Rattle.exec_commands.specs.Lines.{drain_in, meta_in, line_for, line_of, value_of, line_read, commanded, asked};
+ghost use Rattle.exec_commands.specs.Lines.{drain_in, watch_in, meta_in, line_for, line_of, value_of, line_read, commanded, asked};
 
 use crate::commands::{cancel_in, exec_in, id_in, recur_in, register_in, set_params_in};
-use crate::keys::{number_or, text_at};
+use crate::keys::{number_at, number_or, text_at};
 use crate::line::Line;
 use crate::operation::{Operation, operation_named};
-use crate::values::{agent_type, limit, provider};
+use crate::values::{agent_type, limit, millis, provider};
 use ocf_types::{Command, LINE_LIMIT, Question, Refusal, Request};
 use serde_json::Value;
 use std::alloc::Global;
@@ -18,6 +18,13 @@ fn drain_in(line: &Value) -> Result<Line, Refusal>
 {
     let number = number_or(line, "limit", 60_000)?;
     Ok(Line::Drain(limit(number)?))
+}
+
+fn watch_in(line: &Value) -> Result<Line, Refusal>
+    ensures { result ≡ watch_in (view line.now) }
+{
+    let number = number_at(line, "limit")?;
+    Ok(Line::Watch(millis(number)?.get()))
 }
 
 fn meta_in(line: &Value) -> Result<Line, Refusal>
@@ -82,6 +89,7 @@ fn line_for(alloc: Global, operation: Operation, line: &Value) -> Result<Line, R
         Operation::Info => asked(info_in(line)),
         Operation::History => asked(history_in(line)),
         Operation::Drain => drain_in(line),
+        Operation::Watch => watch_in(line),
         Operation::Meta => meta_in(line),
     }
 }

@@ -1,11 +1,11 @@
 //! Replies and notices, written as lines.
-ghost use Rattle.std.specs.Prelude.{◌≡◌, ◌++◌, ◌∷◌, [], false, map, IfOk};
+ghost use Rattle.std.specs.Prelude.{◌≡◌, ◌++◌, ◌∷◌, [], false, length, map, IfOk, OnOk};
 ghost use Rattle.serde_json.specs.Data.{string};
 ghost use Rattle.serde_json.specs.View.{view};
 ghost use Rattle.serde_json.specs.Written.{compact_text, has_float};
-ghost use Rattle.exec_commands.specs.Replies.{refusal_data, done_data, accepted_data, list_data, history_data, request_data, reply_data, reply_line, notice_line};
+ghost use Rattle.exec_commands.specs.Replies.{refusal_data, done_data, accepted_data, list_data, history_data, length_data, request_data, reply_data, reply_line, behind, notice_line};
 
-use crate::ends::{DrainEnd, MetaEnd, drain_word, end_value, meta_value, turn_word};
+use crate::ends::{DrainEnd, MetaFault, drain_word, end_value, fault_value, turn_word};
 use crate::info::info_value;
 use crate::names::id_text;
 use crate::results::{ended_values, notice_value};
@@ -18,10 +18,10 @@ use std::alloc::{AllocError, Global};
 pub enum LineReply {
     /// The reply to a request, or a refusal.
     Request(Reply),
-    /// How a drain ended.
+    /// How a drain or a watch ended.
     Drain(DrainEnd),
-    /// How the asking for metadata ended.
-    Meta(MetaEnd),
+    /// The metadata of an agent, or why it has none.
+    Meta(Result<Vec<u8>, MetaFault>),
 }
 
 fn refusal_value(alloc: Global, refusal: Refusal) -> Result<Value, AllocError>
@@ -82,13 +82,22 @@ fn request_value(alloc: Global, reply: &Reply) -> Result<Value, AllocError>
     }
 }
 
+// How many bytes of metadata follow.
+fn length_value(alloc: Global, metadata: &[u8]) -> Result<Value, AllocError>
+    ensures { IfOk result (λ v. view v ≡ length_data metadata.now) }
+{
+    let length = metadata.len();
+    json!(in alloc; {"meta": length})
+}
+
 fn reply_value(alloc: Global, reply: &LineReply) -> Result<Value, AllocError>
     ensures { IfOk result (λ v. view v ≡ reply_data reply.now) }
 {
     match reply {
         LineReply::Request(reply) => request_value(alloc, reply),
         LineReply::Drain(end) => end_value(alloc, drain_word(*end)),
-        LineReply::Meta(end) => meta_value(alloc, *end),
+        LineReply::Meta(Ok(metadata)) => length_value(alloc, metadata.as_slice()),
+        LineReply::Meta(Err(fault)) => fault_value(alloc, *fault),
     }
 }
 
@@ -101,13 +110,27 @@ fn write_line(alloc: Global, value: &Value) -> Result<Vec<u8>, AllocError>
     Ok(bytes)
 }
 
-/// The line of a reply: the compact text of its JSON value, keys ascending by their bytes, and a newline.
+// What follows the line of a reply: metadata, and a newline.
+fn push_behind(bytes: &mut Vec<u8>, reply: &LineReply) -> Result<(), AllocError>
+    ensures { OnOk result (bytes.new.items ≡ bytes.old.items ++ behind reply.now) }
+{
+    if let LineReply::Meta(Ok(metadata)) = reply {
+        bytes.extend_from_slice(metadata.as_slice())?;
+        bytes.push(b'\n')?;
+    }
+    Ok(())
+}
+
+/// The line of a reply: the compact text of its JSON value, keys ascending by their bytes, and a newline. Metadata follow
+/// it, and a newline.
 #[tactic(auto, using(crate::proofs::FloatLemmas::reply_has_no_float))]
 pub fn write_reply(alloc: Global, reply: &LineReply) -> Result<Vec<u8>, AllocError>
     ensures line { IfOk result (λ b. b.items ≡ reply_line reply.now) }
 {
     let value = reply_value(alloc, reply)?;
-    write_line(alloc, &value)
+    let mut bytes = write_line(alloc, &value)?;
+    push_behind(&mut bytes, reply)?;
+    Ok(bytes)
 }
 
 /// The line of a notice: the compact text of its JSON value, keys ascending by their bytes, and a newline.

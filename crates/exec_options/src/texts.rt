@@ -17,6 +17,9 @@ pub const COMMANDS: &str =
   list                                            names the resources
   info        id                                  tells what a resource is and does
   history     id                                  tells a resource's last results
+  drain                           limit           makes turns until nothing is queued or running
+  watch       limit                               makes turns, so that recurring monitors run, until its limit
+  meta        provider, type                      gives an agent's metadata
 
 Example:
   echo '{\"op\":\"list\"}' | ocfexec run --memory
@@ -25,7 +28,7 @@ Manual: README.md. Commands, replies and refusals: docs/FORMAT.md.";
 
 /// What stands behind the help of `run`.
 pub const RUN: &str =
-    "Give just one of --journal and --memory. No agent is started yet: an exec is recorded and queued.
+    "Give just one of --journal and --memory. No agent is started yet: what a drain begins runs to its timeout.
 The commands: ocfexec --help.
 
 Example:

@@ -13,23 +13,29 @@ use Rattle.exec_options.specs.declared.options.Options.{Options}
 use Rattle.exec_output.specs.Faults.{IsRunEnd}
 use Rattle.exec_output.specs.declared.fault.Fault.{Fault}
 use Rattle.exec_output.specs.declared.fault.Fault.TheVariants as fault
-use Rattle.ocfexec.specs.Progress.{Place}
-use Rattle.ocfexec.specs.Runs.{EndsAs}
+use Rattle.ocfexec.specs.declared.session.Run.{Run}
+use Rattle.ocfexec.specs.Answers.{Source}
+use Rattle.ocfexec.specs.Progress.{Place, place}
+use Rattle.ocfexec.specs.Runs.{Ended, EndsAs}
 use Rattle.ocfexec.specs.Starts.{EndsFor, IsToldAs}
 
 -- a run does not end by its words
-pub run_ends : {D C M N T : Type 0} (view : D → View) (tend : C → ChildrenView) (report : Report N) (p : Place (Executor D C M)) (left written : Option (List ℕ)) (r : Result T Fault)
-    → EndsAs view tend report p left written r → IsRunEnd r
-run_ends view tend report p left written (Ok done) ends = tt
-run_ends view tend report p left written (Err fault.Usage) ends = absurd ends
-run_ends view tend report p left written (Err fault.Choice) ends = absurd ends
-run_ends view tend report p left written (Err fault.NoJournal) ends = absurd ends
-run_ends view tend report p left written (Err fault.NotText) ends = absurd ends
-run_ends view tend report p left written (Err (fault.Damaged damage)) ends = tt
-run_ends view tend report p left written (Err fault.Memory) ends = tt
-run_ends view tend report p left written (Err fault.Disk) ends = tt
-run_ends view tend report p left written (Err fault.Full) ends = tt
-run_ends view tend report p left written (Err fault.InputOrOutput) ends = tt
+ends : {D C M N T : Type 0} (look : D → View) (tend : C → ChildrenView) (source : Source) (most : ℕ) (report : Report N) (p q : Place (Executor D C M)) (r : Result T Fault)
+    → EndsAs look tend source most report p q r → IsRunEnd r
+ends look tend source most report p q (Ok done) how = tt
+ends look tend source most report p q (Err fault.Usage) how = absurd how
+ends look tend source most report p q (Err fault.Choice) how = absurd how
+ends look tend source most report p q (Err fault.NoJournal) how = absurd how
+ends look tend source most report p q (Err fault.NotText) how = absurd how
+ends look tend source most report p q (Err (fault.Damaged damage)) how = tt
+ends look tend source most report p q (Err fault.Memory) how = tt
+ends look tend source most report p q (Err fault.Disk) how = tt
+ends look tend source most report p q (Err fault.Full) how = tt
+ends look tend source most report p q (Err fault.InputOrOutput) how = tt
+
+pub run_ends : {D C M N : Type 0} (look : D → View) (tend : C → ChildrenView) (source : Source) (most : ℕ) (report : Report N) (p : Place (Executor D C M)) (left written : Option (List ℕ)) (run : Run D C)
+    → Ended look tend source most report p left written run → IsRunEnd run.ended
+run_ends look tend source most report p left written run ended = ends look tend source most report p (place ended.last left written) run.ended ended.ends
 
 -- words that give no options
 pub refused_ends : {T : Type 0} (words : List (List ℕ)) (f : WordsFault) (r : Result T Fault) → IsFault words f → IsToldAs f r → EndsFor words r

@@ -1,51 +1,75 @@
--- What the executor answers to a line.
-use Rattle.std.specs.Prelude.{◌≡◌, ◌≢◌, ◌↔◌, ℕ, List, true, false, Result, Ok, Err}
-use Rattle.ocf_types.specs.Kinds.{Reply}
-use Rattle.ocf_types.specs.declared.outcome.StartFault.TheVariants.{Missing}
+-- What a line is answered.
+use Rattle.std.specs.Prelude.{◌≡◌, ◌≢◌, ◌↔◌, ℕ, ◌+◌, Bool, List, true, false, Result, Ok, Err}
+use Rattle.std.specs.Global.{Vec}
+use Rattle.ocf_types.specs.Kinds.{Reply, Request}
 use Rattle.ocf_types.specs.declared.refusal.Refusal.{Refusal}
-use Rattle.ocf_types.specs.declared.refusal.Refusal.TheVariants.{Closed, Disk, Memory, UnknownOp}
+use Rattle.ocf_types.specs.declared.refusal.Refusal.TheVariants as refusal
 use Rattle.ocf_types.specs.declared.reply.ReplyOf.TheVariants.{Refused}
+use Rattle.ocf_types.specs.declared.reply.TurnEnd.TheVariants as turn_end
 use Rattle.disk_model.specs.View.{View}
 use Rattle.child_keeper.specs.Children.{ChildrenView}
 use Rattle.executor.specs.declared.executor.Executor.{Executor}
 use Rattle.executor.specs.Commands.{Serves}
 use Rattle.executor.specs.Sights.{sight_of}
 use Rattle.exec_commands.specs.Lines.{line_read}
-use Rattle.exec_commands.specs.declared.ends.MetaEnd.TheVariants.{NotStarted}
+use Rattle.exec_commands.specs.declared.ends.DrainEnd.{DrainEnd}
+use Rattle.exec_commands.specs.declared.ends.DrainEnd.TheVariants.{Turn}
+use Rattle.exec_commands.specs.declared.ends.MetaFault.{MetaFault}
 use Rattle.exec_commands.specs.declared.line.Line.{Line}
 use Rattle.exec_commands.specs.declared.line.Line.TheVariants as line
 use Rattle.exec_commands.specs.declared.reply.LineReply.{LineReply}
 use Rattle.exec_commands.specs.declared.reply.LineReply.TheVariants as answer
+use Rattle.ocfexec.specs.Drains.{Drains, Spot}
 
 -- a line of these bytes is read as the definition says, but that memory may be refused in reading it
 abbrev pub IsReadAs : List ℕ → Result Line Refusal → Type 0
 IsReadAs bytes (Ok found) = line_read bytes ≡ Ok found
-IsReadAs bytes (Err refusal) = refusal ≢ Memory → line_read bytes ≡ Err refusal
+IsReadAs bytes (Err why) = why ≢ refusal.Memory → line_read bytes ≡ Err why
+
+-- a source of metadata: what it may answer for the agent of a provider and a type, its metadata or why it has none
+abbrev pub Source : Type 1
+Source = List ℕ → List ℕ → Result (Vec ℕ) MetaFault → Type 0
 
 abbrev pub refused : Refusal → LineReply
-refused refusal = answer.Request (Refused refusal)
+refused why = answer.Request (Refused why)
 
--- there are no metadata yet
-abbrev pub no_metadata : LineReply
-no_metadata = answer.Meta (NotStarted Missing)
+abbrev pub closed_drain : LineReply
+closed_drain = answer.Drain (Turn turn_end.Closed)
 
--- what a closed executor answers: the end of metadata that were asked for, and else 17, also to a line that was refused
-abbrev pub closed_reply : Result Line Refusal → LineReply
-closed_reply (Ok (line.Meta provider agent)) = no_metadata
-closed_reply (Ok (line.Request request)) = refused Closed
-closed_reply (Ok (line.Drain limit)) = refused Closed
-closed_reply (Err refusal) = refused Closed
+-- the metadata that were asked for, or why there are none
+abbrev pub IsMetaReply : Source → List ℕ → List ℕ → LineReply → Type 0
+IsMetaReply source provider agent reply = (given : Result (Vec ℕ) MetaFault) × source provider agent given × (reply ≡ answer.Meta given)
 
--- what an open executor answers to a line: to a request what it serves at the moment that the clock shows, whatever that is
-abbrev pub IsOpenReply : {D C M : Type 0} → (D → View) → (C → ChildrenView) → Executor D C M → Executor D C M → Result Line Refusal → LineReply → Type 0
-IsOpenReply view tend old new (Ok (line.Request request)) reply =
-    (now : ℕ) × (given : Reply) × (reply ≡ answer.Request given) × Serves view now request (sight_of tend old) (sight_of tend new) given
-    × ((sight_of tend new).is_open ≡ false ↔ (given ≡ Refused Disk))
-IsOpenReply view tend old new (Ok (line.Drain limit)) reply = (reply ≡ refused UnknownOp) × (new ≡ old)
-IsOpenReply view tend old new (Ok (line.Meta provider agent)) reply = (reply ≡ no_metadata) × (new ≡ old)
-IsOpenReply view tend old new (Err refusal) reply = (reply ≡ refused refusal) × (new ≡ old)
+-- what a closed executor answers: the metadata that were asked for, to a drain and a watch that it is closed, and else 17,
+-- also to a line that was refused
+abbrev pub IsClosedReply : Source → Result Line Refusal → LineReply → Type 0
+IsClosedReply source (Ok (line.Meta provider agent)) reply = IsMetaReply source provider agent reply
+IsClosedReply source (Ok (line.Drain limit)) reply = reply ≡ closed_drain
+IsClosedReply source (Ok (line.Watch limit)) reply = reply ≡ closed_drain
+IsClosedReply source (Ok (line.Request request)) reply = reply ≡ refused refusal.Closed
+IsClosedReply source (Err why) reply = reply ≡ refused refusal.Closed
 
--- what an executor answers to a line
-pub record IsReply {D C M : Type 0} (view : D → View) (tend : C → ChildrenView) (old new : Executor D C M) (found : Result Line Refusal) (reply : LineReply) : Type 0 where
-  pub while_open : (sight_of tend old).is_open ≡ true → IsOpenReply view tend old new found reply
-  pub once_closed : (sight_of tend old).is_open ≡ false → (reply ≡ closed_reply found) × (new ≡ old)
+-- a drain from the moment that the clock shows, whatever that is, for so many milliseconds and turns at most
+abbrev pub DrainsFor : {D C M : Type 0} → (D → View) → (C → ChildrenView) → Bool → ℕ → ℕ → Spot (Executor D C M) → Spot (Executor D C M) → LineReply → Type 0
+DrainsFor look tend ends_idle limit most p q reply =
+    (now : ℕ) × (end : DrainEnd) × (reply ≡ answer.Drain end)
+    × Drains look tend (record { ends_idle = ends_idle; until = now + limit; most = most }) now p q end
+
+-- what an open executor does with a request at the moment that the clock shows, whatever that is
+abbrev pub ServesNow : {D C M : Type 0} → (D → View) → (C → ChildrenView) → Request → Executor D C M → Executor D C M → LineReply → Type 0
+ServesNow look tend request old new reply =
+    (now : ℕ) × (given : Reply) × (reply ≡ answer.Request given) × Serves look now request (sight_of tend old) (sight_of tend new) given
+    × ((sight_of tend new).is_open ≡ false ↔ (given ≡ Refused refusal.Disk))
+
+-- what an open executor answers to a line: from the spot of its start to that at which the reply is written
+abbrev pub IsOpenReply : {D C M : Type 0} → (D → View) → (C → ChildrenView) → Source → ℕ → Spot (Executor D C M) → Spot (Executor D C M) → Result Line Refusal → LineReply → Type 0
+IsOpenReply look tend source most p q (Ok (line.Request request)) reply = ServesNow look tend request p.executor q.executor reply × (q.written ≡ p.written)
+IsOpenReply look tend source most p q (Ok (line.Drain limit)) reply = DrainsFor look tend true limit most p q reply
+IsOpenReply look tend source most p q (Ok (line.Watch limit)) reply = DrainsFor look tend false limit most p q reply
+IsOpenReply look tend source most p q (Ok (line.Meta provider agent)) reply = IsMetaReply source provider agent reply × (q ≡ p)
+IsOpenReply look tend source most p q (Err why) reply = (reply ≡ refused why) × (q ≡ p)
+
+-- the same while the executor is open or closed
+pub record IsReply {D C M : Type 0} (look : D → View) (tend : C → ChildrenView) (source : Source) (most : ℕ) (p q : Spot (Executor D C M)) (found : Result Line Refusal) (reply : LineReply) : Type 0 where
+  pub while_open : (sight_of tend p.executor).is_open ≡ true → IsOpenReply look tend source most p q found reply
+  pub once_closed : (sight_of tend p.executor).is_open ≡ false → IsClosedReply source found reply × (q ≡ p)

@@ -1,4 +1,5 @@
 pub mod Answers
+pub mod Drains
 pub mod Progress
 pub mod Runs
 pub mod Starts

@@ -23,9 +23,9 @@ status_of_end (Err f) = status_of f
 abbrev pub site_of : Options → Place
 site_of o = record { root = o.root.now; path = o.path.now; via = option_map (λ s. s.now) o.via }
 
--- children of which none was started, with no room for an answer
+-- children of which none was started, with room for the answers of a turn
 abbrev pub no_children : ChildrenView
-no_children = record { book = []; room = 0; last_run = 0; live = [] }
+no_children = record { book = []; room = 768; last_run = 0; live = [] }
 
 -- what an executor that was not opened ends the program with; fresh children are never of another journal
 abbrev pub opening_fault : OpenError → Fault

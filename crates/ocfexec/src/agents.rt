@@ -28,8 +28,11 @@ pub fn site_of(alloc: Global, options: Options) -> Result<Site, AllocError>
     Ok(Site::new(root, path, via))
 }
 
-/// Fresh children that start no program: no turn is made yet, so none of them is asked to. It fails only where memory is
-/// refused.
+// How many answers the children's book takes: three for each resource that can be registered, as a turn wants.
+const BOOK_ROOM: usize = 768;
+
+/// Fresh children that start no program: each that is asked to start lives, and runs until it is killed. It fails only
+/// where memory is refused.
 pub fn no_children(alloc: Global) -> Result<Scripted, AllocError>
     ensures { IfOk result (λ c. children_of c ≡ no_children) }
 {
@@ -38,5 +41,5 @@ pub fn no_children(alloc: Global) -> Result<Scripted, AllocError>
         polls: VecDeque::new(alloc),
         kills: VecDeque::new(alloc),
     };
-    Scripted::new(alloc, script, 0)
+    Scripted::new(alloc, script, BOOK_ROOM)
 }

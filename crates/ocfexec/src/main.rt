@@ -6,14 +6,21 @@ ghost use Rattle.std.specs.Process.{exit_status};
 ghost use Rattle.ocfexec.specs.Starts.{status_of_end};
 
 mod agents;
+mod answer;
+mod drain;
+mod metadata;
+mod pause;
 mod report;
 mod session;
+mod setting;
 mod start;
 #[cfg(test)]
 mod tests;
 
 use exec_output::Fault;
-pub use session::run_lines;
+pub use metadata::Metadata;
+pub use session::{Run, run_lines};
+pub use setting::Setting;
 use std::process::ExitCode;
 
 fn main(rt: HostRuntime) -> ExitCode {

@@ -4,7 +4,9 @@ ghost use Rattle.exec_output.specs.Faults.{IsRunEnd};
 ghost use Rattle.ocfexec.specs.Starts.{EndsFor, IsToldAs, opening_fault};
 
 use crate::agents::{no_children, site_of};
+use crate::metadata::NoMetadata;
 use crate::session::run_lines;
+use crate::setting::Setting;
 use disk_model::MemDisk;
 use exec_lines::moment_now;
 use exec_options::{JournalPlace, Options, Subcommand, WordsFault, read_words};
@@ -14,6 +16,9 @@ use std::env;
 use std::io::{self, BufReader, ErrorKind};
 
 const READ_SIZE: usize = 65_536;
+
+// How many turns a drain makes at most.
+const MOST_TURNS: u64 = 100_000_000;
 
 // The words of the command line, the program's name first.
 fn words_of(rt: &HostRuntime) -> Result<Vec<String>, Fault> {
@@ -94,14 +99,20 @@ fn run_in_memory(rt: &HostRuntime, options: Options) -> Result<(), Fault>
     let disk = MemDisk::new(alloc);
     match Executor::open(alloc, disk, children, site, moment_now(rt).get()) {
         Ok((executor, report)) => {
-            run_lines(
+            let setting = Setting {
                 alloc,
+                clock: rt,
+                metadata: &NoMetadata,
+                most_turns: MOST_TURNS,
+            };
+            run_lines(
+                &setting,
                 &mut reader,
                 &mut io::writer(rt),
                 executor,
                 &report,
-                rt,
             )
+            .ended
         }
         Err(fault) => Err(opening_fault(fault.why)),
     }

@@ -4,6 +4,7 @@ ghost use Rattle.child_keeper.specs.Scripted.{children_of};
 ghost use Rattle.disk_model.specs.MemDisk.{view_of};
 ghost use Rattle.executor.specs.Sights.{IsSound, sight_of};
 
+mod drains;
 mod endings;
 mod faults;
 mod journal;
@@ -12,7 +13,9 @@ mod opening;
 mod shown;
 
 use crate::agents::{no_children, site_of};
-use crate::session::run_lines;
+use crate::metadata::NoMetadata;
+use crate::session::{Run, run_lines};
+use crate::setting::Setting;
 use child_keeper::Scripted;
 use disk_model::MemDisk;
 use exec_options::{JournalPlace, Options, Subcommand};
@@ -36,18 +39,41 @@ const OPTIONS: Options<'static> = Options {
     path: "/usr/sbin:/usr/bin:/sbin:/bin",
 };
 
-/// The executor over this disk and fresh children, and the opening's report.
-pub fn opened(alloc: Global, disk: MemDisk) -> Result<(Executor<MemDisk, Scripted>, Report), Fail>
+/// The executor over this disk and these children, and the opening's report.
+pub fn opened(
+    alloc: Global,
+    disk: MemDisk,
+    children: Scripted,
+) -> Result<(Executor<MemDisk, Scripted>, Report), Fail>
     ensures sound { IfOk result (λ r. IsSound view_of (sight_of children_of r.0)) }
 {
     let site = site_of(alloc, OPTIONS)?;
-    match Executor::open(alloc, disk, no_children(alloc)?, site, OPENED_AT) {
+    match Executor::open(alloc, disk, children, site, OPENED_AT) {
         Ok(opened) => Ok(opened),
         Err(fault) => {
             let why = fault.why;
             Err(why)?
         }
     }
+}
+
+/// A run over this disk and these children, of at most three turns a drain.
+pub fn run_over<K: Clock, R: BufRead, W: Write>(
+    clock: &K,
+    alloc: Global,
+    disk: MemDisk,
+    children: Scripted,
+    reader: &mut R,
+    writer: &mut W,
+) -> Result<Run<MemDisk, Scripted>, Fail> {
+    let (executor, report) = opened(alloc, disk, children)?;
+    let setting = Setting {
+        alloc,
+        clock,
+        metadata: &NoMetadata,
+        most_turns: 3,
+    };
+    Ok(run_lines(&setting, reader, writer, executor, &report))
 }
 
 /// How a run over this disk ends.
@@ -58,8 +84,8 @@ pub fn ended_over<R: BufRead, W: Write>(
     reader: &mut R,
     writer: &mut W,
 ) -> Result<Result<(), Fault>, Fail> {
-    let (executor, report) = opened(alloc, disk)?;
-    Ok(run_lines(alloc, reader, writer, executor, &report, clock))
+    let children = no_children(alloc)?;
+    Ok(run_over(clock, alloc, disk, children, reader, writer)?.ended)
 }
 
 /// What a run over this disk writes, and how it ends.

@@ -1,6 +1,7 @@
 // Disks, readers and writers that fail.
 use super::journal::busy_disk;
 use super::{ended_over, opened, written_over};
+use crate::agents::no_children;
 use disk_model::{Disk, MemDisk};
 use exec_output::Fault;
 use std::alloc::Global;
@@ -8,16 +9,16 @@ use std::io::{self, BufReader, ErrorKind, Read, Write};
 use std::rt::Clock;
 use std::test::Fail;
 
-// A registration, questions, lines that are refused in reading, and metadata.
+// A registration, questions, lines that are refused in reading, drains and metadata.
 const LINES: &[u8] =
-    b"{\"op\":\"register\",\"id\":\"r1\",\"provider\":\"pacemaker\",\"type\":\"Dummy\"}\n{\"op\":\"list\"}\n{\"op\":\"tidy\"}\n{\"op\":\n{\"op\":\"drain\"}\n{\"op\":\"meta\",\"provider\":\"p\",\"type\":\"t\"}\n{\"op\":\"register\",\"id\":\"r1\",\"provider\":\"pacemaker\",\"type\":\"Dummy\"}\n";
+    b"{\"op\":\"register\",\"id\":\"r1\",\"provider\":\"pacemaker\",\"type\":\"Dummy\"}\n{\"op\":\"list\"}\n{\"op\":\"tidy\"}\n{\"op\":\n{\"op\":\"drain\"}\n{\"op\":\"watch\",\"limit\":9}\n{\"op\":\"meta\",\"provider\":\"p\",\"type\":\"t\"}\n{\"op\":\"register\",\"id\":\"r1\",\"provider\":\"pacemaker\",\"type\":\"Dummy\"}\n";
 
 const REPLIES_WHEN_CLOSED: &[u8] =
-    b"{\"error\":\"disk\",\"number\":16}\n{\"error\":\"closed\",\"number\":17}\n{\"error\":\"closed\",\"number\":17}\n{\"error\":\"closed\",\"number\":17}\n{\"error\":\"closed\",\"number\":17}\n{\"end\":\"missing\"}\n{\"error\":\"closed\",\"number\":17}\n";
+    b"{\"error\":\"disk\",\"number\":16}\n{\"error\":\"closed\",\"number\":17}\n{\"error\":\"closed\",\"number\":17}\n{\"error\":\"closed\",\"number\":17}\n{\"end\":\"closed\"}\n{\"end\":\"closed\"}\n{\"end\":\"missing\"}\n{\"error\":\"closed\",\"number\":17}\n";
 
 // How many device calls an opening of a fresh disk makes.
 fn opening_calls(alloc: Global) -> Result<u64, Fail> {
-    let (executor, _) = opened(alloc, MemDisk::new(alloc))?;
+    let (executor, _) = opened(alloc, MemDisk::new(alloc), no_children(alloc)?)?;
     let (disk, _) = executor.close();
     Ok(disk.clock())
 }

@@ -85,17 +85,6 @@ fn an_operation_that_is_not_there_is_told(rt: HostRuntime) -> Result<(), Fail> {
 }
 
 #[test]
-fn a_drain_is_no_operation_yet(rt: HostRuntime) -> Result<(), Fail> {
-    answers(&rt, rt.alloc(), b"{\"op\":\"drain\"}\n", UNKNOWN_OP)?;
-    answers(
-        &rt,
-        rt.alloc(),
-        b"{\"op\":\"drain\",\"limit\":86400000}\n",
-        UNKNOWN_OP,
-    )
-}
-
-#[test]
 fn a_drain_that_was_not_read_is_refused_as_it_is(rt: HostRuntime) -> Result<(), Fail> {
     answers(
         &rt,
@@ -108,16 +97,6 @@ fn a_drain_that_was_not_read_is_refused_as_it_is(rt: HostRuntime) -> Result<(), 
         rt.alloc(),
         b"{\"op\":\"drain\",\"limit\":1.5}\n",
         SYNTAX,
-    )
-}
-
-#[test]
-fn metadata_are_missing_yet(rt: HostRuntime) -> Result<(), Fail> {
-    answers(
-        &rt,
-        rt.alloc(),
-        b"{\"op\":\"meta\",\"provider\":\"pacemaker\",\"type\":\"Dummy\"}\n",
-        b"{\"end\":\"missing\"}\n",
     )
 }
 

@@ -1,7 +1,8 @@
 use Rattle.std.proofs.Common.{◌≡◌, rules}
+use Rattle.ocfexec.specs.Progress.{place}
 use Rattle.ocfexec.specs.Runs.{further, here}
 use Rattle.ocfexec.specs.declared.session.Progress.TheVariants.{End}
-use Rattle.ocfexec.proofs.RunLemmas.{at_end, place}
+use Rattle.ocfexec.proofs.RunLemmas.{at_end}
 use Rattle.ocfexec.proofs.session.answer_all.Goals as goal
 
 pub loop-init : goal.loop-init
@@ -19,7 +20,7 @@ returns-then-eq g c =
       lines = record {
         last = last;
         reached = c.loop.invariant.reached;
-        end = at_end g.D.Disk.view g.C.Children.view last end c.in_ok-progress.progress is c.in_ok-progress.ensures.progress;
+        end = at_end _ _ _ _ last end c.in_ok-progress.progress is c.in_ok-progress.ensures.progress;
       };
     }
 

@@ -1,17 +1,11 @@
-use Rattle.std.proofs.Common.{sym, ◌∙◌}
-use Rattle.ocfexec.proofs.RunLemmas.{ended}
+use Rattle.std.proofs.Common.{ap, ◌∙◌}
+use Rattle.executor.specs.Sights.{Sight}
 use Rattle.ocfexec.proofs.session.run_lines.Goals as goal
 
-pub returns-then-is_open : goal.returns-then-is_open
-returns-then-is_open g c = (
-  c.answer_all.new.executor,
-  ended _ _ _ _ _ _ _ _ (sym c.is_err.ensures.value ∙ c.if-is_err.false) (sym c.is_err-2.ensures.value ∙ c.if-is_err-2.false) c.send_report.ensures c.answer_all.ensures.lines,
-  sym c.is_open.ensures.value ∙ c.if-is_open.true,
-)
-
-pub returns : goal.returns
-returns g c = (
-  c.answer_all.new.executor,
-  ended _ _ _ _ _ _ _ _ (sym c.is_err.ensures.value ∙ c.if-is_err.false) (sym c.is_err-2.ensures.value ∙ c.if-is_err-2.false) c.send_report.ensures c.answer_all.ensures.lines,
-  sym c.is_open.ensures.value ∙ c.if-is_open.false,
-)
+pub returns-clause-ends : goal.returns-clause-ends
+returns-clause-ends g c = record {
+  last = c.answer_lines-ended.new.executor;
+  ends = c.answer_lines-ended.ensures;
+  disk = c.close-disk.ensures.disk ∙ ap (λ (x : Sight g.row.D.Denot). x.disk) c.abandon.ensures.abandoned;
+  children = c.close-disk.ensures.children ∙ ap (λ (x : Sight g.row.D.Denot). x.children) c.abandon.ensures.abandoned;
+}
