@@ -1,5 +1,5 @@
 -- Due moments, replies and the room that is needed, computed on a small state.
-use Rattle.std.proofs.Common.{◌≡◌, ℕ, List, [], ◌∷◌, Option, Some, None, false, refl}
+use Rattle.std.proofs.Common.{◌≡◌, ℕ, List, [], ◌∷◌, Some, None, false, refl}
 use Rattle.std.specs.Prelude.{codes}
 use Rattle.ocf_types.specs.declared.action.Level.TheVariants.{Zero}
 use Rattle.ocf_types.specs.declared.operation.Recur.{Recur}
