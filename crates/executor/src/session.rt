@@ -40,7 +40,11 @@ impl<D: Disk + Drop, C: Children + Drop, A: Allocator + Copy> Executor<D, C, A> 
     /// how it ended. The notices are those of the last turn.
     ///
     /// Where there is no memory for the replies nothing is done, and the inputs are handed back.
-    pub fn session(&mut self, inputs: Vec<Input<A>, A>, replies: &mut Vec<Reply<A>, A>) -> Result<(), Vec<Input<A>, A>>
+    pub fn session(
+        &mut self,
+        inputs: Vec<Input<A>, A>,
+        replies: &mut Vec<Reply<A>, A>,
+    ) -> Result<(), Vec<Input<A>, A>>
         requires sound { IsSound D.view (sight_of C.view self.old) }
         ensures sound { IsSound D.view (sight_of C.view self.new) }
         // each input was taken, in order and none left out, with one reply to each

@@ -57,10 +57,12 @@ loop-input-preserved g c =
           let capacity = c.push_reserved.ensures.capacity in
           omega (arith, one, room, len, capacity);
       sound = c.take-reply.ensures.sound;
-      sits = (given ++ c.take-reply.result ∷ [],
-          c.push_reserved.ensures.items ∙ ap (λ (l : List Reply). l ++ c.take-reply.result ∷ []) was.sits.1 ∙ append_assoc c.args.replies.now.items given (c.take-reply.result ∷ []),
-          sits_more view law (sight_of tend c.args.self.now) (sight_of tend before) (sight_of tend c.take-reply.new.self) c.loop-input.yielded given c.in-Some.input c.take-reply.result taken.0
-          (g.met.D.Disk.lawful (journal_disk before.journal)) was.sound was.sits.2 taken.1);
+      sits = (
+        given ++ c.take-reply.result ∷ [],
+        c.push_reserved.ensures.items ∙ ap (λ (l : List Reply). l ++ c.take-reply.result ∷ []) was.sits.1 ∙ append_assoc c.args.replies.now.items given (c.take-reply.result ∷ []),
+        sits_more view law (sight_of tend c.args.self.now) (sight_of tend before) (sight_of tend c.take-reply.new.self) c.loop-input.yielded given c.in-Some.input c.take-reply.result taken.0
+            (g.met.D.Disk.lawful (journal_disk before.journal)) was.sound was.sits.2 taken.1,
+      );
     }
 
 pub returns-clause-sound : goal.returns-clause-sound

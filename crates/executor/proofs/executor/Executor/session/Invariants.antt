@@ -8,10 +8,10 @@ use Rattle.executor.proofs.executor.Executor.session.Given as goal
 
 abbrev pub invariant-loop-input : goal.invariant-loop-input
 invariant-loop-input g l =
-  record {
-    whole : l.yielded ++ into_iter_items l.input-iterator ≡ l.fn.inputs.items;
-    count : into_iter_len l.input-iterator ≡ length (into_iter_items l.input-iterator);
-    room : vec_len l.replies + into_iter_len l.input-iterator ≤ vec_capacity l.replies;
-    sound : IsSound g.D.Disk.view (sight_of g.C.Children.view l.self);
-    sits : (given : List Reply) × (l.replies.items ≡ l.fn.replies.items ++ given) × Sits g.D.Disk.view l.yielded (sight_of g.C.Children.view l.fn.self) (sight_of g.C.Children.view l.self) given
-  }
+    record {
+      whole : l.yielded ++ into_iter_items l.input-iterator ≡ l.fn.inputs.items;
+      count : into_iter_len l.input-iterator ≡ length (into_iter_items l.input-iterator);
+      room : vec_len l.replies + into_iter_len l.input-iterator ≤ vec_capacity l.replies;
+      sound : IsSound g.D.Disk.view (sight_of g.C.Children.view l.self);
+      sits : (given : List Reply) × (l.replies.items ≡ l.fn.replies.items ++ given) × Sits g.D.Disk.view l.yielded (sight_of g.C.Children.view l.fn.self) (sight_of g.C.Children.view l.self) given;
+    }
