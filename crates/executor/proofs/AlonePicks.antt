@@ -15,7 +15,7 @@ use Rattle.ocf_types.specs.State.{Registry, State, after}
 use Rattle.ocf_types.specs.declared.operation.Op.{Op}
 use Rattle.ocf_types.specs.declared.operation.Recur.{Recur}
 use Rattle.ocf_types.specs.declared.operation.Running.{Running}
-use Rattle.ocf_types.proofs.Lists.{each_weaken}
+use Rattle.ocf_types.specs.Laws.{each_weaken}
 use Rattle.exec_turn.specs.Actives.{Active}
 use Rattle.exec_turn.specs.Picks.{ArePicks, begin_of, begins, begun_in}
 use Rattle.exec_turn.proofs.Choosing.{call_of, list_of}

@@ -20,7 +20,7 @@ use Rattle.exec_turn.specs.Actives.{Active, active, active_in, result_of}
 use Rattle.exec_turn.specs.Picks.{begin_of, begins}
 use Rattle.exec_turn.specs.Polls.{IsPoll, Polled, ending, ends_of, entries_of, is_late, polls, results, said}
 use Rattle.exec_turn.specs.Starts.{Started, refusals, refused_end, starts}
-use Rattle.ocf_types.proofs.Lists.{each_weaken}
+use Rattle.ocf_types.specs.Laws.{each_weaken}
 use Rattle.exec_turn.proofs.Choosing.{list_of}
 use Rattle.executor.specs.Parts.{events_of}
 use Rattle.executor.specs.Singles.{SinglePoll}

@@ -17,8 +17,8 @@ use Rattle.ocf_types.specs.declared.event.Step.TheVariants as step
 use Rattle.ocf_types.specs.declared.operation.Op.{Op}
 use Rattle.ocf_types.specs.declared.operation.Recur.{Recur}
 use Rattle.ocf_types.specs.declared.operation.Running.{Running}
-use Rattle.ocf_types.proofs.LawfulParts.{distinct_none}
-use Rattle.ocf_types.proofs.Lists.{each_append, each_filter, each_weaken}
+use Rattle.ocf_types.proofs.Lists.{each_filter}
+use Rattle.ocf_types.specs.Laws.{distinct_none, each_append, each_weaken}
 use Rattle.exec_turn.specs.Actives.{Active, active, active_in, runs_of}
 use Rattle.exec_turn.specs.Lives.{Tends}
 use Rattle.exec_turn.proofs.Choosing.{list_of}

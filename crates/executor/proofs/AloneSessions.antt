@@ -12,7 +12,7 @@ use Rattle.ocf_types.specs.State.{State, after_all, named, resource_at}
 use Rattle.ocf_types.specs.declared.command.Question.{Question}
 use Rattle.ocf_types.specs.declared.command.RequestOf.TheVariants as asked
 use Rattle.ocf_types.specs.declared.reply.TurnEnd.TheVariants as turn_end
-use Rattle.ocf_types.proofs.Lists.{each_weaken}
+use Rattle.ocf_types.specs.Laws.{each_weaken}
 use Rattle.disk_model.specs.View.{View}
 use Rattle.child_keeper.specs.declared.answer.Entry.{Entry}
 use Rattle.exec_state.specs.Answers.{IsReplyOrMemory}

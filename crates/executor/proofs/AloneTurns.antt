@@ -18,7 +18,8 @@ use Rattle.ocf_types.specs.declared.event.Step.TheVariants as step
 use Rattle.ocf_types.specs.declared.reply.ReplyOf.TheVariants as reply
 use Rattle.ocf_types.specs.declared.reply.TurnEnd.{TurnEnd}
 use Rattle.ocf_types.specs.declared.reply.TurnEnd.TheVariants.{Done}
-use Rattle.ocf_types.proofs.Lists.{distinct_filter, each_append, each_filter, each_weaken}
+use Rattle.ocf_types.proofs.Lists.{distinct_filter, each_filter}
+use Rattle.ocf_types.specs.Laws.{each_append, each_weaken}
 use Rattle.ocf_types.proofs.Registries.{absent_any, keys-at_id}
 use Rattle.disk_model.specs.View.{View}
 use Rattle.child_keeper.specs.declared.answer.Entry.{Entry}
