@@ -8,7 +8,7 @@ if [ ! -x "$PROGRAM" ]; then
     (cd crates/ocfexec && rt run -- --help > /dev/null) || exit 1
 fi
 passed=0 failed=0 skipped=0
-for check in words random_lines speed; do
+for check in words random_lines speed drains; do
     echo "== tests/$check.sh"
     status=0
     timeout 170 "tests/$check.sh" "$PROGRAM" < /dev/null || status=$?
