@@ -45,13 +45,26 @@ fn exec(n: usize) -> Result<Input> {
     }))
 }
 
-// Each resource is registered, and then each gets this many actions.
-fn push_actions(alloc: Global, inputs: &mut Vec<Input>, actions: usize) -> Result<()> {
+fn register_all(alloc: Global, inputs: &mut Vec<Input>) -> Result<()> {
     for n in 0..RESOURCES_LIMIT {
         inputs.push(registration(alloc, n)?)?;
     }
-    for n in 0..RESOURCES_LIMIT * actions {
-        inputs.push(exec(n % RESOURCES_LIMIT)?)?;
+    Ok(())
+}
+
+// Each resource gets an action more.
+fn push_round(inputs: &mut Vec<Input>) -> Result<()> {
+    for n in 0..RESOURCES_LIMIT {
+        inputs.push(exec(n)?)?;
+    }
+    Ok(())
+}
+
+// Each resource is registered, and then each gets this many actions.
+fn push_actions(alloc: Global, inputs: &mut Vec<Input>, actions: usize) -> Result<()> {
+    register_all(alloc, inputs)?;
+    for _ in 0..actions {
+        push_round(inputs)?;
     }
     Ok(())
 }
