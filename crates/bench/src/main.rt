@@ -1,18 +1,21 @@
 //! Benchmarks. Without arguments one round of each is run, and nothing is printed; with a name and a number of rounds
 //! the rate is printed. `appends` counts slots, `events` counts events that are read and written, `state-reads` and
 //! `state-writes` count bytes, `triples` counts actions that are accepted, begun and ended, and `openings` counts the bytes of a full part
-//! that a journal is opened on.
+//! that a journal is opened on; `waiting-turns` and `busy-turns` count turns over 256 running actions, which all run on, or
+//! all end and are followed by the next ones.
 #![tactic(auto)]
 
 mod openings;
 mod slots;
 mod spellings;
 mod triples;
+mod turns;
 
 use crate::openings::{full_part, openings};
 use crate::slots::appends;
 use crate::spellings::{events, largest_state, read_state, write_state};
 use crate::triples::triples;
+use crate::turns::{busy_turns, waiting_turns};
 use anyhow::{Context, Result, bail};
 use event_wire::decode_state;
 use ocf_types::StateParts;
@@ -45,6 +48,8 @@ fn round(alloc: Global, largest: &Largest, name: &str) -> Result<u64> {
         "state-writes" => write_state(alloc, &largest.state)?,
         "triples" => triples(alloc)?,
         "openings" => openings(alloc, largest.part.as_slice())?,
+        "waiting-turns" => waiting_turns(alloc)?,
+        "busy-turns" => busy_turns(alloc)?,
         _ => bail!("no benchmark is called {name}"),
     };
     Ok(steps)
@@ -77,6 +82,8 @@ fn run(rt: &(impl Alloc + Clock + Print + Env), alloc: Global) -> Result<()> {
                 "state-writes",
                 "triples",
                 "openings",
+                "waiting-turns",
+                "busy-turns",
             ] {
                 round(alloc, &largest, name)?;
             }
