@@ -1,7 +1,7 @@
 // Replies and notices that no scenario prints: of drains, metadata and turns, and of results that children gave.
-use exec_commands::{DrainEnd, LineReply, MetaFault, write_notice, write_reply};
+use exec_commands::{DrainEnd, LineReply, write_notice, write_reply};
 use ocf_types::{
-    Action, CallId, Ended, Moment, Notice, Outcome, Refusal, Reply, RscId, RunEnd, StartFault,
+    Action, CallId, Ended, MetaFault, Moment, Notice, Outcome, Refusal, Reply, RscId, RunEnd, StartFault,
     TurnEnd,
 };
 use std::alloc::{AllocError, Global};

@@ -10,8 +10,8 @@ use Rattle.ocf_types.specs.declared.reply.Notice.{Notice}
 use Rattle.ocf_types.specs.declared.reply.ReplyOf.TheVariants as reply
 use Rattle.exec_commands.specs.Objects.{natural_data, param_members}
 use Rattle.exec_commands.specs.Replies.{recur_data, running_data, info_data, ended_data, notice_data, request_data, reply_data, fault_data}
-use Rattle.exec_commands.specs.declared.ends.MetaFault.{MetaFault}
-use Rattle.exec_commands.specs.declared.ends.MetaFault.TheVariants as fault
+use Rattle.ocf_types.specs.declared.outcome.MetaFault.{MetaFault}
+use Rattle.ocf_types.specs.declared.outcome.MetaFault.TheVariants as fault
 use Rattle.exec_commands.specs.declared.reply.LineReply.{LineReply}
 use Rattle.exec_commands.specs.declared.reply.LineReply.TheVariants as line
 

@@ -22,8 +22,8 @@ use Rattle.ocf_env.specs.Keys.{key_text}
 use Rattle.exec_commands.specs.Objects.{object_from, natural_data, array_from, param_members}
 use Rattle.exec_commands.specs.declared.ends.DrainEnd.{DrainEnd}
 use Rattle.exec_commands.specs.declared.ends.DrainEnd.TheVariants as drain
-use Rattle.exec_commands.specs.declared.ends.MetaFault.{MetaFault}
-use Rattle.exec_commands.specs.declared.ends.MetaFault.TheVariants as fault
+use Rattle.ocf_types.specs.declared.outcome.MetaFault.{MetaFault}
+use Rattle.ocf_types.specs.declared.outcome.MetaFault.TheVariants as fault
 use Rattle.exec_commands.specs.declared.reply.LineReply.{LineReply}
 use Rattle.exec_commands.specs.declared.reply.LineReply.TheVariants as line
 

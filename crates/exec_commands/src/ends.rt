@@ -3,7 +3,7 @@ ghost use Rattle.std.specs.Prelude.{◌≡◌, IfOk};
 ghost use Rattle.serde_json.specs.View.{view};
 ghost use Rattle.exec_commands.specs.Replies.{turn_word, drain_word, start_word, end_data, fault_data};
 
-use ocf_types::{StartFault, TurnEnd};
+use ocf_types::{MetaFault, StartFault, TurnEnd};
 use serde_json::{Value, json};
 use std::alloc::{AllocError, Global};
 
@@ -18,21 +18,6 @@ pub enum DrainEnd {
     Turns,
     /// A turn ended otherwise than done, and the drain with it.
     Turn(TurnEnd),
-}
-
-/// Why an agent has no metadata. OCF Resource Agent API 1.1, meta-data.
-#[derive(Clone, Copy, Debug, PartialEq, Eq)]
-pub enum MetaFault {
-    /// The agent was not started.
-    NotStarted(StartFault),
-    /// What it wrote could not be read.
-    Read,
-    /// It ended with this exit code, which is not 0, or with 1 where a signal ended it.
-    Failed(u8),
-    /// It wrote more than is passed on.
-    TooLong,
-    /// A growth was refused.
-    Memory,
 }
 
 /// The word for the end of a turn.

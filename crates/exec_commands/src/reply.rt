@@ -5,11 +5,11 @@ ghost use Rattle.serde_json.specs.View.{view};
 ghost use Rattle.serde_json.specs.Written.{compact_text, has_float};
 ghost use Rattle.exec_commands.specs.Replies.{refusal_data, done_data, accepted_data, list_data, history_data, length_data, request_data, reply_data, reply_line, behind, notice_line};
 
-use crate::ends::{DrainEnd, MetaFault, drain_word, end_value, fault_value, turn_word};
+use crate::ends::{DrainEnd, drain_word, end_value, fault_value, turn_word};
 use crate::info::info_value;
 use crate::names::id_text;
 use crate::results::{ended_values, notice_value};
-use ocf_types::{CallId, Ended, Notice, OpKey, Refusal, Reply, RscId};
+use ocf_types::{CallId, Ended, MetaFault, Notice, OpKey, Refusal, Reply, RscId};
 use serde_json::{Value, json};
 use std::alloc::{AllocError, Global};
 

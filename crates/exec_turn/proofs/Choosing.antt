@@ -14,13 +14,14 @@ use Rattle.ocf_types.specs.Resource.{History, Resource, begun_from, of_call, run
 use Rattle.ocf_types.specs.State.{Registry, State, resource_at}
 use Rattle.ocf_types.specs.LawfulState.{IsLawfulState}
 use Rattle.ocf_types.specs.Laws.{IsBefore-trans}
+use Rattle.ocf_types.specs.RegistryLaws.{call_of}
 use Rattle.ocf_types.specs.Places.{at_place, id_at, no_entry}
 use Rattle.ocf_types.specs.declared.action.Task.TheVariants.{Monitor}
 use Rattle.ocf_types.specs.declared.operation.Op.{Op}
 use Rattle.ocf_types.specs.declared.operation.Recur.{Recur}
 use Rattle.ocf_types.specs.declared.operation.Running.{Running}
 use Rattle.exec_state.specs.Store.{IsChoice, Store, dues}
-use Rattle.exec_turn.specs.Actives.{Active}
+use Rattle.exec_turn.specs.Actives.{Active, active_of}
 use Rattle.exec_turn.specs.Picks.{ArePicks, begun_in, Chooses}
 
 -- ids that differ from one another, seen from the other
@@ -155,22 +156,18 @@ picks_append due at run (x ∷ xs) ys first bs (call, rest, pick, more, is) k =
     let behind = picks_append due at (run + length own) xs ys rest bs more (subst (λ n. ArePicks due at n ys bs) from k) in
     (call, rest ++ bs, pick, behind, ap (λ (l : List Active). l ++ bs) is ∙ append_assoc own rest bs)
 
--- what an entry begins, as it will run
-abbrev pub list_of : List ℕ → Option Running → List Active
-list_of id chosen = map (λ x. record { id = id; running = x }) (option_to_list chosen)
-
 -- what one resource picks
-one_pick : (due : Due) (at run : ℕ) (e : List ℕ × Resource) (chosen : Option Running) → Chooses due at run e chosen → ArePicks due at run (e ∷ []) (list_of e.0 chosen)
+one_pick : (due : Due) (at run : ℕ) (e : List ℕ × Resource) (chosen : Option Running) → Chooses due at run e chosen → ArePicks due at run (e ∷ []) (active_of e.0 chosen)
 one_pick due at run e chosen (call, pick, is) = (call, [], pick, refl, sym is ∙ sym (append-nil _))
 
 -- what the resources up to a place pick, and that at the place
 pub picks_more : (due : Due) (at run next : ℕ) (rs : Registry) (place : ℕ) (bs : List Active) (chosen : Option Running) → place < length rs
     → ArePicks due at run (take place rs) bs → next ≡ run + length bs → Chooses due at next (slice_index_or rs place no_entry) chosen
-    → ArePicks due at run (take (place + 1) rs) (bs ++ list_of (slice_index_or rs place no_entry).0 chosen)
+    → ArePicks due at run (take (place + 1) rs) (bs ++ active_of (slice_index_or rs place no_entry).0 chosen)
 picks_more due at run next rs place bs chosen lt before is now =
     let e = slice_index_or rs place no_entry in
-    let one = subst (λ n. ArePicks due at n (e ∷ []) (list_of e.0 chosen)) is (one_pick due at next e chosen now) in
-    rw (take_more rs place no_entry lt) (picks_append due at run (take place rs) (e ∷ []) bs (list_of e.0 chosen) before one)
+    let one = subst (λ n. ArePicks due at n (e ∷ []) (active_of e.0 chosen)) is (one_pick due at next e chosen now) in
+    rw (take_more rs place no_entry lt) (picks_append due at run (take place rs) (e ∷ []) bs (active_of e.0 chosen) before one)
 
 -- those up to a place that begin something, and all the others behind it
 pub picks_cut : (due : Due) (at run next : ℕ) (rs : Registry) (place : ℕ) (bs : List Active) (x : Running) → place < length rs
@@ -218,18 +215,6 @@ picks_op None (q ∷ qs) pairs now call o pick is =
     let call_is : call ≡ q.call = cc in
     ap (λ (y : Op). y.call) (sym this) ∙ sym call_is
 
--- the monitor of a call has that call
-pub call_of : (call : ℕ) (monitors : List Recur) (m : Recur) → of_call call monitors ≡ Some m → m.call ≡ call
-call_of call [] m h = absurd (let no : None ≡ Some m = h in cc)
-call_of call (x ∷ xs) m h = by (x.call == call) refl (call_of call xs m)
-  where
-    by : (b : Bool) → (x.call == call) ≡ b → (of_call call xs ≡ Some m → m.call ≡ call) → m.call ≡ call
-    by true is rest =
-        let here : Some x ≡ Some m = rw is at h in
-        let this : x ≡ m = cc in
-        ap (λ (y : Recur). y.call) (sym this) ∙ (Decides-eqb x.call call).0 is
-    by false is rest = rest (rw is at h)
-
 -- what a resource begins where an action is queued
 pub begins_op : (due : Due) (at run call : ℕ) (e : List ℕ × Resource) (o : Op) → IsPick e.1 (due e.0) at (Some call) → slice_get e.1.history.queue 0 ≡ Some o
     → Chooses due at run e (Some (record { call = call; run = run; task = o.task; timeout = o.timeout; interval = 0; since = at }))
@@ -238,8 +223,8 @@ begins_op due at run call e o pick is =
     let call_is : o.call ≡ call = picks_op r.history.running r.history.queue (due_pairs r.recurring (due e.0)) at call o pick is in (
       Some call,
       pick,
-      ap (λ (x : Option Running). list_of e.0 x) (runs_op r.history.queue (of_call call r.recurring) run at r.history o is)
-          ∙ ap (λ n. list_of e.0 (Some (record { call = n; run = run; task = o.task; timeout = o.timeout; interval = 0; since = at }))) call_is,
+      ap (λ (x : Option Running). active_of e.0 x) (runs_op r.history.queue (of_call call r.recurring) run at r.history o is)
+          ∙ ap (λ n. active_of e.0 (Some (record { call = n; run = run; task = o.task; timeout = o.timeout; interval = 0; since = at }))) call_is,
     )
 
 -- what it begins where none is
@@ -252,8 +237,8 @@ begins_monitor due at run call interval e m pick none is every =
     let runs = runs_monitor r.history.queue (of_call call r.recurring) run at r.history none ∙ ap (λ (o : Option Recur). option_map (run_of_monitor run at) o) (sym is) in (
       Some call,
       pick,
-      ap (λ (x : Option Running). list_of e.0 x) runs
-          ∙ (λ k. list_of e.0 (Some (record { call = call_is k; run = run; task = Monitor m.level; timeout = m.timeout; interval = sym every k; since = at }))),
+      ap (λ (x : Option Running). active_of e.0 x) runs
+          ∙ (λ k. active_of e.0 (Some (record { call = call_is k; run = run; task = Monitor m.level; timeout = m.timeout; interval = sym every k; since = at }))),
     )
 
 -- and where no monitor has that call
@@ -262,7 +247,7 @@ pub begins_no_monitor : (due : Due) (at run call : ℕ) (e : List ℕ × Resourc
 begins_no_monitor due at run call e pick none is =
     let r = e.1 in
     let runs = runs_monitor r.history.queue (of_call call r.recurring) run at r.history none ∙ ap (λ (o : Option Recur). option_map (run_of_monitor run at) o) (sym is) in
-    (Some call, pick, ap (λ (x : Option Running). list_of e.0 x) runs)
+    (Some call, pick, ap (λ (x : Option Running). active_of e.0 x) runs)
 
 -- it begins nothing where it picks nothing
 pub begins_none : (due : Due) (at run : ℕ) (e : List ℕ × Resource) → IsPick e.1 (due e.0) at None → Chooses due at run e None

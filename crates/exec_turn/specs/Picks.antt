@@ -1,5 +1,5 @@
 -- The second row of a turn: what each resource begins, and under which run.
-use Rattle.std.specs.Prelude.{◌≡◌, ℕ, ◌+◌, ◌<◌, ◌≤◌, List, [], ◌∷◌, ◌++◌, map, length, Option, Some, None, option_to_list}
+use Rattle.std.specs.Prelude.{◌≡◌, ℕ, ◌+◌, ◌<◌, ◌≤◌, List, [], ◌∷◌, ◌++◌, map, length, Option, Some, None}
 use Rattle.ocf_types.specs.Due.{Due, IsPick}
 use Rattle.ocf_types.specs.Kinds.{Event}
 use Rattle.ocf_types.specs.Limits.{num_max}
@@ -11,7 +11,7 @@ use Rattle.ocf_types.specs.declared.operation.Running.{Running}
 use Rattle.ocf_types.specs.declared.reply.TurnEnd.{TurnEnd}
 use Rattle.ocf_types.specs.declared.reply.TurnEnd.TheVariants as turn_end
 use Rattle.exec_journal.specs.Rows.{IsTooLong}
-use Rattle.exec_turn.specs.Actives.{Active, active_in}
+use Rattle.exec_turn.specs.Actives.{Active, active_in, active_of}
 
 -- what runs in a resource once it has begun this call, under this run
 abbrev pub begun_in : ℕ → ℕ → List ℕ × Resource → Option ℕ → List Active
@@ -28,7 +28,7 @@ ArePicks due at run (e ∷ es) begun = (call : Option ℕ) × (rest : List Activ
 -- what the resource of an entry begins at a moment under this run, as it will run, if it begins anything
 abbrev pub Chooses : Due → ℕ → ℕ → List ℕ × Resource → Option Running → Type 0
 Chooses due at run e chosen = (call : Option ℕ) × IsPick e.1 (due e.0) at call
-    × (begun_in at run e call ≡ map (λ x. record { id = e.0; running = x }) (option_to_list chosen))
+    × (begun_in at run e call ≡ active_of e.0 chosen)
 
 -- the begin of an action, as an event
 abbrev pub begin_of : ℕ → Active → Event

@@ -14,8 +14,7 @@ use Rattle.ocf_types.specs.Resource.{Resource, of_call}
 use Rattle.ocf_types.specs.State.{State, after, after_all, at_id, calls_drawn, changed, named, registered, resource_at, runs_drawn, stepped}
 use Rattle.ocf_types.specs.declared.event.Change.TheVariants as change
 use Rattle.ocf_types.specs.declared.event.Step.TheVariants as step
-use Rattle.ocf_types.proofs.OthersLemmas.{other_stays}
-use Rattle.ocf_types.proofs.Registries.{same_id, other_id}
+use Rattle.ocf_types.specs.RegistryLaws.{other_id, other_stays, same_id}
 use Rattle.exec_turn.specs.Turn.{due_after_all}
 use Rattle.executor.specs.Parts.{events_of}
 use Rattle.executor.specs.Singles.{Single, above_call, above_run, has_monitor, single_after, single_after_all, single_changed, single_sets}

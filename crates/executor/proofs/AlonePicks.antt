@@ -8,6 +8,7 @@ use Rattle.std.proofs.lemmas.List.{append-nil}
 use Rattle.std.proofs.lemmas.List.Elements.{All-contains, All-from_recursion, filter-append}
 use Rattle.std.proofs.lemmas.Map.Keys.{IsDistinct-head, IsDistinct-tail}
 use Rattle.std.proofs.lemmas.Slice.Eq.{bytes_eq-Decides}
+use Rattle.ocf_types.specs.RegistryLaws.{call_of}
 use Rattle.ocf_types.specs.Due.{Due, IsPick, IsPickOf, due_pairs}
 use Rattle.ocf_types.specs.Kinds.{Event}
 use Rattle.ocf_types.specs.Resource.{Resource, begun_from, of_call, run_of_monitor, run_of_op}
@@ -16,9 +17,8 @@ use Rattle.ocf_types.specs.declared.operation.Op.{Op}
 use Rattle.ocf_types.specs.declared.operation.Recur.{Recur}
 use Rattle.ocf_types.specs.declared.operation.Running.{Running}
 use Rattle.ocf_types.specs.Laws.{each_weaken}
-use Rattle.exec_turn.specs.Actives.{Active}
+use Rattle.exec_turn.specs.Actives.{Active, active_of}
 use Rattle.exec_turn.specs.Picks.{ArePicks, begin_of, begins, begun_in}
-use Rattle.exec_turn.proofs.Choosing.{call_of, list_of}
 use Rattle.executor.proofs.AloneChanges.{AreFresh}
 use Rattle.executor.proofs.AloneLists.{filter_alike}
 
@@ -63,7 +63,7 @@ pub begun_one : (due : ℕ → Option ℕ) (at run : ℕ) (e : List ℕ × Resou
 begun_one due at run e call pick = by e.1.history.running e.1.history.queue (of_call call e.1.recurring) refl pick
   where
     by : (o : Option Running) (q : List Op) (m : Option Recur) → of_call call e.1.recurring ≡ m → IsPickOf o q (due_pairs e.1.recurring due) at (Some call)
-        → (x : Running) × (list_of e.0 (begun_from q m run at e.1.history).running ≡ record { id = e.0; running = x } ∷ []) × (x.call ≡ call) × (x.run ≡ run)
+        → (x : Running) × (active_of e.0 (begun_from q m run at e.1.history).running ≡ record { id = e.0; running = x } ∷ []) × (x.call ≡ call) × (x.run ≡ run)
     by (Some x) q m is p = absurd (let no : Some call ≡ None = p in cc)
     by None (o ∷ os) m is p = (run_of_op run at o, refl, let same : Some call ≡ Some o.call = p in cc, refl)
     by None [] (Some m) is p = (run_of_monitor run at m, refl, call_of call e.1.recurring m is, refl)
@@ -79,7 +79,7 @@ begun_ids : (at run : ℕ) (e : List ℕ × Resource) (call : Option ℕ) (id : 
 begun_ids at run e None id = tt
 begun_ids at run e (Some call) id = by (begun_from e.1.history.queue (of_call call e.1.recurring) run at e.1.history).running
   where
-    by : (o : Option Running) → AllByRecursion (λ (a : Active). bytes_eq id a.id ≡ bytes_eq id e.0) (list_of e.0 o)
+    by : (o : Option Running) → AllByRecursion (λ (a : Active). bytes_eq id a.id ≡ bytes_eq id e.0) (active_of e.0 o)
     by None = tt
     by (Some x) = (refl, tt)
 

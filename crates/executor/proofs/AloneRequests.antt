@@ -13,7 +13,7 @@ use Rattle.ocf_types.specs.declared.event.Step.TheVariants as step
 use Rattle.ocf_types.specs.declared.refusal.Refusal.{Refusal}
 use Rattle.ocf_types.specs.declared.refusal.Refusal.TheVariants as refusal
 use Rattle.ocf_types.specs.declared.reply.ReplyOf.TheVariants.{Refused}
-use Rattle.ocf_types.proofs.AskedLemmas.{none_is, passed}
+use Rattle.ocf_types.specs.RegistryLaws.{none_is, passed}
 use Rattle.disk_model.specs.View.{View}
 use Rattle.exec_turn.specs.Turn.{due_after_all}
 use Rattle.executor.specs.Commands.{Obeys, Records}

@@ -16,12 +16,11 @@ use Rattle.child_keeper.specs.Children.{kill_answer, start_answer}
 use Rattle.child_keeper.specs.declared.answer.KillFault.{KillFault}
 use Rattle.child_keeper.specs.declared.answer.Poll.{Poll}
 use Rattle.child_keeper.specs.declared.answer.Poll.TheVariants as poll
-use Rattle.exec_turn.specs.Actives.{Active, active, active_in, result_of}
+use Rattle.exec_turn.specs.Actives.{Active, active, active_in, result_of, active_of}
 use Rattle.exec_turn.specs.Picks.{begin_of, begins}
 use Rattle.exec_turn.specs.Polls.{IsPoll, Polled, ending, ends_of, entries_of, is_late, polls, results, said}
 use Rattle.exec_turn.specs.Starts.{Started, refusals, refused_end, starts}
 use Rattle.ocf_types.specs.Laws.{each_weaken}
-use Rattle.exec_turn.proofs.Choosing.{list_of}
 use Rattle.executor.specs.Parts.{events_of}
 use Rattle.executor.specs.Singles.{SinglePoll}
 use Rattle.executor.proofs.AloneChanges.{AreFresh, IsFresh}
@@ -57,7 +56,7 @@ module _ {A : Type 0} where
 
 -- what runs of an id, where ids differ
 pub own_active : (s : State) (id : List ℕ) → IsDistinct bytes_eq (keys_of s.resources)
-    → filter (λ a. bytes_eq id a.id) (active s) ≡ list_of id (option_and_then (λ r. r.history.running) (resource_at s id))
+    → filter (λ a. bytes_eq id a.id) (active s) ≡ active_of id (option_and_then (λ r. r.history.running) (resource_at s id))
 own_active s id distinct =
     filter-flat_map (λ a. bytes_eq id a.id) (λ e. bytes_eq id e.0) active_in s.resources (each_of_all (λ e. filter (λ a. bytes_eq id a.id) (active_in e) ≡ cond (bytes_eq id e.0) (active_in e) []) each s.resources)
     ∙ ap (flat_map active_in) (one_entry id s.resources distinct) ∙ by (resource_at s id)
@@ -67,9 +66,9 @@ own_active s id distinct =
         (each_map (λ a. bytes_eq id a.id ≡ bytes_eq id e.0) (λ x. record { id = e.0; running = x }) (option_to_list e.1.history.running)
         (each_of_all (λ x. bytes_eq id e.0 ≡ bytes_eq id e.0) (λ x. refl) (option_to_list e.1.history.running)))
 
-    by : (o : Option Resource) → flat_map active_in (map (λ r. (id, r)) (option_to_list o)) ≡ list_of id (option_and_then (λ r. r.history.running) o)
+    by : (o : Option Resource) → flat_map active_in (map (λ r. (id, r)) (option_to_list o)) ≡ active_of id (option_and_then (λ r. r.history.running) o)
     by None = refl
-    by (Some r) = append-nil (list_of id r.history.running)
+    by (Some r) = append-nil (active_of id r.history.running)
 
 -- each entry of a poll is of its run
 poll_runs : (mine : ℕ → Bool) (at : ℕ) (x : Running) (p : Poll) (kill : Result Unit KillFault) (b : Bool) → mine x.run ≡ b → AllByRecursion (λ e. mine e.run ≡ b) (entries_of at x p kill)
@@ -140,11 +139,11 @@ ends_draw at [] h t = refl
 ends_draw at (e ∷ es) h t = let rest = ends_draw at es h.1 (after t e) in omega (arith, rest, h.0.draws)
 
 -- its own poll, of what runs
-pub single_poll : (id : List ℕ) (at : ℕ) (o : Option Running) (ps : List Polled) → AllByRecursion (λ p. IsPoll p.poll) ps → map (λ p. p.who) ps ≡ list_of id o
+pub single_poll : (id : List ℕ) (at : ℕ) (o : Option Running) (ps : List Polled) → AllByRecursion (λ p. IsPoll p.poll) ps → map (λ p. p.who) ps ≡ active_of id o
     → SinglePoll id at o (polls at ps) (results at ps)
 single_poll id at None [] bytes h = (refl, refl)
 single_poll id at None (p ∷ ps) bytes h = absurd (let no : p.who ∷ map (λ p. p.who) ps ≡ [] = h in cc)
-single_poll id at (Some x) [] bytes h = absurd (let no : [] ≡ list_of id (Some x) = h in cc)
+single_poll id at (Some x) [] bytes h = absurd (let no : [] ≡ active_of id (Some x) = h in cc)
 single_poll id at (Some x) (p ∷ []) bytes h =
     let w : Active = record { id = id; running = x } in
     let is : p.who ≡ w = let one : p.who ∷ [] ≡ w ∷ [] = h in cc in (

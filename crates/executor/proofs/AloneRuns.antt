@@ -17,11 +17,10 @@ use Rattle.ocf_types.specs.declared.event.Step.TheVariants as step
 use Rattle.ocf_types.specs.declared.operation.Op.{Op}
 use Rattle.ocf_types.specs.declared.operation.Recur.{Recur}
 use Rattle.ocf_types.specs.declared.operation.Running.{Running}
-use Rattle.ocf_types.proofs.Lists.{each_filter}
+use Rattle.ocf_types.specs.RegistryLaws.{each_filter}
 use Rattle.ocf_types.specs.Laws.{distinct_none, each_append, each_weaken}
-use Rattle.exec_turn.specs.Actives.{Active, active, active_in, runs_of}
+use Rattle.exec_turn.specs.Actives.{Active, active, active_in, runs_of, active_of}
 use Rattle.exec_turn.specs.Lives.{Tends}
-use Rattle.exec_turn.proofs.Choosing.{list_of}
 use Rattle.executor.specs.Parts.{Apart, own_runs, run_begun}
 use Rattle.executor.proofs.AloneChanges.{AreFresh, IsFresh}
 use Rattle.executor.proofs.AloneLists.{each_first, each_last, each_map, each_unmap, filter-map, owned}
@@ -156,7 +155,7 @@ stepped_own : (mine : ℕ → Bool) (id : List ℕ) (at : ℕ) (what : Step) (e 
     → EntryOwn mine id (e.0, stepped at what e.1)
 stepped_own mine id at (step.Begin call run) e own h = by e.1.history.queue (of_call call e.1.recurring)
   where
-    by : (q : List Op) (m : Option Recur) → AreOwn mine id (list_of e.0 (begun_from q m run at e.1.history).running)
+    by : (q : List Op) (m : Option Recur) → AreOwn mine id (active_of e.0 (begun_from q m run at e.1.history).running)
     by (o ∷ os) m = (own, tt)
     by [] (Some m) = (own, tt)
     by [] None = tt
@@ -185,7 +184,7 @@ own_stays mine id s (e ∷ es) fresh own h = own_stays mine id (after s e) es fr
 
 -- in a lawful state runs are below the next one
 running_below : (next_call next_run clock : ℕ) (id : List ℕ) (o : Option Running) → IsLawfulRunning next_call next_run clock o
-    → AllByRecursion (λ a. a.running.run < next_run) (list_of id o)
+    → AllByRecursion (λ a. a.running.run < next_run) (active_of id o)
 running_below next_call next_run clock id None h = tt
 running_below next_call next_run clock id (Some x) h = (h.3, tt)
 

@@ -18,17 +18,15 @@ use Rattle.ocf_types.specs.declared.event.Step.TheVariants as step
 use Rattle.ocf_types.specs.declared.reply.ReplyOf.TheVariants as reply
 use Rattle.ocf_types.specs.declared.reply.TurnEnd.{TurnEnd}
 use Rattle.ocf_types.specs.declared.reply.TurnEnd.TheVariants.{Done}
-use Rattle.ocf_types.proofs.Lists.{distinct_filter, each_filter}
+use Rattle.ocf_types.specs.RegistryLaws.{absent_any, distinct_filter, each_filter, keys-at_id}
 use Rattle.ocf_types.specs.Laws.{each_append, each_weaken}
-use Rattle.ocf_types.proofs.Registries.{absent_any, keys-at_id}
 use Rattle.disk_model.specs.View.{View}
 use Rattle.child_keeper.specs.declared.answer.Entry.{Entry}
-use Rattle.exec_turn.specs.Actives.{Active, active}
+use Rattle.exec_turn.specs.Actives.{Active, active, active_of}
 use Rattle.exec_turn.specs.Picks.{ArePicks, begin_of, begins}
 use Rattle.exec_turn.specs.Polls.{IsPoll, Polled, polls, results}
 use Rattle.exec_turn.specs.Starts.{Started, refusals, starts}
 use Rattle.exec_turn.specs.Turn.{IsTurn, Told, Whole, due_after_all, scene}
-use Rattle.exec_turn.proofs.Choosing.{list_of}
 use Rattle.executor.specs.Parts.{IsPlain, events_of}
 use Rattle.executor.specs.Sessions.{Deeds, TakesATurn}
 use Rattle.executor.specs.Sights.{Sight}
@@ -169,8 +167,8 @@ module _ {D : Type 0} (now : ℕ) (old new : Sight D) (given : Reply) (deeds : D
         (each_last (λ e. BeginsOwn mine id e.change) (results at turn.t.polled) (begins at turn.t.begun ++ refusals at turn.t.started) all_own) in
         let begun_own : AreOwn mine id turn.t.begun = each_unmap (λ e. BeginsOwn mine id e.change) (begin_of at) turn.t.begun begins_own in
         let started_own : AreOwn mine id (map (λ x. x.what) turn.t.started) = subst (AreOwn mine id) (sym turn.t.each_started) begun_own in
-        let who : map (λ p. p.who) own_polled ≡ list_of id (running_in y) = sym (filter-map (λ a. bytes_eq id a.id) (λ p. p.who) turn.t.polled) ∙ ap (own_of id) turn.t.each_polled.each
-        ∙ own_active old.state id apart ∙ ap (λ (o : Option Resource). list_of id (option_and_then (λ r. r.history.running) o)) (sym stands.resource) in
+        let who : map (λ p. p.who) own_polled ≡ active_of id (running_in y) = sym (filter-map (λ a. bytes_eq id a.id) (λ p. p.who) turn.t.polled) ∙ ap (own_of id) turn.t.each_polled.each
+        ∙ own_active old.state id apart ∙ ap (λ (o : Option Resource). active_of id (option_and_then (λ r. r.history.running) o)) (sym stands.resource) in
         let own_bytes : AllByRecursion (λ p. IsPoll p.poll) own_polled =
         each_filter (λ p. IsPoll p.poll) (λ p. bytes_eq id p.who.id) turn.t.polled turn.t.each_polled.bytes in
         let what : map (λ x. x.what) own_started ≡ own_begun = sym (filter-map (λ a. bytes_eq id a.id) (λ x. x.what) turn.t.started) ∙ ap (own_of id) turn.t.each_started in

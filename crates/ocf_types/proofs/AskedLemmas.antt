@@ -19,24 +19,10 @@ use Rattle.ocf_types.specs.Applies.{Applies, ChangeApplies, StepApplies, IsNext}
 use Rattle.ocf_types.specs.Boot.{any_busy, boot_at}
 use Rattle.ocf_types.specs.Answer.{moment, change_of, IsRegister, asked_event, tests, first_of, event_of}
 use Rattle.ocf_types.specs.LawfulState.{IsLawfulState}
+use Rattle.ocf_types.specs.RegistryLaws.{none_is, passed}
 use Rattle.ocf_types.proofs.Lengths.{event_short}
 
--- where the tests end in an event, it is the one that was asked for, and no test held
-pub passed : (ts : List (Refusal × Bool)) (e f : Event) → first_of ts e ≡ Ok f → (e ≡ f) × AllByRecursion (λ t. t.1 ≡ false) ts
-passed [] e f h = (cc, tt)
-passed (t ∷ ts) e f h = by t.1 refl (passed ts e f)
-  where
-    by : (b : Bool) → t.1 ≡ b → (first_of ts e ≡ Ok f → (e ≡ f) × AllByRecursion (λ x. x.1 ≡ false) ts)
-        → (e ≡ f) × AllByRecursion (λ x. x.1 ≡ false) (t ∷ ts)
-    by true same rest = let bad : Err t.0 ≡ Ok f = rw same at h in absurd (cc)
-    by false other rest = let r = rest (rw other at h) in (r.0, (other, r.1))
-
 module _ {A : Type 0} where
-  -- what is not found to be there is not there
-  pub none_is : (o : Option A) → is_some o ≡ false → o ≡ None
-  none_is None h = refl
-  none_is (Some x) h = absurd (cc)
-
   -- what is not found to be absent is there
   pub some_is : (o : Option A) → is_none o ≡ false → IsSome o
   some_is None h = absurd (cc)

@@ -1,9 +1,9 @@
 -- Lists: facts of each element, and numbers that ascend.
 use Rattle.std.proofs.Common.{◌≡◌, ℕ, ◌≤◌, ◌<◌, Bool, true, false, cond, List, [], ◌∷◌, ◌++◌, map, length, drop, filter, Option, Some, None, IsSomeAnd, refl, zero, suc, arith}
-use Rattle.std.specs.List.{AllByRecursion, IsDistinct}
-use Rattle.std.proofs.lemmas.Map.Keys.{IsDistinct-head, IsDistinct-tail, IsDistinct-cons}
+use Rattle.std.specs.List.{AllByRecursion}
 use Rattle.ocf_types.specs.LawfulState.{IsAscending}
 pub use Rattle.ocf_types.specs.Laws.{each_weaken}
+pub use Rattle.ocf_types.specs.RegistryLaws.{each_filter, keys_filter, distinct_filter}
 
 -- where a fact holds of what is there, it is there, and the fact holds of it
 pub found : {A : Type 0} (o : Option A) (P : A → Type 0) → IsSomeAnd o P → (x : A) × (o ≡ Some x) × P x
@@ -16,15 +16,6 @@ module _ {A : Type 0} where
   each_drop P zero xs h = h
   each_drop P (suc n) [] h = tt
   each_drop P (suc n) (x ∷ xs) h = each_drop P n xs h.1
-
-  -- a fact of each holds of those that pass a test
-  pub each_filter : (P : A → Type 0) (test : A → Bool) (xs : List A) → AllByRecursion P xs → AllByRecursion P (filter test xs)
-  each_filter P test [] h = tt
-  each_filter P test (x ∷ xs) h = by (test x) (each_filter P test xs h.1)
-    where
-      by : (b : Bool) → AllByRecursion P (filter test xs) → AllByRecursion P (cond b (x ∷ filter test xs) (filter test xs))
-      by true k = (h.0, k)
-      by false k = k
 
   -- a filter makes no list longer
   pub filter_shorter : (test : A → Bool) (xs : List A) → length (filter test xs) ≤ length xs
@@ -44,27 +35,6 @@ module _ {A : Type 0} where
           → filter test (cond b (x ∷ filter test xs) (filter test xs)) ≡ cond b (x ∷ filter test xs) (filter test xs)
       by true e k = rw (e, k) refl
       by false e k = k
-
-  -- a fact of the keys of each holds of the keys of those that pass a test
-  pub keys_filter : {K : Type 0} (key : A → K) (P : K → Type 0) (test : A → Bool) (xs : List A) → AllByRecursion P (map key xs)
-      → AllByRecursion P (map key (filter test xs))
-  keys_filter key P test [] h = tt
-  keys_filter key P test (x ∷ xs) h = by (test x) (keys_filter key P test xs h.1)
-    where
-      by : (b : Bool) → AllByRecursion P (map key (filter test xs)) → AllByRecursion P (map key (cond b (x ∷ filter test xs) (filter test xs)))
-      by true k = (h.0, k)
-      by false k = k
-
-  -- distinct keys stay so where some elements are taken away
-  pub distinct_filter : {K : Type 0} (eq : K → K → Bool) (key : A → K) (test : A → Bool) (xs : List A) → IsDistinct eq (map key xs)
-      → IsDistinct eq (map key (filter test xs))
-  distinct_filter eq key test [] h = h
-  distinct_filter eq key test (x ∷ xs) h = by (test x) (distinct_filter eq key test xs (IsDistinct-tail eq (key x) (map key xs) h))
-    where
-      by : (b : Bool) → IsDistinct eq (map key (filter test xs)) → IsDistinct eq (map key (cond b (x ∷ filter test xs) (filter test xs)))
-      by true k = IsDistinct-cons eq (key x) (map key (filter test xs))
-          (keys_filter key (λ y. eq (key x) y ≡ false) test xs (IsDistinct-head eq (key x) (map key xs) h)) k
-      by false k = k
 
   -- ascending keys stay so where some elements are taken away
   pub ascends_filter : (key : A → ℕ) (test : A → Bool) (xs : List A) → IsAscending (map key xs) → IsAscending (map key (filter test xs))

@@ -9,16 +9,8 @@ use Rattle.ocf_types.specs.declared.event.Change.TheVariants as change
 use Rattle.ocf_types.specs.Kinds.{Change}
 use Rattle.ocf_types.specs.State.{Registry, changed, named, others, registered, stepped}
 use Rattle.ocf_types.proofs.Lists.{filter-filter}
-use Rattle.ocf_types.proofs.Registries.{same_id, other_id, apart, lookup-push_other, lookup-at_id_other, others-at_id}
-
--- a change leaves a resource that it does not name as it was
-pub other_stays : (at : ℕ) (c : Change) (rs : Registry) (id other : List ℕ) → named c ≡ Some id → id ≢ other
-    → lookup (bytes_eq other) (changed at c rs) ≡ lookup (bytes_eq other) rs
-other_stays at (change.Register r) rs id other n h = lookup-push_other other rs (registered r) (other_id r.id other (λ e. h (cc)))
-other_stays at (change.Unregister i) rs id other n h =
-    lookup-filter-keys (bytes_eq other) (λ k. not (bytes_eq i k)) true (apart i other (λ e. h (cc))) rs
-other_stays at (change.Step i what) rs id other n h = lookup-at_id_other i other (stepped at what) rs (λ e. h (cc))
-other_stays at change.Boot rs id other n h = absurd (cc)
+use Rattle.ocf_types.proofs.Registries.{same_id, others-at_id}
+pub use Rattle.ocf_types.specs.RegistryLaws.{other_stays}
 
 -- a change leaves the others in their order
 pub order_stays : (at : ℕ) (c : Change) (rs : Registry) (id : List ℕ) → named c ≡ Some id → others id (changed at c rs) ≡ others id rs

@@ -7,42 +7,9 @@ use Rattle.std.proofs.lemmas.Bool.{false_from_ne_true}
 use Rattle.std.proofs.lemmas.Slice.Eq.{bytes_eq-Decides}
 use Rattle.std.proofs.lemmas.Map.Keys.{IsDistinct-head, IsDistinct-tail}
 use Rattle.ocf_types.specs.State.{at_id}
-
--- an id is that of itself
-pub same_id : (id : List ℕ) → bytes_eq id id ≡ true
-same_id id = (bytes_eq-Decides id id).1 refl
-
--- ids that differ
-pub other_id : (id other : List ℕ) → id ≢ other → bytes_eq other id ≡ false
-other_id id other h = false_from_ne_true _ (λ e. h (sym ((bytes_eq-Decides other id).0 e)))
-
--- what one id names, an id that differs does not
-pub apart : (id other : List ℕ) → id ≢ other → (k : List ℕ) → bytes_eq other k ≡ true → not (bytes_eq id k) ≡ true
-apart id other h k e =
-    let n : bytes_eq id k ≡ false = false_from_ne_true _ (λ f. h ((bytes_eq-Decides id k).0 f ∙ sym ((bytes_eq-Decides other k).0 e))) in
-    rw n refl
+pub use Rattle.ocf_types.specs.RegistryLaws.{same_id, other_id, absent_any, keys-at_id}
 
 module _ {A : Type 0} where
-  -- one more entry hides none of another id
-  pub lookup-push_other : (other : List ℕ) (es : List (List ℕ × A)) (e : List ℕ × A) → bytes_eq other e.0 ≡ false
-      → lookup (bytes_eq other) (es ++ e ∷ []) ≡ lookup (bytes_eq other) es
-  lookup-push_other other [] e h = rw h refl
-  lookup-push_other other (x ∷ xs) e h = ap (λ (o : Option A). cond (bytes_eq other x.0) (Some x.1) o) (lookup-push_other other xs e h)
-
-  -- what is done to the entry of an id is not done to that of another
-  pub lookup-at_id_other : (id other : List ℕ) (f : A → A) (es : List (List ℕ × A)) → id ≢ other
-      → lookup (bytes_eq other) (at_id id f es) ≡ lookup (bytes_eq other) es
-  lookup-at_id_other id other f [] h = refl
-  lookup-at_id_other id other f (e ∷ es) h = by (bytes_eq id e.0) refl (lookup-at_id_other id other f es h)
-    where
-      by : (b : Bool) → bytes_eq id e.0 ≡ b → lookup (bytes_eq other) (at_id id f es) ≡ lookup (bytes_eq other) es
-          → cond (bytes_eq other e.0) (Some (cond b (f e.1) e.1)) (lookup (bytes_eq other) (at_id id f es))
-          ≡ cond (bytes_eq other e.0) (Some e.1) (lookup (bytes_eq other) es)
-      by true same k =
-          let n : bytes_eq other e.0 ≡ false = other_id e.0 other (λ x. h ((bytes_eq-Decides id e.0).0 same ∙ x)) in
-          rw n k
-      by false apart k = rw k refl
-
   -- the others stay in place where something is done to the entry of an id
   pub others-at_id : (id : List ℕ) (f : A → A) (es : List (List ℕ × A))
       → filter (λ e. not (bytes_eq id e.0)) (at_id id f es) ≡ filter (λ e. not (bytes_eq id e.0)) es
@@ -56,21 +23,6 @@ module _ {A : Type 0} where
           → cond (not b) ((e.0, cond b (f e.1) e.1) ∷ rest (at_id id f es)) (rest (at_id id f es)) ≡ cond (not b) (e ∷ rest es) (rest es)
       by true k = k
       by false k = ap (λ (xs : List (List ℕ × A)). e ∷ xs) k
-
-  -- an id that is not found is no key
-  pub absent_any : (id : List ℕ) (es : List (List ℕ × A)) → lookup (bytes_eq id) es ≡ None → list_any (bytes_eq id) (keys_of es) ≡ false
-  absent_any id [] h = refl
-  absent_any id (e ∷ es) h = by (bytes_eq id e.0) refl (absent_any id es)
-    where
-      by : (b : Bool) → bytes_eq id e.0 ≡ b → (lookup (bytes_eq id) es ≡ None → list_any (bytes_eq id) (keys_of es) ≡ false)
-          → list_any (bytes_eq id) (keys_of (e ∷ es)) ≡ false
-      by true same rest = let none : Some e.1 ≡ None = rw same at h in cc
-      by false other rest = rw other (rest (rw other at h))
-
-  -- what is done to the entry of an id leaves the keys
-  pub keys-at_id : (id : List ℕ) (f : A → A) (es : List (List ℕ × A)) → keys_of (at_id id f es) ≡ keys_of es
-  keys-at_id id f [] = refl
-  keys-at_id id f (e ∷ es) = ap (λ (ks : List (List ℕ)). e.0 ∷ ks) (keys-at_id id f es)
 
   -- what is done to each entry leaves the keys
   pub keys-map : (f : A → A) (es : List (List ℕ × A)) → keys_of (map (λ e. (e.0, f e.1)) es) ≡ keys_of es

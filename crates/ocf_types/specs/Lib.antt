@@ -20,3 +20,4 @@ pub mod LawfulState
 pub mod Places
 pub mod Laws
 pub mod NameLaws
+pub mod RegistryLaws

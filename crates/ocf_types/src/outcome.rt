@@ -13,6 +13,21 @@ pub enum StartFault {
     Other,
 }
 
+/// Why an agent has no metadata. OCF Resource Agent API 1.1, meta-data.
+#[derive(Clone, Copy, Debug, PartialEq, Eq)]
+pub enum MetaFault {
+    /// The agent was not started.
+    NotStarted(StartFault),
+    /// What it wrote could not be read.
+    Read,
+    /// It ended with this exit code, which is not 0, or with 1 where a signal ended it.
+    Failed(u8),
+    /// It wrote more than is passed on.
+    TooLong,
+    /// A growth was refused.
+    Memory,
+}
+
 /// How an action that was begun came to its end, where the executor saw it.
 #[derive(Clone, Copy, Debug, PartialEq, Eq)]
 pub enum RunEnd {

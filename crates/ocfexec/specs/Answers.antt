@@ -14,7 +14,7 @@ use Rattle.executor.specs.Sights.{sight_of}
 use Rattle.exec_commands.specs.Lines.{line_read}
 use Rattle.exec_commands.specs.declared.ends.DrainEnd.{DrainEnd}
 use Rattle.exec_commands.specs.declared.ends.DrainEnd.TheVariants.{Turn}
-use Rattle.exec_commands.specs.declared.ends.MetaFault.{MetaFault}
+use Rattle.ocf_types.specs.declared.outcome.MetaFault.{MetaFault}
 use Rattle.exec_commands.specs.declared.line.Line.{Line}
 use Rattle.exec_commands.specs.declared.line.Line.TheVariants as line
 use Rattle.exec_commands.specs.declared.reply.LineReply.{LineReply}

@@ -2,11 +2,10 @@
 ghost use Rattle.std.specs.Prelude.{◌≡◌, ℕ, List, Result, Err};
 ghost use Rattle.std.specs.Global.{Vec};
 ghost use Rattle.ocf_types.specs.declared.outcome.StartFault.TheVariants.{Missing};
-ghost use Rattle.exec_commands.specs.declared.ends.MetaFault.{MetaFault};
-ghost use Rattle.exec_commands.specs.declared.ends.MetaFault.TheVariants.{NotStarted};
+ghost use Rattle.ocf_types.specs.declared.outcome.MetaFault.{MetaFault};
+ghost use Rattle.ocf_types.specs.declared.outcome.MetaFault.TheVariants.{NotStarted};
 
-use exec_commands::MetaFault;
-use ocf_types::{AgentType, Provider, StartFault};
+use ocf_types::{AgentType, MetaFault, Provider, StartFault};
 use std::alloc::Global;
 
 /// Where agents' metadata come from. OCF Resource Agent API 1.1, meta-data.
