@@ -17,7 +17,7 @@ asked_append b c run at = (
 pub asked_polls : (entries : List Entry) (run at : ℕ) → AsksNothing entries → Asked entries run at → ⊥
 asked_polls entries run at none asked = All-contains (λ (e : Entry). IsOfStart e.answer → ⊥) entries (record { run = run; at = at; answer = asked.0 }) none asked.2 asked.1
 
-first_or_rest : (x r : ℕ) (live : List ℕ) → Contains (x ∷ live) r → (x ≡ r) ⊎ Contains live r
+pub first_or_rest : (x r : ℕ) (live : List ℕ) → Contains (x ∷ live) r → (x ≡ r) ⊎ Contains live r
 first_or_rest x r live (zero, h, e) = inl e
 first_or_rest x r live (suc k, h, e) = inr (k, omega (arith, h), e)
 

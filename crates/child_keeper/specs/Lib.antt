@@ -4,3 +4,7 @@ pub mod MayStart
 pub mod Scripts
 pub mod Scripted
 pub mod StartFaults
+pub mod Agents
+pub mod Commands
+pub mod Ends
+pub mod Processes

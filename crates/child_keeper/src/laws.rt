@@ -1,7 +1,10 @@
 //! Laws of children and of their book, each the contract of a function that does nothing.
-ghost use Rattle.std.specs.Prelude.{◌≡◌, ◌≢◌, ◌↔◌, ◌⊎◌, ℕ, ◌+◌, ◌≤◌, List, [], ◌∷◌, ◌++◌, Contains, IsOk, Ok, Result, cond, is_ok, length};
+ghost use Rattle.std.specs.Prelude.{◌≡◌, ◌≢◌, ◌↔◌, ◌⊎◌, ℕ, ◌+◌, ◌≤◌, List, [], ◌∷◌, ◌++◌, Contains, IsOk, IsTrue, Ok, Option, Result, Some, cond, is_ok, length};
 ghost use Rattle.ocf_types.specs.declared.outcome.StartFault.{StartFault};
+ghost use Rattle.ocf_env.specs.Places.{Pair};
+ghost use Rattle.ocf_env.specs.Variables.{are_ascending};
 ghost use Rattle.child_keeper.specs.Children.{Asked, AsksNothing, ChildrenView, after_kill, after_poll, after_start, kill_answer, poll_answer, start_answer};
+ghost use Rattle.child_keeper.specs.Commands.{given};
 ghost use Rattle.child_keeper.specs.declared.answer.Entry.{Entry};
 ghost use Rattle.child_keeper.specs.declared.answer.KillFault.{KillFault};
 ghost use Rattle.child_keeper.specs.declared.answer.Poll.{Poll};
@@ -56,4 +59,10 @@ pub fn how_many_live()
         → Contains v.live run → answer ≢ Running → length (after_poll v run answer).live + 1 ≤ length v.live }
     ensures kill { (v : ChildrenView) (run : ℕ) (answer : Result Unit KillFault)
         → Contains v.live run → length (after_kill v run answer).live + 1 ≤ length v.live }
+{}
+
+/// An environment that is sorted by name gives each of its variables its value, and no other variable any.
+pub fn just_its_variables()
+    ensures { (pairs : List Pair) (name value : List ℕ) → IsTrue (are_ascending pairs)
+        → (given pairs name ≡ Some (Some value)) ↔ Contains pairs (name, value) }
 {}

@@ -1,0 +1,2 @@
+pub mod AgentLemmas
+pub mod CommandLemmas

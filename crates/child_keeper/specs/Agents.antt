@@ -1,0 +1,7 @@
+-- The runs of children.
+use Rattle.std.specs.Prelude.{ℕ, List, map}
+use Rattle.child_keeper.specs.declared.agents.Agent.{Agent}
+
+-- the runs of these children, in order
+abbrev pub runs_of : {P I O E : Type 0} → List (Agent P I O E) → List ℕ
+runs_of = map (λ a. a.run)

@@ -1,0 +1,17 @@
+-- What is asked of the system for a call.
+use Rattle.std.specs.Prelude.{◌≡◌, ℕ, List, codes, Option, Some, None, true}
+use Rattle.std.specs.Process.{clears_env, command_args, command_dir, command_program, command_var, var_after}
+use Rattle.std.specs.declared.process.command.Command.{Command}
+use Rattle.ocf_env.specs.Places.{Call, Pair}
+
+-- what a command says of a variable where it is given these pairs and nothing else
+abbrev pub given : List Pair → List ℕ → Option (Option (List ℕ))
+given pairs name = var_after Some Some name None pairs
+
+-- the command asks for just this call: its program with its arguments, with its variables and no other, in the root folder
+pub record Asks {M : Type 0} (c : Command M) (call : Call) : Type 0 where
+  pub program : command_program c ≡ call.program
+  pub arguments : command_args c ≡ call.arguments
+  pub cleared : clears_env c ≡ true
+  pub variables : (name : List ℕ) → command_var c name ≡ given call.environment name
+  pub folder : command_dir c ≡ Some (codes "/")

@@ -1,0 +1,30 @@
+-- What the system answers, and what children answer then.
+use Rattle.std.specs.Prelude.{◌≡◌, List, Option, Some, None, Result, Ok, Err, pos}
+use Rattle.std.specs.IoError.{error_kind}
+use Rattle.std.specs.Process.{exit_code}
+use Rattle.std.specs.declared.io.Error.{Error}
+use Rattle.std.specs.declared.io.ErrorKind.{ErrorKind}
+use Rattle.std.specs.declared.io.ErrorKind.TheVariants.{NotFound, PermissionDenied}
+use Rattle.std.specs.declared.process.ExitStatus.{ExitStatus}
+use Rattle.ocf_types.specs.declared.outcome.StartFault.{StartFault}
+use Rattle.ocf_types.specs.declared.outcome.StartFault.TheVariants.{Missing, Denied, Other}
+use Rattle.child_keeper.specs.declared.answer.Poll.{Poll}
+use Rattle.child_keeper.specs.declared.answer.Poll.TheVariants.{Running, Exited, Signaled, Fault}
+
+-- why an agent was not started, by the kind of the system's error
+abbrev pub start_fault : ErrorKind → StartFault
+start_fault NotFound = Missing
+start_fault PermissionDenied = Denied
+start_fault _ = Other
+
+-- a child that ended so is told so: by its exit code, or that a signal ended it
+abbrev pub TellsEnd : Poll → ExitStatus → Type 0
+TellsEnd (Exited code) status = exit_code status ≡ Some (pos code)
+TellsEnd Signaled status = exit_code status ≡ None
+TellsEnd _ status = ⊥
+
+-- what a child says when the system was asked for its end and answered so
+abbrev pub Tells : Poll → Result (Option ExitStatus) Error → Type 0
+Tells answer (Ok None) = answer ≡ Running
+Tells answer (Ok (Some status)) = TellsEnd answer status
+Tells answer (Err error) = answer ≡ Fault

@@ -1,0 +1,115 @@
+// The children that live, each under its run.
+ghost use Rattle.std.specs.Prelude.{◌≡◌, ◌↔◌, ◌+◌, ◌<◌, ◌≤◌, ◌==◌, ◌++◌, [], ◌∷◌, Contains, IfNone, IfOk, IsTrue, OnSome, Some, length, slice_get, vec_len};
+ghost use Rattle.std.specs.List.{position_from};
+ghost use Rattle.std.specs.Vec.{vec_capacity};
+ghost use Rattle.child_keeper.specs.Agents.{runs_of};
+ghost use Rattle.child_keeper.specs.Children.{live_limit, without_run};
+
+use crate::live::LIVE_LIMIT;
+use ocf_types::RunId;
+use std::alloc::{AllocError, Allocator};
+use std::io;
+use std::process::{Child, ExitStatus, OpenProcess};
+
+/// A child and its run.
+#[derive(Drop)]
+pub struct Agent<P: OpenProcess + Drop> {
+    pub run: RunId,
+    pub child: Child<P>,
+}
+
+/// The children that live, by their start.
+#[derive(Drop)]
+pub struct Agents<P: OpenProcess + Drop, A: Allocator> {
+    pub agents: Vec<Agent<P>, A>,
+    pub ghost room: { live_limit ≤ vec_capacity agents },
+}
+
+// Where the first child of a run stands.
+fn first_of<P: OpenProcess + Drop>(agents: &[Agent<P>], run: RunId) -> Option<usize>
+    ensures { result ≡ position_from (λ a. a.run == run) 0 agents.now }
+{
+    agents.iter().position(|agent| agent.run.get() == run.get())
+}
+
+impl<P: OpenProcess + Drop, A: Allocator> Agents<P, A> {
+    /// None, with room for all that may live. It fails only where memory is refused.
+    pub fn new(alloc: A) -> Result<Agents<P, A>, AllocError>
+        ensures none { IfOk result (λ a. runs_of a.agents.items ≡ []) }
+    {
+        let agents = Vec::with_capacity(alloc, LIVE_LIMIT)?;
+        Ok(Agents { agents })
+    }
+
+    /// One child more. It takes no memory.
+    pub fn add(&mut self, run: RunId, child: Child<P>)
+        requires few { length (runs_of self.old.agents.items) < LIVE_LIMIT }
+        ensures added { runs_of self.new.agents.items ≡ runs_of self.old.agents.items ++ run ∷ [] }
+    {
+        self.agents.push_reserved(Agent { run, child });
+    }
+
+    // Where the first child of a run stands.
+    fn first(&self, run: RunId) -> Option<usize>
+        ensures { result ≡ position_from (λ a. a.run == run) 0 self.now.agents.items }
+    {
+        first_of(self.agents.as_slice(), run)
+    }
+
+    // Where the child of a run stands.
+    fn place(&self, run: RunId) -> usize
+        requires lives { Contains (runs_of self.now.agents.items) run }
+        ensures within { result < vec_len self.now.agents }
+        ensures found { slice_get (runs_of self.now.agents.items) result ≡ Some run }
+    {
+        match self.first(run) {
+            Some(place) => place,
+            None => unreachable!(),
+        }
+    }
+
+    /// Asks a child whether it has ended, without waiting for it.
+    pub fn ask(&mut self, run: RunId) -> io::Result<Option<ExitStatus>>
+        requires lives { Contains (runs_of self.old.agents.items) run }
+        ensures stay { runs_of self.new.agents.items ≡ runs_of self.old.agents.items }
+    {
+        let place = self.place(run);
+        self.agents[place].child.try_wait()
+    }
+
+    /// The child of a run, which is no more among them.
+    pub fn take(&mut self, run: RunId) -> Child<P>
+        requires lives { Contains (runs_of self.old.agents.items) run }
+        ensures gone { runs_of self.new.agents.items ≡ without_run run (runs_of self.old.agents.items) }
+    {
+        let place = self.place(run);
+        let agent = self.agents.remove(place);
+        self.agents.retain(|other| other.run.get() != run.get());
+        agent.child
+    }
+
+    /// The child that was started last, which is no more among them. None: there is none.
+    pub fn pop(&mut self) -> Option<Child<P>>
+        ensures fewer { OnSome result (vec_len self.new.agents + 1 ≡ vec_len self.old.agents) }
+        ensures none { IfNone result (runs_of self.new.agents.items ≡ []) }
+    {
+        Some(self.agents.pop()?.child)
+    }
+
+    /// Whether the child of a run is among them.
+    pub fn contains(&self, run: RunId) -> bool
+        ensures lives { IsTrue result ↔ Contains (runs_of self.now.agents.items) run }
+    {
+        match self.first(run) {
+            Some(_) => true,
+            None => false,
+        }
+    }
+
+    /// How many they are.
+    pub fn len(&self) -> usize
+        ensures { result ≡ length (runs_of self.now.agents.items) }
+    {
+        self.agents.len()
+    }
+}

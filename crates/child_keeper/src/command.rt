@@ -1,0 +1,110 @@
+// The command that is started for an invocation.
+ghost use Rattle.std.specs.Prelude.{◌≡◌, ◌++◌, ◌∷◌, [], ℕ, List, IfOk, OnOk, None, Some, bytes_eq, codes, if◌then◌else◌, true};
+ghost use Rattle.std.specs.Process.{SameDir, SameEnv, SameProgramAndArgs, clears_env, command_args, command_dir, command_program, command_var, var_after};
+ghost use Rattle.child_keeper.specs.Commands.{Asks};
+
+use ocf_env::{Invocation, Text};
+use std::alloc::{AllocError, Allocator};
+use std::process::{Command, Stdio};
+
+// Each agent runs in this folder, so that it keeps no other from being unmounted.
+const FOLDER: &str = "/";
+
+fn push_argument<A: Allocator + Copy>(
+    command: &mut Command<A>,
+    argument: &str,
+) -> Result<(), AllocError>
+    ensures program { OnOk result (command_program command.new ≡ command_program command.old) }
+    ensures arguments { OnOk result (command_args command.new ≡ command_args command.old ++ argument.now ∷ []) }
+    ensures environment { OnOk result (SameEnv command.old command.new) }
+    ensures folder { OnOk result (SameDir command.old command.new) }
+{
+    command.arg(argument)?;
+    Ok(())
+}
+
+fn push_arguments<A: Allocator + Copy, L: Allocator>(
+    command: &mut Command<A>,
+    arguments: &[Text<L>],
+) -> Result<(), AllocError>
+    ensures program { OnOk result (command_program command.new ≡ command_program command.old) }
+    ensures arguments { OnOk result (command_args command.new ≡ command_args command.old ++ arguments.now) }
+    ensures environment { OnOk result (SameEnv command.old command.new) }
+    ensures folder { OnOk result (SameDir command.old command.new) }
+{
+    for argument in arguments {
+        push_argument(command, argument.as_str())?;
+    }
+    Ok(())
+}
+
+fn set_variable<A: Allocator + Copy>(
+    command: &mut Command<A>,
+    name: &str,
+    value: &str,
+) -> Result<(), AllocError>
+    ensures call { OnOk result (SameProgramAndArgs command.old command.new) }
+    ensures variables { OnOk result ((k : List ℕ)
+        → command_var command.new k ≡ (if bytes_eq name.now k then Some (Some value.now) else command_var command.old k)) }
+    ensures cleared { OnOk result (clears_env command.new ≡ clears_env command.old) }
+    ensures folder { OnOk result (SameDir command.old command.new) }
+{
+    command.env(name, value)?;
+    Ok(())
+}
+
+fn push_variables<A: Allocator + Copy, L: Allocator>(
+    command: &mut Command<A>,
+    variables: &[(Text<L>, Text<L>)],
+) -> Result<(), AllocError>
+    ensures call { OnOk result (SameProgramAndArgs command.old command.new) }
+    ensures variables { OnOk result ((name : List ℕ)
+        → command_var command.new name ≡ var_after Some Some name (command_var command.old name) variables.now) }
+    ensures cleared { OnOk result (clears_env command.new ≡ clears_env command.old) }
+    ensures folder { OnOk result (SameDir command.old command.new) }
+{
+    for (name, value) in variables {
+        set_variable(command, name.as_str(), value.as_str())?;
+    }
+    Ok(())
+}
+
+// A command with neither arguments nor variables.
+fn bare<A: Allocator + Copy>(alloc: A, program: &str) -> Result<Command<A>, AllocError>
+    ensures program { IfOk result (λ c. command_program c ≡ program.now) }
+    ensures arguments { IfOk result (λ c. command_args c ≡ []) }
+    ensures cleared { IfOk result (λ c. clears_env c ≡ true) }
+    ensures variables { IfOk result (λ c. (name : List ℕ) → command_var c name ≡ None) }
+    ensures folder { IfOk result (λ c. command_dir c ≡ Some (codes "/")) }
+{
+    let mut command = Command::new(alloc, program)?;
+    command.env_clear();
+    command.current_dir(FOLDER)?;
+    Ok(command)
+}
+
+// With nothing to read and nowhere to write.
+fn silence<A: Allocator + Copy>(command: &mut Command<A>)
+    ensures call { SameProgramAndArgs command.old command.new }
+    ensures environment { SameEnv command.old command.new }
+    ensures folder { SameDir command.old command.new }
+{
+    command.stdin(Stdio::null());
+    command.stdout(Stdio::null());
+    command.stderr(Stdio::null());
+}
+
+/// The command of an invocation: its program with its arguments, its variables and no other, in the root folder, with
+/// nothing to read and nowhere to write.
+pub fn command_of<A: Allocator + Copy, L: Allocator>(
+    alloc: A,
+    invocation: &Invocation<L>,
+) -> Result<Command<A>, AllocError>
+    ensures { IfOk result (λ c. Asks c invocation.now) }
+{
+    let mut command = bare(alloc, invocation.program())?;
+    push_arguments(&mut command, invocation.arguments())?;
+    push_variables(&mut command, invocation.environment())?;
+    silence(&mut command);
+    Ok(command)
+}

@@ -1,0 +1,42 @@
+// What the system's answers say of a child.
+ghost use Rattle.std.specs.Prelude.{◌≡◌};
+ghost use Rattle.std.specs.IoError.{error_kind};
+ghost use Rattle.child_keeper.specs.Ends.{Tells, TellsEnd, start_fault};
+
+use crate::Poll;
+use ocf_types::StartFault;
+use std::io;
+use std::io::ErrorKind;
+use std::process::ExitStatus;
+
+/// Why an agent was not started. A `#!` line that names no program is a missing file too.
+pub fn start_fault(error: &io::Error) -> StartFault
+    ensures { result ≡ start_fault (error_kind error.now) }
+{
+    match error.kind() {
+        ErrorKind::NotFound => StartFault::Missing,
+        ErrorKind::PermissionDenied => StartFault::Denied,
+        _ => StartFault::Other,
+    }
+}
+
+/// How a child ended.
+pub fn end_of(status: ExitStatus) -> Poll
+    ensures { TellsEnd result status }
+{
+    match status.code() {
+        Some(code) => Poll::Exited((code.cast_unsigned() % 256) as u8),
+        None => Poll::Signaled,
+    }
+}
+
+/// What a child says, by what the system answered when it was asked for its end.
+pub fn poll_of(answer: &io::Result<Option<ExitStatus>>) -> Poll
+    ensures { Tells result answer.now }
+{
+    match answer {
+        Ok(None) => Poll::Running,
+        Ok(Some(status)) => end_of(*status),
+        Err(_) => Poll::Fault,
+    }
+}

@@ -1,0 +1,176 @@
+//! Children of the system.
+ghost use Rattle.std.specs.Prelude.{◌≡◌, ◌<◌, [], Contains, IfOk, length};
+ghost use Rattle.exec_journal.specs.Journal.{journal_disk};
+ghost use Rattle.child_keeper.specs.Agents.{runs_of};
+ghost use Rattle.child_keeper.specs.Children.{after_kill, after_poll, after_start, live_limit, without_run};
+ghost use Rattle.child_keeper.specs.Commands.{Asks};
+ghost use Rattle.child_keeper.specs.MayStart.{MayStart};
+
+use crate::agents::Agents;
+use crate::book::Book;
+use crate::command::command_of;
+use crate::dying::Dying;
+use crate::ends::{poll_of, start_fault};
+use crate::{Answer, Children, Entry, KillFault, Poll};
+use disk_model::Disk;
+use exec_journal::Journal;
+use ocf_env::{Invocation, Launch};
+use ocf_types::{RunId, StartFault};
+use std::alloc::{AllocError, Allocator, Global};
+use std::process;
+use std::process::{Child, OpenProcess};
+
+/// Agents as processes of the system. Each runs in the root folder with just the variables of its launch, and reads
+/// nothing and writes nowhere; it has no descriptor but 0, 1 and 2, blocks no signal and is ended by SIGPIPE, and has the
+/// umask of this process. OCF Resource Agent API 1.1, actions.
+///
+/// A killed child is the agent alone, not what it started. It is waited for when the book is emptied or another is
+/// started, without blocking: until then it is a zombie. A start takes the memory of its command from the allocator, and
+/// is refused as [`StartFault::Other`] where there is none.
+#[derive(Drop)]
+pub struct Processes<R: process::Processes + Drop, A: Allocator + Copy = Global> {
+    rt: R,
+    alloc: A,
+    book: Book<A>,
+    live: Agents<R::Started, A>,
+    dying: Dying<R::Started, A>,
+    last_run: u64,
+}
+
+impl<R: process::Processes + Drop, A: Allocator + Copy> Processes<R, A> {
+    ghost use Rattle.child_keeper.specs.Processes.{processes_of};
+
+    /// No children yet, with a book of so many entries. The room for the book and for all that may live is made here. It
+    /// fails only where memory is refused.
+    pub fn new(rt: R, alloc: A, book: usize) -> Result<Processes<R, A>, AllocError>
+        ensures children { IfOk result (λ p. processes_of p ≡ record { book = []; room = book; last_run = 0; live = [] }) }
+    {
+        Ok(Processes {
+            rt,
+            alloc,
+            book: Book::new(alloc, book)?,
+            live: Agents::new(alloc)?,
+            dying: Dying::new(alloc)?,
+            last_run: 0,
+        })
+    }
+
+    // Kills a child and gives it up, whatever the system answers.
+    fn strike(&mut self, run: RunId) -> Result<(), KillFault>
+        requires lives { Contains (processes_of self.old).live run }
+        ensures gone { processes_of self.new ≡ record (processes_of self.old) { live = without_run run (processes_of self.old).live } }
+    {
+        let mut child = self.live.take(run);
+        let killed = child.kill();
+        self.dying.add(child);
+        killed.map_err(|_| KillFault)
+    }
+}
+
+// Starts the program of an invocation.
+fn spawn<R: process::Processes, A: Allocator + Copy, L: Allocator>(
+    rt: &R,
+    alloc: A,
+    invocation: &Invocation<L>,
+) -> Result<Child<R::Started>, StartFault> {
+    let Ok(mut command) = command_of(alloc, invocation) else {
+        return Err(StartFault::Other);
+    };
+    command.spawn(rt).map_err(|error| start_fault(&error))
+}
+
+// Kills all children and gives them up.
+fn strike_all<P: OpenProcess + Drop, A: Allocator>(live: &mut Agents<P, A>, dying: &mut Dying<P, A>)
+    ensures none { runs_of live.new.agents.items ≡ [] }
+{
+    while let Some(mut child) = live.pop() {
+        let _ = child.kill();
+        dying.add(child);
+    }
+}
+
+impl<R: process::Processes + Drop, A: Allocator + Copy> Children for Processes<R, A> {
+    ghost use Rattle.child_keeper.specs.Processes.{processes_of};
+
+    ghost view = { processes_of };
+
+    fn start<D: Disk + Drop, B: Allocator + Copy, L: Allocator>(
+        &mut self,
+        journal: &Journal<D, B>,
+        launch: &Launch<L>,
+    ) -> Result<(), StartFault> {
+        self.dying.sweep();
+        let run = launch.run;
+        let answer = match spawn(&self.rt, self.alloc, &launch.invocation) {
+            Ok(child) => {
+                self.live.add(run, child);
+                Ok(())
+            }
+            Err(fault) => Err(fault),
+        };
+        self.book.note(Entry {
+            run,
+            at: journal.clock(),
+            answer: Answer::of_start(answer),
+        });
+        self.last_run = run.get();
+        answer
+    }
+
+    fn poll(&mut self, run: RunId) -> Poll {
+        let answer = poll_of(&self.live.ask(run));
+        self.book.note(Entry {
+            run,
+            at: 0,
+            answer: Answer::of_poll(answer),
+        });
+        match answer {
+            Poll::Running => {}
+            Poll::Exited(_) | Poll::Signaled => drop(self.live.take(run)),
+            Poll::Fault => {
+                let _ = self.strike(run);
+            }
+        }
+        answer
+    }
+
+    fn kill(&mut self, run: RunId) -> Result<(), KillFault> {
+        let answer = self.strike(run);
+        self.book.note(Entry {
+            run,
+            at: 0,
+            answer: Answer::of_kill(answer),
+        });
+        answer
+    }
+
+    fn give_up_all(&mut self) {
+        strike_all(&mut self.live, &mut self.dying);
+        self.dying.sweep();
+    }
+
+    fn clear_book(&mut self) {
+        self.dying.sweep();
+        self.book.clear();
+    }
+
+    fn last_run(&self) -> u64 {
+        self.last_run
+    }
+
+    fn book(&self) -> &[Entry] {
+        self.book.entries.as_slice()
+    }
+
+    fn room(&self) -> usize {
+        self.book.room
+    }
+
+    fn is_live(&self, run: RunId) -> bool {
+        self.live.contains(run)
+    }
+
+    fn live_count(&self) -> usize {
+        self.live.len()
+    }
+}
