@@ -6,6 +6,8 @@ mod disks;
 #[cfg(test)]
 mod every_byte;
 #[cfg(test)]
+mod files;
+#[cfg(test)]
 mod liar;
 #[cfg(test)]
 mod lies;
@@ -13,8 +15,6 @@ mod lies;
 mod openings;
 #[cfg(test)]
 mod parts;
-#[cfg(test)]
-mod quiet;
 #[cfg(test)]
 mod slots;
 #[cfg(test)]

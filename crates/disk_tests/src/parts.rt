@@ -4,10 +4,6 @@ use event_wire::encode_state;
 use exec_journal::{Journal, JournalFault};
 use std::alloc::Global;
 
-/// Part A of a new journal.
-pub const CREATED: &[u8] =
-    b"\x01OCFJ\x01\0\0\0\0\0\0\0\x01\0\0\0\x1a\0\0\0\0\0\0\0\x01\0\0\0\0\0\0\0\x01\0\0\0\0\0\0\0\0\0\0\0";
-
 /// The state with no resource.
 pub const EMPTY_STATE: &[u8] = b"\0\0\0\0\0\0\0\x01\0\0\0\0\0\0\0\x01\0\0\0\0\0\0\0\0\0\0";
 
@@ -18,9 +14,6 @@ pub const FIRST: &[u8] =
 /// The state after that.
 pub const FIRST_STATE: &[u8] =
     b"\0\0\0\0\0\0\0\x01\0\0\0\0\0\0\0\x01\0\0\0\0\0\0\0\0\0\x01\x02r\x31\x09pacemaker\x05Dummy\0\0\0\0\0";
-
-/// The registration of r1 at moment 0.
-pub const REGISTER: &[u8] = b"\x01\0\0\0\0\0\0\0\0\x02r\x31\x09pacemaker\x05Dummy\0";
 
 /// Part A of a journal in which then a start and a monitor of level 10 were accepted, and the start began at moment 10.
 pub const QUEUED: &[u8] =

@@ -1,0 +1,21 @@
+// What became of a device call.
+use ocf_types::Part;
+
+/// A device call, as it ended.
+#[derive(Clone, Copy, Debug, PartialEq, Eq)]
+pub enum Call {
+    /// The length of a part was answered.
+    Measured(Part, u64),
+    /// The bytes of a part from this offset on were answered.
+    Read(Part, u64),
+    /// A write into a part from this offset on succeeded.
+    Wrote(Part, u64),
+    /// A write into a part from this offset on failed: any of it may have been made.
+    Tried(Part, u64),
+    /// A sync of a part succeeded.
+    Synced(Part),
+    /// A call that writes nothing, or a sync, failed.
+    Failed,
+    /// No call was made.
+    Refused,
+}

@@ -1,0 +1,97 @@
+//! Why the files of a journal were not opened.
+ghost use Rattle.std.specs.Prelude.{◌≡◌};
+ghost use Rattle.file_disk.specs.declared.fault.OpenFault.TheVariants.{Memory};
+
+use ocf_types::Part;
+use std::alloc::AllocError;
+use std::fmt::{self, Display, Formatter};
+use std::io;
+use thiserror::Error;
+
+/// Why the files of a journal were not opened. What is displayed is the reason alone: `located` says where as well.
+#[derive(Clone, Copy, Debug, Error)]
+pub enum OpenFault {
+    /// The folder has no name, is not there, is no folder, or can't be read or synced.
+    #[error("{0}")]
+    Folder(io::Error),
+    /// The file of the part can't be made, opened, locked, synced or read.
+    #[error("{1}")]
+    File(Part, io::Error),
+    /// A folder, a symbolic link or a device has the name of the part's file.
+    #[error("not a plain file")]
+    NotPlain(Part),
+    /// The part's file is open as a journal already.
+    #[error("in use by another executor")]
+    Locked(Part),
+    /// A growth was refused.
+    #[error("memory")]
+    Memory,
+}
+
+impl From<AllocError> for OpenFault {
+    ghost from_gives = { λ _ e. e ≡ Memory };
+
+    fn from(_: AllocError) -> Self {
+        OpenFault::Memory
+    }
+}
+
+/// The name of a part's file in the folder.
+pub(crate) fn file_name(part: Part) -> &'static str {
+    match part {
+        Part::A => "part-a",
+        Part::B => "part-b",
+    }
+}
+
+impl OpenFault {
+    // A fault of the folder.
+    pub(crate) fn folder(error: io::Error) -> OpenFault {
+        if error.kind() == io::ErrorKind::OutOfMemory {
+            OpenFault::Memory
+        } else {
+            OpenFault::Folder(error)
+        }
+    }
+
+    // A fault of the part's file.
+    pub(crate) fn file(part: Part, error: io::Error) -> OpenFault {
+        if error.kind() == io::ErrorKind::OutOfMemory {
+            OpenFault::Memory
+        } else {
+            OpenFault::File(part, error)
+        }
+    }
+
+    // The name of the file that it speaks of.
+    fn name(&self) -> Option<&'static str> {
+        match self {
+            OpenFault::File(part, _) | OpenFault::NotPlain(part) | OpenFault::Locked(part) => {
+                Some(file_name(*part))
+            }
+            OpenFault::Folder(_) | OpenFault::Memory => None,
+        }
+    }
+
+    /// The fault with the path that it speaks of, in the folder that was to be opened.
+    pub fn located(self, dir: &str) -> Located<'_> {
+        Located { dir, fault: self }
+    }
+}
+
+/// A fault with its path. It is displayed as `/var/lib/ocfexec/part-a: not a plain file`.
+#[derive(Clone, Copy, Debug)]
+pub struct Located<'a> {
+    dir: &'a str,
+    fault: OpenFault,
+}
+
+impl Display for Located<'_> {
+    fn fmt<W: fmt::Write>(&self, f: &mut Formatter<W>) -> fmt::Result {
+        match self.fault.name() {
+            Some(name) => write!(f, "{}/{name}: {}", self.dir, self.fault),
+            None if self.dir.is_empty() => write!(f, "{}", self.fault),
+            None => write!(f, "{}: {}", self.dir, self.fault),
+        }
+    }
+}

@@ -1,0 +1,17 @@
+//! The journal's disk: two files of one folder, with a record of the calls that only contracts see.
+//!
+//! What contracts say of a disk of files, they say of its record: of what was found at the opening, and of each call
+//! with its answer. No proof ties the record to the system. It has to be trusted that each method of `FileDisk` makes
+//! the call that it notes, of that part's file, and no other; that a device keeps what a sync answered, and holds at an
+//! opening one of the pairs that a stop may leave; and that nobody else writes the files.
+#![tactic(auto)]
+
+mod call;
+mod disk;
+mod fault;
+mod log;
+mod open;
+mod record;
+
+pub use disk::FileDisk;
+pub use fault::{Located, OpenFault};

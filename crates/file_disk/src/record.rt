@@ -1,0 +1,40 @@
+// A record of device calls that only contracts read: it takes no memory.
+ghost use Rattle.std.specs.Prelude.{List};
+ghost use Rattle.std.specs.Borrow.{ftrue};
+ghost use Rattle.disk_model.specs.Image.{Image};
+ghost use Rattle.file_disk.specs.Past.{Event};
+
+use crate::call::Call;
+use std::marker::{Model, PhantomData};
+
+/// What was found in both parts, and each call since, the newest first.
+///
+/// Nothing of it is kept when the program runs. So `new` and `note` have no body to speak of, and are proved by hand.
+#[derive(Drop)]
+pub struct Record {
+    nothing: PhantomData<Call>,
+    pub ghost first: { Image },
+    pub ghost events: { List Event },
+}
+
+impl Model for Record {
+    ghost also_owns = { λ _. ftrue };
+}
+
+impl Record {
+    ghost use Rattle.file_disk.specs.Record.{Begins, Noted};
+
+    /// A record that begins with these bytes in part A and in part B.
+    pub fn new(_a: &[u8], _b: &[u8]) -> Record
+        ensures { Begins _a.now _b.now result }
+    {
+        Record {
+            nothing: PhantomData,
+        }
+    }
+
+    /// One call more, with the bytes that were read or given.
+    pub fn note(&mut self, _call: &Call, _bytes: &[u8])
+        ensures { Noted _call.now _bytes.now self.old self.new }
+    {}
+}
