@@ -1,4 +1,4 @@
-// Lines of known readers.
+// Lines of known readers. Lines as long as a line may be, and longer, are tried on the built program (tests/lines.sh).
 use exec_lines::{LineBuffer, Next, next_line};
 use std::alloc::Global;
 use std::io::{BufRead, BufReader};
@@ -37,35 +37,4 @@ fn a_line_ends_before_its_newline_or_with_the_input(rt: HostRuntime) {
         is(alloc, b"", &[]),
     ];
     assert_eq!(rt; seven, [Some(true); 6]);
-}
-
-// What stands in so many letters and this tail, each time with the line's length, up to the end.
-fn lengths(alloc: Global, letters: usize, tail: &[u8]) -> Option<[(Next, usize); 3]> {
-    let mut input = vec![in alloc; b'a'; letters].ok()?;
-    input.extend_from_slice(tail).ok()?;
-    let mut reader = BufReader::with_capacity(alloc, 4_096, input.as_slice()).ok()?;
-    let mut buffer = LineBuffer::new(alloc).ok()?;
-    let mut found = [(Next::End, 1); 3];
-    for place in &mut found {
-        let next = next_line(&mut reader, &mut buffer).ok()?;
-        *place = (next, buffer.line().len());
-    }
-    Some(found)
-}
-
-#[test]
-fn a_line_has_at_most_131_072_bytes_and_a_longer_one_is_passed_over(rt: HostRuntime) {
-    let (longest, longer) = ((Next::Line, 131_072), (Next::TooLong, 131_073));
-    let (four, end) = ((Next::Line, 4), (Next::End, 0));
-    for (letters, tail, wanted) in [
-        (131_072, b"\nnext".as_slice(), [longest, four, end]),
-        (131_072, b"\nnext\n", [longest, four, end]),
-        (131_072, b"", [longest, end, end]),
-        (131_073, b"\nnext\n", [longer, four, end]),
-        (131_074, b"\nnext\n", [longer, four, end]),
-        (400_000, b"\nnext\n", [longer, four, end]),
-        (131_073, b"", [longer, end, end]),
-    ] {
-        assert_eq!(rt; lengths(rt.alloc(), letters, tail), Some(wanted));
-    }
 }

@@ -4,11 +4,21 @@ use exec_lines::{LineBuffer, next_line, write_flushed};
 use std::alloc::Global;
 use std::io::{self, BufReader, ErrorKind, Read};
 
-// Gives these bytes, each read after an interrupted one, and then fails.
+/// Gives these bytes, each read after an interrupted one, and then fails.
 #[derive(Drop)]
-struct Stumbling<'a> {
+pub struct Stumbling<'a> {
     left: &'a [u8],
     stumbles: bool,
+}
+
+impl<'a> Stumbling<'a> {
+    /// Gives these bytes.
+    pub fn new(left: &'a [u8]) -> Stumbling<'a> {
+        Stumbling {
+            left,
+            stumbles: false,
+        }
+    }
 }
 
 impl Read for Stumbling<'_> {
@@ -26,9 +36,8 @@ impl Read for Stumbling<'_> {
 
 // How the reading fails behind two lines.
 fn failure(alloc: Global) -> Option<ErrorKind> {
-    let left = b"one\ntwo and half of three\nthr";
-    let stumbles = false;
-    let mut reader = BufReader::with_capacity(alloc, 5, Stumbling { left, stumbles }).ok()?;
+    let input = Stumbling::new(b"one\ntwo and half of three\nthr");
+    let mut reader = BufReader::with_capacity(alloc, 5, input).ok()?;
     let mut buffer = LineBuffer::new(alloc).ok()?;
     if !has_lines(
         &mut reader,

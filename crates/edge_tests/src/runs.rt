@@ -1,0 +1,135 @@
+// Runs over whole inputs, over a disk in memory and scripted children, by a clock that stands still.
+ghost use Rattle.std.specs.Prelude.{⊤};
+
+use child_keeper::{Poll, Script, Scripted};
+use disk_model::MemDisk;
+use exec_output::Fault;
+use exec_session::{Metadata, Setting, run_lines};
+use executor::Executor;
+use ocf_env::{Site, Text};
+use ocf_types::{AgentType, MetaFault, Provider, StartFault};
+use std::alloc::Global;
+use std::collections::VecDeque;
+use std::io::{self, BufRead, Write};
+use std::rt::Clock;
+use std::time::Duration;
+
+// A clock that stands still.
+struct Standing;
+
+impl Clock for Standing {
+    fn monotonic(&self) -> io::Result<Duration> {
+        Ok(Duration::from_secs(0))
+    }
+
+    fn since_1970(&self) -> io::Result<Duration> {
+        Ok(Duration::from_secs(6))
+    }
+}
+
+// Every agent is missing.
+struct NoMetadata;
+
+impl Metadata for NoMetadata {
+    ghost gives = { λ source provider agent given. ⊤ };
+
+    fn metadata(
+        &self,
+        _alloc: Global,
+        _provider: &Provider,
+        _agent: &AgentType,
+    ) -> Result<Vec<u8>, MetaFault> {
+        Err(MetaFault::NotStarted(StartFault::Missing))
+    }
+}
+
+// Children that answer these polls, and then run on.
+fn children(alloc: Global, polls: &[Poll]) -> Option<Scripted> {
+    let mut script = Script {
+        starts: VecDeque::new(alloc),
+        polls: VecDeque::new(alloc),
+        kills: VecDeque::new(alloc),
+    };
+    for poll in polls {
+        script.polls.push_back(*poll).ok()?;
+    }
+    Scripted::new(alloc, script, 768).ok()
+}
+
+// A site without words: no agent is there.
+fn nowhere(alloc: Global) -> Site {
+    let (root, path) = (String::new(alloc), String::new(alloc));
+    Site::new(Text::new(root), Text::new(path), None)
+}
+
+/// How a run ends over a journal that is opened at moment 5,000. Its drains make at most three turns.
+pub fn ended<R: BufRead, W: Write>(
+    alloc: Global,
+    disk: MemDisk,
+    polls: &[Poll],
+    reader: &mut R,
+    writer: &mut W,
+) -> Option<Result<(), Fault>> {
+    let children = children(alloc, polls)?;
+    let setting = Setting {
+        alloc,
+        clock: &Standing,
+        metadata: &NoMetadata,
+        most_turns: 3,
+    };
+    match Executor::open(alloc, disk, children, nowhere(alloc), 5_000) {
+        Ok((executor, report)) => {
+            Some(run_lines(&setting, reader, writer, executor, &report).ended)
+        }
+        Err(_) => None,
+    }
+}
+
+/// How a run over these lines ends, if it writes just what is wanted.
+pub fn writes(
+    alloc: Global,
+    disk: MemDisk,
+    polls: &[Poll],
+    lines: &[u8],
+    wanted: &[u8],
+) -> Option<Result<(), Fault>> {
+    let mut reader = lines;
+    let mut writer = Vec::new(alloc);
+    let ended = ended(alloc, disk, polls, &mut reader, &mut writer)?;
+    (writer.as_slice() == wanted).then(|| ended)
+}
+
+/// How a run over these lines ends whose output takes no more bytes than this room has.
+pub fn ended_in(
+    alloc: Global,
+    disk: MemDisk,
+    polls: &[Poll],
+    lines: &[u8],
+    room: &mut [u8],
+) -> Option<Result<(), Fault>> {
+    let mut reader = lines;
+    let mut writer = room;
+    ended(alloc, disk, polls, &mut reader, &mut writer)
+}
+
+/// Registers r1, starts it, and drains.
+pub const DRAIN: &[u8] =
+    b"{\"op\":\"register\",\"id\":\"r1\",\"provider\":\"p\",\"type\":\"t\"}\n{\"op\":\"exec\",\"id\":\"r1\",\"action\":\"start\"}\n{\"op\":\"drain\"}\n";
+
+const RUNS_ON: &[u8] =
+    b"{\"ok\":true}\n{\"call\":1,\"key\":\"r1_start_0\",\"ok\":true}\n{\"end\":\"turns\"}\n";
+
+const NOT_RUNNING: &[u8] =
+    b"{\"ok\":true}\n{\"call\":1,\"key\":\"r1_start_0\",\"ok\":true}\n{\"action\":\"start\",\"call\":1,\"code\":7,\"id\":\"r1\",\"interval\":0,\"name\":\"OCF_NOT_RUNNING\",\"outcome\":\"done\",\"run\":1}\n{\"end\":\"idle\"}\n";
+
+#[test]
+fn a_drain_makes_as_many_turns_as_it_may(rt: HostRuntime) {
+    let alloc = rt.alloc();
+    for (polls, wanted) in [
+        ([].as_slice(), RUNS_ON),
+        (&[Poll::Running, Poll::Exited(7)], NOT_RUNNING),
+    ] {
+        let ended = writes(alloc, MemDisk::new(alloc), polls, DRAIN, wanted);
+        assert_eq!(rt; ended, Some(Ok(())));
+    }
+}

@@ -1,0 +1,26 @@
+-- A drain that goes on.
+use Rattle.std.proofs.Common.{◌≡◌, ◌↔◌, ℕ, Bool, true, false, Option, None, refl, sym, ap, ◌∙◌}
+use Rattle.ocf_types.specs.declared.reply.TurnEnd.{TurnEnd}
+use Rattle.ocf_types.specs.declared.reply.TurnEnd.TheVariants as turn_end
+use Rattle.exec_commands.specs.declared.ends.DrainEnd.{DrainEnd}
+use Rattle.exec_session.specs.Drains.{end_behind}
+use Rattle.exec_session.specs.declared.drain.Terms.{Terms}
+
+-- it does so behind a turn that is done
+done : (t : Terms) (turns now : ℕ) (end : TurnEnd) (idle : Bool) → end_behind t turns now end idle ≡ None → end ≡ turn_end.Done
+done t turns now turn_end.Done idle e = refl
+done t turns now turn_end.Closed idle e = absurd cc
+done t turns now turn_end.BookFull idle e = absurd cc
+done t turns now turn_end.RunsSpent idle e = absurd cc
+done t turns now turn_end.Full idle e = absurd cc
+done t turns now turn_end.Memory idle e = absurd cc
+done t turns now turn_end.Disk idle e = absurd cc
+
+-- the executor is open then
+pub still_open : (t : Terms) (turns now : ℕ) (end : TurnEnd) (idle is_open : Bool) → (is_open ≡ false ↔ (end ≡ turn_end.Disk)) → end_behind t turns now end idle ≡ None → is_open ≡ true
+still_open t turns now end idle true closes e = refl
+still_open t turns now end idle false closes e = let is = sym (done t turns now end idle e) ∙ closes.0 refl in absurd cc
+
+-- what was told of its end, of an executor that was asked whether it is idle
+pub told_end : (t : Terms) (turns now : ℕ) (end : TurnEnd) (idle asked : Bool) (told given : Option DrainEnd) → told ≡ end_behind t turns now end asked → asked ≡ idle → told ≡ given → end_behind t turns now end idle ≡ given
+told_end t turns now end idle asked told given is was same = ap (λ b. end_behind t turns now end b) (sym was) ∙ sym is ∙ same

@@ -1,0 +1,3 @@
+pub mod DrainLemmas
+pub mod LineLemmas
+pub mod RunLemmas

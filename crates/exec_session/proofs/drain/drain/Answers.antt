@@ -1,0 +1,39 @@
+use Rattle.std.proofs.Common.{◌+◌, not, None, Some}
+use Rattle.ocf_types.specs.Boot.{any_busy}
+use Rattle.executor.specs.Sights.{sight_of}
+use Rattle.exec_session.specs.Drains.{at_start, further, spot}
+use Rattle.exec_session.proofs.DrainLemmas.{still_open, told_end}
+use Rattle.exec_session.proofs.drain.drain.Goals as goal
+
+pub loop-turns-init : goal.loop-turns-init
+loop-turns-init g c = record {
+  is_open = c.requires.open;
+  sound = c.requires.sound;
+  gone_on = at_start;
+}
+
+pub returns-in-Some-clause-drains : goal.returns-in-Some-clause-drains
+returns-in-Some-clause-drains g c =
+    let idle = not (any_busy (sight_of g.C.Children.view c.make_turn.new.executor).state) in
+    record {
+      turns = c.loop-turns.turns;
+      now = c.loop-turns.now;
+      after = c.get-now.result;
+      last = spot c.loop-turns.executor (g.W.Write.contents c.loop-turns.writer);
+      turn_end = c.in_ok-end.end;
+      gone_on = c.loop-turns.invariant.gone_on;
+      made = c.in_ok-end.ensures.made;
+      ended = told_end c.args.terms (c.loop-turns.turns + 1) c.get-now.result c.in_ok-end.end idle c.idle.result c.end_behind.result (Some c.in-Some.end) c.end_behind.ensures c.idle.ensures.value c.in-Some.is;
+    }
+
+pub loop-turns-preserved : goal.loop-turns-preserved
+loop-turns-preserved g c =
+    let idle = not (any_busy (sight_of g.C.Children.view c.make_turn.new.executor).state) in
+    let last = spot c.loop-turns.executor (g.W.Write.contents c.loop-turns.writer) in
+    let next = spot c.make_turn.new.executor (g.W.Write.contents c.make_turn.new.writer) in
+    let on = told_end c.args.terms (c.loop-turns.turns + 1) c.get-now.result c.in_ok-end.end idle c.idle.result c.end_behind.result None c.end_behind.ensures c.idle.ensures.value c.in_default.is in
+    record {
+      is_open = still_open c.args.terms (c.loop-turns.turns + 1) c.get-now.result c.in_ok-end.end idle c.make_turn.new.executor.open c.in_ok-end.ensures.made.takes.closes on;
+      sound = c.in_ok-end.ensures.sound;
+      gone_on = further c.loop-turns.turns c.loop-turns.now c.get-now.result last next c.in_ok-end.end c.loop-turns.invariant.gone_on c.in_ok-end.ensures.made on;
+    }

@@ -1,0 +1,4 @@
+pub mod Answers
+pub mod Drains
+pub mod Progress
+pub mod Runs

@@ -1,0 +1,61 @@
+-- How a run goes on, line by line of the input.
+use Rattle.std.specs.Prelude.{◌≡◌, ◌≢◌, ℕ, ◌<◌, ⊤, List, [], length, Option, Some, None, Result}
+use Rattle.std.specs.Io.KnownBytes.{Appends, IsAtEnd}
+use Rattle.ocf_types.specs.declared.refusal.Refusal.{Refusal}
+use Rattle.disk_model.specs.View.{View}
+use Rattle.child_keeper.specs.Children.{ChildrenView}
+use Rattle.executor.specs.declared.executor.Executor.{Executor}
+use Rattle.exec_lines.specs.Lines.{first_line, after_first_line}
+use Rattle.exec_commands.specs.Replies.{reply_line}
+use Rattle.exec_commands.specs.declared.line.Line.{Line}
+use Rattle.exec_commands.specs.declared.reply.LineReply.{LineReply}
+use Rattle.exec_session.specs.declared.session.Input.{Input}
+use Rattle.exec_session.specs.declared.session.Input.TheVariants as input
+use Rattle.exec_session.specs.declared.session.Progress.{Progress}
+use Rattle.exec_session.specs.declared.session.Progress.TheVariants as progress
+use Rattle.exec_session.specs.Answers.{Source, IsReadAs, IsReply}
+use Rattle.exec_session.specs.Drains.{spot}
+
+-- where it is known what a reader has left: the next line has no bytes, and what stands behind it is left
+abbrev pub PassesLine : Option (List ℕ) → Option (List ℕ) → Type 0
+PassesLine None new = ⊤
+PassesLine (Some xs) new = (0 < length xs) × (first_line xs ≡ []) × (new ≡ Some (after_first_line xs))
+
+-- where it is known what a reader has left: the next line is read as this, and what stands behind it is left
+abbrev pub ReadsLine : Option (List ℕ) → Option (List ℕ) → Result Line Refusal → Type 0
+ReadsLine None new found = ⊤
+ReadsLine (Some xs) new found = (first_line xs ≢ []) × (new ≡ Some (after_first_line xs)) × IsReadAs (first_line xs) found
+
+-- what stands next in the input, from what a reader has left to what it has left then
+abbrev pub ReadsInput : Option (List ℕ) → Option (List ℕ) → Input → Type 0
+ReadsInput old new input.End = IsAtEnd old
+ReadsInput old new input.Empty = PassesLine old new
+ReadsInput old new (input.Line found) = ReadsLine old new found
+
+-- where a run is: its executor, what the reader has left, and what the writer holds
+pub record Place (E : Type 0) : Type 0 where
+  pub executor : E
+  pub left : Option (List ℕ)
+  pub written : Option (List ℕ)
+
+abbrev pub place : {E : Type 0} → E → Option (List ℕ) → Option (List ℕ) → Place E
+place executor left written = record { executor = executor; left = left; written = written }
+
+-- The next line is read, and what the writer holds grows by the notices of a drain, and then by just the reply.
+pub record Answers {D C M : Type 0} (look : D → View) (tend : C → ChildrenView) (source : Source) (most : ℕ) (p q : Place (Executor D C M)) : Type 0 where
+  pub found : Result Line Refusal
+  pub reply : LineReply
+  pub noticed : Option (List ℕ)
+  pub read : ReadsLine p.left q.left found
+  pub answered : IsReply look tend source most (spot p.executor p.written) (spot q.executor noticed) found reply
+  pub written : Appends noticed q.written (reply_line reply)
+
+-- the executor and what the writer holds are the same
+abbrev pub Stays : {E : Type 0} → Place E → Place E → Type 0
+Stays p q = (q.executor ≡ p.executor) × (q.written ≡ p.written)
+
+-- what was done with what stands next in the input
+abbrev pub Takes : {D C M : Type 0} → (D → View) → (C → ChildrenView) → Source → ℕ → Place (Executor D C M) → Place (Executor D C M) → Progress → Type 0
+Takes look tend source most p q progress.Answered = Answers look tend source most p q
+Takes look tend source most p q progress.PassedOver = PassesLine p.left q.left × Stays p q
+Takes look tend source most p q progress.End = IsAtEnd p.left × Stays p q

@@ -1,0 +1,122 @@
+//! What a line is answered.
+ghost use Rattle.std.specs.Prelude.{◌≡◌, true, IfOk};
+ghost use Rattle.executor.specs.Sights.{IsSound, sight_of};
+ghost use Rattle.exec_session.specs.Answers.{DrainsFor, IsClosedReply, IsMetaReply, IsOpenReply, IsReply, closed_drain, refused};
+ghost use Rattle.exec_session.specs.Drains.{spot};
+
+use crate::drain::{Terms, drain};
+use crate::metadata::Metadata;
+use crate::setting::Setting;
+use child_keeper::Children;
+use disk_model::Disk;
+use exec_commands::{DrainEnd, Line, LineReply};
+use exec_lines::moment_now;
+use exec_output::Stopped;
+use executor::Executor;
+use ocf_types::{AgentType, Provider, Refusal, Reply, TurnEnd};
+use std::io::Write;
+use std::rt::Clock;
+
+fn refused(refusal: Refusal) -> LineReply
+    ensures { result ≡ refused refusal }
+{
+    LineReply::Request(Reply::Refused(refusal))
+}
+
+fn meta_reply<K: Clock, M: Metadata>(
+    setting: &Setting<K, M>,
+    provider: &Provider,
+    agent: &AgentType,
+) -> LineReply
+    ensures { IsMetaReply (M.gives setting.now.metadata.now) provider.now agent.now result }
+{
+    LineReply::Meta(setting.metadata.metadata(setting.alloc, provider, agent))
+}
+
+fn closed_drain() -> LineReply
+    ensures { result ≡ closed_drain }
+{
+    LineReply::Drain(DrainEnd::Turn(TurnEnd::Closed))
+}
+
+// What a line is answered once a disk fault has closed the executor.
+fn closed_reply<K: Clock, M: Metadata>(
+    setting: &Setting<K, M>,
+    line: &Result<Line, Refusal>,
+) -> LineReply
+    ensures { IsClosedReply (M.gives setting.now.metadata.now) line.now result }
+{
+    match line {
+        Ok(Line::Meta { provider, agent }) => meta_reply(setting, provider, agent),
+        Ok(Line::Drain(_) | Line::Watch(_)) => closed_drain(),
+        Ok(Line::Request(_)) | Err(_) => refused(Refusal::Closed),
+    }
+}
+
+// Drains from now on, for so many milliseconds at most.
+fn drain_reply<W: Write, D: Disk + Drop, C: Children + Drop, K: Clock, M: Metadata>(
+    setting: &Setting<K, M>,
+    writer: &mut W,
+    executor: &mut Executor<D, C>,
+    ends_idle: bool,
+    limit: u32,
+) -> Result<LineReply, Stopped>
+    requires open { (sight_of C.view executor.old).is_open ≡ true }
+    requires sound { IsSound D.view (sight_of C.view executor.old) }
+    ensures sound { IsSound D.view (sight_of C.view executor.new) }
+    ensures reply { IfOk result (DrainsFor D.view C.view ends_idle limit setting.now.most_turns
+        (spot executor.old (W.contents writer.old)) (spot executor.new (W.contents writer.new))) }
+{
+    let start = moment_now(setting.clock).get();
+    let terms = Terms {
+        ends_idle,
+        until: start + u64::from(limit),
+        most: setting.most_turns,
+    };
+    let end = drain(setting, writer, executor, terms, start)?;
+    Ok(LineReply::Drain(end))
+}
+
+// What a line is answered. What is written before the reply are a drain's notices.
+fn open_reply<W: Write, D: Disk + Drop, C: Children + Drop, K: Clock, M: Metadata>(
+    setting: &Setting<K, M>,
+    writer: &mut W,
+    executor: &mut Executor<D, C>,
+    line: Result<Line, Refusal>,
+) -> Result<LineReply, Stopped>
+    requires open { (sight_of C.view executor.old).is_open ≡ true }
+    requires sound { IsSound D.view (sight_of C.view executor.old) }
+    ensures sound { IsSound D.view (sight_of C.view executor.new) }
+    ensures reply { IfOk result (IsOpenReply D.view C.view (M.gives setting.now.metadata.now) setting.now.most_turns
+        (spot executor.old (W.contents writer.old)) (spot executor.new (W.contents writer.new)) line) }
+{
+    match line {
+        Ok(Line::Request(request)) => {
+            let now = moment_now(setting.clock).get();
+            Ok(LineReply::Request(executor.command(now, request)))
+        }
+        Ok(Line::Drain(limit)) => drain_reply(setting, writer, executor, true, limit),
+        Ok(Line::Watch(limit)) => drain_reply(setting, writer, executor, false, limit),
+        Ok(Line::Meta { provider, agent }) => Ok(meta_reply(setting, &provider, &agent)),
+        Err(refusal) => Ok(refused(refusal)),
+    }
+}
+
+/// What a line is answered. What is written before the reply are a drain's notices.
+pub fn reply_to<W: Write, D: Disk + Drop, C: Children + Drop, K: Clock, M: Metadata>(
+    setting: &Setting<K, M>,
+    writer: &mut W,
+    executor: &mut Executor<D, C>,
+    line: Result<Line, Refusal>,
+) -> Result<LineReply, Stopped>
+    requires sound { IsSound D.view (sight_of C.view executor.old) }
+    ensures sound { IsSound D.view (sight_of C.view executor.new) }
+    ensures reply { IfOk result (IsReply D.view C.view (M.gives setting.now.metadata.now) setting.now.most_turns
+        (spot executor.old (W.contents writer.old)) (spot executor.new (W.contents writer.new)) line) }
+{
+    if executor.is_open() {
+        open_reply(setting, writer, executor, line)
+    } else {
+        Ok(closed_reply(setting, &line))
+    }
+}

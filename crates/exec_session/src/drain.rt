@@ -1,0 +1,96 @@
+//! Drains and watches: turns, each with its notices.
+ghost use Rattle.std.specs.Prelude.{◌≡◌, true, not, IfOk, OnOk};
+ghost use Rattle.executor.specs.Sights.{IsSound, sight_of};
+ghost use Rattle.exec_session.specs.Drains.{Drains, MakesTurn, end_behind, spot};
+
+use crate::metadata::Metadata;
+use crate::pause::Pause;
+use crate::setting::Setting;
+use child_keeper::Children;
+use disk_model::Disk;
+use exec_commands::DrainEnd;
+use exec_lines::moment_now;
+use exec_output::{Stopped, send_notices};
+use executor::Executor;
+use ocf_types::{NUM_MAX, TurnEnd};
+use std::alloc::Global;
+use std::io::Write;
+use std::rt::Clock;
+
+/// What a drain is held to.
+#[derive(Clone, Copy)]
+pub struct Terms {
+    /// Whether it ends where nothing is queued or running. A watch does not.
+    pub ends_idle: bool,
+    /// When its limit has passed, in milliseconds since 1970.
+    pub until: u64,
+    /// How many turns it makes at most, but for the first.
+    pub most: u64,
+}
+
+impl Terms {
+    // How a drain ends behind its turn of this number, which ended so and left the executor idle or not; the clock shows
+    // this moment then. None: it goes on.
+    fn end_behind(self, turns: u64, now: u64, end: TurnEnd, idle: bool) -> Option<DrainEnd>
+        ensures { result ≡ end_behind self turns now end idle }
+    {
+        if end != TurnEnd::Done {
+            return Some(DrainEnd::Turn(end));
+        }
+        if self.ends_idle && idle {
+            Some(DrainEnd::Idle)
+        } else if self.until <= now {
+            Some(DrainEnd::Limit)
+        } else if self.most <= turns {
+            Some(DrainEnd::Turns)
+        } else {
+            None
+        }
+    }
+}
+
+// Makes a turn at this moment, and writes its notices.
+fn make_turn<W: Write, D: Disk + Drop, C: Children + Drop>(
+    alloc: Global,
+    writer: &mut W,
+    executor: &mut Executor<D, C>,
+    now: u64,
+) -> Result<TurnEnd, Stopped>
+    requires open { (sight_of C.view executor.old).is_open ≡ true }
+    requires sound { IsSound D.view (sight_of C.view executor.old) }
+    ensures sound { IsSound D.view (sight_of C.view executor.new) }
+    ensures made { IfOk result (λ end. MakesTurn D.view C.view now
+        (spot executor.old (W.contents writer.old)) (spot executor.new (W.contents writer.new)) end) }
+{
+    executor.clear_book();
+    let end = executor.turn(now);
+    send_notices(alloc, writer, executor.notices())?;
+    Ok(end)
+}
+
+/// Makes turns up to the end of a drain that begins at this moment. Between two turns in which nothing happened it pauses.
+pub fn drain<W: Write, D: Disk + Drop, C: Children + Drop, K: Clock, M: Metadata>(
+    setting: &Setting<K, M>,
+    writer: &mut W,
+    executor: &mut Executor<D, C>,
+    terms: Terms,
+    start: u64,
+) -> Result<DrainEnd, Stopped>
+    requires open { (sight_of C.view executor.old).is_open ≡ true }
+    requires sound { IsSound D.view (sight_of C.view executor.old) }
+    ensures sound { IsSound D.view (sight_of C.view executor.new) }
+    ensures drains { IfOk result (λ end. Drains D.view C.view terms start
+        (spot executor.old (W.contents writer.old)) (spot executor.new (W.contents writer.new)) end) }
+{
+    let mut now = start;
+    let mut pause = Pause::new();
+    for turns in 0..NUM_MAX {
+        let end = make_turn(setting.alloc, writer, executor, now)?;
+        pause.after_turn(setting.clock, executor);
+        now = moment_now(setting.clock).get();
+        if let Some(end) = terms.end_behind(turns + 1, now, end, executor.idle()) {
+            return Ok(end);
+        }
+    }
+    Err(Stopped)
+}

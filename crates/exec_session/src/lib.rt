@@ -1,0 +1,14 @@
+//! A run of an executor over its input: command lines answered one by one, drains and watches turn by turn.
+#![tactic(auto)]
+
+mod answer;
+mod drain;
+mod metadata;
+mod pause;
+mod report;
+mod session;
+mod setting;
+
+pub use metadata::Metadata;
+pub use session::{Run, run_lines};
+pub use setting::Setting;

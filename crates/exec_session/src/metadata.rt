@@ -1,0 +1,22 @@
+//! Where agents' metadata come from.
+ghost use Rattle.std.specs.Prelude.{ℕ, List, Result};
+ghost use Rattle.std.specs.Global.{Vec};
+ghost use Rattle.ocf_types.specs.declared.outcome.MetaFault.{MetaFault};
+
+use ocf_types::{AgentType, MetaFault, Provider};
+use std::alloc::Global;
+
+/// Where agents' metadata come from. OCF Resource Agent API 1.1, meta-data.
+pub trait Metadata {
+    /// What may be answered for the agent of a provider and a type.
+    ghost gives: { Self → List ℕ → List ℕ → Result (Vec ℕ) MetaFault → Type 0 };
+
+    /// The metadata of an agent, or why it has none.
+    fn metadata(
+        &self,
+        alloc: Global,
+        provider: &Provider,
+        agent: &AgentType,
+    ) -> Result<Vec<u8>, MetaFault>
+        ensures given { gives self.now provider.now agent.now result };
+}

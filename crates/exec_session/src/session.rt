@@ -1,0 +1,169 @@
+//! Command lines answered one by one.
+ghost use Rattle.std.specs.Prelude.{◌≡◌, [], IfOk, OnOk};
+ghost use Rattle.executor.specs.Sights.{IsSound, sight_of};
+ghost use Rattle.exec_session.specs.Progress.{ReadsInput, Takes, place};
+ghost use Rattle.exec_session.specs.Runs.{Ended, EndsAs, ReachesEnd};
+
+use crate::answer::reply_to;
+use crate::metadata::Metadata;
+use crate::report::send_report;
+use crate::setting::Setting;
+use child_keeper::Children;
+use disk_model::Disk;
+use exec_commands::{Line, read_command};
+use exec_lines::{LineBuffer, Next, next_line};
+use exec_output::{Fault, Stopped, send_reply};
+use executor::{Executor, Report};
+use ocf_types::{NUM_MAX, Refusal};
+use std::alloc::Global;
+use std::io::{BufRead, Write};
+use std::rt::Clock;
+
+// What stands next in the input.
+#[derive(Drop)]
+enum Input {
+    // A line of no bytes.
+    Empty,
+    // A line, read.
+    Line(Result<Line, Refusal>),
+    // Nothing.
+    End,
+}
+
+// What was done with what stands next in the input.
+#[derive(Clone, Copy, Debug, PartialEq, Eq)]
+enum Progress {
+    Answered,
+    PassedOver,
+    End,
+}
+
+/// How a run ended, and what it hands back.
+#[derive(Drop)]
+pub struct Run<D: Drop, C: Drop> {
+    pub ended: Result<(), Fault>,
+    pub disk: D,
+    /// None of them lives.
+    pub children: C,
+}
+
+// Reads the next line.
+fn read_input<R: BufRead>(
+    alloc: Global,
+    reader: &mut R,
+    buffer: &mut LineBuffer,
+) -> Result<Input, Stopped>
+    ensures { IfOk result (λ i. ReadsInput (R.remaining reader.old) (R.remaining reader.new) i) }
+{
+    match next_line(reader, buffer)? {
+        Next::End => Ok(Input::End),
+        Next::TooLong => Ok(Input::Line(Err(Refusal::Syntax))),
+        Next::Line => {
+            if buffer.line().is_empty() {
+                return Ok(Input::Empty);
+            }
+            Ok(Input::Line(read_command(alloc, buffer.line())))
+        }
+    }
+}
+
+// Answers the next line. One of no bytes is passed over.
+fn next_reply<R: BufRead, W: Write, D: Disk + Drop, C: Children + Drop, K: Clock, M: Metadata>(
+    setting: &Setting<K, M>,
+    reader: &mut R,
+    writer: &mut W,
+    executor: &mut Executor<D, C>,
+    buffer: &mut LineBuffer,
+) -> Result<Progress, Stopped>
+    requires sound { IsSound D.view (sight_of C.view executor.old) }
+    ensures sound { IsSound D.view (sight_of C.view executor.new) }
+    ensures progress { IfOk result (Takes D.view C.view (M.gives setting.now.metadata.now) setting.now.most_turns
+        (place executor.old (R.remaining reader.old) (W.contents writer.old))
+        (place executor.new (R.remaining reader.new) (W.contents writer.new))) }
+{
+    let line = match read_input(setting.alloc, reader, buffer)? {
+        Input::End => return Ok(Progress::End),
+        Input::Empty => return Ok(Progress::PassedOver),
+        Input::Line(line) => line,
+    };
+    let reply = reply_to(setting, writer, executor, line)?;
+    send_reply(setting.alloc, writer, &reply)?;
+    Ok(Progress::Answered)
+}
+
+// Answers line after line, up to the end of the input.
+fn answer_all<R: BufRead, W: Write, D: Disk + Drop, C: Children + Drop, K: Clock, M: Metadata>(
+    setting: &Setting<K, M>,
+    reader: &mut R,
+    writer: &mut W,
+    executor: &mut Executor<D, C>,
+    buffer: &mut LineBuffer,
+) -> Result<(), Stopped>
+    requires sound { IsSound D.view (sight_of C.view executor.old) }
+    ensures lines { OnOk result (ReachesEnd D.view C.view (M.gives setting.now.metadata.now) setting.now.most_turns
+        (place executor.old (R.remaining reader.old) (W.contents writer.old))
+        (place executor.new (R.remaining reader.new) (W.contents writer.new))) }
+{
+    for _ in 0..NUM_MAX {
+        let progress = next_reply(setting, reader, writer, executor, buffer)?;
+        if progress == Progress::End {
+            return Ok(());
+        }
+    }
+    Err(Stopped)
+}
+
+// Writes the report, and then answers all lines.
+fn answer_lines<R: BufRead, W: Write, D: Disk + Drop, C: Children + Drop, K: Clock, M: Metadata>(
+    setting: &Setting<K, M>,
+    reader: &mut R,
+    writer: &mut W,
+    executor: &mut Executor<D, C>,
+    report: &Report,
+) -> Result<(), Fault>
+    requires sound { IsSound D.view (sight_of C.view executor.old) }
+    ensures { EndsAs D.view C.view (M.gives setting.now.metadata.now) setting.now.most_turns report.now
+        (place executor.old (R.remaining reader.old) (W.contents writer.old))
+        (place executor.new (R.remaining reader.new) (W.contents writer.new)) result }
+{
+    let Ok(mut buffer) = LineBuffer::new(setting.alloc) else {
+        return Err(Fault::Memory);
+    };
+    if send_report(setting.alloc, writer, report).is_err() {
+        return Err(Fault::InputOrOutput);
+    }
+    if answer_all(setting, reader, writer, executor, &mut buffer).is_err() {
+        return Err(Fault::InputOrOutput);
+    }
+    if executor.is_open() {
+        Ok(())
+    } else {
+        Err(Fault::Disk)
+    }
+}
+
+/// Writes what the opening reports, and then answers each line of the input, up to its end. Each reply is flushed before
+/// the next line is read, and a turn's notices before the next turn. Where the disk failed the end of the input is a
+/// fault, and input or output that fails is another. In any case all children are given up then, and the executor closed.
+pub fn run_lines<R: BufRead, W: Write, D: Disk + Drop, C: Children + Drop, K: Clock, M: Metadata>(
+    setting: &Setting<K, M>,
+    reader: &mut R,
+    writer: &mut W,
+    mut executor: Executor<D, C>,
+    report: &Report,
+) -> Run<D, C>
+    requires sound { IsSound D.view (sight_of C.view executor) }
+    ensures ends { Ended D.view C.view (M.gives setting.now.metadata.now) setting.now.most_turns report.now
+        (place executor (R.remaining reader.old) (W.contents writer.old))
+        (R.remaining reader.new) (W.contents writer.new) result }
+    ensures none_lives { (C.view result.children).live ≡ [] }
+{
+    let ended = answer_lines(setting, reader, writer, &mut executor, report);
+    executor.abandon();
+    let (disk, children) = executor.close();
+    Run {
+        ended,
+        disk,
+        children,
+    }
+}
