@@ -6,7 +6,7 @@ use Rattle.std.specs.List.{find}
 use Rattle.std.specs.Str.{bytes_eq, is_utf8}
 use Rattle.serde_json.specs.Data.{Data}
 use Rattle.serde_json.specs.Read.{read}
-use Rattle.ocf_types.specs.Limits.{line_limit}
+use Rattle.ocf_types.specs.Limits.{default_timeout, line_limit}
 use Rattle.ocf_types.specs.Names.{is_rsc_id, is_provider, is_agent_type}
 use Rattle.ocf_types.specs.Kinds.{Command}
 use Rattle.ocf_types.specs.declared.command.CommandOf.TheVariants as command
@@ -16,7 +16,7 @@ use Rattle.ocf_types.specs.declared.command.RequestOf.TheVariants as request
 use Rattle.ocf_types.specs.declared.refusal.Refusal.{Refusal}
 use Rattle.ocf_types.specs.declared.refusal.Refusal.TheVariants.{UnknownOp}
 use Rattle.exec_commands.specs.Keys.{given, typed, text_at, number_at, number_or, params_at, params_if_there}
-use Rattle.exec_commands.specs.Values.{named, params_of, level_of, task_named, millis_of, limit_of}
+use Rattle.exec_commands.specs.Values.{named, params_of, level_of, task_named, millis_of, default_limit, limit_of}
 use Rattle.exec_commands.specs.declared.line.Line.{Line}
 use Rattle.exec_commands.specs.declared.line.Line.TheVariants as line
 use Rattle.exec_commands.specs.declared.operation.Operation.{Operation}
@@ -44,7 +44,7 @@ set_params_in d =
 abbrev pub exec_in : Data → Result Command Refusal
 exec_in d =
     given (text_at (codes "id") d) (λ id. given (text_at (codes "action") d) (λ word.
-    given (number_or 20000 (codes "timeout") d) (λ timeout. given (number_or 0 (codes "level") d) (λ level.
+    given (number_or default_timeout (codes "timeout") d) (λ timeout. given (number_or 0 (codes "level") d) (λ level.
     given (named is_rsc_id id) (λ id.
     given (task_named word level) (λ task. given (millis_of timeout) (λ timeout.
     Ok (command.Exec id task timeout))))))))
@@ -52,7 +52,7 @@ exec_in d =
 abbrev pub recur_in : Data → Result Command Refusal
 recur_in d =
     given (text_at (codes "id") d) (λ id. given (number_at (codes "interval") d) (λ interval.
-    given (number_or 20000 (codes "timeout") d) (λ timeout. given (number_or 0 (codes "level") d) (λ level.
+    given (number_or default_timeout (codes "timeout") d) (λ timeout. given (number_or 0 (codes "level") d) (λ level.
     given (named is_rsc_id id) (λ id.
     given (millis_of interval) (λ interval. given (millis_of timeout) (λ timeout. given (level_of level) (λ level.
     Ok (command.Recur id interval timeout level)))))))))
@@ -66,7 +66,7 @@ cancel_in d =
 
 -- a drain that names no limit has 60,000 milliseconds
 abbrev pub drain_in : Data → Result Line Refusal
-drain_in d = given (number_or 60000 (codes "limit") d) (λ limit. given (limit_of limit) (λ limit. Ok (line.Drain limit)))
+drain_in d = given (number_or default_limit (codes "limit") d) (λ limit. given (limit_of limit) (λ limit. Ok (line.Drain limit)))
 
 -- a watch names its limit
 abbrev pub watch_in : Data → Result Line Refusal

@@ -3,6 +3,7 @@ use Rattle.std.specs.Prelude.{ℕ, ◌==◌, ◌&&◌, ◌^◌, nat_le, nat_lt, 
 use Rattle.std.specs.Option.{ok_or}
 use Rattle.std.specs.List.{find, list_all}
 use Rattle.std.specs.Str.{bytes_eq}
+use Rattle.ocf_types.specs.Limits.{params_limit}
 use Rattle.ocf_types.specs.Names.{is_param_name}
 use Rattle.ocf_types.specs.Params.{ParamList}
 use Rattle.ocf_types.specs.Values.{is_param_value}
@@ -33,7 +34,7 @@ named_params ps = if are_names ps then Ok ps else Err BadName
 
 -- at most 64 parameters, whose values are values
 abbrev pub valued_params : ParamList → Result ParamList Refusal
-valued_params ps = if nat_le (length ps) 64 && list_all (λ p. is_param_value p.1) ps then Ok ps else Err BadValue
+valued_params ps = if nat_le (length ps) params_limit && list_all (λ p. is_param_value p.1) ps then Ok ps else Err BadValue
 
 -- parameters, their names before their values
 abbrev pub params_of : ParamList → Result ParamList Refusal
@@ -62,6 +63,12 @@ task_named word n = valued (option_and_then (λ a. option_and_then (task_of a) (
 abbrev pub millis_of : ℕ → Result ℕ Refusal
 millis_of n = if nat_le 1 n && nat_lt n (2 ^ 32) then Ok n else Err BadValue
 
--- from 0 to 86,400,000 milliseconds, a day
+-- how long a drain takes at most, in milliseconds: where it names no limit, and the longest that it may name, a day
+abbrev pub default_limit : ℕ
+default_limit = 60000
+
+abbrev pub longest_limit : ℕ
+longest_limit = 86400000
+
 abbrev pub limit_of : ℕ → Result ℕ Refusal
-limit_of n = if nat_le n 86400000 then Ok n else Err BadValue
+limit_of n = if nat_le n longest_limit then Ok n else Err BadValue

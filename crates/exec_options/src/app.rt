@@ -52,7 +52,7 @@ fn with_options<'a>(alloc: Global, command: Command<'a>) -> Result<Command<'a>, 
         alloc,
         "journal",
         "DIR",
-        "Keep the journal in the files part-a and part-b of this folder. Not supported yet: it ends with status 2",
+        "Keep the journal in the files part-a and part-b of this folder, and make those that are missing",
     ))?;
     let command = command.arg(flag(
         alloc,

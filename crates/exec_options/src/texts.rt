@@ -27,15 +27,14 @@ Example:
 Manual: README.md. Commands, replies and refusals: docs/FORMAT.md.";
 
 /// What stands behind the help of `run`.
-pub const RUN: &str =
-    "Give just one of --journal and --memory. No agent is started yet: what a drain begins runs to its timeout.
-The commands: ocfexec --help.
+pub const RUN: &str = "Give just one of --journal and --memory. The commands: ocfexec --help.
 
-Example:
-  echo '{\"op\":\"list\"}' | ocfexec run --memory";
+Examples:
+  echo '{\"op\":\"list\"}' | ocfexec run --memory
+  ocfexec run --journal /var/lib/ocfexec < commands";
 
 /// What stands behind the help of `show`.
 pub const SHOW: &str = "Give just one of --journal and --memory.
 
 Example:
-  ocfexec show --memory";
+  ocfexec show --journal /var/lib/ocfexec";

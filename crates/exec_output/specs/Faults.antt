@@ -13,10 +13,10 @@ use Rattle.exec_output.specs.declared.fault.Fault.TheVariants as fault
 abbrev pub status_of : Fault → ℕ
 status_of fault.Usage = 2
 status_of fault.Choice = 2
-status_of fault.NoJournal = 2
 status_of fault.NotText = 2
 status_of (fault.Damaged damage) = 3
 status_of fault.Memory = 4
+status_of fault.NotOpened = 5
 status_of fault.Disk = 5
 status_of fault.Full = 6
 status_of fault.InputOrOutput = 7
@@ -44,11 +44,11 @@ cause_word cause.Long = codes "long"
 cause_word cause.Event = codes "event"
 cause_word cause.Order = codes "order"
 
--- how a run and a show may end: well, or by a fault that is not one of the words
+-- how a run and a show may end on a disk: well, or by a fault that is neither one of the words nor of the journal's files
 abbrev pub IsRunEnd : {T : Type 0} → Result T Fault → Type 0
 IsRunEnd (Ok done) = ⊤
 IsRunEnd (Err fault.Usage) = ⊥
 IsRunEnd (Err fault.Choice) = ⊥
-IsRunEnd (Err fault.NoJournal) = ⊥
 IsRunEnd (Err fault.NotText) = ⊥
+IsRunEnd (Err fault.NotOpened) = ⊥
 IsRunEnd (Err _) = ⊤
