@@ -1,0 +1,68 @@
+//! The agents, and the actions that each of them has.
+ghost use Rattle.std.specs.Prelude.{◌≡◌, ◌≢◌, IfSome, IfNone};
+ghost use Rattle.ocf_types.specs.Actions.{action_word};
+ghost use Rattle.ocf_types.specs.declared.action.Action.{Action};
+ghost use Rattle.ocf_agents.specs.declared.agent.Agent.{Agent};
+ghost use Rattle.ocf_agents.specs.Agents.{agent_word, has_action};
+
+use ocf_types::Action;
+
+/// An agent that keeps a state file. OCF Resource Agent API 1.1, resource type.
+#[derive(Clone, Copy, Debug, PartialEq, Eq)]
+pub enum Agent {
+    /// It runs where its state file is there.
+    Dummy,
+    /// It runs where its state file is there, which names its role.
+    Stateful,
+}
+
+impl Agent {
+    /// The agent of this type, of which there are two: `Dummy` and `Stateful`.
+    pub fn of(word: &str) -> Option<Agent>
+        ensures found { IfSome result (λ agent. word.now ≡ agent_word agent) }
+        ensures none { IfNone result ((agent : Agent) → word.now ≢ agent_word agent) }
+    {
+        if word == "Dummy" {
+            Some(Agent::Dummy)
+        } else if word == "Stateful" {
+            Some(Agent::Stateful)
+        } else {
+            None
+        }
+    }
+
+    /// Whether the agent has this action beside its metadata. Those of roles are a promotable agent's alone.
+    pub fn has(self, action: Action) -> bool
+        ensures { result ≡ has_action self action }
+    {
+        match action {
+            Action::Promote | Action::Demote => self == Agent::Stateful,
+            _ => true,
+        }
+    }
+
+    /// What the agent prints for `meta-data`, without the newline. OCF Resource Agent API 1.1, meta-data.
+    pub fn metadata(self) -> &'static str {
+        match self {
+            Agent::Dummy => "<resource-agent name=\"Dummy\"/>",
+            Agent::Stateful => "<resource-agent name=\"Stateful\"/>",
+        }
+    }
+}
+
+/// The action of this word, of which there are seven. OCF Resource Agent API 1.1, actions.
+pub fn action_of(word: &str) -> Option<Action>
+    ensures found { IfSome result (λ action. word.now ≡ action_word action) }
+    ensures none { IfNone result ((action : Action) → word.now ≢ action_word action) }
+{
+    match word {
+        "start" => Some(Action::Start),
+        "stop" => Some(Action::Stop),
+        "monitor" => Some(Action::Monitor),
+        "promote" => Some(Action::Promote),
+        "demote" => Some(Action::Demote),
+        "reload-agent" => Some(Action::ReloadAgent),
+        "validate-all" => Some(Action::ValidateAll),
+        _ => None,
+    }
+}
