@@ -8,15 +8,14 @@ use Rattle.exec_options.specs.Faults.{IsFault}
 use Rattle.exec_options.specs.Words.{Gives}
 use Rattle.exec_options.specs.declared.fault.WordsFault.{WordsFault}
 use Rattle.exec_options.specs.declared.fault.WordsFault.TheVariants as words_fault
-use Rattle.exec_options.specs.declared.options.JournalPlace.TheVariants as place
 use Rattle.exec_options.specs.declared.options.Options.{Options}
 use Rattle.exec_output.specs.Faults.{IsRunEnd}
 use Rattle.exec_output.specs.declared.fault.Fault.{Fault}
 use Rattle.exec_output.specs.declared.fault.Fault.TheVariants as fault
-use Rattle.ocfexec.specs.declared.session.Run.{Run}
-use Rattle.ocfexec.specs.Answers.{Source}
-use Rattle.ocfexec.specs.Progress.{Place, place}
-use Rattle.ocfexec.specs.Runs.{Ended, EndsAs}
+use Rattle.exec_session.specs.declared.session.Run.{Run}
+use Rattle.exec_session.specs.Answers.{Source}
+use Rattle.exec_session.specs.Progress.{Place, place}
+use Rattle.exec_session.specs.Runs.{Ended, EndsAs}
 use Rattle.ocfexec.specs.Starts.{EndsFor, IsToldAs}
 
 -- a run does not end by its words
@@ -25,8 +24,8 @@ ends : {D C M N T : Type 0} (look : D → View) (tend : C → ChildrenView) (sou
 ends look tend source most report p q (Ok done) how = tt
 ends look tend source most report p q (Err fault.Usage) how = absurd how
 ends look tend source most report p q (Err fault.Choice) how = absurd how
-ends look tend source most report p q (Err fault.NoJournal) how = absurd how
 ends look tend source most report p q (Err fault.NotText) how = absurd how
+ends look tend source most report p q (Err fault.NotOpened) how = absurd how
 ends look tend source most report p q (Err (fault.Damaged damage)) how = tt
 ends look tend source most report p q (Err fault.Memory) how = tt
 ends look tend source most report p q (Err fault.Disk) how = tt
@@ -45,15 +44,15 @@ refused_ends words (words_fault.Usage text) r is told = subst (λ x. EndsFor wor
 refused_ends words words_fault.Choice r is told = subst (λ x. EndsFor words x) (sym told) is
 refused_ends words words_fault.Memory r is told = subst (λ x. EndsFor words x) (sym told) tt
 
--- words that ask for a journal in memory
-pub memory_ends : {T : Type 0} (words : List (List ℕ)) (o : Options) (r : Result T Fault) → Gives words o → o.journal ≡ place.Memory → IsRunEnd r → EndsFor words r
-memory_ends words o (Ok done) gives is ends = inr (o, gives, is)
-memory_ends words o (Err fault.Usage) gives is ends = absurd ends
-memory_ends words o (Err fault.Choice) gives is ends = absurd ends
-memory_ends words o (Err fault.NoJournal) gives is ends = absurd ends
-memory_ends words o (Err fault.NotText) gives is ends = absurd ends
-memory_ends words o (Err (fault.Damaged damage)) gives is ends = (o, gives, is)
-memory_ends words o (Err fault.Memory) gives is ends = tt
-memory_ends words o (Err fault.Disk) gives is ends = (o, gives, is)
-memory_ends words o (Err fault.Full) gives is ends = (o, gives, is)
-memory_ends words o (Err fault.InputOrOutput) gives is ends = inr (o, gives, is)
+-- words that ask for a journal
+pub journal_ends : {T : Type 0} (words : List (List ℕ)) (o : Options) (r : Result T Fault) → Gives words o → IsRunEnd r → EndsFor words r
+journal_ends words o (Ok done) gives ends = inr (o, gives)
+journal_ends words o (Err fault.Usage) gives ends = absurd ends
+journal_ends words o (Err fault.Choice) gives ends = absurd ends
+journal_ends words o (Err fault.NotText) gives ends = absurd ends
+journal_ends words o (Err fault.NotOpened) gives ends = absurd ends
+journal_ends words o (Err (fault.Damaged damage)) gives ends = (o, gives)
+journal_ends words o (Err fault.Memory) gives ends = tt
+journal_ends words o (Err fault.Disk) gives ends = (o, gives)
+journal_ends words o (Err fault.Full) gives ends = (o, gives)
+journal_ends words o (Err fault.InputOrOutput) gives ends = inr (o, gives)

@@ -1,5 +1,1 @@
-pub mod Answers
-pub mod Drains
-pub mod Progress
-pub mod Runs
 pub mod Starts

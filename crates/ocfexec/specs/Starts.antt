@@ -1,12 +1,10 @@
 -- From the words to a run.
-use Rattle.std.specs.Prelude.{◌≡◌, ◌⊎◌, ℕ, ⊤, true, List, [], is_some, option_map, Result, Ok, Err}
+use Rattle.std.specs.Prelude.{◌≡◌, ◌⊎◌, ℕ, ⊤, true, List, IfErr, is_some, option_map, Result, Ok, Err}
 use Rattle.ocf_env.specs.Places.{Place}
-use Rattle.child_keeper.specs.Children.{ChildrenView}
 use Rattle.exec_options.specs.Faults.{AsksForText, IsFault, IsMisused}
 use Rattle.exec_options.specs.Words.{Gives, folder_of}
 use Rattle.exec_options.specs.declared.fault.WordsFault.{WordsFault}
 use Rattle.exec_options.specs.declared.fault.WordsFault.TheVariants as words_fault
-use Rattle.exec_options.specs.declared.options.JournalPlace.TheVariants as place
 use Rattle.exec_options.specs.declared.options.Options.{Options}
 use Rattle.exec_output.specs.Faults.{status_of}
 use Rattle.exec_output.specs.declared.fault.Fault.{Fault}
@@ -22,10 +20,6 @@ status_of_end (Err f) = status_of f
 -- where these options say that agents are
 abbrev pub site_of : Options → Place
 site_of o = record { root = o.root.now; path = o.path.now; via = option_map (λ s. s.now) o.via }
-
--- children of which none was started, with room for the answers of a turn
-abbrev pub no_children : ChildrenView
-no_children = record { book = []; room = 768; last_run = 0; live = [] }
 
 -- what an executor that was not opened ends the program with; fresh children are never of another journal
 abbrev pub opening_fault : OpenError → Fault
@@ -43,17 +37,25 @@ IsToldAs (words_fault.Usage text) ended = ended ≡ Err fault.Usage
 IsToldAs words_fault.Choice ended = ended ≡ Err fault.Choice
 IsToldAs words_fault.Memory ended = ended ≡ Err fault.Memory
 
--- the words ask for a journal in memory
-abbrev pub IsInMemory : List (List ℕ) → Type 0
-IsInMemory words = (o : Options) × Gives words o × (o.journal ≡ place.Memory)
+-- the words ask to run or to show a journal
+abbrev pub AsksForJournal : List (List ℕ) → Type 0
+AsksForJournal words = (o : Options) × Gives words o
+
+-- the words ask for a journal in the files of a folder
+abbrev pub IsInFolder : List (List ℕ) → Type 0
+IsInFolder words = (o : Options) × Gives words o × (is_some (folder_of o.journal) ≡ true)
+
+-- why the files of a journal are not opened
+abbrev pub IsNotOpened : {T : Type 0} → Result T Fault → Type 0
+IsNotOpened ended = IfErr ended (λ f. f ≡ fault.Memory ⊎ f ≡ fault.NotOpened)
 
 -- why a program that is given these words ends so
 abbrev pub EndsFor : {T : Type 0} → List (List ℕ) → Result T Fault → Type 0
-EndsFor words (Ok done) = AsksForText words ⊎ IsInMemory words
+EndsFor words (Ok done) = AsksForText words ⊎ AsksForJournal words
 EndsFor words (Err fault.Usage) = IsMisused words
 EndsFor words (Err fault.Choice) = IsFault words words_fault.Choice
-EndsFor words (Err fault.NoJournal) = (o : Options) × Gives words o × (is_some (folder_of o.journal) ≡ true)
 EndsFor words (Err fault.NotText) = ⊥
 EndsFor words (Err fault.Memory) = ⊤
-EndsFor words (Err fault.InputOrOutput) = AsksForText words ⊎ IsInMemory words
-EndsFor words (Err _) = IsInMemory words
+EndsFor words (Err fault.NotOpened) = IsInFolder words
+EndsFor words (Err fault.InputOrOutput) = AsksForText words ⊎ AsksForJournal words
+EndsFor words (Err _) = AsksForJournal words

@@ -1,13 +1,17 @@
 //! What the executor is given to start agents with.
-ghost use Rattle.std.specs.Prelude.{◌≡◌, IfOk};
-ghost use Rattle.child_keeper.specs.Scripted.{children_of};
-ghost use Rattle.ocfexec.specs.Starts.{no_children, site_of};
+ghost use Rattle.std.specs.Prelude.{◌≡◌, ◌≤◌, length, IfOk};
+ghost use Rattle.ocf_types.specs.Limits.{metadata_limit};
+ghost use Rattle.ocfexec.specs.Starts.{site_of};
 
-use child_keeper::{Script, Scripted};
+use child_keeper::run_meta;
 use exec_options::Options;
+use exec_session::Metadata;
 use ocf_env::{Site, Text};
+use ocf_types::{AgentType, MetaFault, Provider, RESOURCES_LIMIT};
 use std::alloc::{AllocError, Global};
-use std::collections::VecDeque;
+
+/// How many answers the children's book takes: three for each resource that can be registered, as a turn wants.
+pub const BOOK_ROOM: usize = 3 * RESOURCES_LIMIT;
 
 fn text(alloc: Global, text: &str) -> Result<Text, AllocError>
     ensures { IfOk result (λ t. t ≡ text.now) }
@@ -28,18 +32,22 @@ pub fn site_of(alloc: Global, options: Options) -> Result<Site, AllocError>
     Ok(Site::new(root, path, via))
 }
 
-// How many answers the children's book takes: three for each resource that can be registered, as a turn wants.
-const BOOK_ROOM: usize = 768;
+/// The agents of a site, which are asked for their metadata.
+#[derive(Drop)]
+pub struct Agents<'a> {
+    pub rt: &'a HostRuntime,
+    pub site: Site,
+}
 
-/// Fresh children that start no program: each that is asked to start lives, and runs until it is killed. It fails only
-/// where memory is refused.
-pub fn no_children(alloc: Global) -> Result<Scripted, AllocError>
-    ensures { IfOk result (λ c. children_of c ≡ no_children) }
-{
-    let script = Script {
-        starts: VecDeque::new(alloc),
-        polls: VecDeque::new(alloc),
-        kills: VecDeque::new(alloc),
-    };
-    Scripted::new(alloc, script, BOOK_ROOM)
+impl Metadata for Agents<'_> {
+    ghost gives = { λ source provider agent given. IfOk given (λ bytes. length bytes.items ≤ metadata_limit) };
+
+    fn metadata(
+        &self,
+        alloc: Global,
+        provider: &Provider,
+        agent: &AgentType,
+    ) -> Result<Vec<u8>, MetaFault> {
+        run_meta(self.rt, alloc, &self.site, provider, agent)
+    }
 }

@@ -6,21 +6,9 @@ ghost use Rattle.std.specs.Process.{exit_status};
 ghost use Rattle.ocfexec.specs.Starts.{status_of_end};
 
 mod agents;
-mod answer;
-mod drain;
-mod metadata;
-mod pause;
-mod report;
-mod session;
-mod setting;
 mod start;
-#[cfg(test)]
-mod tests;
 
 use exec_output::Fault;
-pub use metadata::Metadata;
-pub use session::{Run, run_lines};
-pub use setting::Setting;
 use std::process::ExitCode;
 
 fn main(rt: HostRuntime) -> ExitCode {
@@ -33,8 +21,8 @@ fn main(rt: HostRuntime) -> ExitCode {
 
 // Says on standard error what ended the program, and what can be done about it in a line behind.
 fn tell(rt: &HostRuntime, fault: Fault) {
-    if fault == Fault::Usage {
-        // `clap` has said it
+    if matches!(fault, Fault::Usage | Fault::NotOpened) {
+        // it was told where it happened
         return;
     }
     let _ = rt.eprintln(format_args!("ocfexec: {fault}"));

@@ -1,19 +1,21 @@
 //! From the words to a run.
 ghost use Rattle.std.specs.Prelude.{◌≡◌, map, string_bytes};
 ghost use Rattle.exec_output.specs.Faults.{IsRunEnd};
-ghost use Rattle.ocfexec.specs.Starts.{EndsFor, IsToldAs, opening_fault};
+ghost use Rattle.ocfexec.specs.Starts.{EndsFor, IsNotOpened, IsToldAs, opening_fault};
 
-use crate::agents::{no_children, site_of};
-use crate::metadata::NoMetadata;
-use crate::session::run_lines;
-use crate::setting::Setting;
-use disk_model::MemDisk;
+use crate::agents::{Agents, BOOK_ROOM, site_of};
+use child_keeper::Processes;
+use disk_model::{Disk, MemDisk};
 use exec_lines::moment_now;
 use exec_options::{JournalPlace, Options, Subcommand, WordsFault, read_words};
 use exec_output::{Fault, show};
+use exec_session::{Setting, run_lines};
 use executor::{Executor, OpenError};
+use file_disk::{FileDisk, OpenFault};
 use std::env;
 use std::io::{self, BufReader, ErrorKind};
+use std::thread::sleep;
+use std::time::Duration;
 
 const READ_SIZE: usize = 65_536;
 
@@ -53,8 +55,35 @@ fn refuse(rt: &HostRuntime, fault: &WordsFault) -> Result<(), Fault>
     }
 }
 
+// The files of this folder. An agent that was being started when its executor was killed holds the lock up to its own first
+// instruction: so a lock is waited for, for a fifth of a second.
+fn open_files(rt: &HostRuntime, folder: &str) -> Result<FileDisk, OpenFault> {
+    for _ in 0..10 {
+        match FileDisk::open(rt, rt.alloc(), folder) {
+            Err(OpenFault::Locked(_)) => sleep(rt, Duration::from_millis(20)),
+            opened => return opened,
+        }
+    }
+    FileDisk::open(rt, rt.alloc(), folder)
+}
+
+// The journal in the files of this folder. Why they are not opened is told here, behind the line of the fault.
+fn opened(rt: &HostRuntime, folder: &str) -> Result<FileDisk, Fault>
+    ensures { IsNotOpened result }
+{
+    match open_files(rt, folder) {
+        Ok(disk) => Ok(disk),
+        Err(OpenFault::Memory) => Err(Fault::Memory),
+        Err(why) => {
+            let _ = rt.eprintln(format_args!("ocfexec: {}", Fault::NotOpened));
+            let _ = rt.eprintln(format_args!("{}", why.located(folder)));
+            Err(Fault::NotOpened)
+        }
+    }
+}
+
 // Does what these words ask for, the program's name first.
-#[tactic(auto, using(crate::proofs::StartLemmas::memory_ends))]
+#[tactic(auto, using(crate::proofs::StartLemmas::journal_ends))]
 fn run(rt: &HostRuntime, words: &[String]) -> Result<(), Fault>
     ensures { EndsFor (map string_bytes words.now) result }
 {
@@ -62,12 +91,22 @@ fn run(rt: &HostRuntime, words: &[String]) -> Result<(), Fault>
         Ok(options) => options,
         Err(fault) => return refuse(rt, &fault),
     };
-    match (options.journal, options.subcommand) {
-        (JournalPlace::Folder(_), _) => Err(Fault::NoJournal),
-        (JournalPlace::Memory, Subcommand::Run) => run_in_memory(rt, options),
-        (JournalPlace::Memory, Subcommand::Show) => {
-            show(rt.alloc(), MemDisk::new(rt.alloc()), &mut io::writer(rt)).1
-        }
+    match options.journal {
+        JournalPlace::Folder(folder) => match opened(rt, folder) {
+            Ok(disk) => run_on(rt, options, disk),
+            Err(fault) => Err(fault),
+        },
+        JournalPlace::Memory => run_on(rt, options, MemDisk::new(rt.alloc())),
+    }
+}
+
+// Does what the options ask for with a journal on this disk.
+fn run_on<D: Disk + Drop>(rt: &HostRuntime, options: Options, disk: D) -> Result<(), Fault>
+    ensures { IsRunEnd result }
+{
+    match options.subcommand {
+        Subcommand::Run => run_agents(rt, options, disk),
+        Subcommand::Show => show(rt.alloc(), disk, &mut io::writer(rt)).1,
     }
 }
 
@@ -85,24 +124,27 @@ fn opening_fault(why: OpenError) -> Fault
     }
 }
 
+// Opens the executor and answers the lines of standard input.
 #[tactic(auto, using(crate::proofs::StartLemmas::run_ends))]
-fn run_in_memory(rt: &HostRuntime, options: Options) -> Result<(), Fault>
+fn run_agents<D: Disk + Drop>(rt: &HostRuntime, options: Options, disk: D) -> Result<(), Fault>
     ensures { IsRunEnd result }
 {
     let alloc = rt.alloc();
     let Ok(mut reader) = BufReader::with_capacity(alloc, READ_SIZE, rt.reader()) else {
         return Err(Fault::Memory);
     };
-    let (Ok(children), Ok(site)) = (no_children(alloc), site_of(alloc, options)) else {
+    let Ok(children) = Processes::new(rt, alloc, BOOK_ROOM) else {
         return Err(Fault::Memory);
     };
-    let disk = MemDisk::new(alloc);
+    let (Ok(site), Ok(asked)) = (site_of(alloc, options), site_of(alloc, options)) else {
+        return Err(Fault::Memory);
+    };
     match Executor::open(alloc, disk, children, site, moment_now(rt).get()) {
         Ok((executor, report)) => {
             let setting = Setting {
                 alloc,
                 clock: rt,
-                metadata: &NoMetadata,
+                metadata: &Agents { rt, site: asked },
                 most_turns: MOST_TURNS,
             };
             run_lines(
