@@ -1,8 +1,8 @@
-//! Benchmarks. Without arguments one round of each is run, and nothing is printed; with a name and a number of rounds
-//! the rate is printed. `appends` counts slots, `events` counts events that are read and written, `state-reads` and
-//! `state-writes` count bytes, `triples` counts actions that are accepted, begun and ended, and `openings` counts the bytes of a full part
-//! that a journal is opened on; `waiting-turns` and `busy-turns` count turns over 256 running actions, which all run on, or
-//! all end and are followed by the next ones.
+//! Benchmarks. Without arguments one round of each is run, the largest state is read and written again, and nothing is
+//! printed; with a name and a number of rounds the rate is printed. `appends` counts slots, `events` counts events that
+//! are read and written, `state-reads` and `state-writes` count bytes, `triples` counts actions that are accepted, begun
+//! and ended, and `openings` counts the bytes of a full part that a journal is opened on; `waiting-turns` and `busy-turns`
+//! count turns over 256 running actions, which all run on, or all end and are followed by the next ones.
 #![tactic(auto)]
 
 mod openings;
@@ -13,16 +13,27 @@ mod turns;
 
 use crate::openings::{full_part, openings};
 use crate::slots::appends;
-use crate::spellings::{events, largest_state, read_state, write_state};
+use crate::spellings::{events, is_written_again, largest_state, read_state, write_state};
 use crate::triples::triples;
 use crate::turns::{busy_turns, waiting_turns};
-use anyhow::{Context, Result, bail};
+use anyhow::{Context, Result, bail, ensure};
 use event_wire::decode_state;
 use ocf_types::StateParts;
 use std::alloc::Global;
 use std::env;
 use std::rt::{Clock, Env};
 use std::time::Instant;
+
+const NAMES: [&str; 8] = [
+    "appends",
+    "events",
+    "state-reads",
+    "state-writes",
+    "triples",
+    "openings",
+    "waiting-turns",
+    "busy-turns",
+];
 
 // The largest state, its spelling, and a part that is full of records.
 #[derive(Drop)]
@@ -41,18 +52,17 @@ fn make_largest(alloc: Global) -> Result<Largest> {
 
 // Runs one round of a benchmark, and counts its steps.
 fn round(alloc: Global, largest: &Largest, name: &str) -> Result<u64> {
-    let steps = match name {
-        "appends" => appends(alloc)?,
-        "events" => events(alloc)?,
-        "state-reads" => read_state(alloc, largest.bytes.as_slice())?,
-        "state-writes" => write_state(alloc, &largest.state)?,
-        "triples" => triples(alloc)?,
-        "openings" => openings(alloc, largest.part.as_slice())?,
-        "waiting-turns" => waiting_turns(alloc)?,
-        "busy-turns" => busy_turns(alloc)?,
+    match name {
+        "appends" => appends(alloc),
+        "events" => events(alloc),
+        "state-reads" => read_state(alloc, largest.bytes.as_slice()),
+        "state-writes" => write_state(alloc, &largest.state),
+        "triples" => triples(alloc),
+        "openings" => openings(alloc, largest.part.as_slice()),
+        "waiting-turns" => waiting_turns(alloc),
+        "busy-turns" => busy_turns(alloc),
         _ => bail!("no benchmark is called {name}"),
-    };
-    Ok(steps)
+    }
 }
 
 // Runs the rounds of one benchmark, and prints how many of its steps a second took.
@@ -69,26 +79,24 @@ fn timed(rt: &(impl Clock + Print), alloc: Global, name: &str, rounds: u64) -> R
     Ok(())
 }
 
+// Runs one round of each, and sees that the largest state is written as it was read.
+fn run_each(alloc: Global) -> Result<()> {
+    let largest = make_largest(alloc)?;
+    ensure!(
+        is_written_again(alloc, largest.bytes.as_slice(), &largest.state)?,
+        "the largest state is written otherwise than it was read"
+    );
+    for name in NAMES {
+        round(alloc, &largest, name)?;
+    }
+    Ok(())
+}
+
 fn run(rt: &(impl Alloc + Clock + Print + Env), alloc: Global) -> Result<()> {
     let mut words = env::args(rt)?;
     let _program = words.next();
     match (words.next(), words.next()) {
-        (None, None) => {
-            let largest = make_largest(alloc)?;
-            for name in [
-                "appends",
-                "events",
-                "state-reads",
-                "state-writes",
-                "triples",
-                "openings",
-                "waiting-turns",
-                "busy-turns",
-            ] {
-                round(alloc, &largest, name)?;
-            }
-            Ok(())
-        }
+        (None, None) => run_each(alloc),
         (Some(name), Some(rounds)) => timed(rt, alloc, name.as_str(), rounds.parse()?),
         _ => bail!("give no argument, or a name and a number of rounds"),
     }

@@ -1,4 +1,5 @@
 //! A journal opened whose part is full.
+use anyhow::Result;
 use disk_model::MemDisk;
 use exec_journal::Journal;
 use ocf_types::PART_LIMIT;
@@ -23,7 +24,7 @@ pub fn full_part(alloc: Global) -> Result<Vec<u8>, AllocError> {
 }
 
 /// Opens a journal with that part A, and says how many of its bytes were read: none where it was not opened.
-pub fn openings(alloc: Global, part: &[u8]) -> Result<u64, AllocError> {
+pub fn openings(alloc: Global, part: &[u8]) -> Result<u64> {
     let disk = MemDisk::from_parts(alloc, part.to_vec(alloc)?, Vec::new(alloc))?;
     match Journal::open(alloc, disk) {
         Ok(_) => Ok(part.len() as u64),

@@ -2,13 +2,14 @@
 ghost use Rattle.std.specs.Prelude.{◌≡◌, ◌<◌, ◌≤◌, IfOk, length};
 ghost use Rattle.gated_slots.specs.Frame.{frame_body};
 
+use anyhow::Result;
 use disk_model::MemDisk;
 use gated_slots::{Frame, SlotFault, Tail, append_slot};
 use ocf_types::{Part, RESERVE};
-use std::alloc::{AllocError, Global};
+use std::alloc::Global;
 
 /// How many bodies of 80 bytes fill one part of a new disk.
-pub fn appends(alloc: Global) -> Result<u64, AllocError> {
+pub fn appends(alloc: Global) -> Result<u64> {
     let mut gate = Vec::new(alloc);
     gate.push(0)?;
     let mut disk = MemDisk::from_parts(alloc, gate, Vec::new(alloc))?;

@@ -1,6 +1,7 @@
 //! Events and states, read and written.
+use anyhow::Result;
 use event_wire::{decode_event, decode_state, encode_event, encode_state};
-use ocf_types::StateParts;
+use ocf_types::{RESOURCES_LIMIT, StateParts, StateView};
 use std::alloc::{AllocError, Global};
 
 // A queued monitor of level 10.
@@ -8,7 +9,7 @@ const EXEC: [u8; 26] =
     *b"\x04\x00\x00\x00\x00\x00\x00\x00\x07\x02r1\x00\x00\x00\x00\x00\x00\x00\x01\x03\x0a\x00\x00N\x20";
 
 /// How many times an event was read, and written over what was read.
-pub fn events(alloc: Global) -> Result<u64, AllocError> {
+pub fn events(alloc: Global) -> Result<u64> {
     let mut bytes = EXEC;
     let mut count = 0;
     for done in 0..100_000 {
@@ -24,7 +25,7 @@ pub fn events(alloc: Global) -> Result<u64, AllocError> {
 }
 
 /// How many bytes of a state were read.
-pub fn read_state(alloc: Global, bytes: &[u8]) -> Result<u64, AllocError> {
+pub fn read_state(alloc: Global, bytes: &[u8]) -> Result<u64> {
     match decode_state(alloc, bytes)? {
         Some(_) => Ok(bytes.len() as u64),
         None => Ok(0),
@@ -32,9 +33,15 @@ pub fn read_state(alloc: Global, bytes: &[u8]) -> Result<u64, AllocError> {
 }
 
 /// How many bytes of a state were written.
-pub fn write_state(alloc: Global, state: &StateParts) -> Result<u64, AllocError> {
+pub fn write_state(alloc: Global, state: &StateParts) -> Result<u64> {
     let bytes = encode_state(alloc, state)?;
     Ok(bytes.len() as u64)
+}
+
+/// Whether a state of as many resources as there may be is written as these bytes.
+pub fn is_written_again(alloc: Global, bytes: &[u8], state: &StateParts) -> Result<bool> {
+    let again = encode_state(alloc, state)?;
+    Ok(state.len() == RESOURCES_LIMIT && again.as_slice() == bytes)
 }
 
 /// The spelling of a state as large as there may be: 4,563,226 bytes.

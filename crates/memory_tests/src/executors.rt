@@ -14,8 +14,8 @@ use ocf_types::{
 use std::alloc::{Allocator, Global};
 use std::collections::VecDeque;
 
-// A disk with these parts.
-fn disk_with<A: Allocator + Copy>(alloc: A, a: &[u8], b: &[u8]) -> Option<MemDisk<A>> {
+/// A disk with these parts.
+pub fn disk_with<A: Allocator + Copy>(alloc: A, a: &[u8], b: &[u8]) -> Option<MemDisk<A>> {
     let a = a.to_vec(alloc).ok()?;
     MemDisk::from_parts(alloc, a, b.to_vec(alloc).ok()?).ok()
 }
@@ -51,8 +51,8 @@ fn no_children(alloc: Global) -> Option<Scripted> {
     Scripted::new(alloc, script, 0).ok()
 }
 
-// A site for the same, which takes no memory: no agent is there.
-fn nowhere<A: Allocator + Copy>(alloc: A) -> Site<A> {
+/// A site that takes no memory: no agent is there.
+pub fn nowhere<A: Allocator + Copy>(alloc: A) -> Site<A> {
     let (root, path) = (String::new(alloc), String::new(alloc));
     Site::new(Text::new(root), Text::new(path), None)
 }
@@ -77,8 +77,8 @@ fn registration<A: Allocator + Copy>(alloc: A) -> Option<Request<A>> {
     })))
 }
 
-// Why it was refused, if it was.
-fn refusal<A: Allocator>(reply: &Reply<A>) -> Option<Refusal> {
+/// Why it was refused, if it was.
+pub fn refusal<A: Allocator>(reply: &Reply<A>) -> Option<Refusal> {
     match reply {
         ReplyOf::Refused(refusal) => Some(*refusal),
         _ => None,

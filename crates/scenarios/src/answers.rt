@@ -1,65 +1,61 @@
 //! The answers of children, as words.
-ghost use Rattle.std.specs.Prelude.{◌≡◌};
-
-use crate::words::{BadLine, Words, number_of};
+use crate::words::{BadLine, Words, named, number_of, text_of};
 use child_keeper::{KillFault, Poll};
 use ocf_types::StartFault;
 use std::alloc::{AllocError, Global};
 use std::collections::VecDeque;
 
-/// What a word of a list spells.
-pub trait Listed: Sized {
-    fn named(word: &[u8]) -> Result<Self, BadLine>;
-}
+/// The answers to starts.
+pub const STARTS: [(&str, Result<(), StartFault>); 4] = [
+    ("started", Ok(())),
+    ("missing", Err(StartFault::Missing)),
+    ("denied", Err(StartFault::Denied)),
+    ("other", Err(StartFault::Other)),
+];
 
-impl Listed for Result<(), StartFault> {
-    fn named(word: &[u8]) -> Result<Self, BadLine> {
-        match word {
-            b"started" => Ok(Ok(())),
-            b"missing" => Ok(Err(StartFault::Missing)),
-            b"denied" => Ok(Err(StartFault::Denied)),
-            b"other" => Ok(Err(StartFault::Other)),
-            _ => Err(BadLine::NoStep),
-        }
-    }
-}
+/// The answers to kills.
+pub const KILLS: [(&str, Result<(), KillFault>); 2] = [
+    ("killed", Ok(())),
+    ("fault", Err(KillFault)),
+];
 
-impl Listed for Result<(), KillFault> {
-    fn named(word: &[u8]) -> Result<Self, BadLine> {
-        match word {
-            b"killed" => Ok(Ok(())),
-            b"fault" => Ok(Err(KillFault)),
-            _ => Err(BadLine::NoStep),
-        }
-    }
-}
+// The answers to polls, but for `exited-N`.
+const POLLS: [(&str, Poll); 3] = [
+    ("running", Poll::Running),
+    ("signaled", Poll::Signaled),
+    ("fault", Poll::Fault),
+];
 
-fn exit_code(word: &[u8]) -> Result<u8, BadLine> {
-    match word.strip_prefix(b"exited-") {
-        Some(digits) => u8::try_from(number_of(digits)?).map_err(|_| BadLine::NoStep),
-        None => Err(BadLine::NoStep),
-    }
-}
-
-impl Listed for Poll {
-    fn named(word: &[u8]) -> Result<Self, BadLine> {
-        match word {
-            b"running" => Ok(Poll::Running),
-            b"signaled" => Ok(Poll::Signaled),
-            b"fault" => Ok(Poll::Fault),
-            _ => exit_code(word).map(Poll::Exited),
-        }
-    }
-}
-
-/// The list that all further words spell.
-pub fn read_list<T: Listed + Drop>(
+/// The list that all further words name by this table.
+pub fn read_list<T: Copy + Drop>(
     alloc: Global,
     words: &mut Words,
+    table: &[(&str, T)],
 ) -> Result<VecDeque<T>, BadLine> {
     let mut list = VecDeque::new(alloc);
     for word in words.rest()?.split(|byte| *byte == b' ') {
-        list.push_back(T::named(word)?).map_err(AllocError::from)?;
+        let answer = named(table, text_of(word)?)?;
+        list.push_back(answer).map_err(AllocError::from)?;
+    }
+    Ok(list)
+}
+
+fn poll_named(word: &str) -> Result<Poll, BadLine> {
+    let Some(digits) = word.strip_prefix("exited-") else {
+        return named(&POLLS, word);
+    };
+    match u8::try_from(number_of(digits.as_bytes())?) {
+        Ok(code) => Ok(Poll::Exited(code)),
+        Err(_) => Err(BadLine::NoStep),
+    }
+}
+
+/// The answers to polls that all further words name.
+pub fn read_polls(alloc: Global, words: &mut Words) -> Result<VecDeque<Poll>, BadLine> {
+    let mut list = VecDeque::new(alloc);
+    for word in words.rest()?.split(|byte| *byte == b' ') {
+        let answer = poll_named(text_of(word)?)?;
+        list.push_back(answer).map_err(AllocError::from)?;
     }
     Ok(list)
 }

@@ -1,5 +1,5 @@
 //! What a stop leaves where bytes were not synced.
-use crate::words::{BadLine, bytes_of};
+use crate::words::{BadLine, bytes_of, named, text_of};
 use disk_model::Fill;
 use std::alloc::Global;
 use std::fmt;
@@ -15,13 +15,14 @@ pub enum Filling {
     Byte([u8; 1]),
 }
 
+const FILLINGS: [(&str, Filling); 2] = [("synced", Filling::Synced), ("written", Filling::Written)];
+
 impl Filling {
     /// The filling that a word names: `synced`, `written` or two hex digits.
     pub fn named(alloc: Global, word: &[u8]) -> Result<Filling, BadLine> {
-        match word {
-            b"synced" => Ok(Filling::Synced),
-            b"written" => Ok(Filling::Written),
-            _ => repeated(bytes_of(alloc, word)?.as_slice()),
+        match named(&FILLINGS, text_of(word)?) {
+            Ok(filling) => Ok(filling),
+            Err(_) => repeated(bytes_of(alloc, word)?.as_slice()),
         }
     }
 

@@ -6,13 +6,12 @@ ghost use Rattle.scenarios.specs.SharedDisk.{shared_view};
 use crate::disk::SharedDisk;
 use crate::planned::PlannedChildren;
 use crate::site::SiteWords;
-use crate::words::BadLine;
 use child_keeper::Entry;
 use exec_commands::{Line, LineReply, read_command};
 use executor::{Executor, OpenError, Report};
 use ocf_env::Site;
 use ocf_types::{Notice, Question, Refusal, Reply, ReplyOf, Request, RequestOf, TurnEnd};
-use std::alloc::Global;
+use std::alloc::{AllocError, Global};
 
 /// An executor on a shared disk with the world's children, and the site of its agents.
 #[derive(Drop)]
@@ -45,7 +44,7 @@ impl Session {
     }
 
     /// The site that agents are started at.
-    pub fn site(&self, alloc: Global) -> Result<Site, BadLine> {
+    pub fn site(&self, alloc: Global) -> Result<Site, AllocError> {
         self.site.site(alloc)
     }
 

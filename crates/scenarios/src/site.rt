@@ -23,12 +23,6 @@ fn via(alloc: Global, word: &str) -> Result<Option<Text>, AllocError> {
     Ok(Some(text(alloc, word)?))
 }
 
-fn site_of(alloc: Global, root: &str, path: &str, last: &str) -> Result<Site, AllocError> {
-    let via = via(alloc, last)?;
-    let root = text(alloc, root)?;
-    Ok(Site::new(root, text(alloc, path)?, via))
-}
-
 // Three words and no further one.
 fn has_three_words(line: &str) -> Result<(), BadLine> {
     let mut words = Words::new(line.as_bytes());
@@ -63,9 +57,11 @@ impl SiteWords {
     }
 
     /// The site that they name.
-    pub fn site(&self, alloc: Global) -> Result<Site, BadLine> {
-        let mut words = Words::new(self.words.as_bytes());
-        let (root, path) = (words.text()?, words.text()?);
-        Ok(site_of(alloc, root, path, words.text()?)?)
+    pub fn site(&self, alloc: Global) -> Result<Site, AllocError> {
+        let mut words = self.words.split(' ');
+        let root = text(alloc, words.next().unwrap_or(""))?;
+        let path = text(alloc, words.next().unwrap_or(""))?;
+        let via = via(alloc, words.next().unwrap_or("-"))?;
+        Ok(Site::new(root, path, via))
     }
 }

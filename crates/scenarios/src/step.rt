@@ -1,8 +1,8 @@
 //! Steps of scenarios.
-use crate::answers::read_list;
+use crate::answers::{KILLS, STARTS, read_list, read_polls};
 use crate::fill::Filling;
 use crate::site::SiteWords;
-use crate::words::{BadLine, Words, text_of};
+use crate::words::{BadLine, Words, named, text_of};
 use child_keeper::{KillFault, Poll};
 use ocf_types::{Action, Level, Part, RscId, StartFault, Task};
 use std::alloc::{AllocError, Global};
@@ -165,16 +165,7 @@ const ACTIONS: [Action; 7] = [
     Action::ValidateAll,
 ];
 
-impl Verb {
-    fn named(word: &str) -> Result<Verb, BadLine> {
-        for (name, verb) in VERBS {
-            if name == word {
-                return Ok(verb);
-            }
-        }
-        Err(BadLine::NoStep)
-    }
-}
+const PARTS: [(&str, Part); 2] = [("A", Part::A), ("B", Part::B)];
 
 impl Line {
     /// What a line asks for, without its newline.
@@ -183,7 +174,7 @@ impl Line {
             return Ok(Line::Empty);
         }
         let mut words = Words::new(bytes);
-        let verb = Verb::named(words.text()?)?;
+        let verb = named(&VERBS, words.text()?)?;
         let line = read_line(alloc, verb, &mut words)?;
         words.end()?;
         Ok(line)
@@ -222,9 +213,9 @@ fn read_act(alloc: Global, verb: Verb, words: &mut Words) -> Result<Act, BadLine
 // The answers of children.
 fn read_lists(alloc: Global, verb: Verb, words: &mut Words) -> Result<Act, BadLine> {
     match verb {
-        Verb::Starts => read_list(alloc, words).map(Act::Starts),
-        Verb::Polls => read_list(alloc, words).map(Act::Polls),
-        _ => read_list(alloc, words).map(Act::Kills),
+        Verb::Starts => read_list(alloc, words, &STARTS).map(Act::Starts),
+        Verb::Polls => read_polls(alloc, words).map(Act::Polls),
+        _ => read_list(alloc, words, &KILLS).map(Act::Kills),
     }
 }
 
@@ -282,11 +273,7 @@ fn read_name(alloc: Global, words: &mut Words) -> Result<String, BadLine> {
 }
 
 fn read_part(alloc: Global, words: &mut Words) -> Result<Act, BadLine> {
-    let part = match words.word()? {
-        b"A" => Part::A,
-        b"B" => Part::B,
-        _ => return Err(BadLine::NoStep),
-    };
+    let part = named(&PARTS, words.text()?)?;
     Ok(Act::Part(part, words.part_bytes(alloc)?))
 }
 

@@ -2,14 +2,11 @@
 use ocf_types::PART_LIMIT;
 use std::alloc::{AllocError, Global};
 use std::str::from_utf8;
-use thiserror::Error;
 
 /// Why a line was not read as a step.
-#[derive(Clone, Copy, Debug, PartialEq, Eq, Error)]
+#[derive(Clone, Copy)]
 pub enum BadLine {
-    #[error("the line is no step")]
     NoStep,
-    #[error("out of memory")]
     Memory,
 }
 
@@ -99,6 +96,16 @@ impl<'a> Words<'a> {
     }
 }
 
+/// What a word names in this table.
+pub fn named<T: Copy>(table: &[(&str, T)], word: &str) -> Result<T, BadLine> {
+    for (name, value) in table {
+        if *name == word {
+            return Ok(*value);
+        }
+    }
+    Err(BadLine::NoStep)
+}
+
 /// The text of these bytes.
 pub fn text_of(bytes: &[u8]) -> Result<&str, BadLine> {
     from_utf8(bytes).map_err(|_| BadLine::NoStep)
@@ -114,7 +121,7 @@ pub fn number_of(word: &[u8]) -> Result<u64, BadLine> {
 
 /// The bytes that a word spells.
 pub fn bytes_of(alloc: Global, word: &[u8]) -> Result<Vec<u8>, BadLine> {
-    if matches!(word, b"-") {
+    if word == b"-".as_slice() {
         return Ok(Vec::new(alloc));
     }
     if word.is_empty() || word.iter().any(|byte| byte.is_ascii_uppercase()) {
