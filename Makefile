@@ -1,12 +1,13 @@
 # The gate, and what it leaves behind.
 PREFIX ?= /usr/local
 PROGRAM := crates/ocfexec/out/ocfexec
+AGENTS := crates/ocf_agents/out/ocf_agents
 
 .PHONY: run test check mutants bench install clean
 
-# Compiles every crate, proves nothing, and answers the example's commands.
+# Compiles every crate, proves nothing, and answers the example's commands, with the example's agent.
 run:
-	@cd crates/ocfexec && rt try -- run --memory < ../../examples/first.jsonl
+	@cd crates/ocfexec && rt try -- run --memory --root $(CURDIR)/examples < ../../examples/first.jsonl
 
 # The gate, which proves everything from nothing, and then the checks of the programs that it built.
 test:
@@ -24,12 +25,22 @@ mutants:
 bench:
 	cd crates/bench && rt run -- appends 20 && rt run -- events 20 && rt run -- state-reads 20 && rt run -- state-writes 20 && rt run -- triples 20 && rt run -- openings 1 && rt run -- waiting-turns 20 && rt run -- busy-turns 5
 
-# Installs the program that the gate proved and built, or proves and builds it first.
-install: $(PROGRAM)
+# Installs the programs that the gate proved and built, or proves and builds them first; with them the manual page, the two
+# clients and the unit.
+install: $(PROGRAM) $(AGENTS)
 	install -D $(PROGRAM) $(DESTDIR)$(PREFIX)/bin/ocfexec
+	install -D $(AGENTS) $(DESTDIR)$(PREFIX)/bin/ocf_agents
+	install -D -m 644 docs/ocfexec.8 $(DESTDIR)$(PREFIX)/share/man/man8/ocfexec.8
+	install -D examples/client.py $(DESTDIR)$(PREFIX)/share/doc/ocfexec/client.py
+	install -D examples/client.sh $(DESTDIR)$(PREFIX)/share/doc/ocfexec/client.sh
+	install -D -m 644 examples/ocfexec.service $(DESTDIR)$(PREFIX)/share/doc/ocfexec/ocfexec.service
 
 $(PROGRAM): $(shell find crates -name out -prune -o -type f -print)
 	cd crates/ocfexec && rt run -- --help > /dev/null
+	touch $@
+
+$(AGENTS): $(shell find crates/ocf_types crates/ocf_codes crates/ocf_agents -name out -prune -o -type f -print)
+	cd crates/ocf_agents && OCF_RESOURCE_TYPE=Dummy rt run -- meta-data > /dev/null
 	touch $@
 
 clean:

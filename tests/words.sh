@@ -1,6 +1,6 @@
 #!/usr/bin/env bash
 # Runs `PROGRAM` with words and with input and output that the gate cannot give it, and compares the exit status and all
-# that it writes on standard error. Of the statuses 3, 5 and 6 it has none: the journal lies in memory, where no disk fails.
+# that it writes on standard error. The statuses 3, 5 and 6 of journals in files are those of files.sh.
 # Use: words.sh PROGRAM
 set -u
 program=$1
@@ -9,7 +9,6 @@ trap 'rm -rf "$here"' EXIT
 failed=0
 
 # What a person can do, as it stands behind the line of a fault.
-give_memory="Give --memory."
 free_memory="Free memory or raise the limit of the process, and start it again."
 check_output="Check what standard input and output are connected to. A command without a reply may be recorded."
 
@@ -80,9 +79,9 @@ for command in register unregister params exec recur cancel forget list info his
 done
 ends 0 "" run --help
 holds "run --help" "--journal <DIR>" --memory "--root <DIR>" "--via <PROGRAM>" "--path <PATH>" "[default: /usr/lib/ocf]" \
-    "[default: /usr/sbin:/usr/bin:/sbin:/bin]" "just one of --journal and --memory" Example: "ocfexec run --memory"
+    "[default: /usr/sbin:/usr/bin:/sbin:/bin]" "just one of --journal and --memory" Examples: "ocfexec run --memory"
 ends 0 "" show --help
-holds "show --help" Example: "ocfexec show --memory"
+holds "show --help" Example: "ocfexec show --journal /var/lib/ocfexec"
 ends 0 "" show -h
 ends 0 "" help run
 ends 0 "" run --memory --help
@@ -99,10 +98,10 @@ wrote "show --memory" '{"ok":true,"resources":[]}'
 ends 2 "ocfexec: give one of --journal and --memory" run
 ends 2 "ocfexec: give one of --journal and --memory" show --root /r
 ends 2 "ocfexec: give one of --journal and --memory" run --memory --journal folder
-ends 2 "ocfexec: --journal is not supported yet
-$give_memory" run --journal folder
-ends 2 "ocfexec: --journal is not supported yet
-$give_memory" show --journal=
+ends 5 "ocfexec: disk
+$here/none: No such file or directory (os error 2)" run --journal "$here/none"
+ends 5 "ocfexec: disk
+the folder has no name" show --journal=
 ends 2 "ocfexec: words are not UTF-8" run --memory --via "$(printf 'a\377')"
 ends 2 "ocfexec: words are not UTF-8" "$(printf '\377')"
 misused "Usage: .* <COMMAND>"
@@ -135,9 +134,9 @@ ended "run --memory < /" $? 7 "ocfexec: input or output
 $check_output"
 
 # Standard error that fails changes no status
-"$program" run --journal folder < /dev/null > "$here/out" 2> /dev/full
+"$program" run --journal "$here/none" < /dev/null > "$here/out" 2> /dev/full
 status=$?
-[ "$status" -eq 2 ] || differs "run --journal folder 2> /dev/full, status" 2 "$status"
+[ "$status" -eq 5 ] || differs "run --journal none 2> /dev/full, status" 5 "$status"
 
 # Memory that is refused: from little memory to enough, each run ends with 4 and its line, or as it should, or is ended by
 # the system before it begins. At least one that is refused and one that is answered are wanted.

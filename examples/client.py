@@ -1,0 +1,119 @@
+#!/usr/bin/env python3
+"""Keeps one resource running through ocfexec: starts it, monitors it, starts it anew where a monitor fails, and stops it on
+SIGTERM. An executor that ends is started again: with --journal it goes on where it was, and first tells what was interrupted.
+
+    client.py --interval 10000 ocfexec run --journal /var/lib/ocfexec
+    client.py --type Dummy --param state=/tmp/dummy ocfexec run --memory
+
+A reader may be slow (--slow): the executor waits where the pipe is full, and no line is lost.
+"""
+import argparse
+import json
+import signal
+import subprocess
+import sys
+import time
+
+RUNNING = (0, 8, 190, 191)  # the exit codes of a monitor that finds its resource running
+NOT_RUNNING = 7  # and cleanly stopped
+FOR_A_PERSON = (2, 3, 6)  # wrong words, a damaged journal, a full one: another start would end likewise
+
+
+class Ended(Exception):
+    """The executor ended. Its status stands behind; below 0 it is the signal that killed it."""
+
+
+class Executor:
+    """One run of ocfexec, asked a line at a time."""
+
+    def __init__(self, words, slow):
+        # a session of its own, so that a terminal's interrupt reaches the client alone
+        self.process = subprocess.Popen(words, stdin=subprocess.PIPE, stdout=subprocess.PIPE, start_new_session=True)
+        self.slow = slow
+        self.results = {}  # the last result of each call
+
+    def ask(self, **command):
+        """The reply to a command. Notices that come before it are printed, and kept in `results`."""
+        try:
+            self.process.stdin.write(json.dumps(command).encode() + b"\n")
+            self.process.stdin.flush()
+        except OSError:
+            raise Ended(self.process.wait()) from None
+        while True:
+            line = self.process.stdout.readline()
+            if not line.endswith(b"\n"):  # nothing, or a line that was cut off
+                raise Ended(self.process.wait())
+            time.sleep(self.slow)
+            reply = json.loads(line)
+            if "outcome" not in reply:
+                return reply
+            print(line.decode(), end="", flush=True)
+            self.results[reply["call"]] = reply
+
+    def accepted(self, *words, **command):
+        """The reply to a command that may be refused, or end, with one of these words alone."""
+        reply = self.ask(**command)
+        word = reply.get("error", reply.get("end"))
+        if word and word not in words:
+            sys.exit(f"{command}: {word}")
+        return reply
+
+    def code_of(self, resource, action):
+        """Runs an action to its end, and gives its exit code."""
+        call = self.accepted(op="exec", id=resource, action=action)["call"]
+        while call not in self.results:
+            self.accepted("idle", "limit", op="drain")
+        return self.results.pop(call)["code"]
+
+
+def bring_up(executor, name, code):
+    """Starts a resource that a monitor with this exit code did not find running; one that failed is stopped first."""
+    if code not in RUNNING + (NOT_RUNNING,):
+        executor.code_of(name, "stop")
+    if code not in RUNNING:
+        executor.code_of(name, "start")
+
+
+def keep(executor, options, stopping):
+    """Brings the resource up, watches it until it is to stop, and stops it."""
+    name, params = options.id, dict(pair.split("=", 1) for pair in options.param)
+    executor.accepted("exists", op="register", id=name, provider=options.provider, type=options.type, params=params)
+    executor.accepted(op="params", id=name, params=params)
+    executor.accepted("exists", op="recur", id=name, interval=options.interval)
+    code = executor.code_of(name, "monitor")
+    while not stopping:
+        bring_up(executor, name, code)
+        executor.results.clear()  # what is older says nothing of the resource any more
+        # no other command is read in a watch, so its limit is also the longest wait for a stop
+        executor.accepted("limit", op="watch", limit=500)
+        code = next((result["code"] for result in executor.results.values()), 0)
+    executor.accepted("no-such-recurring", op="cancel", id=name, interval=options.interval)
+    return executor.code_of(name, "stop")
+
+
+def main():
+    parser = argparse.ArgumentParser(description=__doc__, formatter_class=argparse.RawDescriptionHelpFormatter)
+    for option, default in (("--id", "r1"), ("--provider", "heartbeat"), ("--type", "Dummy")):
+        parser.add_argument(option, default=default)
+    parser.add_argument("--param", action="append", default=[], metavar="NAME=VALUE")
+    parser.add_argument("--interval", type=int, default=10000, help="of the monitor, in milliseconds")
+    parser.add_argument("--slow", type=float, default=0, help="seconds to wait behind each line that is read")
+    parser.add_argument("words", nargs=argparse.REMAINDER, help="the executor's command line")
+    options, stopping = parser.parse_args(), []
+    for number in (signal.SIGTERM, signal.SIGINT):
+        signal.signal(number, lambda *_: stopping.append(True))
+    while True:
+        executor = Executor(options.words, options.slow)
+        try:
+            code = keep(executor, options, stopping)
+            executor.process.stdin.close()
+            return executor.process.wait() or code
+        except Ended as ended:
+            print(f"client: the executor ended with status {ended}", file=sys.stderr, flush=True)
+            if ended.args[0] in FOR_A_PERSON:
+                return ended.args[0]
+            time.sleep(1)
+
+
+if __name__ == "__main__":
+    sys.exit(main())

@@ -1,0 +1,284 @@
+#!/usr/bin/env bash
+# Runs `PROGRAM` over real agents, which are small scripts, and compares every reply: each exit code, a signal and a timeout
+# of one agent; two agents that wait for each other; metadata of each length and end; agents that cannot be started; what an
+# agent inherits; and 256 agents at once, in at most 40 MB and with nothing left behind.
+# Use: agents.sh PROGRAM
+set -u
+program=$1
+here=$(mktemp -d)
+trap 'rm -rf "$here"' EXIT
+agents=$here/root/resource.d/test
+mkdir -p "$agents"
+failed=0
+
+# Says what is not as wanted. Use: differs WHAT WANTED FOUND
+differs() {
+    printf 'agents.sh: %s: wanted\n%s\nand found\n%s\n' "$1" "$2" "$3" >&2
+    failed=1
+}
+
+# Runs the program through sh, on the lines of $here/lines. Use: play WORD..
+play() {
+    "$program" run --memory --root "$here/root" --via sh "$@" < "$here/lines" > "$here/out" 2> "$here/err" ||
+        differs "the status of run $*" 0 $?
+}
+
+# Compares all replies with $here/wanted. Use: replied NAME
+replied() {
+    cmp -s "$here/wanted" "$here/out" || differs "$1" "$(head -c 600 "$here/wanted")" "$(head -c 600 "$here/out")"
+}
+
+# The line that registers a resource. Use: register ID TYPE [PARAMETERS]
+register() {
+    printf '{"op":"register","id":"%s","provider":"test","type":"%s","params":{%s}}\n' "$1" "$2" "${3:-}"
+}
+
+# The line that queues a start. Use: start ID TIMEOUT
+start() {
+    printf '{"op":"exec","id":"%s","action":"start","timeout":%d}\n' "$1" "$2"
+}
+
+# The members of notices that this check looks at, a line each. Use: outcomes FILE
+outcomes() {
+    grep '"outcome"' "$1" | sed 's/.*"code":\([0-9a-z]*\).*"outcome":"\([a-z-]*\)".*/\2 \1/'
+}
+
+# Each exit code, a signal and a timeout, one start after another.
+codes() {
+    cat > "$agents/Code" <<'AGENT'
+echo x >> "$OCF_RESKEY_log"
+read c < "$OCF_RESKEY_code"
+case $c in kill) kill -9 $$;; loop) while :; do :; done;; esac
+exit $c
+AGENT
+    mkdir "$here/codes"
+    : > "$here/lines"
+    : > "$here/wanted"
+    register r1 Code "\"log\":\"$here/log\",\"code\":\"none\"" >> "$here/lines"
+    for n in $(seq 0 257); do
+        case $n in
+            256) code=kill ; echo 'signaled 1' >> "$here/wanted" ;;
+            257) code=loop ; echo 'timed-out 1' >> "$here/wanted" ;;
+            *) code=$(((37 * n + 11) % 256)) ; echo "done $code" >> "$here/wanted" ;;
+        esac
+        echo "$code" > "$here/codes/$n"
+        printf '{"op":"params","id":"r1","params":{"log":"%s","code":"%s"}}\n' "$here/log" "$here/codes/$n"
+        start r1 5000
+        printf '{"op":"drain"}\n'
+    done >> "$here/lines"
+    play
+    outcomes "$here/out" > "$here/ends"
+    mv "$here/ends" "$here/out"
+    replied 'exit codes'
+    [ "$(wc -l < "$here/log")" -eq 258 ] || differs 'starts of an agent' 258 "$(wc -l < "$here/log")"
+}
+
+# Two agents that each end only while the other runs.
+flags() {
+    cat > "$agents/Left" <<'AGENT'
+: > "$OCF_RESKEY_mine"
+n=0
+while [ ! -e "$OCF_RESKEY_other" ]; do
+  n=$((n+1)); [ $n -lt 1000000 ] || exit 1
+done
+exit 0
+AGENT
+    cp "$agents/Left" "$agents/Right"
+    {
+        register r1 Left "\"mine\":\"$here/a\",\"other\":\"$here/b\""
+        register r2 Right "\"mine\":\"$here/b\",\"other\":\"$here/a\""
+        start r1 60000
+        start r2 60000
+        printf '{"op":"drain"}\n'
+    } > "$here/lines"
+    play
+    outcomes "$here/out" > "$here/ends"
+    [ "$(cat "$here/ends")" = "$(printf 'done 0\ndone 0')" ] || differs 'agents at once' 'done 0, twice' "$(cat "$here/out")"
+}
+
+# Metadata of the greatest length, of one byte more, and of an agent that fails.
+metadata() {
+    for agent in Long Longer; do
+        echo 'n=0; while [ $n -lt 4096 ]; do echo 123456789012345; n=$((n+1)); done' > "$agents/$agent"
+        printf '{"op":"meta","provider":"test","type":"%s"}\n' "$agent"
+    done > "$here/lines"
+    echo 'echo' >> "$agents/Longer"
+    echo 'echo half; exit 5' > "$agents/Fails"
+    echo 'kill -9 $$' > "$agents/Dies"
+    for agent in Fails Dies; do
+        printf '{"op":"meta","provider":"test","type":"%s"}\n' "$agent"
+    done >> "$here/lines"
+    {
+        echo '{"meta":65536}'
+        sh "$agents/Long"
+        echo
+        echo '{"end":"too-long"}'
+        echo '{"code":5,"end":"failed"}'
+        echo '{"code":1,"end":"failed"}'
+    } > "$here/wanted"
+    play
+    replied 'metadata'
+    echo '{"op":"meta","provider":"test","type":"None"}' > "$here/lines"
+    echo '{"end":"missing"}' > "$here/wanted"
+    "$program" run --memory --root "$here/root" < "$here/lines" > "$here/out"
+    replied 'metadata of no agent'
+}
+
+# A start and metadata through a program that writes what it is given.
+through() {
+    {
+        printf '{"op":"register","id":"r1","provider":"pacemaker","type":"Dummy"}\n'
+        printf '{"op":"exec","id":"r1","action":"start"}\n{"op":"drain"}\n'
+        printf '{"op":"meta","provider":"pacemaker","type":"Dummy"}\n'
+    } > "$here/lines"
+    {
+        printf '{"ok":true}\n{"call":1,"key":"r1_start_0","ok":true}\n'
+        printf '{"action":"start","call":1,"code":0,"id":"r1","interval":0,"name":"OCF_SUCCESS","outcome":"done","run":1}\n'
+        printf '{"end":"idle"}\n{"meta":46}\n/nowhere/resource.d/pacemaker/Dummy meta-data\n\n'
+    } > "$here/wanted"
+    "$program" run --memory --root /nowhere --via echo < "$here/lines" > "$here/out"
+    replied 'a start through echo'
+    head -n 3 "$here/lines" > "$here/three"
+    "$program" run --memory --root /nowhere --via cat < "$here/three" > "$here/out"
+    grep -q '"code":1,"id":"r1","interval":0,"name":"OCF_ERR_GENERIC","outcome":"done"' "$here/out" ||
+        differs 'a start through cat' 'done with code 1' "$(cat "$here/out")"
+}
+
+# Agents that are run without a program, and cannot be: none is there, its folder is a file, it may not be run, it is a
+# folder, it has no first line, and the program that its first line names is not there.
+refused() {
+    printf '#!/bin/sh\nexit 0\n' > "$agents/Denied"
+    chmod 644 "$agents/Denied"
+    mkdir "$agents/Folder"
+    : > "$here/root/resource.d/file"
+    printf 'exit 0\n' > "$agents/Bare"
+    printf '#!/nowhere/sh\nexit 0\n' > "$agents/Lost"
+    chmod 755 "$agents/Bare" "$agents/Lost"
+    n=0
+    for agent in test/Nobody file/Below test/Denied test/Folder test/Bare test/Lost; do
+        n=$((n + 1))
+        printf '{"op":"register","id":"r%d","provider":"%s","type":"%s"}\n' $n "${agent%/*}" "${agent#*/}"
+        start r$n 5000
+        printf '{"op":"meta","provider":"%s","type":"%s"}\n' "${agent%/*}" "${agent#*/}"
+    done > "$here/lines"
+    printf '{"op":"drain"}\n' >> "$here/lines"
+    "$program" run --memory --root "$here/root" < "$here/lines" > "$here/replies"
+    grep '"end"' "$here/replies" > "$here/out"
+    printf '{"end":"%s"}\n' missing other denied denied other missing idle > "$here/wanted"
+    replied 'metadata of agents that cannot be started'
+    [ "$(outcomes "$here/replies" | grep -c '^not-started')" -eq 6 ] ||
+        differs 'agents that cannot be started' 'six of them not started' "$(cat "$here/replies")"
+}
+
+# An agent that ignores the signal to end is killed at its timeout, and what it started stays.
+stubborn() {
+    printf 'trap "" TERM INT HUP\nsleep 3 & echo $! > "%s"\nwhile :; do :; done\n' "$here/left" > "$agents/Stubborn"
+    { register r1 Stubborn; start r1 300; printf '{"op":"drain"}\n'; } > "$here/lines"
+    play
+    [ "$(outcomes "$here/out" | cut -d ' ' -f 1)" = timed-out ] || differs 'an agent that ignores SIGTERM' timed-out "$(cat "$here/out")"
+    kill "$(cat "$here/left")" 2> /dev/null || differs 'what a killed agent has started' 'alive' 'gone'
+}
+
+# What an agent inherits, of a program that has a descriptor more, ignores SIGPIPE, blocks nothing and has a umask of 027.
+inherited() {
+    cat > "$agents/Shows" <<'AGENT'
+descriptors=$(for n in /proc/$$/fd/*; do echo "${n##*/} $(readlink "$n")"; done | grep -v 'pipe:\|/Shows$')
+{
+    echo "$descriptors"
+    pwd
+    umask
+    # by the shell itself, which blocks signals while it starts a command; 4096 is SIGPIPE
+    while read -r name value; do
+        case $name in
+        SigBlk:) echo "blocked $value" ;;
+        SigIgn:) echo "SIGPIPE ignored $((0x$value & 4096))" ;;
+        esac
+    done < /proc/$$/status
+    tr '\0' '\n' < /proc/$$/environ
+} > "$OCF_RESKEY_to"
+AGENT
+    { register r1 Shows "\"to\":\"$here/shown\""; start r1 5000; printf '{"op":"drain"}\n'; } > "$here/lines"
+    (
+        umask 027
+        trap '' PIPE
+        exec 7< "$here/lines" 9> "$here/other"
+        cd "$here" && OCF_SECRET=1 "$program" run --memory --root "$here/root" --via sh < "$here/lines" > "$here/out" 2>&1
+    )
+    cat > "$here/wanted" <<SHOWN
+0 /dev/null
+1 /dev/null
+2 /dev/null
+/
+0027
+blocked 0000000000000000
+SIGPIPE ignored 0
+OCF_RA_VERSION_MAJOR=1
+OCF_RA_VERSION_MINOR=1
+OCF_RESKEY_to=$here/shown
+OCF_RESOURCE_INSTANCE=r1
+OCF_RESOURCE_PROVIDER=test
+OCF_RESOURCE_TYPE=Shows
+OCF_ROOT=$here/root
+PATH=/usr/sbin:/usr/bin:/sbin:/bin
+SHOWN
+    mv "$here/shown" "$here/out"
+    replied 'what an agent inherits'
+}
+
+# 256 agents at once, which are killed at their timeout; then one that lasts, so that the killed ones are waited for.
+crowd() {
+    printf 'exec sleep 60\n' > "$agents/Sleeps"
+    mkfifo "$here/in"
+    "$program" run --memory --root "$here/root" --via sh < "$here/in" > "$here/out" &
+    local pid=$!
+    exec 3> "$here/in"
+    local descriptors
+    echo '{"op":"list"}' >&3
+    until grep -q '"ok"' "$here/out"; do
+        sleep 0.1
+    done
+    descriptors=$(ls "/proc/$pid/fd" | wc -l)
+    {
+        for n in $(seq 1 256); do register "r$n" Sleeps; done
+        for n in $(seq 1 256); do start "r$n" 4000; done
+        printf '{"op":"drain"}\n'
+    } >&3
+    local most=0 now
+    until grep -q '"end"' "$here/out"; do
+        now=$(wc -w < "/proc/$pid/task/$pid/children")
+        [ "$now" -le "$most" ] || most=$now
+        sleep 0.2
+    done
+    start r1 500 >&3
+    printf '{"op":"drain"}\n{"op":"drain"}\n{"op":"drain"}\n' >&3
+    until [ "$(grep -c '"end"' "$here/out")" -eq 4 ]; do
+        sleep 0.1
+    done
+    printf '{"op":"drain"}\n' >&3
+    until [ "$(grep -c '"end"' "$here/out")" -eq 5 ]; do
+        sleep 0.1
+    done
+    local resident left left_open
+    resident=$(awk '/VmHWM/ { print $2 }' "/proc/$pid/status")
+    left=$(wc -w < "/proc/$pid/task/$pid/children")
+    left_open=$(ls "/proc/$pid/fd" | wc -l)
+    exec 3>&-
+    wait "$pid" || differs 'the status of a run of 256 agents' 0 $?
+    echo "256 agents: $most at once, $resident KB resident"
+    [ "$most" -eq 256 ] || differs 'agents at once' 256 "$most"
+    [ "$resident" -le 40000 ] || differs 'resident KB' 'at most 40000' "$resident"
+    [ "$left" -eq 0 ] || differs 'processes left' 0 "$left"
+    [ "$left_open" -eq "$descriptors" ] || differs 'descriptors left' "$descriptors" "$left_open"
+    [ "$(outcomes "$here/out" | grep -c '^timed-out')" -eq 257 ] || differs 'timeouts' 257 "$(outcomes "$here/out" | sort | uniq -c)"
+}
+
+codes
+flags
+metadata
+through
+refused
+stubborn
+inherited
+crowd
+[ "$failed" -eq 0 ] || exit 1
+echo "agents.sh: ok"
