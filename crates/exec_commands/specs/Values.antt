@@ -1,17 +1,13 @@
 -- Names and values of a line. A text that is no name is bad-name; a value outside its range is bad-value.
-use Rattle.std.specs.Prelude.{ℕ, ◌==◌, ◌&&◌, ◌^◌, nat_le, nat_lt, List, [], ◌∷◌, length, Bool, Option, option_and_then, Result, Ok, Err, if◌then◌else◌}
+use Rattle.std.specs.Prelude.{ℕ, ◌&&◌, ◌^◌, nat_le, nat_lt, List, length, Bool, Option, option_and_then, Result, Ok, Err, if◌then◌else◌}
 use Rattle.std.specs.Option.{ok_or}
-use Rattle.std.specs.List.{find, list_all}
-use Rattle.std.specs.Str.{bytes_eq}
+use Rattle.std.specs.List.{list_all}
 use Rattle.ocf_types.specs.Limits.{params_limit}
 use Rattle.ocf_types.specs.Names.{is_param_name}
 use Rattle.ocf_types.specs.Params.{ParamList}
 use Rattle.ocf_types.specs.Values.{is_param_value}
-use Rattle.ocf_types.specs.Actions.{action_word, level_number, task_of}
-use Rattle.ocf_types.specs.declared.action.Action.{Action}
-use Rattle.ocf_types.specs.declared.action.Action.TheVariants as action
+use Rattle.ocf_types.specs.Actions.{action_named, level_numbered, task_of}
 use Rattle.ocf_types.specs.declared.action.Level.{Level}
-use Rattle.ocf_types.specs.declared.action.Level.TheVariants.{Zero, Ten, Twenty}
 use Rattle.ocf_types.specs.declared.action.Task.{Task}
 use Rattle.ocf_types.specs.declared.refusal.Refusal.{Refusal}
 use Rattle.ocf_types.specs.declared.refusal.Refusal.TheVariants.{BadName, BadValue}
@@ -40,18 +36,7 @@ valued_params ps = if nat_le (length ps) params_limit && list_all (λ p. is_para
 abbrev pub params_of : ParamList → Result ParamList Refusal
 params_of ps = given (named_params ps) valued_params
 
--- the actions, and the one of a word
-abbrev pub actions : List Action
-actions = action.Start ∷ action.Stop ∷ action.Monitor ∷ action.Promote ∷ action.Demote ∷ action.ReloadAgent ∷ action.ValidateAll ∷ []
-
-abbrev pub action_named : List ℕ → Option Action
-action_named word = find (λ a. bytes_eq word (action_word a)) actions
-
 -- the level of a number
-abbrev pub level_numbered : ℕ → Option Level
-level_numbered n = find (λ l. n == level_number l) (Zero ∷ Ten ∷ Twenty ∷ [])
-
--- the level of a number, as a value
 abbrev pub level_of : ℕ → Result Level Refusal
 level_of n = valued (level_numbered n)
 

@@ -1,7 +1,7 @@
 //! Names and values of a line.
 ghost use Rattle.std.specs.Prelude.{◌≡◌};
 ghost use Rattle.ocf_types.specs.Names.{is_rsc_id, is_provider, is_agent_type};
-ghost use Rattle.exec_commands.specs.Values.{named, action_named, level_numbered, level_of, task_named, millis_of, limit_of};
+ghost use Rattle.exec_commands.specs.Values.{named, level_of, task_named, millis_of, limit_of};
 
 use ocf_types::{Action, AgentType, Level, Millis, Provider, Refusal, RscId, Task};
 
@@ -35,44 +35,11 @@ pub fn agent_type(text: &str) -> Result<AgentType, Refusal>
     }
 }
 
-fn action_named(word: &str) -> Option<Action>
-    ensures { result ≡ action_named word.now }
-{
-    if word == "start" {
-        Some(Action::Start)
-    } else if word == "stop" {
-        Some(Action::Stop)
-    } else if word == "monitor" {
-        Some(Action::Monitor)
-    } else if word == "promote" {
-        Some(Action::Promote)
-    } else if word == "demote" {
-        Some(Action::Demote)
-    } else if word == "reload-agent" {
-        Some(Action::ReloadAgent)
-    } else if word == "validate-all" {
-        Some(Action::ValidateAll)
-    } else {
-        None
-    }
-}
-
-fn level_numbered(number: u64) -> Option<Level>
-    ensures { result ≡ level_numbered number }
-{
-    match number {
-        0 => Some(Level::Zero),
-        10 => Some(Level::Ten),
-        20 => Some(Level::Twenty),
-        _ => None,
-    }
-}
-
 /// The level of a monitor.
 pub fn level(number: u64) -> Result<Level, Refusal>
     ensures { result ≡ level_of number }
 {
-    match level_numbered(number) {
+    match Level::numbered(number) {
         Some(level) => Ok(level),
         None => Err(Refusal::BadValue),
     }
@@ -82,7 +49,7 @@ pub fn level(number: u64) -> Result<Level, Refusal>
 pub fn task(word: &str, number: u64) -> Result<Task, Refusal>
     ensures { result ≡ task_named word.now number }
 {
-    let (Some(action), Some(level)) = (action_named(word), level_numbered(number)) else {
+    let (Some(action), Some(level)) = (Action::named(word), Level::numbered(number)) else {
         return Err(Refusal::BadValue);
     };
     match Task::new(action, level) {

@@ -1,6 +1,5 @@
 //! The agents, and the actions that each of them has.
 ghost use Rattle.std.specs.Prelude.{◌≡◌, ◌≢◌, IfSome, IfNone};
-ghost use Rattle.ocf_types.specs.Actions.{action_word};
 ghost use Rattle.ocf_types.specs.declared.action.Action.{Action};
 ghost use Rattle.ocf_agents.specs.declared.agent.Agent.{Agent};
 ghost use Rattle.ocf_agents.specs.Agents.{agent_word, has_action};
@@ -47,22 +46,5 @@ impl Agent {
             Agent::Dummy => "<resource-agent name=\"Dummy\"/>",
             Agent::Stateful => "<resource-agent name=\"Stateful\"/>",
         }
-    }
-}
-
-/// The action of this word, of which there are seven. OCF Resource Agent API 1.1, actions.
-pub fn action_of(word: &str) -> Option<Action>
-    ensures found { IfSome result (λ action. word.now ≡ action_word action) }
-    ensures none { IfNone result ((action : Action) → word.now ≢ action_word action) }
-{
-    match word {
-        "start" => Some(Action::Start),
-        "stop" => Some(Action::Stop),
-        "monitor" => Some(Action::Monitor),
-        "promote" => Some(Action::Promote),
-        "demote" => Some(Action::Demote),
-        "reload-agent" => Some(Action::ReloadAgent),
-        "validate-all" => Some(Action::ValidateAll),
-        _ => None,
     }
 }

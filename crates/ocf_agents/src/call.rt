@@ -4,7 +4,7 @@ ghost use Rattle.ocf_types.specs.declared.action.Action.{Action};
 ghost use Rattle.ocf_agents.specs.declared.agent.Agent.{Agent};
 ghost use Rattle.ocf_agents.specs.Calls.{Asks, IsBlank, IsRead, Types};
 
-use crate::agent::{Agent, action_of};
+use crate::agent::Agent;
 use ocf_codes::Code;
 use ocf_types::Action;
 
@@ -31,7 +31,7 @@ fn asked_action(word: &str, agent: Agent) -> Option<Action>
     ensures found { IfSome result (Asks (Some word.now) agent) }
     ensures none { IfNone result ((action : Action) → ¬ (Asks (Some word.now) agent action)) }
 {
-    match action_of(word) {
+    match Action::named(word) {
         Some(action) if agent.has(action) => Some(action),
         _ => None,
     }

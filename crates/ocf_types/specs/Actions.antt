@@ -1,5 +1,7 @@
 -- Actions, their words, and the levels of monitors.
-use Rattle.std.specs.Prelude.{ℕ, List, Option, Some, None, codes}
+use Rattle.std.specs.Prelude.{ℕ, ◌==◌, List, [], ◌∷◌, Option, Some, None, codes}
+use Rattle.std.specs.List.{find}
+use Rattle.std.specs.Str.{bytes_eq}
 use Rattle.ocf_types.specs.declared.action.Action.{Action}
 use Rattle.ocf_types.specs.declared.action.Action.TheVariants as action
 use Rattle.ocf_types.specs.declared.action.Level.{Level}
@@ -17,11 +19,22 @@ action_word action.Demote = codes "demote"
 action_word action.ReloadAgent = codes "reload-agent"
 action_word action.ValidateAll = codes "validate-all"
 
+-- the actions, and the one of a word
+abbrev pub actions : List Action
+actions = action.Start ∷ action.Stop ∷ action.Monitor ∷ action.Promote ∷ action.Demote ∷ action.ReloadAgent ∷ action.ValidateAll ∷ []
+
+abbrev pub action_named : List ℕ → Option Action
+action_named word = find (λ a. bytes_eq word (action_word a)) actions
+
 -- OCF Resource Agent API 1.1, OCF_CHECK_LEVEL
 abbrev pub level_number : Level → ℕ
 level_number Zero = 0
 level_number Ten = 10
 level_number Twenty = 20
+
+-- the level of a number
+abbrev pub level_numbered : ℕ → Option Level
+level_numbered n = find (λ l. n == level_number l) (Zero ∷ Ten ∷ Twenty ∷ [])
 
 -- the action of a task
 abbrev pub action_of : Task → Action

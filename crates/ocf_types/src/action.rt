@@ -1,6 +1,8 @@
 //! Actions of agents.
-ghost use Rattle.std.specs.Prelude.{◌≡◌};
-ghost use Rattle.ocf_types.specs.Actions.{action_word, level_number, action_of, level_of, task_of};
+ghost use Rattle.std.specs.Prelude.{◌≡◌, ◌≢◌, IfSome, IfNone};
+ghost use Rattle.ocf_types.specs.Actions.{action_word, action_named, level_number, level_numbered};
+ghost use Rattle.ocf_types.specs.Actions.{action_of, level_of, task_of};
+ghost use Rattle.ocf_types.specs.declared.action.Action.{Action};
 
 /// What an agent is asked to do. OCF Resource Agent API 1.1, actions; `promote` and `demote` are of promotable
 /// agents.
@@ -16,6 +18,31 @@ pub enum Action {
 }
 
 impl Action {
+    /// The action of this word: `None` where it is none's.
+    pub fn named(word: &str) -> Option<Action>
+        ensures named { result ≡ action_named word.now }
+        ensures found { IfSome result (λ action. word.now ≡ action_word action) }
+        ensures none { IfNone result ((action : Action) → word.now ≢ action_word action) }
+    {
+        if word == "start" {
+            Some(Action::Start)
+        } else if word == "stop" {
+            Some(Action::Stop)
+        } else if word == "monitor" {
+            Some(Action::Monitor)
+        } else if word == "promote" {
+            Some(Action::Promote)
+        } else if word == "demote" {
+            Some(Action::Demote)
+        } else if word == "reload-agent" {
+            Some(Action::ReloadAgent)
+        } else if word == "validate-all" {
+            Some(Action::ValidateAll)
+        } else {
+            None
+        }
+    }
+
     /// The word for the action, which is the agent's argument.
     pub fn word(self) -> &'static str
         ensures { result.now ≡ action_word self }
@@ -41,6 +68,18 @@ pub enum Level {
 }
 
 impl Level {
+    /// The level of this number: `None` where it is none's.
+    pub fn numbered(number: u64) -> Option<Level>
+        ensures { result ≡ level_numbered number }
+    {
+        match number {
+            0 => Some(Level::Zero),
+            10 => Some(Level::Ten),
+            20 => Some(Level::Twenty),
+            _ => None,
+        }
+    }
+
     /// The number of the level: 0, 10 or 20.
     pub fn number(self) -> u8
         ensures { result ≡ level_number self }

@@ -155,16 +155,6 @@ const VERBS: [(&str, Verb); 28] = [
     ("stopped", Verb::Stopped),
 ];
 
-const ACTIONS: [Action; 7] = [
-    Action::Start,
-    Action::Stop,
-    Action::Monitor,
-    Action::Promote,
-    Action::Demote,
-    Action::ReloadAgent,
-    Action::ValidateAll,
-];
-
 const PARTS: [(&str, Part); 2] = [("A", Part::A), ("B", Part::B)];
 
 impl Line {
@@ -312,23 +302,9 @@ fn read_id(words: &mut Words) -> Result<RscId, BadLine> {
 }
 
 fn read_task(words: &mut Words) -> Result<Task, BadLine> {
-    let action = action_named(words.text()?)?;
-    let level = match words.number()? {
-        0 => Level::Zero,
-        10 => Level::Ten,
-        20 => Level::Twenty,
-        _ => return Err(BadLine::NoStep),
-    };
+    let action = Action::named(words.text()?).ok_or(BadLine::NoStep)?;
+    let level = Level::numbered(words.number()?).ok_or(BadLine::NoStep)?;
     Task::new(action, level).ok_or(BadLine::NoStep)
-}
-
-fn action_named(word: &str) -> Result<Action, BadLine> {
-    for action in ACTIONS {
-        if action.word() == word {
-            return Ok(action);
-        }
-    }
-    Err(BadLine::NoStep)
 }
 
 fn read_faults(words: &mut Words) -> Result<Sweep, BadLine> {
