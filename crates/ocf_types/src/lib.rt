@@ -45,7 +45,7 @@ pub use param_name::ParamName;
 pub use params::Params;
 pub use part::Part;
 pub use refusal::Refusal;
-pub use reply::{Info, InfoOf, Notice, Reply, ReplyOf, TurnEnd};
+pub use reply::{Info, InfoOf, Notice, Reply, ReplyOf, TidyEnd, TurnEnd};
 pub use resource_parts::{HistoryParts, ResourceParts};
 pub use rsc_id::RscId;
 pub use state_parts::StateParts;

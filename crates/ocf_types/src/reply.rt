@@ -1,4 +1,4 @@
-//! Replies to requests, notices of results, and ends of turns.
+//! Replies to requests, notices of results, and ends of turns and tidies.
 ghost use Rattle.std.specs.Prelude.{◌≡◌};
 
 use crate::agent::{AgentType, Provider};
@@ -42,6 +42,19 @@ pub enum TurnEnd {
     /// A launch found no memory.
     Memory,
     /// The journal's device failed; the executor is closed.
+    Disk,
+}
+
+/// How a tidy of the journal ended.
+#[derive(Clone, Copy, Debug, PartialEq, Eq)]
+pub enum TidyEnd {
+    /// The state is the snapshot of the other part now.
+    Done,
+    /// The executor was closed before: nothing was done.
+    Closed,
+    /// The epoch is the greatest there is: nothing was done.
+    EpochSpent,
+    /// The device failed: the executor is closed.
     Disk,
 }
 
