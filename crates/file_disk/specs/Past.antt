@@ -1,4 +1,4 @@
--- What a disk of files reads and may leave, by what was found at its opening and the calls since, the newest first.
+-- What a disk of files, or one in memory, reads and may leave, by what it held at first and the calls since, the newest first.
 use Rattle.std.specs.Prelude.{◌≡◌, ◌⊎◌, ℕ, ◌+◌, ◌<◌, min, List, [], ◌∷◌, ◌++◌, length, take, drop}
 use Rattle.disk_model.specs.Image.{Image, Torn, bytes_of}
 use Rattle.disk_model.specs.Parts.{put}

@@ -1,14 +1,15 @@
 -- The laws of a disk of files, whatever its calls were.
-use Rattle.std.specs.Prelude.{ℕ, ◌<◌, ◌≤◌, List, [], ◌∷◌, length}
+use Rattle.std.specs.Coded.{Coded-set, coded_list, coded_ℕ, ×_prop, Unit-prop}
+use Rattle.std.specs.Prelude.{ℕ, ◌<◌, ◌≤◌, List, [], ◌∷◌, length, take, drop}
 use Rattle.std.proofs.Common.{inl, inr, arith, refl}
 use Rattle.std.proofs.lemmas.Bool.{cases_lt}
-use Rattle.disk_model.specs.Image.{Image}
+use Rattle.disk_model.specs.Image.{Image, bytes_of}
 use Rattle.disk_model.specs.View.{LAST, Elapses, Lawful, Passed}
 use Rattle.disk_model.specs.PastLaws.{torn_put}
 use Rattle.disk_model.specs.Laws.{torn_same}
 use Rattle.file_disk.specs.declared.call.Call.{Call}
 use Rattle.file_disk.specs.declared.call.Call.TheVariants.{Measured, Read, Wrote, Tried, Synced, Failed, Refused}
-use Rattle.file_disk.specs.Past.{Event, read_after, left_after, failures_after, reads_of, now_of, clock_of, failures_of, since_of, past_view}
+use Rattle.file_disk.specs.Past.{Event, agrees, honest_of, read_after, left_after, failures_after, reads_of, now_of, clock_of, failures_of, since_of, past_view}
 
 left_step : (w : Call) (bytes : List ℕ) (old : Image → Type 0) (d : Image) → old d → left_after w bytes old d (read_after w bytes d)
 left_step (Measured part n) bytes old d h = h
@@ -91,3 +92,17 @@ elapses_refused first past bytes =
     elapses_by first past (record { call = Refused; bytes = bytes }) (λ t c le ge left.
     let after : clock_of (record { call = Refused; bytes = bytes } ∷ past) ≤ t = ge in
     only first past t c (omega (arith, after, clock_bound past)) left)
+
+-- there is one proof at most that a disk is honest
+agrees_prop : (w : Call) (bytes : List ℕ) (d : Image) → IsProp (agrees w bytes d)
+agrees_prop (Measured part n) bytes d = Coded-set coded_ℕ n (length (bytes_of part d))
+agrees_prop (Read part at) bytes d = Coded-set (coded_list coded_ℕ) bytes (take (length bytes) (drop at (bytes_of part d)))
+agrees_prop (Wrote part at) bytes d = Unit-prop
+agrees_prop (Tried part at) bytes d = Unit-prop
+agrees_prop (Synced part) bytes d = Unit-prop
+agrees_prop Failed bytes d = Unit-prop
+agrees_prop Refused bytes d = Unit-prop
+
+pub honest_prop : (first : Image) (past : List Event) → IsProp (honest_of first past)
+honest_prop first [] = Unit-prop
+honest_prop first (e ∷ older) = ×_prop (honest_prop first older) (agrees_prop e.call e.bytes (reads_of first older))

@@ -1,0 +1,24 @@
+-- What contracts see of a disk in memory.
+use Rattle.std.specs.Prelude.{◌≡◌, ◌⊎◌, ℕ, ◌<◌, ◌≤◌, []}
+use Rattle.disk_model.specs.Image.{Image}
+use Rattle.disk_model.specs.Runs.{AllSynced}
+use Rattle.disk_model.specs.View.{LAST, View}
+use Rattle.file_disk.specs.Log.{log_view}
+use Rattle.file_disk.specs.declared.ram.RamDisk.{RamDisk}
+
+module _ {M : Type 0} where
+  -- the disk at this moment, by the record of its calls
+  abbrev pub view_of : RamDisk M → View
+  view_of d = log_view d.log
+
+  -- no call is made any more: one failed, or the count of calls is at its last value
+  abbrev pub IsStopped : RamDisk M → Type 0
+  IsStopped d = (0 < (view_of d).failures) ⊎ (LAST ≤ (view_of d).clock)
+
+  -- a disk that was just made: both parts are empty, all is synced, a stop at any moment leaves them, and no call was made
+  pub record IsFresh (d : RamDisk M) : Type 0 where
+    pub reads : (view_of d).reads ≡ record { a = []; b = [] }
+    pub synced : AllSynced (view_of d)
+    pub since : (t : ℕ) (c : Image) → (view_of d).since t c → c ≡ (view_of d).reads
+    pub clock : (view_of d).clock ≡ 0
+    pub failures : (view_of d).failures ≡ 0
