@@ -4,6 +4,7 @@ pub mod Booting
 pub mod Keeping
 pub mod OpeningLemmas
 pub mod Recording
+pub mod Tidying
 pub mod SessionLemmas
 pub mod AloneLists
 pub mod AloneChanges

@@ -19,7 +19,7 @@ use Rattle.exec_journal.specs.Opening.{FailsToOpen, Opens, OpensAt, OpensLike}
 use Rattle.exec_journal.specs.Place.{Place}
 use Rattle.exec_journal.specs.Room.{AllRoomy, HasRoom, Roomy}
 use Rattle.exec_journal.specs.Settled.{IsSettled}
-use Rattle.exec_journal.specs.declared.damage.Damage.{Damage}
+use Rattle.two_parts.specs.declared.damage.Damage.{Damage}
 use Rattle.exec_journal.specs.declared.fault.JournalFault.{JournalFault}
 use Rattle.exec_journal.specs.declared.fault.JournalFault.TheVariants as journal
 use Rattle.executor.specs.declared.opening.OpenError.{OpenError}

@@ -4,6 +4,7 @@ pub mod Reports
 pub mod Commands
 pub mod Openings
 pub mod TurnCalls
+pub mod TidyCalls
 pub mod Sessions
 pub mod Singles
 pub mod Parts

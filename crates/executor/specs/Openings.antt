@@ -16,7 +16,7 @@ use Rattle.exec_journal.specs.Found.{Damaged, FoundAs, IsFound, IsFreshPair, Sta
 use Rattle.exec_journal.specs.Opening.{OpensLike}
 use Rattle.exec_journal.specs.Place.{Place}
 use Rattle.exec_journal.specs.Room.{AllRoomy, HasRoom, Roomy}
-use Rattle.exec_journal.specs.declared.damage.Damage.{Damage}
+use Rattle.two_parts.specs.declared.damage.Damage.{Damage}
 use Rattle.exec_journal.specs.declared.fault.JournalFault.{JournalFault}
 use Rattle.exec_journal.specs.declared.fault.JournalFault.TheVariants as journal
 use Rattle.executor.specs.declared.opening.OpenError.{OpenError}

@@ -7,6 +7,7 @@ pub mod laws;
 mod opening;
 mod report;
 mod session;
+mod tidies;
 mod turns;
 
 pub use executor::Executor;
