@@ -50,6 +50,7 @@ fault_no_float fault.Memory = refl
 pub reply_has_no_float : (r : LineReply) → has_float (reply_data r) ≡ false
 reply_has_no_float (line.Request r) = request_no_float r
 reply_has_no_float (line.Drain end) = refl
+reply_has_no_float (line.Tidy end) = refl
 reply_has_no_float (line.Meta (Ok metadata)) = refl
 reply_has_no_float (line.Meta (Err f)) = fault_no_float f
 

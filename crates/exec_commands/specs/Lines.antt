@@ -95,7 +95,8 @@ command_words =
 abbrev pub other_words : List (List ℕ × Operation)
 other_words =
     (codes "list", operation.List) ∷ (codes "info", operation.Info) ∷ (codes "history", operation.History)
-    ∷ (codes "drain", operation.Drain) ∷ (codes "watch", operation.Watch) ∷ (codes "meta", operation.Meta) ∷ []
+    ∷ (codes "drain", operation.Drain) ∷ (codes "watch", operation.Watch) ∷ (codes "meta", operation.Meta)
+    ∷ (codes "tidy", operation.Tidy) ∷ []
 
 -- the operation that a word has in a table, if it stands there
 abbrev pub operation_in : List (List ℕ × Operation) → List ℕ → Option Operation
@@ -120,6 +121,7 @@ line_for operation.History d = asked (given (id_in d) (λ id. Ok (question.Histo
 line_for operation.Drain d = drain_in d
 line_for operation.Watch d = watch_in d
 line_for operation.Meta d = meta_in d
+line_for operation.Tidy d = Ok line.Tidy
 
 -- what a JSON value asks for, or the first refusal
 abbrev pub line_of : Data → Result Line Refusal

@@ -14,6 +14,8 @@ use Rattle.ocf_types.specs.declared.outcome.StartFault.TheVariants as start
 use Rattle.ocf_types.specs.declared.refusal.Refusal.{Refusal}
 use Rattle.ocf_types.specs.declared.reply.Notice.{Notice}
 use Rattle.ocf_types.specs.declared.reply.ReplyOf.TheVariants as reply
+use Rattle.ocf_types.specs.declared.reply.TidyEnd.{TidyEnd}
+use Rattle.ocf_types.specs.declared.reply.TidyEnd.TheVariants as tidy
 use Rattle.ocf_types.specs.declared.reply.TurnEnd.{TurnEnd}
 use Rattle.ocf_types.specs.declared.reply.TurnEnd.TheVariants as turn
 use Rattle.ocf_codes.specs.ExitCodes.{name_read}
@@ -27,7 +29,7 @@ use Rattle.ocf_types.specs.declared.outcome.MetaFault.TheVariants as fault
 use Rattle.exec_commands.specs.declared.reply.LineReply.{LineReply}
 use Rattle.exec_commands.specs.declared.reply.LineReply.TheVariants as line
 
--- how a turn, a drain and a start ended, in a word
+-- how a turn, a drain, a tidy and a start ended, in a word
 abbrev pub turn_word : TurnEnd → List ℕ
 turn_word turn.Done = codes "done"
 turn_word turn.Closed = codes "closed"
@@ -42,6 +44,12 @@ drain_word drain.Idle = codes "idle"
 drain_word drain.Limit = codes "limit"
 drain_word drain.Turns = codes "turns"
 drain_word (drain.Turn end) = turn_word end
+
+abbrev pub tidy_word : TidyEnd → List ℕ
+tidy_word tidy.Done = codes "done"
+tidy_word tidy.Closed = codes "closed"
+tidy_word tidy.EpochSpent = codes "epoch-spent"
+tidy_word tidy.Disk = codes "disk"
 
 abbrev pub start_word : StartFault → List ℕ
 start_word start.Missing = codes "missing"
@@ -128,6 +136,7 @@ request_data (reply.Turn end) = end_data (turn_word end)
 abbrev pub reply_data : LineReply → Data
 reply_data (line.Request r) = request_data r
 reply_data (line.Drain end) = end_data (drain_word end)
+reply_data (line.Tidy end) = end_data (tidy_word end)
 reply_data (line.Meta (Ok metadata)) = length_data metadata.items
 reply_data (line.Meta (Err why)) = fault_data why
 

@@ -1,9 +1,9 @@
 //! Ends of what a line asks for, and of turns.
 ghost use Rattle.std.specs.Prelude.{◌≡◌, IfOk};
 ghost use Rattle.serde_json.specs.View.{view};
-ghost use Rattle.exec_commands.specs.Replies.{turn_word, drain_word, start_word, end_data, fault_data};
+ghost use Rattle.exec_commands.specs.Replies.{turn_word, drain_word, tidy_word, start_word, end_data, fault_data};
 
-use ocf_types::{MetaFault, StartFault, TurnEnd};
+use ocf_types::{MetaFault, StartFault, TidyEnd, TurnEnd};
 use serde_json::{Value, json};
 use std::alloc::{AllocError, Global};
 
@@ -44,6 +44,18 @@ pub fn drain_word(end: DrainEnd) -> &'static str
         DrainEnd::Limit => "limit",
         DrainEnd::Turns => "turns",
         DrainEnd::Turn(end) => turn_word(end),
+    }
+}
+
+/// The word for the end of a tidy.
+pub fn tidy_word(end: TidyEnd) -> &'static str
+    ensures { result.now ≡ tidy_word end }
+{
+    match end {
+        TidyEnd::Done => "done",
+        TidyEnd::Closed => "closed",
+        TidyEnd::EpochSpent => "epoch-spent",
+        TidyEnd::Disk => "disk",
     }
 }
 

@@ -15,7 +15,7 @@ mod results;
 mod texts;
 mod values;
 
-pub use ends::DrainEnd;
+pub use ends::{DrainEnd, tidy_word, turn_word};
 pub use line::Line;
 pub use read::read_command;
 pub use reply::{LineReply, write_notice, write_reply};

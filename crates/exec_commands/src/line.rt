@@ -10,6 +10,8 @@ pub enum Line {
     Drain(u32),
     /// Turns for this many milliseconds, whether or not anything is queued or running: from 1 to 4,294,967,295.
     Watch(u32),
+    /// The whole state, written as the snapshot of the journal's other part.
+    Tidy,
     /// The metadata of an agent. OCF Resource Agent API 1.1, meta-data.
     Meta {
         provider: Provider,

@@ -18,6 +18,7 @@ pub enum Operation {
     Drain,
     Watch,
     Meta,
+    Tidy,
 }
 
 fn command_named(word: &str) -> Option<Operation>
@@ -57,6 +58,8 @@ fn other_named(word: &str) -> Option<Operation>
         Some(Operation::Watch)
     } else if word == "meta" {
         Some(Operation::Meta)
+    } else if word == "tidy" {
+        Some(Operation::Tidy)
     } else {
         None
     }

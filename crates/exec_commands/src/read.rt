@@ -91,6 +91,7 @@ fn line_for(alloc: Global, operation: Operation, line: &Value) -> Result<Line, R
         Operation::Drain => drain_in(line),
         Operation::Watch => watch_in(line),
         Operation::Meta => meta_in(line),
+        Operation::Tidy => Ok(Line::Tidy),
     }
 }
 

@@ -5,11 +5,11 @@ ghost use Rattle.serde_json.specs.View.{view};
 ghost use Rattle.serde_json.specs.Written.{compact_text, has_float};
 ghost use Rattle.exec_commands.specs.Replies.{refusal_data, done_data, accepted_data, list_data, history_data, length_data, request_data, reply_data, reply_line, behind, notice_line};
 
-use crate::ends::{DrainEnd, drain_word, end_value, fault_value, turn_word};
+use crate::ends::{DrainEnd, drain_word, end_value, fault_value, tidy_word, turn_word};
 use crate::info::info_value;
 use crate::names::id_text;
 use crate::results::{ended_values, notice_value};
-use ocf_types::{CallId, Ended, MetaFault, Notice, OpKey, Refusal, Reply, RscId};
+use ocf_types::{CallId, Ended, MetaFault, Notice, OpKey, Refusal, Reply, RscId, TidyEnd};
 use serde_json::{Value, json};
 use std::alloc::{AllocError, Global};
 
@@ -20,6 +20,8 @@ pub enum LineReply {
     Request(Reply),
     /// How a drain or a watch ended.
     Drain(DrainEnd),
+    /// How a tidy ended.
+    Tidy(TidyEnd),
     /// The metadata of an agent, or why it has none.
     Meta(Result<Vec<u8>, MetaFault>),
 }
@@ -96,6 +98,7 @@ fn reply_value(alloc: Global, reply: &LineReply) -> Result<Value, AllocError>
     match reply {
         LineReply::Request(reply) => request_value(alloc, reply),
         LineReply::Drain(end) => end_value(alloc, drain_word(*end)),
+        LineReply::Tidy(end) => end_value(alloc, tidy_word(*end)),
         LineReply::Meta(Ok(metadata)) => length_value(alloc, metadata.as_slice()),
         LineReply::Meta(Err(fault)) => fault_value(alloc, *fault),
     }

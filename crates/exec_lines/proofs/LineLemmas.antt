@@ -127,12 +127,9 @@ answer-fits line h = sym (ap (λ b. if b then Line else TooLong) (le-leb _ _ h))
 is_line : (line : List ℕ) → Line ≡ line_answer line → length line ≤ 131072
 is_line line e = at (nat_le (length line) 131072) refl
   where
-    apart : Line ≡ TooLong → ⊥
-    apart e = cc
-
     at : (b : Bool) → nat_le (length line) 131072 ≡ b → length line ≤ 131072
     at true t = leb-true _ _ t
-    at false f = absurd (apart (e ∙ ap (λ b. if b then Line else TooLong) f))
+    at false f = let not : Line ≡ TooLong = e ∙ ap (λ b. if b then Line else TooLong) f in absurd cc
 
 some_answer : (piece : Piece) (line : List ℕ) → 0 < length line → answer_at piece line ≡ line_answer line
 some_answer Nothing [] some = absurd (omega arith)
@@ -169,45 +166,37 @@ pub record Clauses (a c : Option (List ℕ)) (items : List ℕ) (n : Next) : Typ
   pub without : NoNewline items
   pub fits : n ≡ Line → length items ≤ 131072
 
+-- a line that is not too long was kept as it is
+kept-line : (d items : List ℕ) (n : Next) → items ≡ take 131073 d → n ≡ line_answer d → n ≡ Line → (items ≡ d) × (length items ≤ 131072)
+kept-line d items n kept is line =
+    let short = is_line d (sym line ∙ is) in
+    let same : items ≡ d = kept ∙ take_all 131073 d (omega (arith, short)) in
+    (same, omega (arith, ap length same, short))
+
 whole : (a c : Option (List ℕ)) (d items : List ℕ) (n : Next) → HasRead a c d → NoNewline d → items ≡ take 131073 d → n ≡ line_answer d → Clauses a c items n
-whole a c d items n read none kept is = record { answer = of a read; line = line_of a read; rest = rest_of a read; without = kept-none d items kept none; fits = λ e. omega (arith, ap length (same e), short e) }
-  where
-    short : n ≡ Line → length d ≤ 131072
-    short e = is_line d (sym e ∙ is)
-
-    same : n ≡ Line → items ≡ d
-    same e = kept ∙ take_all 131073 d (omega (arith, short e))
-
-    of : (o : Option (List ℕ)) → HasRead o c d → IfSome o (λ xs. n ≡ next_of xs)
-    of None h = tt
-    of (Some xs) h = is ∙ ap line_answer (sym h.1) ∙ sym (next_of-some xs h.0)
-
-    line_of : (o : Option (List ℕ)) → HasRead o c d → IfSome o (λ xs. n ≡ Line → items ≡ first_line xs)
-    line_of None h = tt
-    line_of (Some xs) h = λ e. same e ∙ sym h.1
-
-    rest_of : (o : Option (List ℕ)) → HasRead o c d → IfSome o (λ xs. c ≡ Some (after_first_line xs))
-    rest_of None h = tt
-    rest_of (Some xs) h = h.2
+whole None c d items n read none kept is =
+    record { answer = tt; line = tt; rest = tt; without = kept-none d items kept none; fits = λ e. (kept-line d items n kept is e).1 }
+whole (Some xs) c d items n read none kept is =
+    record {
+      answer = is ∙ ap line_answer (sym read.1) ∙ sym (next_of-some xs read.0);
+      line = λ e. (kept-line d items n kept is e).0 ∙ sym read.1;
+      rest = read.2;
+      without = kept-none d items kept none;
+      fits = λ e. (kept-line d items n kept is e).1;
+    }
 
 -- the input ended before a line began
 ended : (a c : Option (List ℕ)) (items : List ℕ) (n : Next) → IfSome a (λ xs. (xs ≡ []) × (c ≡ Some [])) → items ≡ [] → n ≡ End → Clauses a c items n
-ended a c items n read none is = record { answer = of a read; line = line_of a; rest = rest_of a read; without = subst NoNewline (sym none) (All-nil (λ b. b ≢ 10)); fits = λ e. absurd (apart (sym is ∙ e)) }
-  where
-    apart : End ≡ Line → ⊥
-    apart e = cc
-
-    of : (o : Option (List ℕ)) → IfSome o (λ xs. (xs ≡ []) × (c ≡ Some [])) → IfSome o (λ xs. n ≡ next_of xs)
-    of None h = tt
-    of (Some xs) h = is ∙ sym (ap next_of h.0)
-
-    line_of : (o : Option (List ℕ)) → IfSome o (λ xs. n ≡ Line → items ≡ first_line xs)
-    line_of None = tt
-    line_of (Some xs) = λ e. absurd (apart (sym is ∙ e))
-
-    rest_of : (o : Option (List ℕ)) → IfSome o (λ xs. (xs ≡ []) × (c ≡ Some [])) → IfSome o (λ xs. c ≡ Some (after_first_line xs))
-    rest_of None h = tt
-    rest_of (Some xs) h = h.1 ∙ sym (ap (λ l. Some (after_first_line l)) h.0)
+ended None c items n read none is =
+    record { answer = tt; line = tt; rest = tt; without = subst NoNewline (sym none) (All-nil (λ b. b ≢ 10)); fits = λ e. absurd cc }
+ended (Some xs) c items n read none is =
+    record {
+      answer = is ∙ sym (ap next_of read.0);
+      line = λ e. absurd cc;
+      rest = read.1 ∙ sym (ap (λ l. Some (after_first_line l)) read.0);
+      without = subst NoNewline (sym none) (All-nil (λ b. b ≢ 10));
+      fits = λ e. absurd cc;
+    }
 
 -- reads without a newline, and then one that ended the line
 pub clauses : (E : Type 0) (a b c : Option (List ℕ)) (done part items : List ℕ) (p : Piece) (n : Next) → Consumes a b done → NoNewline done → Reads {E = E} b c part (Ok p) → NoNewline part

@@ -1,5 +1,5 @@
 -- One read of a line.
-use Rattle.std.proofs.Common.{◌≡◌, ℕ, ◌+◌, ◌<◌, ◌≤◌, Bool, true, false, List, [], ◌∷◌, ◌++◌, Option, Some, None, Result, Ok, Err, IfSome, IfOk, OnErr, length, take, get_or, refl, ap, subst, ◌∙◌, arith, length-take-le, eqb-true, nat_lt, ◌==◌, if◌then◌else◌}
+use Rattle.std.proofs.Common.{◌≡◌, ℕ, ◌+◌, ◌<◌, ◌≤◌, Bool, true, false, List, [], ◌∷◌, ◌++◌, Option, Some, None, Result, Ok, Err, IfSome, IfOk, OnErr, length, take, get_or, refl, ap, subst, ◌∙◌, arith, length-take-le, eqb-true, nat_lt, ◌==◌, if◌then◌else◌, sym}
 use Rattle.std.proofs.lemmas.Bool.{ltb-true}
 use Rattle.std.proofs.lemmas.List.Sums.{passes_at_first}
 use Rattle.std.proofs.lemmas.List.{take_more}
@@ -18,50 +18,13 @@ use Rattle.exec_lines.proofs.LineLemmas.{place-le}
 -- a read that failed or was interrupted took nothing
 pub reads-nothing : {E : Type 0} (a c : Option (List ℕ)) (r : Result Piece E) → Keeps a c → IfOk r (λ p. p ≡ Part) → Reads a c [] r
 reads-nothing a c (Ok Part) kept is = Consumes-kept a a c [] (Consumes-nil a) kept
-reads-nothing a c (Ok Last) kept is = absurd (apart is)
-  where
-    apart : Last ≡ Part → ⊥
-    apart e = cc
-reads-nothing a c (Ok Nothing) kept is = absurd (apart is)
-  where
-    apart : Nothing ≡ Part → ⊥
-    apart e = cc
+reads-nothing a c (Ok Last) kept is = absurd cc
+reads-nothing a c (Ok Nothing) kept is = absurd cc
 reads-nothing a c (Err e) kept is = Consumes-kept a a c [] (Consumes-nil a) kept
 
 nil_of : (xs : List ℕ) → length xs ≡ 0 → xs ≡ []
 nil_of [] none = refl
 nil_of (x ∷ xs) none = absurd (omega arith)
-
-piece-last : (total len : ℕ) → Last ≡ piece_of total len → len < total
-piece-last total len e = at (nat_lt len total) refl
-  where
-    not_nothing : Last ≡ Nothing → ⊥
-    not_nothing e = cc
-
-    not_part : Last ≡ Part → ⊥
-    not_part e = cc
-
-    none : (b : Bool) → Last ≡ (if b then Nothing else Part) → ⊥
-    none true e = not_nothing e
-    none false e = not_part e
-
-    at : (b : Bool) → nat_lt len total ≡ b → len < total
-    at true t = ltb-true _ _ t
-    at false f = absurd (none (total == 0) (e ∙ ap (λ b. if b then Last else (if total == 0 then Nothing else Part)) f))
-
-piece-nothing : (total len : ℕ) → Nothing ≡ piece_of total len → total ≡ 0
-piece-nothing total len e = at (nat_lt len total) (total == 0) refl refl
-  where
-    not_last : Nothing ≡ Last → ⊥
-    not_last e = cc
-
-    not_part : Nothing ≡ Part → ⊥
-    not_part e = cc
-
-    at : (b z : Bool) → nat_lt len total ≡ b → (total == 0) ≡ z → total ≡ 0
-    at true z t w = absurd (not_last (e ∙ ap (λ b. if b then Last else (if total == 0 then Nothing else Part)) t))
-    at false true f w = eqb-true _ _ w
-    at false false f w = absurd (not_part (e ∙ ap (λ b. if b then Last else (if total == 0 then Nothing else Part)) f ∙ ap (λ b. if b then Nothing else Part) w))
 
 at_end : (a : Option (List ℕ)) (shown : List ℕ) → IfSome a (λ xs. length shown ≡ 0 → xs ≡ []) → length shown ≡ 0 → IsAtEnd a
 at_end None shown end none = tt
@@ -72,27 +35,30 @@ pub reads-shown : (E : Type 0) (a b c : Option (List ℕ)) (buffered : Option �
     → IfSome a (λ xs. StartsWith xs shown) → IfSome a (λ xs. length shown ≡ 0 → xs ≡ []) → Keeps a b
     → IfSome a (λ _. IfSome buffered (λ k. length shown ≤ k)) → DropsConsumable b c buffered (len + newline_count piece)
     → Reads {E = E} a c (take len shown) (Ok piece)
-reads-shown E a b c buffered shown len piece place is front end kept fits drops = by piece is drops
+reads-shown E a b c buffered shown len piece place is front end kept fits drops =
+    let of = by (nat_lt len (length shown)) (length shown == 0) refl refl (subst (λ p. DropsConsumable b c buffered (len + newline_count p)) is drops) in
+    subst (λ p. Reads {E = E} a c (take len shown) (Ok p)) (sym is) of
   where
     within : len ≤ length shown
     within = omega (arith, place, place-le shown)
 
-    taken : (n : ℕ) → n ≤ length shown → DropsConsumable b c buffered n → Consumes a c (take n shown)
-    taken n le d = (Consumes_shown a b c buffered shown n le front end kept fits d).0
+    taken : (n k : ℕ) → n ≡ k → k ≤ length shown → DropsConsumable b c buffered n → Consumes a c (take k shown)
+    taken n k same le d = (Consumes_shown a b c buffered shown k le front end kept fits (subst (DropsConsumable b c buffered) same d)).0
 
-    by : (p : Piece) → p ≡ piece_of (length shown) len → DropsConsumable b c buffered (len + newline_count p) → Reads {E = E} a c (take len shown) (Ok p)
-    by Part e d = let n : len + 0 ≡ len = omega arith in taken len within (subst (DropsConsumable b c buffered) n d)
-    by Nothing e d =
-        let n : len + 0 ≡ len = omega arith in
-        let none : length shown ≡ 0 = piece-nothing (length shown) len e in
-        let long = length-take-le len shown within in
-        (taken len within (subst (DropsConsumable b c buffered) n d), nil_of (take len shown) (omega (arith, none, long, within)), at_end a shown end none)
-    by Last e d =
-        let lt : len < length shown = piece-last (length shown) len e in
+    by : (ended none : Bool) → nat_lt len (length shown) ≡ ended → (length shown == 0) ≡ none
+        → DropsConsumable b c buffered (len + newline_count (if ended then Last else (if none then Nothing else Part)))
+        → Reads {E = E} a c (take len shown) (Ok (if ended then Last else (if none then Nothing else Part)))
+    by true none t w d =
+        let lt : len < length shown = ltb-true _ _ t in
         let hit : get_or shown (position_or_len is_newline shown) 0 ≡ 10 = eqb-true _ _ (passes_at_first is_newline shown 0 (omega (arith, lt, place))) in
         let here : get_or shown len 0 ≡ 10 = ap (λ k. get_or shown k 0) place ∙ hit in
         let more : take (len + 1) shown ≡ take len shown ++ 10 ∷ [] = take_more shown len 0 lt ∙ ap (λ y. take len shown ++ y ∷ []) here in
-        subst (Consumes a c) more (taken (len + 1) (omega (arith, lt)) d)
+        subst (Consumes a c) more (taken (len + 1) (len + 1) refl (omega (arith, lt)) d)
+    by false true f w d =
+        let empty : length shown ≡ 0 = eqb-true _ _ w in
+        let long = length-take-le len shown within in
+        (taken (len + 0) len (omega arith) within d, nil_of (take len shown) (omega (arith, empty, long, within)), at_end a shown end empty)
+    by false false f w d = taken (len + 0) len (omega arith) within d
 
 -- what an unended read took
 pub at_part : (E : Type 0) (a c : Option (List ℕ)) (part : List ℕ) (p : Piece) → Reads {E = E} a c part (Ok p) → p ≡ Part → Consumes a c part

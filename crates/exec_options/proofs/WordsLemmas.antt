@@ -1,16 +1,15 @@
 -- What a parse of the command line's words met, and words that give no options.
-use Rattle.std.proofs.Common.{◌≡◌, ◌≢◌, Bool, true, false, not, is_some, List, Some, option_map, ap, subst, ◌∙◌, sym, codes}
+use Rattle.std.proofs.Common.{◌≡◌, ◌≢◌, ℕ, Bool, true, false, not, is_some, List, Some, option_map, ap, subst, ◌∙◌, sym, codes}
 use Rattle.clap.specs.Words.{Row, Text, app_of, fault_of, first_of, is_simple, is_simple_and_free, subcommand_name_of, subcommand_of, subcommand_rows_of, HasMatchesOf, Kinds}
 use Rattle.clap.specs.declared.builder.command.Command.{Command}
 use Rattle.clap.specs.declared.parser.matches.ArgMatches.{ArgMatches}
-use Rattle.exec_options.specs.declared.options.Options.{Options}
 use Rattle.exec_options.specs.declared.options.Subcommand.{Subcommand}
 use Rattle.exec_options.specs.declared.fault.WordsFault.{WordsFault}
-use Rattle.exec_options.specs.declared.fault.WordsFault.TheVariants.{Help, Usage, Choice, Memory}
+use Rattle.exec_options.specs.declared.fault.WordsFault.TheVariants.{Help, Usage, Choice, TidyAt, Memory}
 use Rattle.exec_options.specs.App.{ocfexec_app}
-use Rattle.exec_options.specs.Faults.{HasFaultKind, IsFault}
+use Rattle.exec_options.specs.Faults.{HasFaultKind, IsFault, NamesNoNumber}
 use Rattle.exec_options.specs.Subcommands.{subcommand_word}
-use Rattle.exec_options.specs.Words.{is_true_text, Gives}
+use Rattle.exec_options.specs.Words.{is_true_text, tidy_text, IsChoice, IsTidyAt, Names}
 use Rattle.exec_options.proofs.AppLemmas.{both_parts, name_in_rows}
 
 -- the subcommand that a parse met is the one that the words name
@@ -30,8 +29,8 @@ some_is e = cc
 
 -- words that name no subcommand give no options
 pub unnamed : (words : List Text) (name : Text) (rows : List Row) → subcommand_of ocfexec_app words ≡ Some (name, rows) → ((s : Subcommand) → name ≢ subcommand_word s)
-    → (o : Options) → Gives words o → ⊥
-unnamed words name rows named none o gives = none o.subcommand (ap (λ (p : Text × List Row). p.0) (some_is (sym named ∙ gives.named)))
+    → (s : Subcommand) (found : List Row) → Names words s found → ¬ IsChoice found
+unnamed words name rows named none s found names choice = none s (ap (λ (p : Text × List Row). p.0) (some_is (sym named ∙ names)))
 
 not_self : (b : Bool) → b ≡ not b → ⊥
 not_self true e = cc
@@ -39,16 +38,20 @@ not_self false e = cc
 
 -- words with both or none of `--journal` and `--memory` give no options
 pub unchosen : (words : List Text) (name : Text) (rows : List Row) → subcommand_of ocfexec_app words ≡ Some (name, rows)
-    → is_true_text (first_of (codes "memory") rows) ≡ is_some (first_of (codes "journal") rows) → (o : Options) → Gives words o → ⊥
-unchosen words name rows named both o gives =
-    let same : gives.rows ≡ rows = ap (λ (p : Text × List Row). p.1) (some_is (sym gives.named ∙ named)) in
-    let journal = ap (λ r. is_some (first_of (codes "journal") r)) same in
-    let memory = ap (λ r. is_true_text (first_of (codes "memory") r)) same in
-    not_self _ (sym both ∙ sym memory ∙ gives.read.choice ∙ ap not journal)
+    → is_true_text (first_of (codes "memory") rows) ≡ is_some (first_of (codes "journal") rows) → (s : Subcommand) (found : List Row) → Names words s found → ¬ IsChoice found
+unchosen words name rows named both s found names choice =
+    let same : found ≡ rows = ap (λ (p : Text × List Row). p.1) (some_is (sym names ∙ named)) in
+    not_self _ (sym both ∙ subst IsChoice same choice)
+
+-- words whose `--tidy-at` is no number give no options
+pub unnumbered : (words : List Text) (name : Text) (rows : List Row) (s : Subcommand) → subcommand_of ocfexec_app words ≡ Some (name, rows) → name ≡ subcommand_word s
+    → IsChoice rows → ((n : ℕ) → ¬ IsTidyAt (tidy_text rows) n) → NamesNoNumber words
+unnumbered words name rows s named is choice none = (s, rows, named ∙ ap (λ t. Some (t, rows)) is, choice, none)
 
 -- `clap`'s fault is one of these words
 pub fault_kind : (words : List Text) (fault : WordsFault) → HasFaultKind (fault_of ocfexec_app words) fault → IsFault words fault
 fault_kind words (Help e) h = h
 fault_kind words (Usage e) h = h
 fault_kind words Choice h = absurd h
+fault_kind words TidyAt h = absurd h
 fault_kind words Memory h = h

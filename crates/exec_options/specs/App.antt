@@ -1,4 +1,4 @@
--- The command line of `ocfexec` as `clap` reads it: `run` and `show`, each with the same five options.
+-- The command line of `ocfexec` as `clap` reads it: `run` and `show`, each with the same six options.
 use Rattle.std.specs.Prelude.{[], ◌∷◌, Some, true, codes}
 use Rattle.clap.specs.Words.{App, Rule, Text, new_app, new_rule, with_rule, with_subcommand}
 use Rattle.clap.specs.declared.builder.ArgAction.TheVariants.{SetTrue}
@@ -21,13 +21,18 @@ default_root = codes "/usr/lib/ocf"
 abbrev pub default_path : Text
 default_path = codes "/usr/sbin:/usr/bin:/sbin:/bin"
 
+-- three quarters of a part's limit
+abbrev pub default_tidy_at : Text
+default_tidy_at = codes "6291456"
+
 abbrev pub with_options_app : App → App
 with_options_app a =
     let a₁ = with_rule a (text_rule (codes "journal")) in
     let a₂ = with_rule a₁ (flag_rule (codes "memory")) in
     let a₃ = with_rule a₂ (text_rule_or (codes "root") default_root) in
     let a₄ = with_rule a₃ (text_rule (codes "via")) in
-    with_rule a₄ (text_rule_or (codes "path") default_path)
+    let a₅ = with_rule a₄ (text_rule_or (codes "path") default_path) in
+    with_rule a₅ (text_rule_or (codes "tidy-at") default_tidy_at)
 
 -- a subcommand is asked for; the version is told by `--version`
 abbrev pub top_app : App

@@ -1,10 +1,13 @@
 -- The options that words give.
-use Rattle.std.specs.Prelude.{◌≡◌, Bool, false, not, List, Option, Some, None, is_some, option_map, unwrap_or, codes, bytes_eq}
+use Rattle.std.specs.Prelude.{◌≡◌, ◌≤◌, ℕ, Bool, false, not, List, Option, Some, None, is_some, option_map, unwrap_or, codes, bytes_eq}
+use Rattle.std.specs.Str.Parse.{IsNumeral, digits_value, without_leading_plus}
 use Rattle.clap.specs.Words.{Row, Text, first_of, subcommand_of}
+use Rattle.ocf_types.specs.Limits.{part_limit}
 use Rattle.exec_options.specs.declared.options.Options.{Options}
+use Rattle.exec_options.specs.declared.options.Subcommand.{Subcommand}
 use Rattle.exec_options.specs.declared.options.JournalPlace.{JournalPlace}
 use Rattle.exec_options.specs.declared.options.JournalPlace.TheVariants.{Folder, Memory}
-use Rattle.exec_options.specs.App.{default_path, default_root, ocfexec_app}
+use Rattle.exec_options.specs.App.{default_path, default_root, default_tidy_at, ocfexec_app}
 use Rattle.exec_options.specs.Subcommands.{subcommand_word}
 
 -- the folder that is named, or none in memory
@@ -20,6 +23,14 @@ is_true_text None = false
 abbrev pub IsChoice : List Row → Type 0
 IsChoice rows = is_true_text (first_of (codes "memory") rows) ≡ not (is_some (first_of (codes "journal") rows))
 
+-- what `--tidy-at` names, or its default
+abbrev pub tidy_text : List Row → Text
+tidy_text rows = unwrap_or (first_of (codes "tidy-at") rows) default_tidy_at
+
+-- a text of decimal digits, a plus before them or not, is this number, and at most a part's limit
+abbrev pub IsTidyAt : Text → ℕ → Type 0
+IsTidyAt text n = IsNumeral 10 (without_leading_plus text) × (digits_value 10 (without_leading_plus text) ≡ n) × (n ≤ part_limit)
+
 -- the options are what a subcommand's rows hold, a default in place of what they lack
 pub record IsReadFrom (rows : List Row) (o : Options) : Type 0 where
   pub journal : folder_of o.journal ≡ first_of (codes "journal") rows
@@ -27,9 +38,14 @@ pub record IsReadFrom (rows : List Row) (o : Options) : Type 0 where
   pub root : o.root.now ≡ unwrap_or (first_of (codes "root") rows) default_root
   pub via : option_map (λ s. s.now) o.via ≡ first_of (codes "via") rows
   pub path : o.path.now ≡ unwrap_or (first_of (codes "path") rows) default_path
+  pub tidy_at : IsTidyAt (tidy_text rows) o.tidy_at
 
--- by `clap`'s rules the words name this subcommand, and its rows hold the options
+-- by `clap`'s rules the words name this subcommand, with these rows
+abbrev pub Names : List Text → Subcommand → List Row → Type 0
+Names words s rows = subcommand_of ocfexec_app words ≡ Some (subcommand_word s, rows)
+
+-- the words name a subcommand whose rows hold the options
 pub record Gives (words : List Text) (o : Options) : Type 0 where
   pub rows : List Row
-  pub named : subcommand_of ocfexec_app words ≡ Some (subcommand_word o.subcommand, rows)
+  pub named : Names words o.subcommand rows
   pub read : IsReadFrom rows o

@@ -14,6 +14,9 @@ pub const ROOT: &str = "/usr/lib/ocf";
 /// The `PATH` of the agents where none is named.
 pub const PATH: &str = "/usr/sbin:/usr/bin:/sbin:/bin";
 
+/// How many bytes the journal holds at most before it is tidied, where nothing is named: three quarters of a part's limit.
+pub const TIDY_AT: &str = "6291456";
+
 fn text_option<'a>(alloc: Global, id: &'a str, value: &'a str, help: &'a str) -> Arg<'a>
     ensures rule { rule_of result ≡ text_rule id.entry.now }
     ensures local { result.global ≡ false }
@@ -72,12 +75,19 @@ fn with_options<'a>(alloc: Global, command: Command<'a>) -> Result<Command<'a>, 
         "PROGRAM",
         "Start each agent as PROGRAM AGENT ACTION; left out, as AGENT ACTION",
     ))?;
-    command.arg(text_option_or(
+    let command = command.arg(text_option_or(
         alloc,
         "path",
         "PATH",
         PATH,
         "The PATH in the environment of the agents",
+    ))?;
+    command.arg(text_option_or(
+        alloc,
+        "tidy-at",
+        "BYTES",
+        TIDY_AT,
+        "Tidy the journal once it holds more bytes than this; 0 for never",
     ))
 }
 

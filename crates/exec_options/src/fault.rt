@@ -3,6 +3,7 @@ ghost use Rattle.clap.specs.Words.{HasKind, Kinds};
 ghost use Rattle.exec_options.specs.Faults.{HasFaultKind};
 
 use clap::error::ErrorKind;
+use ocf_types::PART_LIMIT;
 use thiserror::Error;
 
 /// Why the words give no options. What the program then says and ends with is told by the program.
@@ -17,6 +18,9 @@ pub enum WordsFault {
     /// They name both or none of `--journal` and `--memory`.
     #[error("just one of --journal and --memory is wanted")]
     Choice,
+    /// They name a text for `--tidy-at` that is no number up to a part's limit.
+    #[error("a number from 0 to {} is wanted for --tidy-at", PART_LIMIT)]
+    TidyAt,
     /// There was no memory to read them.
     #[error("out of memory")]
     Memory,

@@ -48,4 +48,6 @@ pub struct Options<'a> {
     pub via: Option<&'a str>,
     /// What `PATH` is in the environment of the agents.
     pub path: &'a str,
+    /// The journal is tidied once it holds more bytes than this; 0 for never. It is at most a part's limit.
+    pub tidy_at: u64,
 }

@@ -20,6 +20,7 @@ pub const COMMANDS: &str =
   drain                           limit           makes turns until nothing is queued or running
   watch       limit                               makes turns, so that recurring monitors run, until its limit
   meta        provider, type                      gives an agent's metadata
+  tidy                                            writes the whole state as the journal's snapshot
 
 Example:
   echo '{\"op\":\"list\"}' | ocfexec run --memory
@@ -34,7 +35,8 @@ Examples:
   ocfexec run --journal /var/lib/ocfexec < commands";
 
 /// What stands behind the help of `show`.
-pub const SHOW: &str = "Give just one of --journal and --memory.
+pub const SHOW: &str =
+    "Give just one of --journal and --memory. The other options are those of run, and do nothing here.
 
 Example:
   ocfexec show --journal /var/lib/ocfexec";

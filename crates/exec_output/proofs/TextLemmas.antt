@@ -3,7 +3,8 @@ use Rattle.std.proofs.Common.{◌≡◌, inl, inr, ℕ, zero, suc, ◌+◌, ◌<
 use Rattle.std.specs.List.{flat_map}
 use Rattle.std.specs.Io.KnownBytes.{Appends}
 use Rattle.std.proofs.KnownBytes.{Appends-trans}
-use Rattle.std.proofs.lemmas.List.{append-nil}
+use Rattle.std.proofs.lemmas.Grind.{flat_map-append}
+use Rattle.std.proofs.lemmas.List.{append-nil, take_more}
 use Rattle.std.proofs.lemmas.List.Concat.{flat_map-cons}
 use Rattle.ocf_types.specs.Answer.{reply_to}
 use Rattle.ocf_types.specs.Kinds.{Reply}
@@ -15,14 +16,12 @@ use Rattle.exec_commands.specs.declared.reply.LineReply.TheVariants.{Request}
 use Rattle.exec_commands.specs.Replies.{reply_line}
 use Rattle.exec_output.specs.Shown.{answer_line, resource_lines, shown}
 
-flat_more : {A B : Type 0} (f : A → List B) (xs : List A) (i : ℕ) (x : A) → i < length xs → x ≡ get_or xs i x → flat_map f (take (i + 1) xs) ≡ flat_map f (take i xs) ++ f x
-flat_more f [] i x lt e = absurd (omega (arith, lt))
-flat_more f (y ∷ ys) zero x lt e = flat_map-cons f y [] ∙ append-nil (f y) ∙ ap f (sym e)
-flat_more f (y ∷ ys) (suc i) x lt e =
-    let k : suc i + 1 ≡ suc (i + 1) = omega arith in
-    let below : i < length ys = omega (arith, lt) in
-    ap (λ n. flat_map f (take n (y ∷ ys))) k ∙ flat_map-cons f y (take (i + 1) ys) ∙ ap (λ t. f y ++ t) (flat_more f ys i x below e)
-    ∙ sym (append_assoc (f y) (flat_map f (take i ys)) (f x)) ∙ ap (λ t. t ++ f x) (sym (flat_map-cons f y (take i ys)))
+flat_more : {A B : Type 0} (f : A → List B) (xs : List A) (i : ℕ) (x : A) → i < length xs → x ≡ get_or xs i x
+    → flat_map f (take (i + 1) xs) ≡ flat_map f (take i xs) ++ f x
+flat_more f xs i x lt is =
+    let more : take (i + 1) xs ≡ take i xs ++ x ∷ [] = take_more xs i x lt ∙ ap (λ y. take i xs ++ y ∷ []) (sym is) in
+    let one : flat_map f (x ∷ []) ≡ f x = flat_map-cons f x [] ∙ append-nil (f x) in
+    ap (flat_map f) more ∙ flat_map-append f (take i xs) (x ∷ []) ∙ ap (λ t. flat_map f (take i xs) ++ t) one
 
 -- one item more
 pub sends_more : {X : Type 0} (f : X → List ℕ) (xs : List X) (i : ℕ) (x : X) (a b c : Option (List ℕ)) → i < length xs → x ≡ get_or xs i x

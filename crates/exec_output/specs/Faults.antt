@@ -2,8 +2,8 @@
 use Rattle.std.specs.Prelude.{ℕ, ⊤, List, Result, Ok, Err, codes}
 use Rattle.ocf_types.specs.declared.part.Part.{Part}
 use Rattle.ocf_types.specs.declared.part.Part.TheVariants.{A, B}
-use Rattle.exec_journal.specs.declared.damage.Cause.{Cause}
-use Rattle.exec_journal.specs.declared.damage.Cause.TheVariants as cause
+use Rattle.two_parts.specs.declared.damage.Cause.{Cause}
+use Rattle.two_parts.specs.declared.damage.Cause.TheVariants as cause
 use Rattle.exec_journal.specs.declared.fault.JournalFault.{JournalFault}
 use Rattle.exec_journal.specs.declared.fault.JournalFault.TheVariants as journal
 use Rattle.exec_output.specs.declared.fault.Fault.{Fault}
@@ -13,6 +13,7 @@ use Rattle.exec_output.specs.declared.fault.Fault.TheVariants as fault
 abbrev pub status_of : Fault → ℕ
 status_of fault.Usage = 2
 status_of fault.Choice = 2
+status_of fault.TidyAt = 2
 status_of fault.NotText = 2
 status_of (fault.Damaged damage) = 3
 status_of fault.Memory = 4
@@ -49,6 +50,7 @@ abbrev pub IsRunEnd : {T : Type 0} → Result T Fault → Type 0
 IsRunEnd (Ok done) = ⊤
 IsRunEnd (Err fault.Usage) = ⊥
 IsRunEnd (Err fault.Choice) = ⊥
+IsRunEnd (Err fault.TidyAt) = ⊥
 IsRunEnd (Err fault.NotText) = ⊥
 IsRunEnd (Err fault.NotOpened) = ⊥
 IsRunEnd (Err _) = ⊤
