@@ -1,18 +1,19 @@
 -- What a drain does, turn by turn.
-use Rattle.std.specs.Prelude.{◌≡◌, ℕ, ◌+◌, Bool, not, ◌&&◌, nat_le, List, Option, Some, None, if◌then◌else◌}
+use Rattle.std.specs.Prelude.{◌≡◌, ℕ, ◌+◌, Bool, true, false, not, ◌&&◌, nat_le, List, Option, Some, None, if◌then◌else◌}
 use Rattle.std.specs.Io.KnownBytes.{Appends}
 use Rattle.std.specs.List.{flat_map}
 use Rattle.ocf_types.specs.Boot.{any_busy}
 use Rattle.ocf_types.specs.declared.reply.TurnEnd.{TurnEnd}
-use Rattle.ocf_types.specs.declared.reply.TurnEnd.TheVariants.{Done}
+use Rattle.ocf_types.specs.declared.reply.TurnEnd.TheVariants.{Disk, Done}
 use Rattle.disk_model.specs.View.{View}
 use Rattle.child_keeper.specs.Children.{ChildrenView}
-use Rattle.executor.specs.Sights.{sight_of}
+use Rattle.executor.specs.Sights.{Sight, sight_of}
 use Rattle.executor.specs.TurnCalls.{TakesTurn, with_empty_book}
 use Rattle.executor.specs.declared.executor.Executor.{Executor}
 use Rattle.exec_commands.specs.Replies.{notice_line}
 use Rattle.exec_commands.specs.declared.ends.DrainEnd.{DrainEnd}
 use Rattle.exec_commands.specs.declared.ends.DrainEnd.TheVariants.{Idle, Limit, Turns, Turn}
+use Rattle.exec_session.specs.Limits.{Limits, MakesRoom}
 use Rattle.exec_session.specs.declared.drain.Terms.{Terms}
 
 -- where an answer stands: its executor, and what the writer holds
@@ -23,10 +24,14 @@ pub record Spot (E : Type 0) : Type 0 where
 abbrev pub spot : {E : Type 0} → E → Option (List ℕ) → Spot E
 spot executor written = record { executor = executor; written = written }
 
--- A turn at this moment: the book is emptied, the turn is made, and then its notices are written.
-pub record MakesTurn {D C M : Type 0} (look : D → View) (tend : C → ChildrenView) (now : ℕ) (p q : Spot (Executor D C M)) (end : TurnEnd) : Type 0 where
-  pub takes : TakesTurn look now (with_empty_book (sight_of tend p.executor)) (sight_of tend q.executor) end
-  pub written : Appends p.written q.written (flat_map notice_line (sight_of tend q.executor).told)
+-- A turn at this moment: the book is emptied and room is made, then the turn is made, and its notices are written. Where a
+-- disk fault closed the executor as room was made, no turn is made and nothing is written.
+pub record MakesTurn {D C M : Type 0} (look : D → View) (tend : C → ChildrenView) (limits : Limits) (now : ℕ) (p q : Spot (Executor D C M)) (end : TurnEnd) : Type 0 where
+  pub middle : Sight D
+  pub room : MakesRoom look limits (with_empty_book (sight_of tend p.executor)) middle
+  pub takes : middle.is_open ≡ true → TakesTurn look now middle (sight_of tend q.executor) end
+  pub written : middle.is_open ≡ true → Appends p.written q.written (flat_map notice_line (sight_of tend q.executor).told)
+  pub fails : middle.is_open ≡ false → (end ≡ Disk) × (sight_of tend q.executor ≡ middle) × (q.written ≡ p.written)
 
 -- how a drain ends behind its turn of this number, which ended so and left the executor idle or not, at the moment that
 -- the clock shows then; none where it goes on
@@ -41,19 +46,19 @@ end_at tend t turns now end e = end_behind t turns now end (not (any_busy (sight
 
 -- So many turns were made, none of which ended the drain, each at the moment that the clock showed behind the one before:
 -- the first at the start, and the next one will be at this moment.
-pub data GoesOn {D C M : Type 0} (look : D → View) (tend : C → ChildrenView) (t : Terms) (start : ℕ) (p : Spot (Executor D C M)) : ℕ → ℕ → Spot (Executor D C M) → Type 0 where
-  at_start : GoesOn look tend t start p 0 start p
+pub data GoesOn {D C M : Type 0} (look : D → View) (tend : C → ChildrenView) (limits : Limits) (t : Terms) (start : ℕ) (p : Spot (Executor D C M)) : ℕ → ℕ → Spot (Executor D C M) → Type 0 where
+  at_start : GoesOn look tend limits t start p 0 start p
   further : (turns now after : ℕ) (m q : Spot (Executor D C M)) (end : TurnEnd)
-      → GoesOn look tend t start p turns now m → MakesTurn look tend now m q end → end_at tend t (turns + 1) after end q.executor ≡ None
-      → GoesOn look tend t start p (turns + 1) after q
+      → GoesOn look tend limits t start p turns now m → MakesTurn look tend limits now m q end → end_at tend t (turns + 1) after end q.executor ≡ None
+      → GoesOn look tend limits t start p (turns + 1) after q
 
 -- A whole drain from this start: turns that go on, and the one that ends it.
-pub record Drains {D C M : Type 0} (look : D → View) (tend : C → ChildrenView) (t : Terms) (start : ℕ) (p q : Spot (Executor D C M)) (end : DrainEnd) : Type 0 where
+pub record Drains {D C M : Type 0} (look : D → View) (tend : C → ChildrenView) (limits : Limits) (t : Terms) (start : ℕ) (p q : Spot (Executor D C M)) (end : DrainEnd) : Type 0 where
   pub turns : ℕ
   pub now : ℕ
   pub after : ℕ
   pub last : Spot (Executor D C M)
   pub turn_end : TurnEnd
-  pub gone_on : GoesOn look tend t start p turns now last
-  pub made : MakesTurn look tend now last q turn_end
+  pub gone_on : GoesOn look tend limits t start p turns now last
+  pub made : MakesTurn look tend limits now last q turn_end
   pub ended : end_at tend t (turns + 1) after turn_end q.executor ≡ Some end

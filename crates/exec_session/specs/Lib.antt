@@ -1,4 +1,5 @@
 pub mod Answers
 pub mod Drains
+pub mod Limits
 pub mod Progress
 pub mod Runs

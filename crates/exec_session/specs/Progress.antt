@@ -15,6 +15,7 @@ use Rattle.exec_session.specs.declared.session.Progress.{Progress}
 use Rattle.exec_session.specs.declared.session.Progress.TheVariants as progress
 use Rattle.exec_session.specs.Answers.{Source, IsReadAs, IsReply}
 use Rattle.exec_session.specs.Drains.{spot}
+use Rattle.exec_session.specs.Limits.{Limits}
 
 -- where it is known what a reader has left: the next line has no bytes, and what stands behind it is left
 abbrev pub PassesLine : Option (List ℕ) → Option (List ℕ) → Type 0
@@ -42,12 +43,12 @@ abbrev pub place : {E : Type 0} → E → Option (List ℕ) → Option (List ℕ
 place executor left written = record { executor = executor; left = left; written = written }
 
 -- The next line is read, and what the writer holds grows by the notices of a drain, and then by just the reply.
-pub record Answers {D C M : Type 0} (look : D → View) (tend : C → ChildrenView) (source : Source) (most : ℕ) (p q : Place (Executor D C M)) : Type 0 where
+pub record Answers {D C M : Type 0} (look : D → View) (tend : C → ChildrenView) (source : Source) (limits : Limits) (p q : Place (Executor D C M)) : Type 0 where
   pub found : Result Line Refusal
   pub reply : LineReply
   pub noticed : Option (List ℕ)
   pub read : ReadsLine p.left q.left found
-  pub answered : IsReply look tend source most (spot p.executor p.written) (spot q.executor noticed) found reply
+  pub answered : IsReply look tend source limits (spot p.executor p.written) (spot q.executor noticed) found reply
   pub written : Appends noticed q.written (reply_line reply)
 
 -- the executor and what the writer holds are the same
@@ -55,7 +56,7 @@ abbrev pub Stays : {E : Type 0} → Place E → Place E → Type 0
 Stays p q = (q.executor ≡ p.executor) × (q.written ≡ p.written)
 
 -- what was done with what stands next in the input
-abbrev pub Takes : {D C M : Type 0} → (D → View) → (C → ChildrenView) → Source → ℕ → Place (Executor D C M) → Place (Executor D C M) → Progress → Type 0
-Takes look tend source most p q progress.Answered = Answers look tend source most p q
-Takes look tend source most p q progress.PassedOver = PassesLine p.left q.left × Stays p q
-Takes look tend source most p q progress.End = IsAtEnd p.left × Stays p q
+abbrev pub Takes : {D C M : Type 0} → (D → View) → (C → ChildrenView) → Source → Limits → Place (Executor D C M) → Place (Executor D C M) → Progress → Type 0
+Takes look tend source limits p q progress.Answered = Answers look tend source limits p q
+Takes look tend source limits p q progress.PassedOver = PassesLine p.left q.left × Stays p q
+Takes look tend source limits p q progress.End = IsAtEnd p.left × Stays p q

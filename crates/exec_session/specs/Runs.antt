@@ -14,6 +14,7 @@ use Rattle.exec_session.specs.declared.session.Progress.{Progress}
 use Rattle.exec_session.specs.declared.session.Progress.TheVariants.{End}
 use Rattle.exec_session.specs.declared.session.Run.{Run}
 use Rattle.exec_session.specs.Answers.{Source}
+use Rattle.exec_session.specs.Limits.{Limits}
 use Rattle.exec_session.specs.Progress.{Place, Takes, place}
 
 -- what the opening's report is written as
@@ -21,34 +22,34 @@ abbrev pub report_text : {M : Type 0} → Report M → List ℕ
 report_text r = flat_map notice_line r.interrupted.items ++ flat_map notice_line r.dropped.items
 
 -- line after line, in their order, none of them left out
-pub data Reaches {D C M : Type 0} (look : D → View) (tend : C → ChildrenView) (source : Source) (most : ℕ) (p : Place (Executor D C M)) : Place (Executor D C M) → Type 0 where
-  here : Reaches look tend source most p p
-  further : (m q : Place (Executor D C M)) (s : Progress) → Reaches look tend source most p m → Takes look tend source most m q s → Reaches look tend source most p q
+pub data Reaches {D C M : Type 0} (look : D → View) (tend : C → ChildrenView) (source : Source) (limits : Limits) (p : Place (Executor D C M)) : Place (Executor D C M) → Type 0 where
+  here : Reaches look tend source limits p p
+  further : (m q : Place (Executor D C M)) (s : Progress) → Reaches look tend source limits p m → Takes look tend source limits m q s → Reaches look tend source limits p q
 
 -- line after line up to the end of the input
-pub record ReachesEnd {D C M : Type 0} (look : D → View) (tend : C → ChildrenView) (source : Source) (most : ℕ) (p q : Place (Executor D C M)) : Type 0 where
+pub record ReachesEnd {D C M : Type 0} (look : D → View) (tend : C → ChildrenView) (source : Source) (limits : Limits) (p q : Place (Executor D C M)) : Type 0 where
   pub last : Place (Executor D C M)
-  pub reached : Reaches look tend source most p last
-  pub end : Takes look tend source most last q End
+  pub reached : Reaches look tend source limits p last
+  pub end : Takes look tend source limits last q End
 
 -- the report is written first, and then all lines are answered
-pub record Runs {D C M N : Type 0} (look : D → View) (tend : C → ChildrenView) (source : Source) (most : ℕ) (report : Report N) (p q : Place (Executor D C M)) : Type 0 where
+pub record Runs {D C M N : Type 0} (look : D → View) (tend : C → ChildrenView) (source : Source) (limits : Limits) (report : Report N) (p q : Place (Executor D C M)) : Type 0 where
   pub reported : Option (List ℕ)
   pub report_first : Appends p.written reported (report_text report)
-  pub lines : ReachesEnd look tend source most (record p { written = reported }) q
+  pub lines : ReachesEnd look tend source limits (record p { written = reported }) q
 
 -- how a run ends that leads from one place to another
-abbrev pub EndsAs : {D C M N T : Type 0} → (D → View) → (C → ChildrenView) → Source → ℕ → Report N → Place (Executor D C M) → Place (Executor D C M) → Result T Fault → Type 0
-EndsAs look tend source most report p q (Ok done) = Runs look tend source most report p q × ((sight_of tend q.executor).is_open ≡ true)
-EndsAs look tend source most report p q (Err Disk) = Runs look tend source most report p q × ((sight_of tend q.executor).is_open ≡ false)
-EndsAs look tend source most report p q (Err Memory) = q ≡ p
-EndsAs look tend source most report p q (Err InputOrOutput) = ⊤
-EndsAs look tend source most report p q (Err _) = ⊥
+abbrev pub EndsAs : {D C M N T : Type 0} → (D → View) → (C → ChildrenView) → Source → Limits → Report N → Place (Executor D C M) → Place (Executor D C M) → Result T Fault → Type 0
+EndsAs look tend source limits report p q (Ok done) = Runs look tend source limits report p q × ((sight_of tend q.executor).is_open ≡ true)
+EndsAs look tend source limits report p q (Err Disk) = Runs look tend source limits report p q × ((sight_of tend q.executor).is_open ≡ false)
+EndsAs look tend source limits report p q (Err Memory) = q ≡ p
+EndsAs look tend source limits report p q (Err InputOrOutput) = ⊤
+EndsAs look tend source limits report p q (Err _) = ⊥
 
 -- A run that begins at this place ended, with what the reader has left then and what the writer holds: at its end all
 -- children are given up, and they and the disk are handed back.
-pub record Ended {D C M N : Type 0} (look : D → View) (tend : C → ChildrenView) (source : Source) (most : ℕ) (report : Report N) (p : Place (Executor D C M)) (left written : Option (List ℕ)) (run : Run D C) : Type 0 where
+pub record Ended {D C M N : Type 0} (look : D → View) (tend : C → ChildrenView) (source : Source) (limits : Limits) (report : Report N) (p : Place (Executor D C M)) (left written : Option (List ℕ)) (run : Run D C) : Type 0 where
   pub last : Executor D C M
-  pub ends : EndsAs look tend source most report p (place last left written) run.ended
+  pub ends : EndsAs look tend source limits report p (place last left written) run.ended
   pub disk : run.disk ≡ (sight_of tend last).disk
   pub children : tend run.children ≡ given_up (sight_of tend last).children

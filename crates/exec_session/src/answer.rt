@@ -1,11 +1,13 @@
 //! What a line is answered.
 ghost use Rattle.std.specs.Prelude.{◌≡◌, true, IfOk};
 ghost use Rattle.executor.specs.Sights.{IsSound, sight_of};
-ghost use Rattle.exec_session.specs.Answers.{DrainsFor, IsClosedReply, IsMetaReply, IsOpenReply, IsReply, closed_drain, refused};
+ghost use Rattle.exec_session.specs.Answers.{DrainsFor, IsClosedReply, IsMetaReply, IsOpenReply, IsReply, ServesNow, closed_drain, closed_tidy, refused};
 ghost use Rattle.exec_session.specs.Drains.{spot};
+ghost use Rattle.exec_session.specs.Limits.{limits_of};
 
 use crate::drain::{Terms, drain};
 use crate::metadata::Metadata;
+use crate::room::make_room;
 use crate::setting::Setting;
 use child_keeper::Children;
 use disk_model::Disk;
@@ -13,7 +15,7 @@ use exec_commands::{DrainEnd, Line, LineReply};
 use exec_lines::moment_now;
 use exec_output::Stopped;
 use executor::Executor;
-use ocf_types::{AgentType, Provider, Refusal, Reply, TurnEnd};
+use ocf_types::{AgentType, Provider, Refusal, Reply, Request, TidyEnd, TurnEnd};
 use std::io::Write;
 use std::rt::Clock;
 
@@ -39,6 +41,12 @@ fn closed_drain() -> LineReply
     LineReply::Drain(DrainEnd::Turn(TurnEnd::Closed))
 }
 
+fn closed_tidy() -> LineReply
+    ensures { result ≡ closed_tidy }
+{
+    LineReply::Tidy(TidyEnd::Closed)
+}
+
 // What a line is answered once a disk fault has closed the executor.
 fn closed_reply<K: Clock, M: Metadata>(
     setting: &Setting<K, M>,
@@ -49,6 +57,7 @@ fn closed_reply<K: Clock, M: Metadata>(
     match line {
         Ok(Line::Meta { provider, agent }) => meta_reply(setting, provider, agent),
         Ok(Line::Drain(_) | Line::Watch(_)) => closed_drain(),
+        Ok(Line::Tidy) => closed_tidy(),
         Ok(Line::Request(_)) | Err(_) => refused(Refusal::Closed),
     }
 }
@@ -64,7 +73,7 @@ fn drain_reply<W: Write, D: Disk + Drop, C: Children + Drop, K: Clock, M: Metada
     requires open { (sight_of C.view executor.old).is_open ≡ true }
     requires sound { IsSound D.view (sight_of C.view executor.old) }
     ensures sound { IsSound D.view (sight_of C.view executor.new) }
-    ensures reply { IfOk result (DrainsFor D.view C.view ends_idle limit setting.now.most_turns
+    ensures reply { IfOk result (DrainsFor D.view C.view ends_idle limit (limits_of setting.now)
         (spot executor.old (W.contents writer.old)) (spot executor.new (W.contents writer.new))) }
 {
     let start = moment_now(setting.clock).get();
@@ -77,6 +86,25 @@ fn drain_reply<W: Write, D: Disk + Drop, C: Children + Drop, K: Clock, M: Metada
     Ok(LineReply::Drain(end))
 }
 
+// Makes room, and then does what a request asks at the moment that the clock shows. Where the disk fails as room is made the
+// request is refused for that.
+fn request_reply<D: Disk + Drop, C: Children + Drop, K: Clock, M>(
+    setting: &Setting<K, M>,
+    executor: &mut Executor<D, C>,
+    request: Request,
+) -> LineReply
+    requires open { (sight_of C.view executor.old).is_open ≡ true }
+    requires sound { IsSound D.view (sight_of C.view executor.old) }
+    ensures sound { IsSound D.view (sight_of C.view executor.new) }
+    ensures serves { ServesNow D.view C.view (limits_of setting.now) request executor.old executor.new result }
+{
+    if !make_room(setting, executor) {
+        return refused(Refusal::Disk);
+    }
+    let now = moment_now(setting.clock).get();
+    LineReply::Request(executor.command(now, request))
+}
+
 // What a line is answered. What is written before the reply are a drain's notices.
 fn open_reply<W: Write, D: Disk + Drop, C: Children + Drop, K: Clock, M: Metadata>(
     setting: &Setting<K, M>,
@@ -87,16 +115,14 @@ fn open_reply<W: Write, D: Disk + Drop, C: Children + Drop, K: Clock, M: Metadat
     requires open { (sight_of C.view executor.old).is_open ≡ true }
     requires sound { IsSound D.view (sight_of C.view executor.old) }
     ensures sound { IsSound D.view (sight_of C.view executor.new) }
-    ensures reply { IfOk result (IsOpenReply D.view C.view (M.gives setting.now.metadata.now) setting.now.most_turns
+    ensures reply { IfOk result (IsOpenReply D.view C.view (M.gives setting.now.metadata.now) (limits_of setting.now)
         (spot executor.old (W.contents writer.old)) (spot executor.new (W.contents writer.new)) line) }
 {
     match line {
-        Ok(Line::Request(request)) => {
-            let now = moment_now(setting.clock).get();
-            Ok(LineReply::Request(executor.command(now, request)))
-        }
+        Ok(Line::Request(request)) => Ok(request_reply(setting, executor, request)),
         Ok(Line::Drain(limit)) => drain_reply(setting, writer, executor, true, limit),
         Ok(Line::Watch(limit)) => drain_reply(setting, writer, executor, false, limit),
+        Ok(Line::Tidy) => Ok(LineReply::Tidy(executor.tidy())),
         Ok(Line::Meta { provider, agent }) => Ok(meta_reply(setting, &provider, &agent)),
         Err(refusal) => Ok(refused(refusal)),
     }
@@ -111,7 +137,7 @@ pub fn reply_to<W: Write, D: Disk + Drop, C: Children + Drop, K: Clock, M: Metad
 ) -> Result<LineReply, Stopped>
     requires sound { IsSound D.view (sight_of C.view executor.old) }
     ensures sound { IsSound D.view (sight_of C.view executor.new) }
-    ensures reply { IfOk result (IsReply D.view C.view (M.gives setting.now.metadata.now) setting.now.most_turns
+    ensures reply { IfOk result (IsReply D.view C.view (M.gives setting.now.metadata.now) (limits_of setting.now)
         (spot executor.old (W.contents writer.old)) (spot executor.new (W.contents writer.new)) line) }
 {
     if executor.is_open() {

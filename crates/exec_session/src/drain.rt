@@ -2,9 +2,11 @@
 ghost use Rattle.std.specs.Prelude.{◌≡◌, true, not, IfOk, OnOk};
 ghost use Rattle.executor.specs.Sights.{IsSound, sight_of};
 ghost use Rattle.exec_session.specs.Drains.{Drains, MakesTurn, end_behind, spot};
+ghost use Rattle.exec_session.specs.Limits.{limits_of};
 
 use crate::metadata::Metadata;
 use crate::pause::Pause;
+use crate::room::make_room;
 use crate::setting::Setting;
 use child_keeper::Children;
 use disk_model::Disk;
@@ -13,7 +15,6 @@ use exec_lines::moment_now;
 use exec_output::{Stopped, send_notices};
 use executor::Executor;
 use ocf_types::{NUM_MAX, TurnEnd};
-use std::alloc::Global;
 use std::io::Write;
 use std::rt::Clock;
 
@@ -49,9 +50,9 @@ impl Terms {
     }
 }
 
-// Makes a turn at this moment, and writes its notices.
-fn make_turn<W: Write, D: Disk + Drop, C: Children + Drop>(
-    alloc: Global,
+// Makes room and then a turn at this moment, and writes its notices. Where the disk fails as room is made there is no turn.
+fn make_turn<W: Write, D: Disk + Drop, C: Children + Drop, K, M>(
+    setting: &Setting<K, M>,
     writer: &mut W,
     executor: &mut Executor<D, C>,
     now: u64,
@@ -59,12 +60,15 @@ fn make_turn<W: Write, D: Disk + Drop, C: Children + Drop>(
     requires open { (sight_of C.view executor.old).is_open ≡ true }
     requires sound { IsSound D.view (sight_of C.view executor.old) }
     ensures sound { IsSound D.view (sight_of C.view executor.new) }
-    ensures made { IfOk result (λ end. MakesTurn D.view C.view now
+    ensures made { IfOk result (λ end. MakesTurn D.view C.view (limits_of setting.now) now
         (spot executor.old (W.contents writer.old)) (spot executor.new (W.contents writer.new)) end) }
 {
     executor.clear_book();
+    if !make_room(setting, executor) {
+        return Ok(TurnEnd::Disk);
+    }
     let end = executor.turn(now);
-    send_notices(alloc, writer, executor.notices())?;
+    send_notices(setting.alloc, writer, executor.notices())?;
     Ok(end)
 }
 
@@ -79,13 +83,14 @@ pub fn drain<W: Write, D: Disk + Drop, C: Children + Drop, K: Clock, M: Metadata
     requires open { (sight_of C.view executor.old).is_open ≡ true }
     requires sound { IsSound D.view (sight_of C.view executor.old) }
     ensures sound { IsSound D.view (sight_of C.view executor.new) }
-    ensures drains { IfOk result (λ end. Drains D.view C.view terms start
+    ensures drains { IfOk result (λ end. Drains D.view C.view (limits_of setting.now) terms start
         (spot executor.old (W.contents writer.old)) (spot executor.new (W.contents writer.new)) end) }
 {
     let mut now = start;
     let mut pause = Pause::new();
     for turns in 0..NUM_MAX {
-        let end = make_turn(setting.alloc, writer, executor, now)?;
+        pause.before_turn(setting.clock);
+        let end = make_turn(setting, writer, executor, now)?;
         pause.after_turn(setting.clock, executor);
         now = moment_now(setting.clock).get();
         if let Some(end) = terms.end_behind(turns + 1, now, end, executor.idle()) {

@@ -6,6 +6,7 @@ mod drain;
 mod metadata;
 mod pause;
 mod report;
+mod room;
 mod session;
 mod setting;
 

@@ -1,6 +1,7 @@
 //! Command lines answered one by one.
 ghost use Rattle.std.specs.Prelude.{◌≡◌, [], IfOk, OnOk};
 ghost use Rattle.executor.specs.Sights.{IsSound, sight_of};
+ghost use Rattle.exec_session.specs.Limits.{limits_of};
 ghost use Rattle.exec_session.specs.Progress.{ReadsInput, Takes, place};
 ghost use Rattle.exec_session.specs.Runs.{Ended, EndsAs, ReachesEnd};
 
@@ -77,7 +78,7 @@ fn next_reply<R: BufRead, W: Write, D: Disk + Drop, C: Children + Drop, K: Clock
 ) -> Result<Progress, Stopped>
     requires sound { IsSound D.view (sight_of C.view executor.old) }
     ensures sound { IsSound D.view (sight_of C.view executor.new) }
-    ensures progress { IfOk result (Takes D.view C.view (M.gives setting.now.metadata.now) setting.now.most_turns
+    ensures progress { IfOk result (Takes D.view C.view (M.gives setting.now.metadata.now) (limits_of setting.now)
         (place executor.old (R.remaining reader.old) (W.contents writer.old))
         (place executor.new (R.remaining reader.new) (W.contents writer.new))) }
 {
@@ -100,7 +101,7 @@ fn answer_all<R: BufRead, W: Write, D: Disk + Drop, C: Children + Drop, K: Clock
     buffer: &mut LineBuffer,
 ) -> Result<(), Stopped>
     requires sound { IsSound D.view (sight_of C.view executor.old) }
-    ensures lines { OnOk result (ReachesEnd D.view C.view (M.gives setting.now.metadata.now) setting.now.most_turns
+    ensures lines { OnOk result (ReachesEnd D.view C.view (M.gives setting.now.metadata.now) (limits_of setting.now)
         (place executor.old (R.remaining reader.old) (W.contents writer.old))
         (place executor.new (R.remaining reader.new) (W.contents writer.new))) }
 {
@@ -122,7 +123,7 @@ fn answer_lines<R: BufRead, W: Write, D: Disk + Drop, C: Children + Drop, K: Clo
     report: &Report,
 ) -> Result<(), Fault>
     requires sound { IsSound D.view (sight_of C.view executor.old) }
-    ensures { EndsAs D.view C.view (M.gives setting.now.metadata.now) setting.now.most_turns report.now
+    ensures { EndsAs D.view C.view (M.gives setting.now.metadata.now) (limits_of setting.now) report.now
         (place executor.old (R.remaining reader.old) (W.contents writer.old))
         (place executor.new (R.remaining reader.new) (W.contents writer.new)) result }
 {
@@ -153,7 +154,7 @@ pub fn run_lines<R: BufRead, W: Write, D: Disk + Drop, C: Children + Drop, K: Cl
     report: &Report,
 ) -> Run<D, C>
     requires sound { IsSound D.view (sight_of C.view executor) }
-    ensures ends { Ended D.view C.view (M.gives setting.now.metadata.now) setting.now.most_turns report.now
+    ensures ends { Ended D.view C.view (M.gives setting.now.metadata.now) (limits_of setting.now) report.now
         (place executor (R.remaining reader.old) (W.contents writer.old))
         (R.remaining reader.new) (W.contents writer.new) result }
     ensures none_lives { (C.view result.children).live ≡ [] }

@@ -10,4 +10,7 @@ pub struct Setting<'a, K, M> {
     pub metadata: &'a M,
     /// How many turns a drain makes at most. It makes one in any case.
     pub most_turns: u64,
+    /// Past this offset of the journal's tail, in bytes, a run tidies by itself where that gains a quarter of a part; 0 for
+    /// never.
+    pub tidy_at: u64,
 }

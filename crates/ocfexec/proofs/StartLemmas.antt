@@ -14,27 +14,29 @@ use Rattle.exec_output.specs.declared.fault.Fault.{Fault}
 use Rattle.exec_output.specs.declared.fault.Fault.TheVariants as fault
 use Rattle.exec_session.specs.declared.session.Run.{Run}
 use Rattle.exec_session.specs.Answers.{Source}
+use Rattle.exec_session.specs.Limits.{Limits}
 use Rattle.exec_session.specs.Progress.{Place, place}
 use Rattle.exec_session.specs.Runs.{Ended, EndsAs}
 use Rattle.ocfexec.specs.Starts.{EndsFor, IsToldAs}
 
 -- a run does not end by its words
-ends : {D C M N T : Type 0} (look : D → View) (tend : C → ChildrenView) (source : Source) (most : ℕ) (report : Report N) (p q : Place (Executor D C M)) (r : Result T Fault)
-    → EndsAs look tend source most report p q r → IsRunEnd r
-ends look tend source most report p q (Ok done) how = tt
-ends look tend source most report p q (Err fault.Usage) how = absurd how
-ends look tend source most report p q (Err fault.Choice) how = absurd how
-ends look tend source most report p q (Err fault.NotText) how = absurd how
-ends look tend source most report p q (Err fault.NotOpened) how = absurd how
-ends look tend source most report p q (Err (fault.Damaged damage)) how = tt
-ends look tend source most report p q (Err fault.Memory) how = tt
-ends look tend source most report p q (Err fault.Disk) how = tt
-ends look tend source most report p q (Err fault.Full) how = tt
-ends look tend source most report p q (Err fault.InputOrOutput) how = tt
+ends : {D C M N T : Type 0} (look : D → View) (tend : C → ChildrenView) (source : Source) (limits : Limits) (report : Report N) (p q : Place (Executor D C M)) (r : Result T Fault)
+    → EndsAs look tend source limits report p q r → IsRunEnd r
+ends look tend source limits report p q (Ok done) how = tt
+ends look tend source limits report p q (Err fault.Usage) how = absurd how
+ends look tend source limits report p q (Err fault.Choice) how = absurd how
+ends look tend source limits report p q (Err fault.TidyAt) how = absurd how
+ends look tend source limits report p q (Err fault.NotText) how = absurd how
+ends look tend source limits report p q (Err fault.NotOpened) how = absurd how
+ends look tend source limits report p q (Err (fault.Damaged damage)) how = tt
+ends look tend source limits report p q (Err fault.Memory) how = tt
+ends look tend source limits report p q (Err fault.Disk) how = tt
+ends look tend source limits report p q (Err fault.Full) how = tt
+ends look tend source limits report p q (Err fault.InputOrOutput) how = tt
 
-pub run_ends : {D C M N : Type 0} (look : D → View) (tend : C → ChildrenView) (source : Source) (most : ℕ) (report : Report N) (p : Place (Executor D C M)) (left written : Option (List ℕ)) (run : Run D C)
-    → Ended look tend source most report p left written run → IsRunEnd run.ended
-run_ends look tend source most report p left written run ended = ends look tend source most report p (place ended.last left written) run.ended ended.ends
+pub run_ends : {D C M N : Type 0} (look : D → View) (tend : C → ChildrenView) (source : Source) (limits : Limits) (report : Report N) (p : Place (Executor D C M)) (left written : Option (List ℕ)) (run : Run D C)
+    → Ended look tend source limits report p left written run → IsRunEnd run.ended
+run_ends look tend source limits report p left written run ended = ends look tend source limits report p (place ended.last left written) run.ended ended.ends
 
 -- words that give no options
 pub refused_ends : {T : Type 0} (words : List (List ℕ)) (f : WordsFault) (r : Result T Fault) → IsFault words f → IsToldAs f r → EndsFor words r
@@ -42,6 +44,7 @@ refused_ends words (words_fault.Help text) (Ok done) is told = inl (text, is)
 refused_ends {T} words (words_fault.Help text) (Err f) is told = subst (λ x. EndsFor {T = T} words (Err x)) (sym told) (inl (text, is))
 refused_ends words (words_fault.Usage text) r is told = subst (λ x. EndsFor words x) (sym told) (text, is)
 refused_ends words words_fault.Choice r is told = subst (λ x. EndsFor words x) (sym told) is
+refused_ends words words_fault.TidyAt r is told = subst (λ x. EndsFor words x) (sym told) is
 refused_ends words words_fault.Memory r is told = subst (λ x. EndsFor words x) (sym told) tt
 
 -- words that ask for a journal
@@ -49,6 +52,7 @@ pub journal_ends : {T : Type 0} (words : List (List ℕ)) (o : Options) (r : Res
 journal_ends words o (Ok done) gives ends = inr (o, gives)
 journal_ends words o (Err fault.Usage) gives ends = absurd ends
 journal_ends words o (Err fault.Choice) gives ends = absurd ends
+journal_ends words o (Err fault.TidyAt) gives ends = absurd ends
 journal_ends words o (Err fault.NotText) gives ends = absurd ends
 journal_ends words o (Err fault.NotOpened) gives ends = absurd ends
 journal_ends words o (Err (fault.Damaged damage)) gives ends = (o, gives)

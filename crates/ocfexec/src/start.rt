@@ -5,13 +5,13 @@ ghost use Rattle.ocfexec.specs.Starts.{EndsFor, IsNotOpened, IsToldAs, opening_f
 
 use crate::agents::{Agents, BOOK_ROOM, site_of};
 use child_keeper::Processes;
-use disk_model::{Disk, MemDisk};
+use disk_model::Disk;
 use exec_lines::moment_now;
 use exec_options::{JournalPlace, Options, Subcommand, WordsFault, read_words};
 use exec_output::{Fault, show};
 use exec_session::{Setting, run_lines};
 use executor::{Executor, OpenError};
-use file_disk::{FileDisk, OpenFault};
+use file_disk::{FileDisk, OpenFault, RamDisk};
 use std::env;
 use std::io::{self, BufReader, ErrorKind};
 use std::thread::sleep;
@@ -51,6 +51,7 @@ fn refuse(rt: &HostRuntime, fault: &WordsFault) -> Result<(), Fault>
             Err(Fault::Usage)
         }
         WordsFault::Choice => Err(Fault::Choice),
+        WordsFault::TidyAt => Err(Fault::TidyAt),
         WordsFault::Memory => Err(Fault::Memory),
     }
 }
@@ -96,7 +97,7 @@ fn run(rt: &HostRuntime, words: &[String]) -> Result<(), Fault>
             Ok(disk) => run_on(rt, options, disk),
             Err(fault) => Err(fault),
         },
-        JournalPlace::Memory => run_on(rt, options, MemDisk::new(rt.alloc())),
+        JournalPlace::Memory => run_on(rt, options, RamDisk::new(rt.alloc())),
     }
 }
 
@@ -146,6 +147,7 @@ fn run_agents<D: Disk + Drop>(rt: &HostRuntime, options: Options, disk: D) -> Re
                 clock: rt,
                 metadata: &Agents { rt, site: asked },
                 most_turns: MOST_TURNS,
+                tidy_at: options.tidy_at,
             };
             run_lines(
                 &setting,

@@ -2,7 +2,7 @@ use Rattle.std.proofs.Common.{◌+◌, not, None, Some}
 use Rattle.ocf_types.specs.Boot.{any_busy}
 use Rattle.executor.specs.Sights.{sight_of}
 use Rattle.exec_session.specs.Drains.{at_start, further, spot}
-use Rattle.exec_session.proofs.DrainLemmas.{still_open, told_end}
+use Rattle.exec_session.proofs.DrainLemmas.{closes, still_open, told_end}
 use Rattle.exec_session.proofs.drain.drain.Goals as goal
 
 pub loop-turns-init : goal.loop-turns-init
@@ -33,7 +33,7 @@ loop-turns-preserved g c =
     let next = spot c.make_turn.new.executor (g.W.Write.contents c.make_turn.new.writer) in
     let on = told_end c.args.terms (c.loop-turns.turns + 1) c.get-now.result c.in_ok-end.end idle c.idle.result c.end_behind.result None c.end_behind.ensures c.idle.ensures.value c.in_default.is in
     record {
-      is_open = still_open c.args.terms (c.loop-turns.turns + 1) c.get-now.result c.in_ok-end.end idle c.make_turn.new.executor.open c.in_ok-end.ensures.made.takes.closes on;
+      is_open = still_open c.args.terms (c.loop-turns.turns + 1) c.get-now.result c.in_ok-end.end idle c.make_turn.new.executor.open (closes _ _ _ _ last next c.in_ok-end.end c.in_ok-end.ensures.made) on;
       sound = c.in_ok-end.ensures.sound;
       gone_on = further c.loop-turns.turns c.loop-turns.now c.get-now.result last next c.in_ok-end.end c.loop-turns.invariant.gone_on c.in_ok-end.ensures.made on;
     }

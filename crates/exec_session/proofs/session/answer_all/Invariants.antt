@@ -1,4 +1,5 @@
 use Rattle.executor.specs.Sights.{IsSound, sight_of}
+use Rattle.exec_session.specs.Limits.{limits_of}
 use Rattle.exec_session.specs.Progress.{place}
 use Rattle.exec_session.specs.Runs.{Reaches}
 use Rattle.exec_session.proofs.session.answer_all.Given as goal
@@ -6,7 +7,7 @@ use Rattle.exec_session.proofs.session.answer_all.Given as goal
 abbrev pub invariant-loop : goal.invariant-loop
 invariant-loop g l = record {
   sound : IsSound g.D.Disk.view (sight_of g.C.Children.view l.executor);
-  reached : Reaches g.D.Disk.view g.C.Children.view (g.M.Metadata.gives l.setting.metadata.now) l.setting.most_turns
+  reached : Reaches g.D.Disk.view g.C.Children.view (g.M.Metadata.gives l.setting.metadata.now) (limits_of l.setting)
       (place l.fn.executor (g.R.Read.remaining l.fn.reader) (g.W.Write.contents l.fn.writer))
       (place l.executor (g.R.Read.remaining l.reader) (g.W.Write.contents l.writer));
 }

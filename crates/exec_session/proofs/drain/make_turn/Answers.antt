@@ -1,0 +1,33 @@
+use Rattle.std.proofs.Common.{◌≡◌, true≢false, List, ◌++◌, ap, refl, sym, ◌∙◌, subst}
+use Rattle.std.specs.Io.KnownBytes.{Appends}
+use Rattle.std.specs.List.{flat_map}
+use Rattle.ocf_types.specs.declared.reply.Notice.{Notice}
+use Rattle.executor.specs.Sights.{Sight, sight_of}
+use Rattle.executor.specs.TurnCalls.{TurnsWhile}
+use Rattle.exec_commands.specs.Replies.{notice_line}
+use Rattle.exec_session.specs.Limits.{MakesRoom, limits_of}
+use Rattle.exec_session.proofs.drain.make_turn.Goals as goal
+
+pub returns-then-not-make_room-clause-made : goal.returns-then-not-make_room-clause-made
+returns-then-not-make_room-clause-made g c =
+    let closed = sym c.if-not-make_room.ensures.value in
+    let middle = sight_of g.C.Children.view c.make_room.new.executor in record {
+      middle = middle;
+      room = subst (λ (x : Sight g.row.D.Denot). MakesRoom g.D.Disk.view (limits_of c.args.setting.now) x middle) c.clear_book.ensures.cleared c.make_room.ensures.makes;
+      takes = λ is_open. absurd (true≢false (sym is_open ∙ closed));
+      written = λ is_open. absurd (true≢false (sym is_open ∙ closed));
+      fails = λ _. (refl, refl, refl);
+    }
+
+pub returns-clause-made : goal.returns-clause-made
+returns-clause-made g c =
+    let is_open = sym c.if-not-make_room.ensures.value in
+    let tend = g.C.Children.view in
+    let middle = sight_of tend c.make_room.new.executor in
+    let last = sight_of tend c.turn-end.new.self in record {
+      middle = middle;
+      room = subst (λ (x : Sight g.row.D.Denot). MakesRoom g.D.Disk.view (limits_of c.args.setting.now) x middle) c.clear_book.ensures.cleared c.make_room.ensures.makes;
+      takes = λ _. subst (λ b. TurnsWhile b g.D.Disk.view c.args.now middle last c.turn-end.result) is_open c.turn-end.ensures.turns;
+      written = λ _. subst (λ (told : List Notice). Appends (g.W.Write.contents c.args.writer.now) (g.W.Write.contents c.send_notices.new.writer) (flat_map notice_line told)) c.notices.ensures.value c.in_ok-send_notices.ensures;
+      fails = λ closed. absurd (true≢false (sym is_open ∙ closed));
+    }

@@ -1,0 +1,29 @@
+-- What a run is held to, and the room that it makes in its journal.
+use Rattle.std.specs.Prelude.{◌≡◌, ℕ, ◌+◌, Bool, true, false, ◌&&◌, nat_le, nat_lt}
+use Rattle.ocf_types.specs.declared.reply.TidyEnd.{TidyEnd}
+use Rattle.disk_model.specs.View.{View}
+use Rattle.exec_journal.specs.Tidying.{tidied_tail}
+use Rattle.executor.specs.Sights.{Sight}
+use Rattle.executor.specs.TidyCalls.{Tidies}
+use Rattle.exec_session.specs.declared.setting.Setting.{Setting}
+
+-- how many turns a drain makes at most, and past which offset of its journal's tail a run tidies by itself; 0: past none
+pub record Limits : Type 0 where
+  pub most_turns : ℕ
+  pub tidy_at : ℕ
+
+abbrev pub limits_of : {K M : Type 0} → Setting K M → Limits
+limits_of setting = record { most_turns = setting.most_turns; tidy_at = setting.tidy_at }
+
+-- how many bytes a tidy has to gain at least: a quarter of a part
+abbrev pub worthwhile : ℕ
+worthwhile = 2097152
+
+-- a tidy is due: the tail is past the limit, and would fall by what is worthwhile
+abbrev pub is_tidy_due : {D : Type 0} → Limits → Sight D → Bool
+is_tidy_due limits x = nat_lt 0 limits.tidy_at && nat_lt limits.tidy_at x.place.tail && nat_le (tidied_tail x.state + worthwhile) x.place.tail
+
+-- Where a tidy is due one is made, and else nothing is done.
+pub record MakesRoom {D : Type 0} (look : D → View) (limits : Limits) (old new : Sight D) : Type 0 where
+  pub made : is_tidy_due limits old ≡ true → (end : TidyEnd) × Tidies look old new end
+  pub none : is_tidy_due limits old ≡ false → new ≡ old

@@ -1,0 +1,45 @@
+//! Room in the journal, which a run makes by itself.
+ghost use Rattle.std.specs.Prelude.{◌≡◌, true};
+ghost use Rattle.executor.specs.Sights.{IsSound, sight_of};
+ghost use Rattle.exec_session.specs.Limits.{MakesRoom, is_tidy_due, limits_of};
+
+use crate::setting::Setting;
+use child_keeper::Children;
+use disk_model::Disk;
+use executor::Executor;
+
+// How many bytes a tidy has to gain at least: a quarter of a part. So one that gains less is made once the tail has grown
+// by that much.
+const WORTHWHILE: u64 = 2_097_152;
+
+// Whether the tail is past the limit, and would fall by what is worthwhile.
+fn is_tidy_due<D: Disk + Drop, C: Children + Drop, K, M>(
+    setting: &Setting<K, M>,
+    executor: &Executor<D, C>,
+) -> bool
+    ensures { result ≡ is_tidy_due (limits_of setting.now) (sight_of C.view executor.now) }
+{
+    let tail = executor.tail();
+    if setting.tidy_at == 0 || tail <= setting.tidy_at {
+        return false;
+    }
+    WORTHWHILE <= tail.saturating_sub(executor.tidied_tail())
+}
+
+/// Tidies the journal where that is due. Whether the executor is open then: a disk fault closes it.
+pub fn make_room<D: Disk + Drop, C: Children + Drop, K, M>(
+    setting: &Setting<K, M>,
+    executor: &mut Executor<D, C>,
+) -> bool
+    requires open { (sight_of C.view executor.old).is_open ≡ true }
+    requires sound { IsSound D.view (sight_of C.view executor.old) }
+    ensures sound { IsSound D.view (sight_of C.view executor.new) }
+    ensures makes { MakesRoom D.view (limits_of setting.now) (sight_of C.view executor.old) (sight_of C.view executor.new) }
+    ensures value { result ≡ (sight_of C.view executor.new).is_open }
+{
+    if !is_tidy_due(setting, executor) {
+        return true;
+    }
+    executor.tidy();
+    executor.is_open()
+}
