@@ -1,19 +1,22 @@
 //! Benchmarks. Without arguments one round of each is run, the largest state is read and written again, and nothing is
 //! printed; with a name and a number of rounds the rate is printed. `appends` counts slots, `events` counts events that
 //! are read and written, `state-reads` and `state-writes` count bytes, `triples` counts actions that are accepted, begun
-//! and ended, and `openings` counts the bytes of a full part that a journal is opened on; `waiting-turns` and `busy-turns`
+//! and ended, `openings` counts the bytes of a full part that a journal is opened on, and `tidies` those of the largest
+//! state that a journal writes as its snapshot, twice behind an opening; `waiting-turns` and `busy-turns`
 //! count turns over 256 running actions, which all run on, or all end and are followed by the next ones.
 #![tactic(auto)]
 
 mod openings;
 mod slots;
 mod spellings;
+mod tidies;
 mod triples;
 mod turns;
 
 use crate::openings::{full_part, openings};
 use crate::slots::appends;
 use crate::spellings::{events, is_written_again, largest_state, read_state, write_state};
+use crate::tidies::tidies;
 use crate::triples::triples;
 use crate::turns::{busy_turns, waiting_turns};
 use anyhow::{Context, Result, bail, ensure};
@@ -24,13 +27,14 @@ use std::env;
 use std::rt::{Clock, Env};
 use std::time::Instant;
 
-const NAMES: [&str; 8] = [
+const NAMES: [&str; 9] = [
     "appends",
     "events",
     "state-reads",
     "state-writes",
     "triples",
     "openings",
+    "tidies",
     "waiting-turns",
     "busy-turns",
 ];
@@ -59,6 +63,7 @@ fn round(alloc: Global, largest: &Largest, name: &str) -> Result<u64> {
         "state-writes" => write_state(alloc, &largest.state),
         "triples" => triples(alloc),
         "openings" => openings(alloc, largest.part.as_slice()),
+        "tidies" => tidies(alloc, largest.bytes.as_slice()),
         "waiting-turns" => waiting_turns(alloc),
         "busy-turns" => busy_turns(alloc),
         _ => bail!("no benchmark is called {name}"),

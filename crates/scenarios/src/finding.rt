@@ -1,44 +1,21 @@
 //! What a journal holds, as a text.
-use crate::print::{print_damaged, push_reply};
 use anyhow::{Result, bail};
 use disk_model::MemDisk;
-use exec_commands::LineReply;
-use exec_journal::{Journal, JournalFault};
-use exec_state::State;
-use ocf_types::{Question, Reply, RscId};
+use exec_output::{Fault, show};
 use std::alloc::Global;
-
-// The replies of `info` and `history` of a resource.
-fn push_resource(alloc: Global, text: &mut Vec<u8>, state: &State, id: &RscId) -> Result<()> {
-    let info = state.answer(alloc, &Question::Info(id.copied()));
-    push_reply(alloc, text, &LineReply::Request(info))?;
-    let history = state.answer(alloc, &Question::History(id.copied()));
-    push_reply(alloc, text, &LineReply::Request(history))
-}
-
-// The reply of `list`, and then of each resource those of `info` and `history`.
-fn state_text(alloc: Global, state: &State) -> Result<Vec<u8>> {
-    let mut text = Vec::new(alloc);
-    let list = LineReply::Request(state.answer(alloc, &Question::List));
-    push_reply(alloc, &mut text, &list)?;
-    if let LineReply::Request(Reply::List(ids)) = &list {
-        for id in ids.as_slice() {
-            push_resource(alloc, &mut text, state, id)?;
-        }
-    }
-    Ok(text)
-}
+use std::io::Write;
 
 /// What is found on a disk: lines of replies, or a line that says where it is damaged.
 pub fn found_on(alloc: Global, disk: MemDisk) -> Result<Vec<u8>> {
-    match Journal::open(alloc, disk) {
-        Ok((_journal, state)) => state_text(alloc, &state),
-        Err((JournalFault::Damaged(damage), _)) => {
-            let mut text = Vec::new(alloc);
-            print_damaged(&mut text, "", &damage)?;
+    let mut text = Vec::new(alloc);
+    match show(alloc, disk, &mut text).1 {
+        Ok(()) => Ok(text),
+        Err(Fault::Damaged(damage)) => {
+            let fault = Fault::Damaged(damage);
+            writeln!(text, "{fault}")?;
             Ok(text)
         }
-        Err((fault, _)) => bail!("{fault}"),
+        Err(fault) => bail!("{fault}"),
     }
 }
 

@@ -7,7 +7,7 @@ use crate::print::{
 use crate::step::Look;
 use crate::world::World;
 use anyhow::{Context, Result};
-use event_wire::{decode_event, decode_state, encode_event, encode_state};
+use event_wire::{StateReader, decode_event, decode_state, encode_event, encode_state};
 use exec_commands::LineReply;
 use ocf_env::{Instance, Launch, Site, launch};
 use ocf_types::{CallId, EVENT_LIMIT, Event, Info, Part, Question, Reply, RscId, RunId, Task};
@@ -117,8 +117,24 @@ fn show_event<W: Write>(alloc: Global, bytes: &[u8], writer: &mut W) -> Result<(
     }
 }
 
+// Whether a reader that is fed so many bytes at a time finds a state.
+fn is_read_by_pieces(alloc: Global, bytes: &[u8], size: usize) -> Result<bool> {
+    let mut reader = StateReader::new(alloc);
+    for piece in bytes.chunks(size.max(1)) {
+        reader.feed(piece)?;
+    }
+    Ok(reader.finish().is_some())
+}
+
+// What bytes are as a state, read at once and in pieces of one byte and of seven.
 fn state_word(alloc: Global, bytes: &[u8]) -> Result<&'static str> {
-    let Some(state) = decode_state(alloc, bytes)? else {
+    let found = decode_state(alloc, bytes)?;
+    for size in [1, 7] {
+        if is_read_by_pieces(alloc, bytes, size)? != found.is_some() {
+            return Ok("state differs in pieces");
+        }
+    }
+    let Some(state) = found else {
         return Ok("no state");
     };
     let spelled = encode_state(alloc, &state)?;

@@ -10,7 +10,7 @@ use child_keeper::Entry;
 use exec_commands::{Line, LineReply, read_command};
 use executor::{Executor, OpenError, Report};
 use ocf_env::Site;
-use ocf_types::{Notice, Question, Refusal, Reply, ReplyOf, Request, RequestOf, TurnEnd};
+use ocf_types::{Notice, Question, Refusal, Reply, ReplyOf, Request, RequestOf, TidyEnd, TurnEnd};
 use std::alloc::{AllocError, Global};
 
 /// An executor on a shared disk with the world's children, and the site of its agents.
@@ -58,6 +58,10 @@ impl Session {
         self.executor.turn(now)
     }
 
+    pub fn tidy(&mut self) -> TidyEnd {
+        self.executor.tidy()
+    }
+
     /// What a turn that ended so told.
     pub fn told(&self, end: TurnEnd) -> &[Notice] {
         match end {
@@ -101,10 +105,11 @@ impl Session {
         }
     }
 
-    /// What a command line is answered at a moment. A line that is neither a command nor a question has no answer here.
+    /// What a command line is answered at a moment. Drains, watches and metadata have no answer here.
     pub fn answer(&mut self, alloc: Global, now: u64, line: &[u8]) -> Option<LineReply> {
         let reply = match read_command(alloc, line) {
             Ok(Line::Request(request)) => self.request(now, request),
+            Ok(Line::Tidy) => return Some(LineReply::Tidy(self.tidy())),
             Ok(_) => return None,
             Err(refusal) => self.refuse(refusal),
         };

@@ -34,6 +34,8 @@ pub enum Act {
     Command(u64, Vec<u8>),
     /// The executor makes a turn at this moment.
     Turn(u64),
+    /// The executor tidies its journal.
+    Tidy,
     /// The children's book is emptied.
     Clear,
     /// Every child is given up.
@@ -106,6 +108,7 @@ enum Verb {
     At,
     Bytes,
     Turn,
+    Tidy,
     Clear,
     Abandon,
     Close,
@@ -124,7 +127,7 @@ enum Verb {
     Stopped,
 }
 
-const VERBS: [(&str, Verb); 28] = [
+const VERBS: [(&str, Verb); 29] = [
     ("scenario", Verb::Scenario),
     ("part", Verb::Part),
     ("starts", Verb::Starts),
@@ -137,6 +140,7 @@ const VERBS: [(&str, Verb); 28] = [
     ("at", Verb::At),
     ("bytes", Verb::Bytes),
     ("turn", Verb::Turn),
+    ("tidy", Verb::Tidy),
     ("clear", Verb::Clear),
     ("abandon", Verb::Abandon),
     ("close", Verb::Close),
@@ -178,7 +182,7 @@ fn read_line(alloc: Global, verb: Verb, words: &mut Words) -> Result<Line, BadLi
             read_act(alloc, verb, words).map(Line::Act)
         }
         Verb::Starts | Verb::Polls | Verb::Kills => read_lists(alloc, verb, words).map(Line::Act),
-        Verb::Children | Verb::Clear | Verb::Abandon | Verb::Close => {
+        Verb::Children | Verb::Tidy | Verb::Clear | Verb::Abandon | Verb::Close => {
             Ok(Line::Act(bare_act(verb)))
         }
         Verb::Book | Verb::Open | Verb::Turn | Verb::Stop | Verb::Fault | Verb::ChildFault =>
@@ -213,6 +217,7 @@ fn read_lists(alloc: Global, verb: Verb, words: &mut Words) -> Result<Act, BadLi
 fn bare_act(verb: Verb) -> Act {
     match verb {
         Verb::Children => Act::Children,
+        Verb::Tidy => Act::Tidy,
         Verb::Clear => Act::Clear,
         Verb::Abandon => Act::Abandon,
         _ => Act::Close,

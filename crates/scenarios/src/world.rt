@@ -5,7 +5,7 @@ use crate::fill::Filling;
 use crate::finding::finding_on;
 use crate::planned::PlannedChildren;
 use crate::print::{
-    print_entries, print_line, print_open_error, print_opened, print_turn, push_reply,
+    print_entries, print_line, print_open_error, print_opened, print_tidy, print_turn, push_reply,
 };
 use crate::session::Session;
 use crate::site::SiteWords;
@@ -162,6 +162,13 @@ impl World {
         print_turn(self.alloc, writer, session.told(end), end)
     }
 
+    fn tidy<W: Write>(&mut self, writer: &mut W) -> Result<()> {
+        match &mut self.session {
+            Some(session) => print_tidy(writer, session.tidy()),
+            None => print_line(writer, "no executor"),
+        }
+    }
+
     fn clear<W: Write>(&mut self, writer: &mut W) -> Result<()> {
         match &mut self.session {
             Some(session) => session.clear_book(),
@@ -207,6 +214,7 @@ impl World {
             Act::Open(now) => self.open(*now, writer),
             Act::Command(now, line) => self.command(*now, line.as_slice(), writer),
             Act::Turn(now) => self.turn(*now, writer),
+            Act::Tidy => self.tidy(writer),
             Act::Clear => self.clear(writer),
             Act::Abandon => self.abandon(writer),
             Act::Close => self.close(writer),
