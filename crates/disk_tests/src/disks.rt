@@ -1,6 +1,7 @@
 // A disk in memory: its parts, its images and its faults.
 use crate::parts::disk_with;
 use disk_model::{Disk, DiskFault, Fill, MemDisk};
+use file_disk::RamDisk;
 use ocf_types::{PART_LIMIT, Part};
 use std::alloc::Global;
 
@@ -17,6 +18,23 @@ fn read_back(alloc: Global) -> Option<([u8; 2], [u64; 2], [u64; 2])> {
 #[test]
 fn a_new_disk_reads_what_was_written(rt: HostRuntime) {
     assert_eq!(rt; read_back(rt.alloc()), Some(([2, 3], [0, 3], [4, 0])));
+}
+
+// What a disk that keeps its bytes alone holds of part B after two writes, the lengths of both parts, and the counts.
+fn kept(alloc: Global) -> Option<([u8; 4], [u64; 2], [u64; 2])> {
+    let mut disk = RamDisk::new(alloc);
+    disk.write_at(Part::B, 0, &[1, 2, 3]).ok()?;
+    disk.write_at(Part::B, 2, &[4, 5]).ok()?;
+    disk.sync(Part::B).ok()?;
+    let mut bytes = [0; 4];
+    disk.read_at(Part::B, 0, &mut bytes).ok()?;
+    let lens = [disk.len(Part::A).ok()?, disk.len(Part::B).ok()?];
+    Some((bytes, lens, [disk.clock(), disk.failures()]))
+}
+
+#[test]
+fn a_disk_that_keeps_its_bytes_alone_reads_what_was_written(rt: HostRuntime) {
+    assert_eq!(rt; kept(rt.alloc()), Some(([1, 2, 4, 5], [0, 4], [6, 0])));
 }
 
 // The lengths of two parts that were given a byte, and a byte more than a part has.

@@ -1,19 +1,17 @@
-// Runs over disks, readers and writers that fail.
-use crate::journal::busy_disk;
-use crate::readers::Stumbling;
+// Runs and a show over disks, readers and writers that fail.
 use crate::runs::{DRAIN, ended, ended_in, writes};
 use child_keeper::Poll;
 use disk_model::MemDisk;
-use exec_output::Fault;
+use exec_output::{Fault, show};
 use std::alloc::Global;
-use std::io::{self, BufReader, Write};
+use std::io::{self, BufReader, ErrorKind, Read};
 
-// A registration, questions, lines that are refused in reading, drains and metadata.
+// A registration, a question, a tidy, a line that is refused in reading, drains and metadata.
 const LINES: &[u8] =
     b"{\"op\":\"register\",\"id\":\"r1\",\"provider\":\"pacemaker\",\"type\":\"Dummy\"}\n{\"op\":\"list\"}\n{\"op\":\"tidy\"}\n{\"op\":\n{\"op\":\"drain\"}\n{\"op\":\"watch\",\"limit\":9}\n{\"op\":\"meta\",\"provider\":\"p\",\"type\":\"t\"}\n{\"op\":\"register\",\"id\":\"r1\",\"provider\":\"pacemaker\",\"type\":\"Dummy\"}\n";
 
 const REPLIES_WHEN_CLOSED: &[u8] =
-    b"{\"error\":\"disk\",\"number\":16}\n{\"error\":\"closed\",\"number\":17}\n{\"error\":\"closed\",\"number\":17}\n{\"error\":\"closed\",\"number\":17}\n{\"end\":\"closed\"}\n{\"end\":\"closed\"}\n{\"end\":\"missing\"}\n{\"error\":\"closed\",\"number\":17}\n";
+    b"{\"error\":\"disk\",\"number\":16}\n{\"error\":\"closed\",\"number\":17}\n{\"end\":\"closed\"}\n{\"error\":\"closed\",\"number\":17}\n{\"end\":\"closed\"}\n{\"end\":\"closed\"}\n{\"end\":\"missing\"}\n{\"error\":\"closed\",\"number\":17}\n";
 
 const REGISTER: &[u8] = b"{\"op\":\"register\",\"id\":\"r1\",\"provider\":\"p\",\"type\":\"t\"}";
 
@@ -51,9 +49,42 @@ fn after_a_disk_fault_every_line_is_closed(rt: HostRuntime) {
     assert_eq!(rt; ended, Some(Ok(())));
 }
 
-// How a run ends whose input fails behind a line and a half, if the line was answered.
+#[test]
+fn a_show_on_a_disk_that_fails_writes_nothing(rt: HostRuntime) {
+    let mut disk = MemDisk::new(rt.alloc());
+    disk.plan_fault(1);
+    let mut written = Vec::new(rt.alloc());
+    let (_disk, ended) = show(rt.alloc(), disk, &mut written);
+    assert_eq!(rt; ended, Err(Fault::Disk));
+    assert!(rt; written.is_empty());
+}
+
+// Gives these bytes, each read after an interrupted one, and then fails.
+#[derive(Drop)]
+struct Stumbling {
+    left: &'static [u8],
+    stumbles: bool,
+}
+
+impl Read for Stumbling {
+    fn read(&mut self, buf: &mut [u8]) -> io::Result<usize> {
+        self.stumbles = !self.stumbles;
+        if self.stumbles {
+            return Err(io::Error::from(ErrorKind::Interrupted));
+        }
+        if self.left.is_empty() {
+            return Err(io::Error::from(ErrorKind::BrokenPipe));
+        }
+        self.left.read(buf)
+    }
+}
+
+// How a run ends whose input, read five bytes at a time, fails behind a line and a half, if the line was answered.
 fn unread(alloc: Global) -> Option<Result<(), Fault>> {
-    let input = Stumbling::new(b"{\"op\":\"list\"}\n{\"op\":\"list\"}");
+    let input = Stumbling {
+        left: b"{\"op\":\"list\"}\n{\"op\":\"list\"}",
+        stumbles: false,
+    };
     let mut reader = BufReader::with_capacity(alloc, 5, input).ok()?;
     let mut writer = Vec::new(alloc);
     let disk = MemDisk::new(alloc);
@@ -62,7 +93,7 @@ fn unread(alloc: Global) -> Option<Result<(), Fault>> {
 }
 
 #[test]
-fn a_reader_that_fails_ends_the_run(rt: HostRuntime) {
+fn interrupted_reads_are_made_again_and_one_that_fails_ends_the_run(rt: HostRuntime) {
     assert_eq!(rt; unread(rt.alloc()), Some(Err(Fault::InputOrOutput)));
 }
 
@@ -90,17 +121,10 @@ fn a_reply_that_is_not_written_ends_the_run(rt: HostRuntime) {
     }
 }
 
-// How a run over a busy journal ends whose output takes a part of the report.
-fn half_a_report(alloc: Global) -> Option<Result<(), Fault>> {
-    let disk = busy_disk(alloc).ok()?;
-    ended_in(alloc, disk, &[], b"", &mut [0; 150])
-}
-
 #[test]
 fn a_notice_that_is_not_written_ends_the_run(rt: HostRuntime) {
     let alloc = rt.alloc();
     let ends = [
-        half_a_report(alloc),
         // behind both acceptances, in the notice of the start
         ended_in(
             alloc,
@@ -112,40 +136,5 @@ fn a_notice_that_is_not_written_ends_the_run(rt: HostRuntime) {
         // behind the reply that the disk failed
         ended_in(alloc, failing_disk(alloc, 1), &[], LINES, &mut [0; 40]),
     ];
-    assert_eq!(rt; ends, [Some(Err(Fault::InputOrOutput)); 3]);
-}
-
-// Takes everything, and marks each flush by a `|`.
-#[derive(Drop)]
-struct Marked {
-    bytes: Vec<u8>,
-}
-
-impl Write for Marked {
-    fn write(&mut self, buf: &[u8]) -> io::Result<usize> {
-        self.bytes.extend_from_slice(buf)?;
-        Ok(buf.len())
-    }
-
-    fn flush(&mut self) -> io::Result<()> {
-        self.bytes.push(b'|')?;
-        Ok(())
-    }
-}
-
-const FLUSHED: &[u8] =
-    b"{\"error\":\"unknown-op\",\"number\":2}\n|{\"ok\":true,\"resources\":[]}\n|";
-
-// Whether each of two replies is flushed.
-fn is_flushed(alloc: Global) -> Option<bool> {
-    let bytes = Vec::new(alloc);
-    let mut writer = Marked { bytes };
-    let mut reader = b"{\"op\":\"tidy\"}\n\n{\"op\":\"list\"}\n".as_slice();
-    let _ = ended(alloc, MemDisk::new(alloc), &[], &mut reader, &mut writer)?;
-    Some(writer.bytes.as_slice() == FLUSHED)
-}
-
-#[test]
-fn each_reply_is_flushed(rt: HostRuntime) {
-    assert_eq!(rt; is_flushed(rt.alloc()), Some(true));
+    assert_eq!(rt; ends, [Some(Err(Fault::InputOrOutput)); 2]);
 }

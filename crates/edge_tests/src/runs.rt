@@ -56,8 +56,8 @@ fn children(alloc: Global, polls: &[Poll]) -> Option<Scripted> {
     Scripted::new(alloc, script, 768).ok()
 }
 
-// A site without words: no agent is there.
-fn nowhere(alloc: Global) -> Site {
+/// A site without words: no agent is there.
+pub fn nowhere(alloc: Global) -> Site {
     let (root, path) = (String::new(alloc), String::new(alloc));
     Site::new(Text::new(root), Text::new(path), None)
 }
@@ -76,6 +76,7 @@ pub fn ended<R: BufRead, W: Write>(
         clock: &Standing,
         metadata: &NoMetadata,
         most_turns: 3,
+        tidy_at: 0,
     };
     match Executor::open(alloc, disk, children, nowhere(alloc), 5_000) {
         Ok((executor, report)) => {
