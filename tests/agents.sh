@@ -4,18 +4,9 @@
 # agent inherits; and 256 agents at once, in at most 40 MB and with nothing left behind.
 # Use: agents.sh PROGRAM
 set -u
-program=$1
-here=$(mktemp -d)
-trap 'rm -rf "$here"' EXIT
+. "$(dirname "$0")/common.sh" "$@"
 agents=$here/root/resource.d/test
 mkdir -p "$agents"
-failed=0
-
-# Says what is not as wanted. Use: differs WHAT WANTED FOUND
-differs() {
-    printf 'agents.sh: %s: wanted\n%s\nand found\n%s\n' "$1" "$2" "$3" >&2
-    failed=1
-}
 
 # Runs the program through sh, on the lines of $here/lines. Use: play WORD..
 play() {
@@ -25,7 +16,7 @@ play() {
 
 # Compares all replies with $here/wanted. Use: replied NAME
 replied() {
-    cmp -s "$here/wanted" "$here/out" || differs "$1" "$(head -c 600 "$here/wanted")" "$(head -c 600 "$here/out")"
+    is_wanted "$1" "$here/out"
 }
 
 # The line that registers a resource. Use: register ID TYPE [PARAMETERS]
@@ -36,11 +27,6 @@ register() {
 # The line that queues a start. Use: start ID TIMEOUT
 start() {
     printf '{"op":"exec","id":"%s","action":"start","timeout":%d}\n' "$1" "$2"
-}
-
-# The members of notices that this check looks at, a line each. Use: outcomes FILE
-outcomes() {
-    grep '"outcome"' "$1" | sed 's/.*"code":\([0-9a-z]*\).*"outcome":"\([a-z-]*\)".*/\2 \1/'
 }
 
 # Each exit code, a signal and a timeout, one start after another.
@@ -57,9 +43,9 @@ AGENT
     register r1 Code "\"log\":\"$here/log\",\"code\":\"none\"" >> "$here/lines"
     for n in $(seq 0 257); do
         case $n in
-            256) code=kill ; echo 'signaled 1' >> "$here/wanted" ;;
-            257) code=loop ; echo 'timed-out 1' >> "$here/wanted" ;;
-            *) code=$(((37 * n + 11) % 256)) ; echo "done $code" >> "$here/wanted" ;;
+            256) code=kill ; echo 'start signaled 1' >> "$here/wanted" ;;
+            257) code=loop ; echo 'start timed-out 1' >> "$here/wanted" ;;
+            *) code=$(((37 * n + 11) % 256)) ; echo "start done $code" >> "$here/wanted" ;;
         esac
         echo "$code" > "$here/codes/$n"
         printf '{"op":"params","id":"r1","params":{"log":"%s","code":"%s"}}\n' "$here/log" "$here/codes/$n"
@@ -68,9 +54,8 @@ AGENT
     done >> "$here/lines"
     play
     outcomes "$here/out" > "$here/ends"
-    mv "$here/ends" "$here/out"
-    replied 'exit codes'
-    [ "$(wc -l < "$here/log")" -eq 258 ] || differs 'starts of an agent' 258 "$(wc -l < "$here/log")"
+    is_wanted 'exit codes' "$here/ends"
+    same 'starts of an agent' 258 "$(wc -l < "$here/log")"
 }
 
 # Two agents that each end only while the other runs.
@@ -92,11 +77,16 @@ AGENT
         printf '{"op":"drain"}\n'
     } > "$here/lines"
     play
-    outcomes "$here/out" > "$here/ends"
-    [ "$(cat "$here/ends")" = "$(printf 'done 0\ndone 0')" ] || differs 'agents at once' 'done 0, twice' "$(cat "$here/out")"
+    same 'two agents at once' "$(printf 'start done 0\nstart done 0')" "$(outcomes "$here/out")"
 }
 
-# Metadata of the greatest length, of one byte more, and of an agent that fails.
+# The variables of every call of an agent. Use: environment ROOT TYPE
+environment() {
+    printf '%s\n' OCF_RA_VERSION_MAJOR=1 OCF_RA_VERSION_MINOR=1 OCF_RESOURCE_PROVIDER=test "OCF_RESOURCE_TYPE=$2" \
+        "OCF_ROOT=$1" PATH=/usr/sbin:/usr/bin:/sbin:/bin
+}
+
+# Metadata of the greatest length, of one byte more, and of an agent that fails; and the environment that they are asked for in.
 metadata() {
     for agent in Long Longer; do
         echo 'n=0; while [ $n -lt 4096 ]; do echo 123456789012345; n=$((n+1)); done' > "$agents/$agent"
@@ -105,7 +95,8 @@ metadata() {
     echo 'echo' >> "$agents/Longer"
     echo 'echo half; exit 5' > "$agents/Fails"
     echo 'kill -9 $$' > "$agents/Dies"
-    for agent in Fails Dies; do
+    echo 'tr "\0" "\n" < /proc/$$/environ' > "$agents/Environment"
+    for agent in Fails Dies Environment; do
         printf '{"op":"meta","provider":"test","type":"%s"}\n' "$agent"
     done >> "$here/lines"
     {
@@ -115,6 +106,10 @@ metadata() {
         echo '{"end":"too-long"}'
         echo '{"code":5,"end":"failed"}'
         echo '{"code":1,"end":"failed"}'
+        environment "$here/root" Environment > "$here/variables"
+        printf '{"meta":%d}\n' "$(wc -c < "$here/variables")"
+        cat "$here/variables"
+        echo
     } > "$here/wanted"
     play
     replied 'metadata'
@@ -166,8 +161,9 @@ refused() {
     grep '"end"' "$here/replies" > "$here/out"
     printf '{"end":"%s"}\n' missing other denied denied other missing idle > "$here/wanted"
     replied 'metadata of agents that cannot be started'
-    [ "$(outcomes "$here/replies" | grep -c '^not-started')" -eq 6 ] ||
-        differs 'agents that cannot be started' 'six of them not started' "$(cat "$here/replies")"
+    printf 'start not-started %s\n' 5 1 4 4 1 5 > "$here/wanted"
+    outcomes "$here/replies" > "$here/out"
+    replied 'agents that cannot be started'
 }
 
 # An agent that ignores the signal to end is killed at its timeout, and what it started stays.
@@ -175,7 +171,7 @@ stubborn() {
     printf 'trap "" TERM INT HUP\nsleep 3 & echo $! > "%s"\nwhile :; do :; done\n' "$here/left" > "$agents/Stubborn"
     { register r1 Stubborn; start r1 300; printf '{"op":"drain"}\n'; } > "$here/lines"
     play
-    [ "$(outcomes "$here/out" | cut -d ' ' -f 1)" = timed-out ] || differs 'an agent that ignores SIGTERM' timed-out "$(cat "$here/out")"
+    same 'an agent that ignores SIGTERM' 'start timed-out 1' "$(outcomes "$here/out")"
     kill "$(cat "$here/left")" 2> /dev/null || differs 'what a killed agent has started' 'alive' 'gone'
 }
 
@@ -221,22 +217,16 @@ OCF_RESOURCE_TYPE=Shows
 OCF_ROOT=$here/root
 PATH=/usr/sbin:/usr/bin:/sbin:/bin
 SHOWN
-    mv "$here/shown" "$here/out"
-    replied 'what an agent inherits'
+    is_wanted 'what an agent inherits' "$here/shown"
 }
 
 # 256 agents at once, which are killed at their timeout; then one that lasts, so that the killed ones are waited for.
 crowd() {
     printf 'exec sleep 60\n' > "$agents/Sleeps"
-    mkfifo "$here/in"
-    "$program" run --memory --root "$here/root" --via sh < "$here/in" > "$here/out" &
-    local pid=$!
-    exec 3> "$here/in"
+    feed "$here/out" run --memory --root "$here/root" --via sh
     local descriptors
     echo '{"op":"list"}' >&3
-    until grep -q '"ok"' "$here/out"; do
-        sleep 0.1
-    done
+    awaits 1 '"ok"' "$here/out"
     descriptors=$(ls "/proc/$pid/fd" | wc -l)
     {
         for n in $(seq 1 256); do register "r$n" Sleeps; done
@@ -251,25 +241,21 @@ crowd() {
     done
     start r1 500 >&3
     printf '{"op":"drain"}\n{"op":"drain"}\n{"op":"drain"}\n' >&3
-    until [ "$(grep -c '"end"' "$here/out")" -eq 4 ]; do
-        sleep 0.1
-    done
+    awaits 4 '"end"' "$here/out"
     printf '{"op":"drain"}\n' >&3
-    until [ "$(grep -c '"end"' "$here/out")" -eq 5 ]; do
-        sleep 0.1
-    done
+    awaits 5 '"end"' "$here/out"
     local resident left left_open
-    resident=$(awk '/VmHWM/ { print $2 }' "/proc/$pid/status")
+    resident=$(kib "$pid" VmHWM)
     left=$(wc -w < "/proc/$pid/task/$pid/children")
     left_open=$(ls "/proc/$pid/fd" | wc -l)
     exec 3>&-
     wait "$pid" || differs 'the status of a run of 256 agents' 0 $?
     echo "256 agents: $most at once, $resident KB resident"
-    [ "$most" -eq 256 ] || differs 'agents at once' 256 "$most"
+    same 'agents at once' 256 "$most"
     [ "$resident" -le 40000 ] || differs 'resident KB' 'at most 40000' "$resident"
-    [ "$left" -eq 0 ] || differs 'processes left' 0 "$left"
-    [ "$left_open" -eq "$descriptors" ] || differs 'descriptors left' "$descriptors" "$left_open"
-    [ "$(outcomes "$here/out" | grep -c '^timed-out')" -eq 257 ] || differs 'timeouts' 257 "$(outcomes "$here/out" | sort | uniq -c)"
+    same 'processes left' 0 "$left"
+    same 'descriptors left' "$descriptors" "$left_open"
+    same 'timeouts' '257 start timed-out 1' "$(outcomes "$here/out" | sort | uniq -c | sed 's/^ *//')"
 }
 
 codes
@@ -280,5 +266,4 @@ refused
 stubborn
 inherited
 crowd
-[ "$failed" -eq 0 ] || exit 1
-echo "agents.sh: ok"
+finish

@@ -3,18 +3,9 @@
 # and then the same agent under ocfexec.
 # Use: agents_alone.sh PROGRAM
 set -u
-program=$1
+. "$(dirname "$0")/common.sh" "$@"
 agents=${AGENTS:-$(cd "$(dirname "$0")/.." && pwd)/crates/ocf_agents/out/ocf_agents}
-here=$(mktemp -d)
-trap 'rm -rf "$here"' EXIT
 state=$here/state
-failed=0
-
-# Says what is not as wanted. Use: differs WHAT WANTED FOUND
-differs() {
-    printf 'agents_alone.sh: %s: wanted\n%s\nand found\n%s\n' "$1" "$2" "$3" >&2
-    failed=1
-}
 
 # Calls the agents with an environment of these pairs alone. Use: calls WANTED_CODE PAIR.. -- WORD..
 calls() {
@@ -28,15 +19,14 @@ calls() {
     what="$pairs, $*"
     # shellcheck disable=SC2086 # the pairs have no spaces
     env -i $pairs "$agents" "$@" < /dev/null > "$here/out" 2> "$here/err"
-    code=$?
-    [ "$code" -eq "$wanted" ] || differs "$what: exit code" "$wanted" "$code"
-    [ ! -s "$here/err" ] || differs "$what: standard error" "" "$(cat "$here/err")"
+    same "$what: exit code" "$wanted" $?
+    same "$what: standard error" "" "$(cat "$here/err")"
 }
 
 # Calls an agent with its state file, through its own file as an executor does. Use: acts TYPE ACTION CODE
 acts() {
     calls "$3" OCF_RESOURCE_TYPE="$1" OCF_RESKEY_state="$state" -- "/usr/lib/ocf/resource.d/pacemaker/$1" "$2"
-    [ ! -s "$here/out" ] || differs "$1 $2: standard output" "" "$(cat "$here/out")"
+    same "$1 $2: standard output" "" "$(cat "$here/out")"
 }
 
 # The state file holds this, or is not there. Use: holds TEXT, holds_nothing
@@ -126,8 +116,7 @@ for type in Dummy Stateful; do
     printf '%s\n' "$wanted" | cmp -s - "$here/out" || differs "$type meta-data" "$wanted" "$(cat "$here/out")"
 done
 OCF_RESOURCE_TYPE=Dummy "$agents" meta-data > /dev/full 2> /dev/null
-code=$?
-[ "$code" -eq 1 ] || differs "meta-data > /dev/full" 1 "$code"
+same "meta-data > /dev/full" 1 $?
 
 # Under ocfexec
 {
@@ -138,18 +127,15 @@ code=$?
     printf '{"op":"meta","provider":"pacemaker","type":"Stateful"}\n'
 } > "$here/lines"
 "$program" run --memory --via "$agents" < "$here/lines" > "$here/out" || differs "ocfexec, status" 0 $?
-found=$(sed -n 's/^{"action":"\([a-z]*\)".*"code":\([0-9]*\).*"outcome":"\([a-z-]*\)".*/\1 \3 \2/p' "$here/out")
 wanted='monitor done 7
 start done 0
 monitor done 0
 stop done 0
 monitor done 7'
-[ "$found" = "$wanted" ] || differs "Dummy under ocfexec" "$wanted" "$found"
+same "Dummy under ocfexec" "$wanted" "$(outcomes "$here/out")"
 holds_nothing
-found=$(tail -n 3 "$here/out")
 wanted='{"meta":34}
 <resource-agent name="Stateful"/>'
-[ "$found" = "$wanted" ] || differs "meta of Stateful under ocfexec" "$wanted" "$found"
+same "meta of Stateful under ocfexec" "$wanted" "$(tail -n 3 "$here/out")"
 
-[ "$failed" -eq 0 ] || exit 1
-echo "agents_alone.sh: ok"
+finish

@@ -4,19 +4,11 @@
 # checked where systemd-analyze is at hand.
 # Use: clients.sh PROGRAM
 set -u
-program=$(realpath "$1")
+. "$(dirname "$0")/common.sh" "$@"
 top=$(cd "$(dirname "$0")/.." && pwd)
 agents=${AGENTS:-$top/crates/ocf_agents/out/ocf_agents}
-here=$(mktemp -d)
 client=''
 trap 'if [ -n "$client" ]; then kill "$client" 2> /dev/null; fi; rm -rf "$here"' EXIT
-failed=0
-
-# Says what is not as wanted. Use: differs WHAT WANTED FOUND
-differs() {
-    printf 'clients.sh: %s: wanted\n%s\nand found\n%s\n' "$1" "$2" "$3" >&2
-    failed=1
-}
 
 # Waits, for at most ten seconds, until a command succeeds. Use: waits WHAT COMMAND..
 waits() {
@@ -41,25 +33,19 @@ has_another() {
     [ -n "$pid" ] && [ "$pid" != "$1" ]
 }
 
-# The notices in short: action, outcome and code.
-notices() {
-    sed -n 's/^{"action":"\([a-z-]*\)".*"code":\([0-9]*\).*"outcome":"\([a-z-]*\)".*/\1 \3 \2/p' "$here/out"
-}
-
 # Whether at least COUNT notices are NOTICE. Use: has COUNT NOTICE
 has() {
-    [ "$(notices | grep -c -x "$2")" -ge "$1" ]
+    [ "$(outcomes "$here/out" | grep -c -x "$2")" -ge "$1" ]
 }
 
 # The client of the shell
 "$top/examples/client.sh" pacemaker Dummy "state=$here/shell" "$program" run --memory --via "$agents" > "$here/out" 2> "$here/err"
 status=$?
 [ $status -eq 0 ] || differs "client.sh, status" 0 "$status, $(cat "$here/err")"
-found=$(notices | uniq)
 wanted='start done 0
 monitor done 0
 stop done 0'
-[ "$found" = "$wanted" ] || differs "client.sh" "$wanted" "$found"
+same "client.sh" "$wanted" "$(outcomes "$here/out" | uniq)"
 has 3 'monitor done 0' || differs "client.sh" "three monitors at least" "$(cat "$here/out")"
 [ ! -e "$here/shell" ] || differs "client.sh" "a resource that is stopped" "$(ls -l "$here/shell")"
 
@@ -78,31 +64,29 @@ waits "its file" [ -e "$here/python" ]
 first=$(executor_of)
 kill -KILL "$first"
 waits "another executor" has_another "$first"
-monitors=$(notices | grep -c -x 'monitor done 0')
+monitors=$(outcomes "$here/out" | grep -c -x 'monitor done 0')
 waits "monitors after a kill" has $((monitors + 3)) 'monitor done 0'
-[ "$(cat "$here/err")" = "client: the executor ended with status -9" ] ||
-    differs "client.py, standard error" "one end by -9" "$(cat "$here/err")"
+same "client.py, standard error" "client: the executor ended with status -9" "$(cat "$here/err")"
 # while it runs, no other program opens its journal
 "$program" show --journal "$here/journal" > /dev/null 2>&1
-status=$?
-[ $status -eq 5 ] || differs "show of a journal in use, status" 5 $status
+same "show of a journal in use, status" 5 $?
 # it stops its resource and ends
 kill -TERM "$client"
 wait "$client"
 status=$?
 client=''
 [ $status -eq 0 ] || differs "client.py, status" 0 "$status, $(cat "$here/err")"
-[ "$(notices | tail -n 1)" = 'stop done 0' ] || differs "client.py, the last notice" 'stop done 0' "$(tail -n 1 "$here/out")"
+same "client.py, the last notice" 'stop done 0' "$(outcomes "$here/out" | tail -n 1)"
 [ ! -e "$here/python" ] || differs "client.py" "a resource that is stopped" "$(ls -l "$here/python")"
 # each run is told once, but for those that the killed executor recorded and could not tell, which its history has
 runs=$(grep -o '"run":[0-9]*' "$here/out" | cut -d : -f 2)
-[ "$(sort -n <<< "$runs" | uniq -d)" = '' ] || differs "client.py" "no run that is told twice" "$runs"
+same "client.py, runs that are told twice" '' "$(sort -n <<< "$runs" | uniq -d)"
 found=$("$program" show --journal "$here/journal" | tail -n 1 | grep -o '"run":[0-9]*' | cut -d : -f 2)
-[ "$(tail -n 10 <<< "$found")" = "$(tail -n 10 <<< "$runs")" ] || differs "the journal's last runs" "$(tail -n 10 <<< "$runs")" "$found"
+same "the journal's last runs" "$(tail -n 10 <<< "$runs")" "$(tail -n 10 <<< "$found")"
 
 # A reader that sleeps loses nothing: the replies are more than a pipe holds
 found=$(yes '{"op":"list"}' | head -n 3000 | "$program" run --memory | { sleep 0.5 && cat; } | sort | uniq -c | sed 's/^ *//')
-[ "$found" = '3000 {"ok":true,"resources":[]}' ] || differs "a slow reader" "3000 replies" "$found"
+same "a slow reader" '3000 {"ok":true,"resources":[]}' "$found"
 
 # The unit, with the paths of this tree
 if command -v systemd-analyze > /dev/null; then
@@ -111,5 +95,4 @@ if command -v systemd-analyze > /dev/null; then
     found=$(systemd-analyze verify --man=no "$here/ocfexec.service" 2>&1) || differs "ocfexec.service" "" "$found"
 fi
 
-[ "$failed" -eq 0 ] || exit 1
-echo "clients.sh: ok"
+finish

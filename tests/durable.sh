@@ -4,15 +4,13 @@
 # than the loop. It fails at ten times that where it is also twice the loop's time, so that a busy machine does not.
 # Use: durable.sh PROGRAM [COMMANDS [ROUNDS]]
 set -eu
-program=$1
+. "$(dirname "$0")/common.sh" "$@"
 commands=${2:-400}
 rounds=${3:-7}
 if ! command -v cc > /dev/null; then
     echo "durable.sh: skipped: install a C compiler (apt-get install gcc)"
     exit 77
 fi
-here=$(mktemp -d)
-trap 'rm -rf "$here"' EXIT
 
 cat > "$here/loop.c" <<'C'
 #include <fcntl.h>
@@ -66,4 +64,4 @@ ours=$(median "$here/ours") floor=$(median "$here/floor")
 echo "a recorded command: $ours microseconds; its two writes and two syncs by a C loop: $floor"
 echo "ratio $(awk "BEGIN { printf \"%.2f\", $ours / $floor }"), $((ours - floor)) microseconds more (at most 50 wanted)"
 [ "$((ours - floor))" -le 500 ] || [ "$ours" -le $((2 * floor)) ] || { echo "durable.sh: a command costs too much" >&2; exit 1; }
-echo "durable.sh: ok"
+finish

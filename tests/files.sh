@@ -4,39 +4,8 @@
 # that a busy machine does not.
 # Use: files.sh PROGRAM
 set -u
-program=$1
-here=$(mktemp -d)
-trap 'rm -rf "$here"' EXIT
-failed=0
+. "$(dirname "$0")/common.sh" "$@"
 register='{"op":"register","id":"r1","provider":"pacemaker","type":"Dummy"}'
-
-# Says what is not as wanted. Use: differs WHAT WANTED FOUND
-differs() {
-    printf 'files.sh: %s: wanted\n%s\nand found\n%s\n' "$1" "$2" "$3" >&2
-    failed=1
-}
-
-# Use: same WHAT WANTED FOUND
-same() {
-    [ "$2" = "$3" ] || differs "$1" "$2" "$3"
-}
-
-# Runs the program on a journal, with these lines as its input. Use: run DIR [LINE..]
-run() {
-    local dir=$1
-    shift
-    { [ $# -eq 0 ] || printf '%s\n' "$@"; } | "$program" run --journal "$dir" > "$here/out" 2> "$here/err"
-    status=${PIPESTATUS[1]}
-}
-
-# An opening that is refused, with this status and line, and with this text in a line behind. Use: refused DIR STATUS LINE TEXT
-refused() {
-    run "$1"
-    same "$1, status" "$2" "$status"
-    same "$1, standard error" "$3" "$(head -n 1 "$here/err")"
-    same "$1, standard output" "" "$(cat "$here/out")"
-    tail -n +2 "$here/err" | grep -q -F -e "$4" || differs "$1, standard error" "$4" "$(cat "$here/err")"
-}
 
 # A journal in which r1 is registered. Use: journal DIR
 journal() {
@@ -45,24 +14,11 @@ journal() {
     same "$1, reply" '{"ok":true}' "$(cat "$here/out")"
 }
 
-# A damaged journal, which is left byte for byte. Use: damaged DIR LINE
-damaged() {
-    cp -r "$1" "$here/before"
-    refused "$1" 3 "ocfexec: $2" "Keep both parts"
-    "$program" show --journal "$1" > "$here/out" 2> "$here/err"
-    same "$1, status of show" 3 $?
-    diff -r "$here/before" "$1" > "$here/out" || differs "$1" "the same bytes" "$(cat "$here/out")"
-    rm -r "$here/before"
-}
-
 # Opens a journal of r1 and keeps its executor running, from its first reply on. Use: hold DIR
 hold() {
-    rm -f "$here/held"
-    "$program" run --journal "$1" < "$here/in" > "$here/held" 2> "$here/held_err" &
-    holder=$!
-    exec 3> "$here/in"
+    feed "$here/held" run --journal "$1"
     printf '{"op":"list"}\n' >&3
-    until [ -s "$here/held" ] || ! kill -0 "$holder" 2> "$here/gone"; do
+    until [ -s "$here/held" ] || ! kill -0 "$pid" 2> "$here/gone"; do
         sleep 0.01
     done
 }
@@ -70,13 +26,12 @@ hold() {
 # Lets that executor end. Use: let_go NAME
 let_go() {
     exec 3>&-
-    wait "$holder"
+    wait "$pid"
     same "$1, status" 0 $?
     same "$1, reply" '{"ok":true,"resources":["r1"]}' "$(cat "$here/held")"
 }
 
 cd "$here" || exit 1
-mkfifo in
 
 # What is made, and what is found again
 journal made
@@ -93,13 +48,6 @@ diff -r made shown || differs "show" "the same bytes" "others"
 mkdir both && : > both/part-a && : > both/part-b
 run both '{"op":"list"}'
 same "two empty files" '{"ok":true,"resources":[]}' "$(cat out)"
-
-# Damage
-journal cut
-truncate -s 60 cut/part-a
-damaged cut "damaged part A at 44: cut"
-mkdir closed && head -c 46 /dev/zero > closed/part-a && : > closed/part-b
-damaged closed "damaged part A at 0: closed"
 
 # What can't be opened
 refused nowhere 5 "ocfexec: disk" "nowhere: No such file or directory"
@@ -140,30 +88,35 @@ value=$(printf '%01024d' 0)
 params=$(for name in a b c d e f g h i j k l m n o; do printf ',"%s":"%s"' "$name" "$value"; done)
 large="{\"op\":\"params\",\"id\":\"r1\",\"params\":{${params#,}}}"
 journal full
-printf '%s\n' "$large" "$large" "$large" "$large" "$large" '{"op":"list"}' > lines
+printf '%s\n' "$large" "$large" "$large" "$large" "$large" '{"op":"list"}' '{"op":"drain"}' '{"op":"watch","limit":9}' \
+    '{"op":"meta","provider":"p","type":"t"}' nope > lines
 (trap '' XFSZ && ulimit -f 64 && exec "$program" run --journal full) < lines > out 2> err
 same "a full device, status" 5 $?
-same "a full device, standard error" "ocfexec: disk" "$(head -n 1 err)"
+same "a full device, standard error" "ocfexec: disk
+Check the device of the journal, its free space and its permissions." "$(cat err)"
 same "a full device, last replies" '{"error":"disk","number":16}
-{"error":"closed","number":17}' "$(tail -n 2 out)"
+{"error":"closed","number":17}
+{"end":"closed"}
+{"end":"closed"}
+{"end":"missing"}
+{"error":"closed","number":17}' "$(tail -n 6 out)"
 same "a full device, accepted" 4 "$(grep -c '^{"ok":true}$' out)"
 run full '{"op":"list"}'
 same "opened again" '{"ok":true,"resources":["r1"]}' "$(cat out)"
 
-# A full part: 541 replacements of all parameters
+# A full part: 541 replacements of all parameters, and no tidy
 journal much
 yes "$large" | head -n 542 > lines
-"$program" run --journal much < lines > out 2> err
+"$program" run --journal much --tidy-at 0 < lines > out 2> err
 same "a full part, accepted" 541 "$(grep -c '^{"ok":true}$' out)"
 same "a full part, last reply" '{"error":"journal-full","number":14}' "$(tail -n 1 out)"
 began=$(date +%s%N)
 hold much
 took=$((($(date +%s%N) - began) / 1000000))
-memory=$(awk '$1 == "VmHWM:" { print $2 }' "/proc/$holder/status")
+memory=$(kib "$pid" VmHWM)
 let_go "opening a full part"
 echo "opening a part of $(stat -c %s much/part-a) bytes: $took milliseconds (under 500 wanted), $memory KiB (under 65536 wanted)"
 [ "$took" -lt 5000 ] || differs "opening a full part, milliseconds" "under 5000" "$took"
 [ "$memory" -lt 65536 ] || differs "opening a full part, KiB" "under 65536" "$memory"
 
-[ "$failed" -eq 0 ] || exit 1
-echo "files.sh: ok"
+finish

@@ -6,11 +6,9 @@
 # none ran twice.
 # Use: kills.sh PROGRAM [ROUNDS [SEED]], at most 16 rounds
 set -eu
-program=$1
+. "$(dirname "$0")/common.sh" "$@"
 rounds=${2:-12}
 seed=${3:-20261123}
-here=$(mktemp -d)
-trap 'rm -rf "$here"' EXIT
 
 mkdir -p "$here/root/resource.d/test" "$here/journal"
 cat > "$here/root/resource.d/test/Step" <<'AGENT'
@@ -140,4 +138,4 @@ wanted(ended.count("done") and ended.count("interrupted"), "actions of both kind
 PYTHON
 
 python3 "$here/kills.py" "$program" "$here" "$rounds" "$seed"
-echo "kills.sh: ok"
+finish

@@ -3,10 +3,7 @@
 # inputs of no line, of empty lines and without a last newline, and lines as long as a line may be, and longer.
 # Use: lines.sh PROGRAM
 set -u
-program=$1
-here=$(mktemp -d)
-trap 'rm -rf "$here"' EXIT
-failed=0
+. "$(dirname "$0")/common.sh" "$@"
 
 list='{"op":"list"}'
 none='{"ok":true,"resources":[]}'
@@ -14,16 +11,14 @@ syntax='{"error":"syntax","number":1}'
 
 # Runs the program on standard input, and compares. Use: .. | answers NAME [LINE..]
 answers() {
-    local name=$1 status
+    local name=$1
     shift
     "$program" run --memory > "$here/out" 2> "$here/err"
-    status=$?
+    same "$name, status" 0 $?
+    same "$name, standard error" "" "$(cat "$here/err")"
     : > "$here/wanted"
     [ $# -eq 0 ] || printf '%s\n' "$@" > "$here/wanted"
-    if [ "$status" -ne 0 ] || [ -s "$here/err" ] || ! cmp -s "$here/wanted" "$here/out"; then
-        printf 'lines.sh: %s: status %s, wanted\n%s\nand found\n%s\n' "$name" "$status" "$*" "$(head -c 400 "$here/out" "$here/err")" >&2
-        failed=1
-    fi
+    is_wanted "$name" "$here/out"
 }
 
 # The text, and spaces behind it up to this length. Use: padded TEXT LENGTH
@@ -39,6 +34,10 @@ printf '\n\n%s\n\n' "$list" > "$here/in"
 answers "empty lines around a line" "$none" < "$here/in"
 printf ' \n' > "$here/in"
 answers "a line of a space" "$syntax" < "$here/in"
+printf '\n\r\n\n' > "$here/in"
+answers "a line of a carriage return" "$syntax" < "$here/in"
+printf '\0\377\n%s\n' "$list" > "$here/in"
+answers "a line of bytes that are no text" "$syntax" "$none" < "$here/in"
 printf '%s' "$list" > "$here/in"
 answers "no last newline" "$none" < "$here/in"
 { padded "$list" 131072; echo; } > "$here/in"
@@ -58,5 +57,4 @@ answers "the line behind one of 131,074 bytes" "$syntax" "$none" < "$here/in"
 { padded "" 400000; echo '{"op":"drain"}'; echo "$list"; } > "$here/in"
 answers "the line behind one that is too long" "$syntax" "$none" < "$here/in"
 
-[ "$failed" -eq 0 ] || exit 1
-echo "lines.sh: ok"
+finish

@@ -3,11 +3,9 @@
 # with at least one byte went in, and the resident memory of the program must stay below 8 MiB.
 # Use: random_lines.sh PROGRAM [N]
 set -eu
-program=$1
+. "$(dirname "$0")/common.sh" "$@"
 count=${2:-1000000}
 limit=8192 # KiB
-here=$(mktemp -d)
-trap 'rm -rf "$here"' EXIT
 
 # The same lines each time. Python makes them, since awk writes no random bytes that are the same everywhere.
 cat > "$here/lines.py" <<'PYTHON'
@@ -60,25 +58,17 @@ print(filled)
 PYTHON
 
 filled=$(python3 "$here/lines.py" "$count" "$here/lines")
-mkfifo "$here/in"
-"$program" run --memory < "$here/in" > "$here/replies" &
-pid=$!
-exec 3> "$here/in"
-
-# The resident memory now, in KiB, while the program waits for its next line.
-resident() {
-    awk '$1 == "VmRSS:" { print $2 }' "/proc/$pid/status"
-}
+feed "$here/replies" run --memory
 
 # Half of the lines, a sample, the other half, and the greatest that it ever was.
 half=$((count / 2))
 head -n "$half" "$here/lines" >&3
 sleep 1
-middle=$(resident)
+middle=$(kib "$pid" VmRSS)
 tail -n "+$((half + 1))" "$here/lines" >&3
 sleep 1
-end=$(resident)
-greatest=$(awk '$1 == "VmHWM:" { print $2 }' "/proc/$pid/status")
+end=$(kib "$pid" VmRSS)
+greatest=$(kib "$pid" VmHWM)
 exec 3>&-
 wait "$pid"
 
@@ -89,4 +79,4 @@ echo "resident memory: $middle KiB after half of the lines, $end KiB at the end,
 [ "$answered" -eq "$filled" ] || { echo "random_lines.sh: as many replies as lines are wanted" >&2; exit 1; }
 [ "$accepted" -eq 0 ] || { echo "random_lines.sh: no line was to be accepted" >&2; exit 1; }
 [ "$greatest" -lt "$limit" ] || { echo "random_lines.sh: below $limit KiB are wanted" >&2; exit 1; }
-echo "random_lines.sh: ok"
+finish

@@ -4,7 +4,7 @@
 # started, monitored and stopped, with the exit codes of the OCF Resource Agent API.
 # Use: real_agents.sh PROGRAM
 set -u
-program=$1
+. "$(dirname "$0")/common.sh" "$@"
 root=/usr/lib/ocf
 agents=$root/resource.d/heartbeat
 path=/usr/sbin:/usr/bin:/sbin:/bin
@@ -16,19 +16,11 @@ if [ "$(id -u)" -ne 0 ]; then
     echo "real_agents.sh: skipped: agents write to /run/resource-agents: run it as root"
     exit 77
 fi
-here=$(mktemp -d)
-finish() {
+leave() {
     if [ -s "$here/anything.pid" ]; then kill "$(cat "$here/anything.pid")" 2> /dev/null; fi
     rm -rf "$here"
 }
-trap finish EXIT
-failed=0
-
-# Says what is not as wanted. Use: differs WHAT WANTED FOUND
-differs() {
-    printf 'real_agents.sh: %s: wanted\n%s\nand found\n%s\n' "$1" "$2" "$3" >&2
-    failed=1
-}
+trap leave EXIT
 
 # Answers the lines of standard input. Use: answers FILE
 answers() {
@@ -64,11 +56,6 @@ life() {
         queues "$type" "$action"
         echo '{"op":"drain"}'
     done
-}
-
-# The notices in short: action, outcome, code and its name. Use: notices FILE
-notices() {
-    sed -n 's/^{"action":"\([a-z-]*\)".*"code":\([0-9]*\).*"name":"\([a-zA-Z_]*\)".*"outcome":"\([a-z-]*\)".*/\1 \4 \2 \3/p' "$1"
 }
 
 # An agent that is started and stopped, each of them twice. Use: lives TYPE PARAMS
@@ -166,5 +153,4 @@ wanted='5 monitor done 0 OCF_SUCCESS
 [ "$found" = "$wanted" ] || differs "five agents at once" "$wanted" "$found"
 
 echo "the metadata of $told agents, and the lives of $lived"
-[ "$failed" -eq 0 ] || exit 1
-echo "real_agents.sh: ok"
+finish

@@ -5,33 +5,27 @@
 # resident memory.
 # Use: speed.sh PROGRAM [ROUNDS]
 set -eu
-program=$1
+. "$(dirname "$0")/common.sh" "$@"
 rounds=${2:-5}
 lines=300000
 starts=50
-here=$(mktemp -d)
-trap 'rm -rf "$here"' EXIT
 
 # The time in microseconds.
 now() {
     echo $(($(date +%s%N) / 1000))
 }
 
-# Writes all lines into the program, and waits for its end. Sets $took, $memory, and $ticks of the processor.
+# Writes all lines into the program, and waits for its end. Sets $took, $memory, and $worked, its time of the processor.
 answer_lines() {
-    mkfifo "$here/in"
-    "$program" run --memory < "$here/in" > "$here/replies" &
-    pid=$!
-    exec 3> "$here/in"
+    feed "$here/replies" run --memory
     began=$(now)
     cat "$here/lines" >&3
     # what is left now is in the pipe and the program's buffer
-    memory=$(awk '$1 == "VmHWM:" { print $2 }' "/proc/$pid/status")
-    ticks=$(awk '{ print $14 + $15 }' "/proc/$pid/stat")
+    memory=$(kib "$pid" VmHWM)
+    worked=$(processor_time "$pid")
     exec 3>&-
     wait "$pid"
     took=$(($(now) - began))
-    rm "$here/in"
     [ "$(wc -l < "$here/replies")" -eq "$lines" ]
 }
 
@@ -54,16 +48,16 @@ for _ in $(seq "$rounds"); do
     found=$((lines * 1000000 / took))
     [ "$found" -le "$rate" ] || rate=$found
     [ "$memory" -le "$greatest" ] || greatest=$memory
-    [ "$ticks" -ge "$spent" ] || spent=$ticks
+    [ "$worked" -ge "$spent" ] || spent=$worked
     start_and_end
     [ "$took" -ge "$start" ] || start=$took
 done
 
 echo "list lines a second: $rate (at least 150000 wanted)"
-echo "processor time of $lines lines: $((spent * 1000 / $(getconf CLK_TCK))) milliseconds"
+echo "processor time of $lines lines: $spent milliseconds"
 echo "start to end on empty input: $start microseconds (under 5000 wanted)"
 echo "resident memory: at most $greatest KiB (under 8192 wanted)"
 [ "$rate" -ge 15000 ] || { echo "speed.sh: too few lines a second" >&2; exit 1; }
 [ "$start" -lt 50000 ] || { echo "speed.sh: too long from start to end" >&2; exit 1; }
 [ "$greatest" -lt 8192 ] || { echo "speed.sh: too much resident memory" >&2; exit 1; }
-echo "speed.sh: ok"
+finish

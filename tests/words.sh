@@ -3,25 +3,16 @@
 # that it writes on standard error. The statuses 3, 5 and 6 of journals in files are those of files.sh.
 # Use: words.sh PROGRAM
 set -u
-program=$1
-here=$(mktemp -d)
-trap 'rm -rf "$here"' EXIT
-failed=0
+. "$(dirname "$0")/common.sh" "$@"
 
 # What a person can do, as it stands behind the line of a fault.
 free_memory="Free memory or raise the limit of the process, and start it again."
 check_output="Check what standard input and output are connected to. A command without a reply may be recorded."
 
-# Says what is not as wanted. Use: differs WHAT WANTED FOUND
-differs() {
-    printf 'words.sh: %s: wanted\n%s\nand found\n%s\n' "$1" "$2" "$3" >&2
-    failed=1
-}
-
 # Compares the status, and what was written on standard error. Use: ended NAME STATUS WANTED_STATUS TEXT
 ended() {
-    [ "$2" -eq "$3" ] || differs "$1, status" "$3" "$2"
-    [ "$(cat "$here/err")" = "$4" ] || differs "$1, standard error" "$4" "$(cat "$here/err")"
+    same "$1, status" "$3" "$2"
+    same "$1, standard error" "$4" "$(cat "$here/err")"
 }
 
 # Runs the program with these words. Use: ends STATUS TEXT WORD..
@@ -38,14 +29,14 @@ misused() {
     shift
     "$program" "$@" < /dev/null > "$here/out" 2> "$here/err"
     status=$?
-    [ "$status" -eq 2 ] || differs "$*, status" 2 "$status"
+    same "$*, status" 2 "$status"
     grep -q -e "$part" "$here/err" || differs "$*, standard error" "$part" "$(cat "$here/err")"
-    [ ! -s "$here/out" ] || differs "$*, standard output" "" "$(cat "$here/out")"
+    same "$*, standard output" "" "$(cat "$here/out")"
 }
 
 # Whether standard output is this. Use: wrote NAME TEXT
 wrote() {
-    [ "$(cat "$here/out")" = "$2" ] || differs "$1, standard output" "$2" "$(cat "$here/out")"
+    same "$1, standard output" "$2" "$(cat "$here/out")"
 }
 
 # Whether each of these parts stands in standard output. Use: holds NAME PART..
@@ -74,12 +65,12 @@ $check_output"
 # What is asked for
 ends 0 "" --help
 holds --help "Usage: ocfexec" "run " "show " --version Example: "ocfexec run --memory" README.md docs/FORMAT.md
-for command in register unregister params exec recur cancel forget list info history drain watch meta; do
+for command in register unregister params exec recur cancel forget list info history drain watch meta tidy; do
     grep -q -e "^  $command " "$here/out" || differs "--help" "a line of $command" "$(cat "$here/out")"
 done
 ends 0 "" run --help
 holds "run --help" "--journal <DIR>" --memory "--root <DIR>" "--via <PROGRAM>" "--path <PATH>" "[default: /usr/lib/ocf]" \
-    "[default: /usr/sbin:/usr/bin:/sbin:/bin]" "just one of --journal and --memory" Examples: "ocfexec run --memory"
+    "[default: /usr/sbin:/usr/bin:/sbin:/bin]" "--tidy-at <BYTES>" "[default: 6291456]" "just one of --journal and --memory" Examples: "ocfexec run --memory"
 ends 0 "" show --help
 holds "show --help" Example: "ocfexec show --journal /var/lib/ocfexec"
 ends 0 "" show -h
@@ -91,13 +82,39 @@ ends 0 "" -V
 wrote -V "ocfexec 0.1.0"
 ends 0 "" run --memory
 wrote "run --memory" ""
+for bytes in 0 045 8388608; do
+    ends 0 "" run --memory --tidy-at "$bytes"
+done
 ends 0 "" show --memory
 wrote "show --memory" '{"ok":true,"resources":[]}'
+
+# The options of a run, as the metadata of an agent show them: what they are, and that there are none. Use: takes REPLY WORD..
+takes() {
+    local wanted=$1
+    shift
+    printf '{"op":"meta","provider":"p","type":"t"}\n' | "$program" run --memory "$@" > "$here/out" 2> "$here/err"
+    ended "$*" "${PIPESTATUS[1]}" 0 ""
+    wrote "$*" "$wanted"
+}
+takes '{"meta":38}
+/usr/lib/ocf/resource.d/p/t meta-data' --via echo
+takes '{"meta":28}
+/r/resource.d/p/t meta-data' --path=/usr/bin:/bin --root=/r --via=echo
+takes '{"end":"missing"}' --root /r --via echo --path /nowhere
+takes '{"end":"missing"}' --via=-x
+mkdir "$here/journal"
+ends 0 "" show --root=/r --journal "$here/journal" --path /p --via v
+wrote "show of a new journal" '{"ok":true,"resources":[]}'
 
 # Words that are not those of the command line
 ends 2 "ocfexec: give one of --journal and --memory" run
 ends 2 "ocfexec: give one of --journal and --memory" show --root /r
 ends 2 "ocfexec: give one of --journal and --memory" run --memory --journal folder
+ends 2 "ocfexec: give one of --journal and --memory" run --tidy-at no
+for bytes in "" no 1k 1.5 8388609 18446744073709551616; do
+    ends 2 "ocfexec: give --tidy-at a number from 0 to 8388608" run --memory --tidy-at "$bytes"
+done
+ends 2 "ocfexec: give --tidy-at a number from 0 to 8388608" run --memory --tidy-at=-1
 ends 5 "ocfexec: disk
 $here/none: No such file or directory (os error 2)" run --journal "$here/none"
 ends 5 "ocfexec: disk
@@ -135,8 +152,7 @@ $check_output"
 
 # Standard error that fails changes no status
 "$program" run --journal "$here/none" < /dev/null > "$here/out" 2> /dev/full
-status=$?
-[ "$status" -eq 5 ] || differs "run --journal none 2> /dev/full, status" 5 "$status"
+same "run --journal none 2> /dev/full, status" 5 $?
 
 # Memory that is refused: from little memory to enough, each run ends with 4 and its line, or as it should, or is ended by
 # the system before it begins. At least one that is refused and one that is answered are wanted.
@@ -162,5 +178,4 @@ if [ "$refused" -eq 0 ] || [ "$answered" -eq 0 ]; then
     differs "limits of memory" "some runs refused and some answered" "$refused refused, $answered answered"
 fi
 
-[ "$failed" -eq 0 ] || exit 1
-echo "words.sh: ok"
+finish

@@ -1,0 +1,84 @@
+# What the checks share; read by `. "$(dirname "$0")/common.sh" "$@"`, with the program as the first word. A check has a
+# folder of its own, `$here`, which is removed at its end.
+# shellcheck shell=sh
+program=$(realpath "$1")
+check=${0##*/}
+here=$(mktemp -d)
+trap 'rm -rf "$here"' EXIT
+failed=0
+
+# Says what is not as wanted. Use: differs WHAT WANTED FOUND
+differs() {
+    printf '%s: %s: wanted\n%s\nand found\n%s\n' "$check" "$1" "$2" "$3" >&2
+    failed=1
+}
+
+# Use: same WHAT WANTED FOUND
+same() {
+    [ "$2" = "$3" ] || differs "$1" "$2" "$3"
+}
+
+# Whether a file is just $here/wanted. Use: is_wanted WHAT FILE
+is_wanted() {
+    cmp -s "$here/wanted" "$2" || differs "$1" "$(head -c 600 "$here/wanted")" "$(head -c 600 "$2")"
+}
+
+# Runs the program on a journal, with these lines as its input. Sets $status. Use: run DIR [LINE..]
+run() {
+    folder=$1
+    shift
+    { [ $# -eq 0 ] || printf '%s\n' "$@"; } > "$here/asked"
+    status=0
+    "$program" run --journal "$folder" < "$here/asked" > "$here/out" 2> "$here/err" || status=$?
+}
+
+# An opening that is refused, with this status and line, and with this text in a line behind. Use: refused DIR STATUS LINE TEXT
+refused() {
+    run "$1"
+    same "$1, status" "$2" "$status"
+    same "$1, standard error" "$3" "$(head -n 1 "$here/err")"
+    same "$1, standard output" "" "$(cat "$here/out")"
+    tail -n +2 "$here/err" | grep -q -F -e "$4" || differs "$1, standard error" "$4" "$(cat "$here/err")"
+}
+
+# Starts the program with these words, its input behind descriptor 3 and its output in a file. Sets $pid. Use: feed FILE WORD..
+feed() {
+    fed=$1
+    shift
+    mkfifo "$here/in"
+    "$program" "$@" < "$here/in" > "$fed" &
+    pid=$!
+    exec 3> "$here/in"
+    rm "$here/in"
+}
+
+# Waits until so many lines of a file hold this. Use: awaits COUNT PATTERN FILE
+awaits() {
+    until [ "$(grep -c -e "$2" "$3")" -ge "$1" ]; do
+        sleep 0.02
+    done
+}
+
+# The resident memory of a process in KiB: now, or the greatest that it ever was. Use: kib PID VmRSS, kib PID VmHWM
+kib() {
+    awk -v name="$2:" '$1 == name { print $2 }' "/proc/$1/status"
+}
+
+# What a process has taken of the processor, in milliseconds. Use: processor_time PID
+processor_time() {
+    awk -v rate="$(getconf CLK_TCK)" '{ print int(($14 + $15) * 1000 / rate) }' "/proc/$1/stat"
+}
+
+# The notices of a file in short: action, outcome, code and its name; and without the name. Use: notices FILE, outcomes FILE
+notices() {
+    sed -n 's/^{"action":"\([a-z-]*\)".*"code":\([0-9]*\).*"name":"\([a-zA-Z_]*\)".*"outcome":"\([a-z-]*\)".*/\1 \4 \2 \3/p' "$1"
+}
+outcomes() {
+    notices "$1" | cut -d ' ' -f 1-3
+}
+
+# Ends a check.
+finish() {
+    [ "$failed" -eq 0 ] || exit 1
+    echo "$check: ok"
+}
