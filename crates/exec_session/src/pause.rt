@@ -12,7 +12,8 @@ const SHORTEST: u64 = 20;
 // The longest pause while something is queued or runs, in microseconds, where a turn takes little.
 const LONG: u64 = 1_000;
 
-// How many times as long as a turn a pause may be, so that a drain that waits costs a fiftieth of a core at most.
+// How many times as long as a turn a pause may be: so a drain that waits costs a fiftieth of a core, up to the longest
+// pause.
 const SHARE: u64 = 50;
 
 // The longest pause while something is queued or runs, in microseconds.
