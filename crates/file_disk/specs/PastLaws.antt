@@ -9,7 +9,8 @@ use Rattle.disk_model.specs.PastLaws.{torn_put}
 use Rattle.disk_model.specs.Laws.{torn_same}
 use Rattle.file_disk.specs.declared.call.Call.{Call}
 use Rattle.file_disk.specs.declared.call.Call.TheVariants.{Measured, Read, Wrote, Tried, Synced, Failed, Refused}
-use Rattle.file_disk.specs.Past.{Event, agrees, honest_of, read_after, left_after, failures_after, reads_of, now_of, clock_of, failures_of, since_of, past_view}
+use Rattle.file_disk.specs.Past.{Event, agrees, honest_of, read_after, left_after, failures_after, reads_of, now_of, clock_of, failures_of}
+use Rattle.file_disk.specs.Past.{since_of, past_view}
 
 left_step : (w : Call) (bytes : List ℕ) (old : Image → Type 0) (d : Image) → old d → left_after w bytes old d (read_after w bytes d)
 left_step (Measured part n) bytes old d h = h
@@ -36,11 +37,19 @@ only first [] t c le left = left
 only first (e ∷ older) t c le (inl now) = now
 only first (e ∷ older) t c le (inr was) = let before : t < clock_of (e ∷ older) = was.0 in absurd (omega (arith, le, before))
 
+-- what a stop from some moment on may have left, a stop from an earlier one on may have left
+since_earlier : (first : Image) (past : List Event) (t u : ℕ) (c : Image) → u ≤ t → since_of first past t c → since_of first past u c
+since_earlier first [] t u c le left = left
+since_earlier first (e ∷ older) t u c le (inl now) = inl now
+since_earlier first (e ∷ older) t u c le (inr was) =
+    inr (let before : t < clock_of (e ∷ older) = was.0 in omega (arith, le, before), since_earlier first older t u c le was.1)
+
 pub past_lawful : (first : Image) (past : List Event) → Lawful (past_view first past)
 past_lawful first past = record {
   reads_now = reads_left first past;
   counts_now = λ t c _ now. counts first past t c now;
   only_now = λ c left. only first past (clock_of past) c (omega arith) left;
+  earlier = λ t u c le left. since_earlier first past t u c le left;
 }
 
 -- the counts stay within their range

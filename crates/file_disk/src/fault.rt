@@ -45,6 +45,8 @@ pub(crate) fn file_name(part: Part) -> &'static str {
 }
 
 impl OpenFault {
+    ghost use Rattle.file_disk.specs.Faults.{IsOfPart};
+
     // A fault of the folder.
     pub(crate) fn folder(error: io::Error) -> OpenFault {
         if error.kind() == io::ErrorKind::OutOfMemory {
@@ -55,7 +57,9 @@ impl OpenFault {
     }
 
     // A fault of the part's file.
-    pub(crate) fn file(part: Part, error: io::Error) -> OpenFault {
+    pub(crate) fn file(part: Part, error: io::Error) -> OpenFault
+        ensures { IsOfPart part result }
+    {
         if error.kind() == io::ErrorKind::OutOfMemory {
             OpenFault::Memory
         } else {
@@ -74,7 +78,10 @@ impl OpenFault {
     }
 
     /// The fault with the path that it speaks of, in the folder that was to be opened.
-    pub fn located(self, dir: &str) -> Located<'_> {
+    pub fn located(self, dir: &str) -> Located<'_>
+        ensures folder { result.dir.now ≡ dir.now }
+        ensures fault { result.fault ≡ self }
+    {
         Located { dir, fault: self }
     }
 }

@@ -1,5 +1,6 @@
 // Opening the files of a folder.
-ghost use Rattle.std.specs.Prelude.{◌≡◌, ◌≤◌, [], IfOk, IsErr, length};
+ghost use Rattle.std.specs.Prelude.{◌≡◌, ◌≤◌, [], IfErr, IfOk, IsErr, length};
+ghost use Rattle.file_disk.specs.Faults.{IsOfPart};
 
 use crate::fault::{OpenFault, file_name};
 use ocf_types::{PART_LIMIT, Part};
@@ -58,7 +59,9 @@ pub fn open_part<R: Files<File = File>, A: Allocator>(
     alloc: A,
     dir: &str,
     part: Part,
-) -> Result<File, OpenFault> {
+) -> Result<File, OpenFault>
+    ensures { IfErr result (IsOfPart part) }
+{
     let path = format!(in alloc; "{dir}/{}", file_name(part))?;
     let opened = open_file(rt, path.as_str()).map_err(|error| OpenFault::file(part, error))?;
     let file = opened.ok_or(OpenFault::NotPlain(part))?;
