@@ -32,5 +32,6 @@ pub take_more_some : {A : Type 0} (xs : List A) (i : ℕ) (x : A) → slice_get 
 take_more_some xs i x at = rw (plus_one i) (take_suc_some xs i x at)
 
 -- the images of the first items, and of one more
-pub map_more_some : {A B : Type 0} (f : A → B) (xs : List A) (i : ℕ) (x : A) → slice_get xs i ≡ Some x → map f (take (i + 1) xs) ≡ map f (take i xs) ++ f x ∷ []
+pub map_more_some : {A B : Type 0} (f : A → B) (xs : List A) (i : ℕ) (x : A) → slice_get xs i ≡ Some x
+    → map f (take (i + 1) xs) ≡ map f (take i xs) ++ f x ∷ []
 map_more_some f xs i x at = rw (take_more_some xs i x at) (map-append f (take i xs) (x ∷ []))

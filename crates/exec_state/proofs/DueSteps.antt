@@ -1,5 +1,6 @@
 -- When the monitors of one resource are due after a step.
-use Rattle.std.proofs.Common.{◌≡◌, ℕ, ◌+◌, ◌<◌, ◌==◌, ◌&&◌, nat_lt, Bool, true, false, cond, not, List, [], ◌∷◌, ◌++◌, map, find, Option, Some, None, is_some, refl, sym, subst, ◌∙◌, arith}
+use Rattle.std.proofs.Common.{◌≡◌, ℕ, ◌+◌, ◌<◌, ◌==◌, ◌&&◌, nat_lt, Bool, true, false, cond, not, List, [], ◌∷◌, ◌++◌, map, find, Option}
+use Rattle.std.proofs.Common.{Some, None, is_some, refl, sym, subst, ◌∙◌, arith}
 use Rattle.std.specs.Option.{option_map, option_and_then}
 use Rattle.std.specs.List.{AllByRecursion}
 use Rattle.std.proofs.lemmas.Bool.{false_from_ne_true}
@@ -13,15 +14,13 @@ use Rattle.ocf_types.specs.State.{stepped}
 use Rattle.ocf_types.specs.Due.{is_run_of, step_sets, or_else}
 use Rattle.ocf_types.specs.Applies.{StepApplies}
 use Rattle.ocf_types.specs.LawfulState.{IsAscending}
+use Rattle.ocf_types.specs.Laws.{same_number}
 use Rattle.recurring.specs.declared.monitor.Monitor.{Monitor}
 use Rattle.recurring.specs.Monitors.{recurs, cancelled, settled, due_at, monitor_due_at}
 use Rattle.exec_state.specs.MonitorsAfter.{run_ended, monitors_stepped}
 use Rattle.exec_state.proofs.Picks.{due_in}
 
--- a number is itself, and numbers that differ are not the same
-same_number : (n k : ℕ) → n ≡ k → (n == k) ≡ true
-same_number n k h = (Decides-eqb n k).1 h
-
+-- numbers that differ are not the same
 greater_differs : (n k : ℕ) → n < k → (k == n) ≡ false
 greater_differs n k h = false_from_ne_true _ (λ e. omega (arith, h, (Decides-eqb k n).0 e))
 
@@ -36,24 +35,30 @@ due_there (m ∷ ms) call = by (m.recur.call == call) (due_there ms call)
   where
     by : (b : Bool) → due_in ms call ≡ due_where (of_call call (recurs ms)) (due_in ms call)
         → option_map (λ (x : Monitor). x.due) (cond b (Some m) (find (λ x. x.recur.call == call) ms))
-        ≡ due_where (cond b (Some m.recur) (of_call call (recurs ms))) (option_map (λ (x : Monitor). x.due) (cond b (Some m) (find (λ x. x.recur.call == call) ms)))
+        ≡ due_where (cond b (Some m.recur) (of_call call (recurs ms)))
+        (option_map (λ (x : Monitor). x.due) (cond b (Some m) (find (λ x. x.recur.call == call) ms)))
     by true h = refl
     by false h = h
 
 -- one more monitor, whose call is above the others'
 pub due_push : (ms : List Monitor) (x : Recur) (at call : ℕ) → AllByRecursion (λ k. k < x.call) (map (λ m. m.call) (recurs ms))
-    → due_in (ms ++ monitor_due_at at x ∷ []) call ≡ due_where (of_call call (recurs ms ++ x ∷ [])) (or_else (cond (x.call == call) (Some at) None) (due_in ms call))
+    → due_in (ms ++ monitor_due_at at x ∷ []) call
+    ≡ due_where (of_call call (recurs ms ++ x ∷ [])) (or_else (cond (x.call == call) (Some at) None) (due_in ms call))
 due_push [] x at call h = by (x.call == call)
   where
-    by : (b : Bool) → option_map (λ (m : Monitor). m.due) (cond b (Some (monitor_due_at at x)) None) ≡ due_where (cond b (Some x) None) (or_else (cond b (Some at) None) None)
+    by : (b : Bool) → option_map (λ (m : Monitor). m.due) (cond b (Some (monitor_due_at at x)) None)
+        ≡ due_where (cond b (Some x) None) (or_else (cond b (Some at) None) None)
     by true = refl
     by false = refl
 due_push (m ∷ ms) x at call h = by (m.recur.call == call) refl (due_push ms x at call h.1)
   where
     by : (b : Bool) → (m.recur.call == call) ≡ b
-        → due_in (ms ++ monitor_due_at at x ∷ []) call ≡ due_where (of_call call (recurs ms ++ x ∷ [])) (or_else (cond (x.call == call) (Some at) None) (due_in ms call))
+        → due_in (ms ++ monitor_due_at at x ∷ []) call
+        ≡ due_where (of_call call (recurs ms ++ x ∷ [])) (or_else (cond (x.call == call) (Some at) None) (due_in ms call))
         → option_map (λ (y : Monitor). y.due) (cond b (Some m) (find (λ y. y.recur.call == call) (ms ++ monitor_due_at at x ∷ [])))
-        ≡ due_where (cond b (Some m.recur) (of_call call (recurs ms ++ x ∷ []))) (or_else (cond (x.call == call) (Some at) None) (option_map (λ (y : Monitor). y.due) (cond b (Some m) (find (λ y. y.recur.call == call) ms))))
+        ≡ due_where (cond b (Some m.recur) (of_call call (recurs ms ++ x ∷ [])))
+        (or_else (cond (x.call == call) (Some at) None)
+        (option_map (λ (y : Monitor). y.due) (cond b (Some m) (find (λ y. y.recur.call == call) ms))))
     by true is rest =
         let call_is : m.recur.call ≡ call = (Decides-eqb m.recur.call call).0 is in
         let other : (x.call == call) ≡ false = greater_differs call x.call (omega (arith, h.0, call_is)) in
@@ -61,11 +66,13 @@ due_push (m ∷ ms) x at call h = by (m.recur.call == call) refl (due_push ms x 
     by false is rest = rest
 
 -- a call below all others is not among them
-gone : (call interval : ℕ) (xs : List Recur) → AllByRecursion (λ k. call < k) (map (λ x. x.call) xs) → of_call call (without_interval interval xs) ≡ None
+gone : (call interval : ℕ) (xs : List Recur) → AllByRecursion (λ k. call < k) (map (λ x. x.call) xs)
+    → of_call call (without_interval interval xs) ≡ None
 gone call interval [] h = refl
 gone call interval (x ∷ xs) h = by (x.interval == interval) (gone call interval xs h.1)
   where
-    by : (b : Bool) → of_call call (without_interval interval xs) ≡ None → of_call call (cond (not b) (x ∷ without_interval interval xs) (without_interval interval xs)) ≡ None
+    by : (b : Bool) → of_call call (without_interval interval xs) ≡ None
+        → of_call call (cond (not b) (x ∷ without_interval interval xs) (without_interval interval xs)) ≡ None
     by true k = k
     by false k = let other : (x.call == call) ≡ false = greater_differs call x.call h.0 in rw other k
 
@@ -83,7 +90,9 @@ due_cancel (m ∷ ms) interval call h = by (m.recur.interval == interval) (m.rec
     by true true is rest =
         let call_is : m.recur.call ≡ call = (Decides-eqb m.recur.call call).0 is in
         let none : of_call call (without_interval interval (recurs ms)) ≡ None
-        = subst (λ (k : ℕ). of_call k (without_interval interval (recurs ms)) ≡ None) call_is (gone m.recur.call interval (recurs ms) h.0) in
+        =
+        subst (λ (k : ℕ). of_call k (without_interval interval (recurs ms)) ≡ None) call_is
+        (gone m.recur.call interval (recurs ms) h.0) in
         rest ∙ rw none refl
     by true false is rest = rest
     by false true is rest = rw is refl
@@ -91,7 +100,9 @@ due_cancel (m ∷ ms) interval call h = by (m.recur.interval == interval) (m.rec
 
 -- after a run of a call ended
 pub due_settled : (ms : List Monitor) (own at call : ℕ)
-    → due_in (settled own at ms) call ≡ due_where (of_call call (recurs ms)) (or_else (cond (own == call) (option_map (λ m. at + m.interval) (of_call call (recurs ms))) None) (due_in ms call))
+    → due_in (settled own at ms) call
+    ≡ due_where (of_call call (recurs ms))
+    (or_else (cond (own == call) (option_map (λ m. at + m.interval) (of_call call (recurs ms))) None) (due_in ms call))
 due_settled [] own at call = refl
 due_settled (m ∷ ms) own at call = by (m.recur.call == own) (m.recur.call == call) refl refl (due_settled ms own at call)
   where
@@ -99,17 +110,23 @@ due_settled (m ∷ ms) own at call = by (m.recur.call == own) (m.recur.call == c
     set_for there = cond (own == call) (option_map (λ (x : Recur). at + x.interval) there) None
 
     by : (p b : Bool) → (m.recur.call == own) ≡ p → (m.recur.call == call) ≡ b
-        → due_in (settled own at ms) call ≡ due_where (of_call call (recurs ms)) (or_else (set_for (of_call call (recurs ms))) (due_in ms call))
-        → option_map (λ (y : Monitor). y.due) (cond ((cond p (due_at (at + m.recur.interval) m) m).recur.call == call) (Some (cond p (due_at (at + m.recur.interval) m) m)) (find (λ y. y.recur.call == call) (settled own at ms)))
+        → due_in (settled own at ms) call
+        ≡ due_where (of_call call (recurs ms)) (or_else (set_for (of_call call (recurs ms))) (due_in ms call))
+        → option_map (λ (y : Monitor). y.due)
+        (cond ((cond p (due_at (at + m.recur.interval) m) m).recur.call == call) (Some (cond p (due_at (at + m.recur.interval) m) m))
+        (find (λ y. y.recur.call == call) (settled own at ms)))
         ≡ due_where (cond b (Some m.recur) (of_call call (recurs ms)))
-        (or_else (set_for (cond b (Some m.recur) (of_call call (recurs ms)))) (option_map (λ (y : Monitor). y.due) (cond b (Some m) (find (λ y. y.recur.call == call) ms))))
+        (or_else (set_for (cond b (Some m.recur) (of_call call (recurs ms))))
+        (option_map (λ (y : Monitor). y.due) (cond b (Some m) (find (λ y. y.recur.call == call) ms))))
     by true true its is rest =
-        let own_is : (own == call) ≡ true = same_number own call (sym ((Decides-eqb m.recur.call own).0 its) ∙ (Decides-eqb m.recur.call call).0 is) in
+        let own_is : (own == call) ≡ true = same_number own call
+        (sym ((Decides-eqb m.recur.call own).0 its) ∙ (Decides-eqb m.recur.call call).0 is) in
         rw (is, own_is) refl
     by true false its is rest = rw is rest
     by false true its is rest =
         let other : (own == call) ≡ false = false_from_ne_true _ (λ e.
-        let same : (m.recur.call == own) ≡ true = same_number m.recur.call own ((Decides-eqb m.recur.call call).0 is ∙ sym ((Decides-eqb own call).0 e)) in
+        let same : (m.recur.call == own) ≡ true = same_number m.recur.call own
+        ((Decides-eqb m.recur.call call).0 is ∙ sym ((Decides-eqb own call).0 e)) in
         cc) in
         rw (is, other) refl
     by false false its is rest = rw is rest
@@ -117,7 +134,9 @@ due_settled (m ∷ ms) own at call = by (m.recur.call == own) (m.recur.call == c
 -- after what ran has ended
 due_ended : (ms : List Monitor) (running : Option Running) (at call : ℕ)
     → due_in (run_ended at running ms) call
-    ≡ due_where (of_call call (recurs ms)) (or_else (option_and_then (λ x. cond (is_run_of call x) (option_map (λ m. at + m.interval) (of_call call (recurs ms))) None) running) (due_in ms call))
+    ≡ due_where (of_call call (recurs ms))
+    (or_else (option_and_then
+    (λ x. cond (is_run_of call x) (option_map (λ m. at + m.interval) (of_call call (recurs ms))) None) running) (due_in ms call))
 due_ended ms None at call = due_there ms call
 due_ended ms (Some x) at call = by (nat_lt 0 x.interval)
   where
@@ -132,22 +151,31 @@ due_ended ms (Some x) at call = by (nat_lt 0 x.interval)
     neither true = refl
     neither false = refl
 
-    by : (long : Bool) → due_in (cond long (settled x.call at ms) ms) call ≡ due_where (of_call call (recurs ms)) (or_else (cond (x.call == call && long) sets None) (due_in ms call))
+    by : (long : Bool) → due_in (cond long (settled x.call at ms) ms) call
+        ≡ due_where (of_call call (recurs ms)) (or_else (cond (x.call == call && long) sets None) (due_in ms call))
     by true = rw (both (x.call == call)) (due_settled ms x.call at call)
     by false = rw (neither (x.call == call)) (due_there ms call)
 
 -- after a step that applies
 pub due_stepped : (r : Resource) (ms : List Monitor) (next_call next_run at : ℕ) (what : Step) (call : ℕ) → recurs ms ≡ r.recurring
-    → IsAscending (map (λ x. x.call) r.recurring) → AllByRecursion (λ k. k < next_call) (map (λ x. x.call) r.recurring) → StepApplies next_call next_run what r
-    → due_in (monitors_stepped at r.history.running what ms) call ≡ due_where (of_call call (stepped at what r).recurring) (or_else (step_sets r at what call) (due_in ms call))
+    → IsAscending (map (λ x. x.call) r.recurring) → AllByRecursion (λ k. k < next_call) (map (λ x. x.call) r.recurring)
+    → StepApplies next_call next_run what r
+    → due_in (monitors_stepped at r.history.running what ms) call
+    ≡ due_where (of_call call (stepped at what r).recurring) (or_else (step_sets r at what call) (due_in ms call))
 due_stepped r ms next_call next_run at (step.Recur m) call same ascends below a =
     let under : AllByRecursion (λ k. k < m.call) (map (λ x. x.call) (recurs ms))
     = subst (λ (n : ℕ). AllByRecursion (λ k. k < n) (map (λ x. x.call) (recurs ms))) (sym a.2.0) (rw same below) in
-    subst (λ (l : List Recur). due_in (ms ++ monitor_due_at at m ∷ []) call ≡ due_where (of_call call (l ++ m ∷ [])) (or_else (cond (m.call == call) (Some at) None) (due_in ms call))) same (due_push ms m at call under)
+    subst (λ (l : List Recur). due_in (ms ++ monitor_due_at at m ∷ []) call
+    ≡ due_where (of_call call (l ++ m ∷ [])) (or_else (cond (m.call == call) (Some at) None) (due_in ms call))) same
+    (due_push ms m at call under)
 due_stepped r ms next_call next_run at (step.Cancel interval) call same ascends below a =
-    subst (λ (l : List Recur). due_in (cancelled interval ms) call ≡ due_where (of_call call (without_interval interval l)) (due_in ms call)) same (due_cancel ms interval call (rw same ascends))
+    subst (λ (l : List Recur). due_in (cancelled interval ms) call
+    ≡ due_where (of_call call (without_interval interval l)) (due_in ms call)) same (due_cancel ms interval call (rw same ascends))
 due_stepped r ms next_call next_run at (step.Result run end) call same ascends below a =
     subst (λ (l : List Recur). due_in (run_ended at r.history.running ms) call
-    ≡ due_where (of_call call l) (or_else (option_and_then (λ x. cond (is_run_of call x) (option_map (λ m. at + m.interval) (of_call call l)) None) r.history.running) (due_in ms call))) same (due_ended ms r.history.running at call)
+    ≡ due_where (of_call call l)
+    (or_else (option_and_then
+    (λ x. cond (is_run_of call x) (option_map (λ m. at + m.interval) (of_call call l)) None) r.history.running)
+    (due_in ms call))) same (due_ended ms r.history.running at call)
 due_stepped r ms next_call next_run at _ call same ascends below a =
     subst (λ (l : List Recur). due_in ms call ≡ due_where (of_call call l) (due_in ms call)) same (due_there ms call)

@@ -1,5 +1,6 @@
 -- The registry's entries, each value seen by a function.
-use Rattle.std.proofs.Common.{◌≡◌, ℕ, zero, suc, Bool, true, false, cond, not, ◌||◌, ◌≤◌, List, [], ◌∷◌, ◌++◌, map, take, drop, length, filter, get_or, set, slice_get, slice_index_or, Option, Some, None, refl, sym, ap, subst, ◌∙◌}
+use Rattle.std.proofs.Common.{◌≡◌, ℕ, zero, suc, Bool, true, false, cond, not, ◌||◌, ◌≤◌, List, [], ◌∷◌, ◌++◌, map, take, drop, length}
+use Rattle.std.proofs.Common.{filter, get_or, set, slice_get, slice_index_or, Option, Some, None, refl, sym, ap, subst, ◌∙◌}
 use Rattle.std.specs.Option.{option_map, option_copied}
 use Rattle.std.specs.Borrow.{Bor}
 use Rattle.std.specs.List.{list_any, IsDistinct, AllByRecursion}
@@ -28,7 +29,8 @@ abbrev pub on_value : {A : Type 0} → (A → A) → List ℕ × A → List ℕ 
 on_value f e = (e.0, f e.1)
 
 -- behind the entry of an id none has it
-pub absent_behind : {A : Type 0} (id : List ℕ) (e : List ℕ × A) (es : List (List ℕ × A)) → IsDistinct bytes_eq (keys_of (e ∷ es)) → bytes_eq id e.0 ≡ true → IsAbsent id es
+pub absent_behind : {A : Type 0} (id : List ℕ) (e : List ℕ × A) (es : List (List ℕ × A)) → IsDistinct bytes_eq (keys_of (e ∷ es))
+    → bytes_eq id e.0 ≡ true → IsAbsent id es
 absent_behind id e es distinct same =
     subst (λ (k : List ℕ). IsAbsent k es) (sym ((bytes_eq-Decides id e.0).0 same)) (IsDistinct-head bytes_eq e.0 (keys_of es) distinct)
 
@@ -59,21 +61,25 @@ module _ {H A : Type 0} (look : Registered H → A) where
   absent_seen id es h = subst (λ (ks : List (List ℕ)). AllByRecursion (λ k. bytes_eq id k ≡ false) ks) (sym (keys-look_all es)) h
 
   -- a write at the id
-  pub look_all-set_value : (id : List ℕ) (f : A → A) (es : List (List ℕ × Registered H)) (v w : Registered H) → IsDistinct bytes_eq (keys_of es)
-      → lookup (bytes_eq id) es ≡ Some v → look w ≡ f (look v) → look_all look (set_value (bytes_eq id) es w) ≡ at_id id f (look_all look es)
+  pub look_all-set_value : (id : List ℕ) (f : A → A) (es : List (List ℕ × Registered H)) (v w : Registered H)
+      → IsDistinct bytes_eq (keys_of es)
+      → lookup (bytes_eq id) es ≡ Some v → look w ≡ f (look v)
+      → look_all look (set_value (bytes_eq id) es w) ≡ at_id id f (look_all look es)
   look_all-set_value id f [] v w distinct at is = refl
   look_all-set_value id f (e ∷ es) v w distinct at is =
       by (bytes_eq id e.0) refl (look_all-set_value id f es v w (IsDistinct-tail bytes_eq e.0 (keys_of es) distinct))
     where
       by : (b : Bool) → bytes_eq id e.0 ≡ b
-          → (lookup (bytes_eq id) es ≡ Some v → look w ≡ f (look v) → look_all look (set_value (bytes_eq id) es w) ≡ at_id id f (look_all look es))
+          → (lookup (bytes_eq id) es ≡ Some v → look w ≡ f (look v)
+          → look_all look (set_value (bytes_eq id) es w) ≡ at_id id f (look_all look es))
           → look_all look (set_value (bytes_eq id) (e ∷ es) w) ≡ at_id id f (look_all look (e ∷ es))
       by true same rest =
           let here : Some e.1 ≡ Some v = rw same at at in
           let value : e.1 ≡ v = cc in
           let now : look w ≡ f (look e.1) = is ∙ ap (λ (r : Registered H). f (look r)) (sym value) in
           rw same (ap (λ (r : A). (e.0, r) ∷ look_all look es) now
-          ∙ ap (λ (xs : List (List ℕ × A)). (e.0, f (look e.1)) ∷ xs) (sym (at_id-absent id f (look_all look es) (absent_seen id es (absent_behind id e es distinct same)))))
+          ∙ ap (λ (xs : List (List ℕ × A)). (e.0, f (look e.1)) ∷ xs)
+          (sym (at_id-absent id f (look_all look es) (absent_seen id es (absent_behind id e es distinct same)))))
       by false other rest = rw other (ap (λ (xs : List (List ℕ × A)). (e.0, look e.1) ∷ xs) (rest (rw other at at) is))
 
   -- without the id
@@ -114,18 +120,21 @@ pub map_over_all : {A : Type 0} (f : A → A) (xs ys : List A) (i : ℕ) → len
 map_over_all f xs ys i le h = h ∙ rw (take_all i xs le, drop_of_length-le xs le) (append-nil (map f xs))
 
 -- some resource passes
-pub any_seen : {H : Type 0} (test : Resource → Bool) (es : List (List ℕ × Registered H)) → list_any (λ r. test (seen r)) (values_of es) ≡ list_any (λ e. test e.1) (seen_all es)
+pub any_seen : {H : Type 0} (test : Resource → Bool) (es : List (List ℕ × Registered H))
+    → list_any (λ r. test (seen r)) (values_of es) ≡ list_any (λ e. test e.1) (seen_all es)
 any_seen test [] = refl
 any_seen test (e ∷ es) = ap (λ (b : Bool). test (seen e.1) || b) (any_seen test es)
 
 -- what is lent is seen as what lies there
-pub look_copied : {H A : Type 0} (look : Registered H → A) (o : Option (Bor (Registered H))) → option_map (λ r. look r.now) o ≡ option_map look (option_copied o)
+pub look_copied : {H A : Type 0} (look : Registered H → A) (o : Option (Bor (Registered H)))
+    → option_map (λ r. look r.now) o ≡ option_map look (option_copied o)
 look_copied look None = refl
 look_copied look (Some r) = refl
 
 -- the monitors made due are those of the resources
 pub due_seen : {H : Type 0} (at : ℕ) (es : List (List ℕ × Registered H))
-    → map {B = List ℕ × List Monitor} (λ e. (e.0, all_due_at at (recurs e.1))) (monitors_all es) ≡ map {B = List ℕ × List Monitor} (λ e. (e.0, all_due_at at e.1.recurring)) (seen_all es)
+    → map {B = List ℕ × List Monitor} (λ e. (e.0, all_due_at at (recurs e.1))) (monitors_all es)
+    ≡ map {B = List ℕ × List Monitor} (λ e. (e.0, all_due_at at e.1.recurring)) (seen_all es)
 due_seen at [] = refl
 due_seen at (e ∷ es) = ap (λ (xs : List (List ℕ × List Monitor)). (e.0, all_due_at at (recurs e.1.monitors)) ∷ xs) (due_seen at es)
 

@@ -24,7 +24,9 @@ small = record {
     next_call = 2;
     next_run = 1;
     clock = 30;
-    resources = (r1, record { provider = codes "pacemaker"; agent = codes "Dummy"; params = []; history = no_history; recurring = monitor ∷ [] }) ∷ [];
+    resources =
+        (r1, record { provider = codes "pacemaker"; agent = codes "Dummy"; params = []; history = no_history; recurring = monitor ∷ [] })
+        ∷ [];
   };
   monitors = (r1, record { recur = monitor; due = 40 } ∷ []) ∷ [];
   ready = false;

@@ -1,5 +1,6 @@
 -- The pick over monitors with their due moments is the pick over the due moment of each call.
-use Rattle.std.proofs.Common.{◌≡◌, ℕ, ◌==◌, ◌<◌, true, false, List, [], ◌∷◌, map, find, Option, Some, None, MatchOption, unwrap_or, refl, sym, ap, subst, ◌∙◌, arith}
+use Rattle.std.proofs.Common.{◌≡◌, ℕ, ◌==◌, ◌<◌, true, false, List, [], ◌∷◌, map, find, Option, Some, None, MatchOption, unwrap_or, refl}
+use Rattle.std.proofs.Common.{sym, ap, subst, ◌∙◌, arith}
 use Rattle.std.specs.Option.{option_map}
 use Rattle.std.specs.List.{AllByRecursion}
 use Rattle.std.specs.Map.{lookup}
@@ -44,7 +45,8 @@ due_pairs-recurs (m ∷ ms) h =
     rw (same, rest) refl
 
 -- the monitors of an id are those of its resource
-pub recurs-at : (rs : Registry) (all : Monitors) (id : List ℕ) (r : Resource) → recurs_by_id all ≡ recurring_by_id rs → lookup (bytes_eq id) rs ≡ Some r
+pub recurs-at : (rs : Registry) (all : Monitors) (id : List ℕ) (r : Resource) → recurs_by_id all ≡ recurring_by_id rs
+    → lookup (bytes_eq id) rs ≡ Some r
     → recurs (monitors_at all id) ≡ r.recurring
 recurs-at rs all id r same at =
     by (lookup (bytes_eq id) all) (sym (lookup-map_values recurs (bytes_eq id) all)
@@ -58,7 +60,8 @@ recurs-at rs all id r same at =
 
 -- the pick of the monitors is that of the due moments
 pub choice : (s : Store) (id : List ℕ) (now : ℕ) (pick : Option ℕ) → IsLawfulStore s
-    → MatchOption (resource_at s.state id) (pick ≡ None) (λ r. IsPickOf r.history.running r.history.queue (pairs (monitors_at s.monitors id)) now pick)
+    → MatchOption (resource_at s.state id) (pick ≡ None)
+    (λ r. IsPickOf r.history.running r.history.queue (pairs (monitors_at s.monitors id)) now pick)
     → IsChoice s id now pick
 choice s id now pick h = by (resource_at s.state id) refl
   where
@@ -71,8 +74,10 @@ choice s id now pick h = by (resource_at s.state id) refl
     by None at p = p
     by (Some r) at p =
         let same : recurs ms ≡ r.recurring = recurs-at s.state.resources s.monitors id r h.monitors at in
-        let lawful = found_fact (IsLawfulResource s.state.next_call s.state.next_run s.state.clock) (bytes_eq id) s.state.resources r h.lawful.resources at in
-        let ascends : IsAscending (map (λ x. x.call) (recurs ms)) = subst (λ (l : List Recur). IsAscending (map (λ x. x.call) l)) (sym same) lawful.recurring_ascends in
+        let lawful = found_fact (IsLawfulResource s.state.next_call s.state.next_run s.state.clock)
+        (bytes_eq id) s.state.resources r h.lawful.resources at in
+        let ascends : IsAscending (map (λ x. x.call) (recurs ms)) = subst (λ (l : List Recur). IsAscending (map (λ x. x.call) l))
+        (sym same) lawful.recurring_ascends in
         let all : due_pairs r.recurring (due_of s.monitors id) ≡ pairs ms
         = subst (λ (l : List Recur). due_pairs l (due_in ms) ≡ pairs ms) same (due_pairs-recurs ms ascends) in
         rw all p

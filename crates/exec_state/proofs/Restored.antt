@@ -1,25 +1,18 @@
 -- A registry that is restored resource by resource.
-use Rattle.std.proofs.Common.{◌≡◌, ℕ, true, false, List, [], ◌∷◌, ◌++◌, map, None, refl, sym, ap, ◌∙◌, append_assoc}
+use Rattle.std.proofs.Common.{◌≡◌, ℕ, false, List, [], ◌∷◌, ◌++◌, map, None, refl, sym, ap, ◌∙◌, append_assoc}
 use Rattle.std.specs.List.{AllByRecursion, IsDistinct}
 use Rattle.std.specs.Map.{keys_of, lookup}
 use Rattle.std.specs.Str.{bytes_eq}
-use Rattle.std.proofs.lemmas.Bool.{false_from_ne_true}
 use Rattle.std.proofs.lemmas.List.{map-append}
 use Rattle.std.proofs.lemmas.Map.Keys.{IsDistinct-head, IsDistinct-tail}
-use Rattle.std.proofs.lemmas.Slice.Eq.{bytes_eq-Decides}
 use Rattle.ocf_types.specs.Resource.{Resource}
+use Rattle.ocf_types.specs.RegistryLaws.{other_way}
 use Rattle.recurring.specs.declared.monitor.Monitor.{Monitor}
 use Rattle.recurring.specs.Monitors.{all_due_at}
 
 -- the monitors of each resource by its id, due at a moment
 abbrev pub due_by_id : ℕ → List (List ℕ × Resource) → List (List ℕ × List Monitor)
 due_by_id at rs = map (λ e. (e.0, all_due_at at e.1.recurring)) rs
-
--- texts that differ one way differ the other way
-differs_sym : (a b : List ℕ) → bytes_eq a b ≡ false → bytes_eq b a ≡ false
-differs_sym a b h = false_from_ne_true _ (λ e.
-    let same : bytes_eq a b ≡ true = (bytes_eq-Decides a b).1 (sym ((bytes_eq-Decides b a).0 e)) in
-    cc)
 
 module _ {A : Type 0} where
   -- a fact of each holds of the one between two lists
@@ -32,11 +25,13 @@ module _ {A : Type 0} where
   fact_of_key P (e ∷ es) ys x h = fact_of_key P es ys x h.1
 
   -- where keys are distinct, none of those before one is the same
-  pub none_before_it : (xs ys : List (List ℕ × A)) (x : List ℕ × A) → IsDistinct bytes_eq (keys_of (xs ++ x ∷ ys)) → lookup (bytes_eq x.0) xs ≡ None
+  pub none_before_it : (xs ys : List (List ℕ × A)) (x : List ℕ × A) → IsDistinct bytes_eq (keys_of (xs ++ x ∷ ys))
+      → lookup (bytes_eq x.0) xs ≡ None
   none_before_it [] ys x h = refl
   none_before_it (e ∷ es) ys x h =
-      let other : bytes_eq e.0 x.0 ≡ false = fact_of_key (λ k. bytes_eq e.0 k ≡ false) es ys x (IsDistinct-head bytes_eq e.0 (keys_of (es ++ x ∷ ys)) h) in
-      rw (differs_sym e.0 x.0 other) (none_before_it es ys x (IsDistinct-tail bytes_eq e.0 (keys_of (es ++ x ∷ ys)) h))
+      let other : bytes_eq e.0 x.0 ≡ false = fact_of_key (λ k. bytes_eq e.0 k ≡ false) es ys x
+      (IsDistinct-head bytes_eq e.0 (keys_of (es ++ x ∷ ys)) h) in
+      rw (other_way e.0 x.0 other) (none_before_it es ys x (IsDistinct-tail bytes_eq e.0 (keys_of (es ++ x ∷ ys)) h))
 
   -- one more of the list
   pub one_more : (new done rest all : List A) (x : A) → new ≡ done ++ x ∷ [] → done ++ x ∷ rest ≡ all → new ++ rest ≡ all
@@ -49,11 +44,13 @@ due_one_more at new done ms old x is monitors before =
     rw (is, monitors, before) (sym (map-append (λ (e : List ℕ × Resource). (e.0, all_due_at at e.1.recurring)) done (x ∷ [])))
 
 -- the next of a list with distinct ids is not among those before it
-pub absent_next : (done it all rest : List (List ℕ × Resource)) (x : List ℕ × Resource) → done ++ it ≡ all → it ≡ x ∷ rest → IsDistinct bytes_eq (keys_of all)
+pub absent_next : (done it all rest : List (List ℕ × Resource)) (x : List ℕ × Resource) → done ++ it ≡ all → it ≡ x ∷ rest
+    → IsDistinct bytes_eq (keys_of all)
     → lookup (bytes_eq x.0) done ≡ None
 absent_next done it all rest x whole next distinct = none_before_it done rest x (rw (← next, whole) distinct)
 
 -- a fact of each holds of the next
-pub fact_next : (P : List ℕ × Resource → Type 0) (done it all rest : List (List ℕ × Resource)) (x : List ℕ × Resource) → done ++ it ≡ all → it ≡ x ∷ rest
+pub fact_next : (P : List ℕ × Resource → Type 0) (done it all rest : List (List ℕ × Resource)) (x : List ℕ × Resource) → done ++ it ≡ all
+    → it ≡ x ∷ rest
     → AllByRecursion P all → P x
 fact_next P done it all rest x whole next each = fact_between P done rest x (rw (← next, whole) each)

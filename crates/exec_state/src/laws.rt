@@ -4,7 +4,6 @@ ghost use Rattle.ocf_types.specs.Kinds.{Event};
 ghost use Rattle.ocf_types.specs.Applies.{Applies};
 ghost use Rattle.ocf_types.specs.Due.{due_after, due_at};
 ghost use Rattle.ocf_types.specs.State.{State};
-ghost use Rattle.ocf_types.specs.LawfulState.{IsLawfulState};
 ghost use Rattle.exec_state.specs.Store.{Store, due_of, monitors_due_at};
 ghost use Rattle.exec_state.specs.MonitorsAfter.{monitors_after};
 ghost use Rattle.exec_state.specs.Lawful.{IsLawfulStore};

@@ -1,5 +1,4 @@
 //! The pick: what a resource begins now.
-ghost use Rattle.std.specs.Prelude.{◌≡◌};
 ghost use Rattle.ocf_types.specs.Due.{IsPickOf};
 ghost use Rattle.recurring.specs.Monitors.{pairs};
 ghost use Rattle.exec_state.specs.Store.{IsChoice};

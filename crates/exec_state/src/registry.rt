@@ -1,5 +1,6 @@
 //! The resources by id, in order of registration.
-ghost use Rattle.std.specs.Prelude.{◌≡◌, ◌<◌, ◌++◌, ◌∷◌, [], None, map, not, filter, length, nat_le, is_some, option_map, option_and_then, slice_index_or, IsTrue, IsSomeAnd, IsOk, IfOk, OnOk};
+ghost use Rattle.std.specs.Prelude.{◌≡◌, ◌<◌, ◌++◌, ◌∷◌, [], None, map, not, filter, length, nat_le, is_some, option_map, option_and_then};
+ghost use Rattle.std.specs.Prelude.{slice_index_or, IsTrue, IsSomeAnd, IsOk, IfOk, OnOk};
 ghost use Rattle.std.specs.Map.{keys_of, lookup};
 ghost use Rattle.std.specs.List.{list_any, AllByRecursion, IsDistinct};
 ghost use Rattle.std.specs.Str.{bytes_eq};
@@ -192,7 +193,8 @@ impl<A: Allocator + Copy> Registry<A> {
         requires { IsSomeAnd (lookup (bytes_eq id.now) self.old.resources) (CanTake step) }
         ensures resources { self.new.resources ≡ at_id id.now (stepped at step) self.old.resources }
         ensures monitors { self.new.monitors
-            ≡ at_id id.now (monitors_stepped at (option_and_then (λ r. r.history.running) (lookup (bytes_eq id.now) self.old.resources)) step) self.old.monitors }
+            ≡ at_id id.now (monitors_stepped at
+            (option_and_then (λ r. r.history.running) (lookup (bytes_eq id.now) self.old.resources)) step) self.old.monitors }
     {
         let Some(resource) = self.resources.get_mut(id) else {
             unreachable!()
@@ -240,7 +242,8 @@ fn insert<A: Allocator + Copy>(
 ) -> Result<(), AllocError>
     requires { lookup (bytes_eq id) (seen_all resources.old.entries) ≡ None }
     ensures resources { OnOk result (seen_all resources.new.entries ≡ seen_all resources.old.entries ++ (id, seen resource) ∷ []) }
-    ensures monitors { OnOk result (monitors_all resources.new.entries ≡ monitors_all resources.old.entries ++ (id, resource.monitors) ∷ []) }
+    ensures monitors { OnOk result
+        (monitors_all resources.new.entries ≡ monitors_all resources.old.entries ++ (id, resource.monitors) ∷ []) }
     ensures succeeds { 0 < spare resources.old → IsOk result }
 {
     match resources.insert(id, resource) {

@@ -1,7 +1,7 @@
 -- What an agent's action comes to, by what it finds in its state file.
 use Rattle.std.specs.Prelude.{◌≡◌, ◌≢◌, ℕ, List, codes}
 use Rattle.ocf_types.specs.declared.action.Action.{Action}
-use Rattle.ocf_types.specs.declared.action.Action.TheVariants.{Start, Stop, Monitor, Promote, Demote, ReloadAgent, ValidateAll}
+use Rattle.ocf_types.specs.declared.action.Action.TheVariants.{Start, Stop, Monitor, Promote, Demote}
 use Rattle.ocf_codes.specs.declared.exit_code.Code.{Code}
 use Rattle.ocf_codes.specs.declared.exit_code.Code.TheVariants as code
 use Rattle.ocf_agents.specs.declared.agent.Agent.{Agent}

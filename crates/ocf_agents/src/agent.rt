@@ -1,6 +1,5 @@
 //! The agents, and the actions that each of them has.
 ghost use Rattle.std.specs.Prelude.{◌≡◌, ◌≢◌, IfSome, IfNone};
-ghost use Rattle.ocf_types.specs.declared.action.Action.{Action};
 ghost use Rattle.ocf_agents.specs.declared.agent.Agent.{Agent};
 ghost use Rattle.ocf_agents.specs.Agents.{agent_word, has_action};
 

@@ -1,8 +1,8 @@
 //! What the arguments and the environment ask an agent for.
-ghost use Rattle.std.specs.Prelude.{◌≡◌, option_map, IfSome, IfNone};
+ghost use Rattle.std.specs.Prelude.{option_map, IfSome, IfNone};
 ghost use Rattle.ocf_types.specs.declared.action.Action.{Action};
 ghost use Rattle.ocf_agents.specs.declared.agent.Agent.{Agent};
-ghost use Rattle.ocf_agents.specs.Calls.{Asks, IsBlank, IsRead, Types};
+ghost use Rattle.ocf_agents.specs.Calls.{Asks, IsRead, Types};
 
 use crate::agent::Agent;
 use ocf_codes::Code;

@@ -2,7 +2,9 @@
 use Rattle.std.specs.Prelude.{ℕ, ◌==◌, List, [], ◌∷◌, Option, Some, None, codes}
 use Rattle.std.specs.List.{find}
 use Rattle.ocf_codes.specs.declared.exit_code.Code.{Code}
-use Rattle.ocf_codes.specs.declared.exit_code.Code.TheVariants.{Success, Generic, Args, Unimplemented, Perm, Installed, Configured, NotRunning, RunningPromoted, FailedPromoted, Degraded, DegradedPromoted, Other}
+use Rattle.ocf_codes.specs.declared.exit_code.Code.TheVariants.{Success, Generic, Args, Unimplemented, Perm, Installed, Configured}
+use Rattle.ocf_codes.specs.declared.exit_code.Code.TheVariants.{NotRunning, RunningPromoted, FailedPromoted, Degraded, DegradedPromoted}
+use Rattle.ocf_codes.specs.declared.exit_code.Code.TheVariants.{Other}
 
 -- a row of the table: a number, what it says, and its name
 abbrev pub Row : Type 0

@@ -1,5 +1,6 @@
 -- The event that a lawful command is at a lawful state applies there.
-use Rattle.std.proofs.Common.{◌≡◌, ℕ, ◌≤◌, Bool, true, false, List, [], ◌∷◌, length, Option, Some, None, Ok, Err, IsSome, IsSomeAnd, is_some, is_none, IsTrue, leb, refl, sym, subst, arith}
+use Rattle.std.proofs.Common.{◌≡◌, ℕ, ◌≤◌, Bool, false, length, Option, Some, None, Ok, IsSome, IsSomeAnd}
+use Rattle.std.proofs.Common.{is_some, is_none, IsTrue, leb, refl, sym, subst, arith}
 use Rattle.std.specs.List.{AllByRecursion}
 use Rattle.std.specs.Option.{option_map_or}
 use Rattle.std.proofs.lemmas.Bool.{leb-false, ltb-false, eqb-false}
@@ -8,7 +9,6 @@ use Rattle.ocf_types.specs.declared.event.Step.TheVariants as step
 use Rattle.ocf_types.specs.declared.event.Change.TheVariants as change
 use Rattle.ocf_types.specs.declared.operation.Op.{Op}
 use Rattle.ocf_types.specs.declared.operation.Recur.{Recur}
-use Rattle.ocf_types.specs.declared.refusal.Refusal.{Refusal}
 use Rattle.ocf_types.specs.Kinds.{Change, Event, Command}
 use Rattle.ocf_types.specs.Numbers.{IsMoment}
 use Rattle.ocf_types.specs.Lawful.{IsLawfulChange, IsLawfulCommand}
@@ -17,7 +17,7 @@ use Rattle.ocf_types.specs.Resource.{Resource, is_busy, of_interval}
 use Rattle.ocf_types.specs.State.{State, resource_at, IsRegistration}
 use Rattle.ocf_types.specs.Applies.{Applies, ChangeApplies, StepApplies, IsNext}
 use Rattle.ocf_types.specs.Boot.{any_busy, boot_at}
-use Rattle.ocf_types.specs.Answer.{moment, change_of, IsRegister, asked_event, tests, first_of, event_of}
+use Rattle.ocf_types.specs.Answer.{moment, change_of, IsRegister, asked_event, tests, event_of}
 use Rattle.ocf_types.specs.LawfulState.{IsLawfulState}
 use Rattle.ocf_types.specs.RegistryLaws.{none_is, passed}
 use Rattle.ocf_types.proofs.Lengths.{event_short}
@@ -29,7 +29,8 @@ module _ {A : Type 0} where
   some_is (Some x) h = refl
 
   -- a test that is not found to hold fails at what is there
-  pub fails_at : (o : Option A) (test : A → Bool) → is_none o ≡ false → option_map_or test o false ≡ false → IsSomeAnd o (λ x. test x ≡ false)
+  pub fails_at : (o : Option A) (test : A → Bool) → is_none o ≡ false → option_map_or test o false ≡ false
+      → IsSomeAnd o (λ x. test x ≡ false)
   fails_at None test n h = absurd (cc)
   fails_at (Some x) test n h = h
 
@@ -54,7 +55,8 @@ moment_is s now h = omega (arith, h.clock)
 
 -- an event at that moment applies where its change is lawful and applies, and its spelling is not too long
 applies_now : (s : State) (now : ℕ) (c : Change) → IsLawfulState s → IsLawfulChange c
-    → length (spelled_event (record { at = moment s now; change = c })) ≤ 16384 → ChangeApplies s c → Applies s (record { at = moment s now; change = c })
+    → length (spelled_event (record { at = moment s now; change = c })) ≤ 16384 → ChangeApplies s c
+    → Applies s (record { at = moment s now; change = c })
 applies_now s now c h l short a = record {
   spelled = record { lawful = record { at = moment_is s now h; change = l }; short = short };
   later = omega arith;
@@ -78,13 +80,15 @@ asked_applies s now (command.Register r) h l p =
 asked_applies s now (command.Unregister id) h l p =
     applies_small s now (change.Unregister id) h l tt (fails_at (resource_at s id) (λ r. is_busy r.history) p.0 p.1.0)
 asked_applies s now (command.SetParams id ps) h l p =
-    applies_now s now (change.Step id (step.SetParams ps)) h l (ltb-false _ _ p.1.0) (holds_of (resource_at s id) (λ r. Unit {0}) p.0 (λ r. tt))
+    applies_now s now (change.Step id (step.SetParams ps)) h l (ltb-false _ _ p.1.0)
+    (holds_of (resource_at s id) (λ r. Unit {0}) p.0 (λ r. tt))
 asked_applies s now (command.Exec id t timeout) h l p =
     let o : Op = record { call = s.next_call; task = t; timeout = timeout } in
     let next : IsNext s.next_call s.next_call = next_is s h (eqb-false _ _ p.1.1.0) in
     let room = fails_at (resource_at s id) (λ r. leb 32 (length r.history.queue)) p.0 p.1.0 in
     let has_room = λ (r : Resource). leb 32 (length r.history.queue) ≡ false in
-    let there = weaker_of (resource_at s id) has_room (StepApplies s.next_call s.next_run (step.Exec o)) (λ r q. (leb-false _ _ q, next)) room in
+    let there = weaker_of (resource_at s id) has_room (StepApplies s.next_call s.next_run (step.Exec o))
+    (λ r q. (leb-false _ _ q, next)) room in
     applies_small s now (change.Step id (step.Exec o)) h (l.0, (h.next_call, l.1)) tt there
 asked_applies s now (command.Recur id interval timeout level) h l p =
     let m : Recur = record { call = s.next_call; interval = interval; timeout = timeout; level = level } in
@@ -94,7 +98,8 @@ asked_applies s now (command.Recur id interval timeout level) h l p =
     let fresh = fails_at (resource_at s id) (λ r. is_some (of_interval interval r.recurring)) p.0 p.1.0 in
     let room = fails_at (resource_at s id) (λ r. leb 8 (length r.recurring)) p.0 p.1.1.0 in
     let there = weaker_of (resource_at s id) (λ r. is_fresh r × has_room r) (StepApplies s.next_call s.next_run (step.Recur m))
-    (λ r q. (leb-false _ _ q.1, none_is (of_interval interval r.recurring) q.0, next)) (both_of (resource_at s id) is_fresh has_room fresh room) in
+    (λ r q. (leb-false _ _ q.1, none_is (of_interval interval r.recurring) q.0, next))
+    (both_of (resource_at s id) is_fresh has_room fresh room) in
     applies_small s now (change.Step id (step.Recur m)) h (l.0, (h.next_call, l.1, l.2)) tt there
 asked_applies s now (command.Cancel id interval) h l p =
     let is_there = λ (r : Resource). is_none (of_interval interval r.recurring) ≡ false in
@@ -106,7 +111,8 @@ asked_applies s now (command.Forget id) h l p =
     applies_small s now (change.Step id step.Forget) h (l, tt) tt (holds_of (resource_at s id) (λ r. Unit {0}) p.0 (λ r. tt))
 
 -- the event that a lawful command is at a lawful state applies there
-pub event_applies : (s : State) (now : ℕ) (c : Command) (e : Event) → IsLawfulState s → IsLawfulCommand c → event_of s now c ≡ Ok e → Applies s e
+pub event_applies : (s : State) (now : ℕ) (c : Command) (e : Event) → IsLawfulState s → IsLawfulCommand c → event_of s now c ≡ Ok e
+    → Applies s e
 event_applies s now c e h l is =
     let p = passed (tests s c (length (spelled_event (asked_event s now c)))) (asked_event s now c) e is in
     subst (λ (x : Event). Applies s x) p.0 (asked_applies s now c h l p.1)

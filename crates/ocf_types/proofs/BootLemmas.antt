@@ -1,15 +1,14 @@
 -- A boot is needed at most once, and what ran is its last result.
-use Rattle.std.proofs.Common.{◌≡◌, ℕ, ◌-◌, ◌≤◌, Bool, true, false, cond, List, [], ◌∷◌, ◌++◌, map, drop, length, Option, Some, IsSomeAnd, option_map, option_to_list, refl, sym, ap, subst, ◌∙◌, arith, length-append}
-use Rattle.std.specs.List.{list_any}
+use Rattle.std.proofs.Common.{◌≡◌, ℕ, ◌-◌, ◌≤◌, Bool, true, false, cond, List, [], ◌∷◌, ◌++◌, map, drop, length, Option, Some, IsSomeAnd}
+use Rattle.std.proofs.Common.{option_map, option_to_list, refl, sym, ap, subst, ◌∙◌, arith, length-append}
 use Rattle.std.specs.Str.{bytes_eq}
 use Rattle.std.proofs.lemmas.List.{drop-append-le}
 use Rattle.std.proofs.lemmas.Map.Made.{lookup-map_values}
 use Rattle.ocf_types.specs.declared.operation.Running.{Running}
 use Rattle.ocf_types.specs.declared.operation.Ended.{Ended}
 use Rattle.ocf_types.specs.declared.outcome.Outcome.TheVariants.{Interrupted}
-use Rattle.ocf_types.specs.declared.event.Change.TheVariants as change
-use Rattle.ocf_types.specs.Resource.{History, Resource, kept, is_busy, ended_of, dropped_of, last_ended, booted}
-use Rattle.ocf_types.specs.State.{Registry, State, resource_at, after, changed, on_history}
+use Rattle.ocf_types.specs.Resource.{History, Resource, kept, ended_of, dropped_of, last_ended, booted}
+use Rattle.ocf_types.specs.State.{State, resource_at, after, on_history}
 use Rattle.ocf_types.specs.Boot.{any_busy, boot, boot_at, IsLast}
 use Rattle.ocf_types.specs.Laws.{quiet}
 
@@ -32,9 +31,11 @@ interrupted_last at h x is =
     (drop cut front, drop-append-le cut front (e ∷ []) within)
 
 -- and of its resource
-pub boot_interrupts : (s : State) (at : ℕ) (id : List ℕ) (r : Resource) (x : Running) → resource_at s id ≡ Some r → r.history.running ≡ Some x
+pub boot_interrupts : (s : State) (at : ℕ) (id : List ℕ) (r : Resource) (x : Running) → resource_at s id ≡ Some r
+    → r.history.running ≡ Some x
     → IsSomeAnd (resource_at (after s (boot_at at)) id) (λ q. IsLast (ended_of Interrupted at x) q.history.ended)
 boot_interrupts s at id r x there runs =
     let now : resource_at (after s (boot_at at)) id ≡ Some (on_history (booted at) r)
     = lookup-map_values (on_history (booted at)) (bytes_eq id) s.resources ∙ ap (option_map (on_history (booted at))) there in
-    subst (λ (o : Option Resource). IsSomeAnd o (λ q. IsLast (ended_of Interrupted at x) q.history.ended)) (sym now) (interrupted_last at r.history x runs)
+    subst (λ (o : Option Resource). IsSomeAnd o (λ q. IsLast (ended_of Interrupted at x) q.history.ended)) (sym now)
+    (interrupted_last at r.history x runs)

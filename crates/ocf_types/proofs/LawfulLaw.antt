@@ -17,10 +17,11 @@ use Rattle.ocf_types.specs.Applies.{Applies, StepApplies, ChangeApplies}
 use Rattle.ocf_types.specs.LawfulState.{IsLawfulResource, IsLawfulState}
 use Rattle.ocf_types.proofs.Lengths.{length-event, length-step, params_shorter}
 use Rattle.ocf_types.specs.Laws.{distinct_none, each_append}
-use Rattle.ocf_types.proofs.Lists.{found, each_filter, filter_shorter, distinct_filter}
+use Rattle.ocf_types.proofs.Lists.{filter_shorter}
 use Rattle.ocf_types.proofs.Registries.{absent_any, keys-at_id, keys-map, ids-at_id, ids-map, values-map, values-at_id}
 use Rattle.ocf_types.proofs.LawfulParts.{lawful_weaken, resources_weaken, lawful_registered}
 use Rattle.ocf_types.proofs.LawfulSteps.{lawful_step, lawful_boot}
+use Rattle.ocf_types.specs.RegistryLaws.{found, each_filter, distinct_filter}
 
 -- the state with no resources is lawful
 pub lawful_empty : IsLawfulState empty
@@ -39,13 +40,15 @@ drawn_still : (n : ℕ) → IsDrawn n → IsDrawn (n + 0)
 drawn_still n h = (omega (arith, h.0), omega (arith, h.1))
 
 -- the next call id after a step that applies
-calls_after : (n k : ℕ) (id : List ℕ) (s : Step) (r : Resource) → IsDrawn n → StepApplies n k s r → IsDrawn (n + calls_drawn (change.Step id s))
+calls_after : (n k : ℕ) (id : List ℕ) (s : Step) (r : Resource) → IsDrawn n → StepApplies n k s r
+    → IsDrawn (n + calls_drawn (change.Step id s))
 calls_after n k id (step.Exec o) r h a = (omega (arith, h.0), omega (arith, a.1.0, a.1.1))
 calls_after n k id (step.Recur m) r h a = (omega (arith, h.0), omega (arith, a.2.0, a.2.1))
 calls_after n k id _ r h a = drawn_still n h
 
 -- the next run number after a step that applies
-runs_after : (n k : ℕ) (id : List ℕ) (s : Step) (r : Resource) → IsDrawn k → StepApplies n k s r → IsDrawn (k + runs_drawn (change.Step id s))
+runs_after : (n k : ℕ) (id : List ℕ) (s : Step) (r : Resource) → IsDrawn k → StepApplies n k s r
+    → IsDrawn (k + runs_drawn (change.Step id s))
 runs_after n k id (step.Begin call run) r h a = (omega (arith, h.0), omega (arith, a.2.0, a.2.1))
 runs_after n k id _ r h a = drawn_still k h
 
@@ -102,7 +105,8 @@ lawful_change s at change.Boot h moment w short le a =
     let n : ℕ = s.next_call in
     let k : ℕ = s.next_run in
     let booted_one = λ (x : Resource) (l : IsLawfulResource n k s.clock x). lawful_boot n k s.clock at x h.next_run.0 l le in
-    let all = values-map (IsLawfulResource n k s.clock) (IsLawfulResource n k at) (on_history (booted at)) booted_one s.resources h.resources in
+    let all = values-map (IsLawfulResource n k s.clock) (IsLawfulResource n k at)
+    (on_history (booted at)) booted_one s.resources h.resources in
     record {
       next_call = drawn_still n h.next_call;
       next_run = drawn_still k h.next_run;
@@ -110,7 +114,8 @@ lawful_change s at change.Boot h moment w short le a =
       at_most_256 = rw length-map h.at_most_256;
       ids = rw (keys-map (on_history (booted at)) s.resources) h.ids;
       named = ids-map IsId (on_history (booted at)) s.resources h.named;
-      resources = resources_weaken n k at (n + 0) (k + 0) at (omega arith) (omega arith) (omega arith) (changed at change.Boot s.resources) all;
+      resources =
+          resources_weaken n k at (n + 0) (k + 0) at (omega arith) (omega arith) (omega arith) (changed at change.Boot s.resources) all;
     }
 
 -- an event that applies in a lawful state leaves a lawful one

@@ -1,5 +1,6 @@
 -- Parts of a lawful resource: they stay lawful later, and with one more.
-use Rattle.std.proofs.Common.{◌≡◌, ◌≢◌, nat_eq, ℕ, ◌-◌, ◌≤◌, ◌<◌, ◌==◌, Bool, true, false, cond, List, [], ◌∷◌, ◌++◌, map, length, find, Option, Some, None, option_map, option_to_list, refl, ◌∙◌, arith, length-drop}
+use Rattle.std.proofs.Common.{◌≡◌, ◌≢◌, nat_eq, ℕ, ◌-◌, ◌≤◌, ◌<◌, ◌==◌, Bool, true, false, cond, List, [], ◌∷◌, ◌++◌, map, length, find}
+use Rattle.std.proofs.Common.{Option, Some, None, option_map, option_to_list, refl, ◌∙◌, arith, length-drop}
 use Rattle.std.specs.List.{AllByRecursion, IsDistinct, list_any}
 use Rattle.std.proofs.lemmas.Cmp.{nat_eq_equiv}
 use Rattle.std.proofs.lemmas.List.{map-append}
@@ -99,7 +100,8 @@ pub length-last : (xs : List Ended) → length (last_ended xs) ≤ kept
 length-last xs = omega (arith, length-drop (length xs - 16) xs)
 
 -- the results that are kept of two lists of lawful ones
-pub ended_push : (n k clock : ℕ) (xs ys : List Ended) → AllByRecursion (IsLawfulEnded n k clock) xs → AllByRecursion (IsLawfulEnded n k clock) ys
+pub ended_push : (n k clock : ℕ) (xs ys : List Ended) → AllByRecursion (IsLawfulEnded n k clock) xs
+    → AllByRecursion (IsLawfulEnded n k clock) ys
     → AllByRecursion (IsLawfulEnded n k clock) (last_ended (xs ++ ys))
 ended_push n k clock xs ys h g =
     each_drop (IsLawfulEnded n k clock) (length (xs ++ ys) - 16) (xs ++ ys) (each_append (IsLawfulEnded n k clock) xs ys h g)
@@ -123,7 +125,8 @@ ended_running n k at outcome (Some x) is other h = (
 )
 
 -- the results of what was queued
-pub ended_dropped : (n k at : ℕ) (os : List Op) → 1 ≤ k → AllByRecursion (IsQueued n) os → AllByRecursion (IsLawfulEnded n k at) (map (dropped_of at) os)
+pub ended_dropped : (n k at : ℕ) (os : List Op) → 1 ≤ k → AllByRecursion (IsQueued n) os
+    → AllByRecursion (IsLawfulEnded n k at) (map (dropped_of at) os)
 ended_dropped n k at [] one h = tt
 ended_dropped n k at (o ∷ os) one h = (
   record {
@@ -155,11 +158,13 @@ running_monitor n k at run test (m ∷ ms) drawn lt h = by (test m) (running_mon
     by false rest = rest
 
 -- an interval that is not found is that of no monitor
-pub absent_interval : (interval : ℕ) (ms : List Recur) → of_interval interval ms ≡ None → list_any (nat_eq interval) (map (λ m. m.interval) ms) ≡ false
+pub absent_interval : (interval : ℕ) (ms : List Recur) → of_interval interval ms ≡ None
+    → list_any (nat_eq interval) (map (λ m. m.interval) ms) ≡ false
 absent_interval interval [] h = refl
 absent_interval interval (m ∷ ms) h = by (m.interval == interval) refl (absent_interval interval ms)
   where
-    by : (b : Bool) → (m.interval == interval) ≡ b → (of_interval interval ms ≡ None → list_any (nat_eq interval) (map (λ x. x.interval) ms) ≡ false)
+    by : (b : Bool) → (m.interval == interval) ≡ b
+        → (of_interval interval ms ≡ None → list_any (nat_eq interval) (map (λ x. x.interval) ms) ≡ false)
         → list_any (nat_eq interval) (map (λ x. x.interval) (m ∷ ms)) ≡ false
     by true same rest = let none : Some m ≡ None = rw same at h in absurd (cc)
     by false other rest =

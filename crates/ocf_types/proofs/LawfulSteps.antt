@@ -1,5 +1,6 @@
 -- What a step or a boot does to a lawful resource leaves a lawful one.
-use Rattle.std.proofs.Common.{◌≡◌, nat_eq, ℕ, ◌+◌, ◌≤◌, ◌<◌, ◌==◌, not, List, [], ◌∷◌, ◌++◌, map, length, Some, option_map, option_to_list, refl, arith, length-append}
+use Rattle.std.proofs.Common.{◌≡◌, nat_eq, ℕ, ◌+◌, ◌≤◌, ◌<◌, ◌==◌, not, List, [], ◌∷◌, ◌++◌, map, length, Some, option_map, option_to_list}
+use Rattle.std.proofs.Common.{refl, arith, length-append}
 use Rattle.std.specs.List.{AllByRecursion, IsDistinct}
 use Rattle.ocf_types.specs.declared.operation.Op.{Op}
 use Rattle.ocf_types.specs.declared.operation.Recur.{Recur}
@@ -11,17 +12,21 @@ use Rattle.ocf_types.specs.Numbers.{IsDrawn}
 use Rattle.ocf_types.specs.Params.{ParamList, AreParams}
 use Rattle.ocf_types.specs.Lawful.{IsLawfulStep}
 use Rattle.ocf_types.specs.Spelling.{spelled_params, step_fields}
-use Rattle.ocf_types.specs.Resource.{Resource, History, kept, accepted, begun, ended, booted, forgotten, dropped_of, ended_of, run_of_op, run_of_monitor, of_call, without_interval}
+use Rattle.ocf_types.specs.Resource.{Resource, History, kept, accepted, begun, ended, booted, forgotten, dropped_of, ended_of, run_of_op}
+use Rattle.ocf_types.specs.Resource.{run_of_monitor, of_call, without_interval}
 use Rattle.ocf_types.specs.State.{calls_drawn, runs_drawn, on_history, stepped}
 use Rattle.ocf_types.specs.Applies.{StepApplies}
 use Rattle.ocf_types.specs.LawfulState.{IsAscending, IsLawfulRunning, IsLawfulEnded, IsLawfulResource}
 use Rattle.ocf_types.specs.Laws.{each_append, each_weaken}
-use Rattle.ocf_types.proofs.Lists.{each_filter, filter_shorter, distinct_filter, ascends_filter, ascends_push}
-use Rattle.ocf_types.proofs.LawfulParts.{IsQueued, IsRecurring, lawful_weaken, length-last, ended_push, ended_running, ended_dropped, running_op, running_monitor, intervals_push}
+use Rattle.ocf_types.proofs.Lists.{filter_shorter, ascends_filter, ascends_push}
+use Rattle.ocf_types.proofs.LawfulParts.{IsQueued, IsRecurring, lawful_weaken, length-last, ended_push, ended_running, ended_dropped}
+use Rattle.ocf_types.proofs.LawfulParts.{running_op, running_monitor, intervals_push}
+use Rattle.ocf_types.specs.RegistryLaws.{each_filter, distinct_filter}
 
 -- a lawful resource with another history
 with_history : (n k clock : ℕ) (r : Resource) (h : History) → IsLawfulResource n k clock r
-    → length h.queue ≤ 32 → AllByRecursion (IsQueued n) h.queue → IsAscending (map (λ o. o.call) h.queue) → IsLawfulRunning n k clock h.running
+    → length h.queue ≤ 32 → AllByRecursion (IsQueued n) h.queue → IsAscending (map (λ o. o.call) h.queue)
+    → IsLawfulRunning n k clock h.running
     → length h.ended ≤ kept → AllByRecursion (IsLawfulEnded n k clock) h.ended → IsLawfulResource n k clock (record r { history = h })
 with_history n k clock r h l queue_len queue ascends running ended_len ended = record {
   provider = l.provider;
@@ -62,7 +67,8 @@ with_recurring n k clock r ms l recurring_len recurring ascends intervals = reco
 }
 
 -- a lawful resource with other parameters
-with_params : (n k clock : ℕ) (r : Resource) (ps : ParamList) → IsLawfulResource n k clock r → AreParams ps → length (spelled_params ps) ≤ 16384
+with_params : (n k clock : ℕ) (r : Resource) (ps : ParamList) → IsLawfulResource n k clock r → AreParams ps
+    → length (spelled_params ps) ≤ 16384
     → IsLawfulResource n k clock (record r { params = ps })
 with_params n k clock r ps l are short = record {
   provider = l.provider;

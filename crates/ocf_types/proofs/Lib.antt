@@ -1,5 +1,7 @@
 pub mod ValueLemmas
 pub mod ParamsLemmas
+pub mod AroundLemmas
+pub mod SortedLemmas
 pub mod InsertLemmas
 pub mod SpellingExamples
 pub mod StateExamples

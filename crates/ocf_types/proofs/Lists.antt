@@ -1,14 +1,9 @@
 -- Lists: facts of each element, and numbers that ascend.
-use Rattle.std.proofs.Common.{◌≡◌, ℕ, ◌≤◌, ◌<◌, Bool, true, false, cond, List, [], ◌∷◌, ◌++◌, map, length, drop, filter, Option, Some, None, IsSomeAnd, refl, zero, suc, arith}
+use Rattle.std.proofs.Common.{◌≡◌, ℕ, ◌≤◌, ◌<◌, Bool, true, false, cond, List, [], ◌∷◌, ◌++◌, map, length, drop, filter, refl, zero, suc}
+use Rattle.std.proofs.Common.{arith}
 use Rattle.std.specs.List.{AllByRecursion}
 use Rattle.ocf_types.specs.LawfulState.{IsAscending}
-pub use Rattle.ocf_types.specs.Laws.{each_weaken}
-pub use Rattle.ocf_types.specs.RegistryLaws.{each_filter, keys_filter, distinct_filter}
-
--- where a fact holds of what is there, it is there, and the fact holds of it
-pub found : {A : Type 0} (o : Option A) (P : A → Type 0) → IsSomeAnd o P → (x : A) × (o ≡ Some x) × P x
-found None P h = absurd h
-found (Some x) P h = (x, refl, h)
+use Rattle.ocf_types.specs.RegistryLaws.{keys_filter}
 
 module _ {A : Type 0} where
   -- a fact of each holds of the last ones

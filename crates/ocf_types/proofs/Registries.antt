@@ -1,9 +1,9 @@
 -- Resources by their ids: what stays, and what is found.
-use Rattle.std.proofs.Common.{◌≡◌, ◌≢◌, ℕ, Bool, true, false, cond, not, List, [], ◌∷◌, ◌++◌, map, filter, Option, Some, None, refl, sym, ap, subst, ◌∙◌}
-use Rattle.std.specs.List.{AllByRecursion, IsDistinct, list_any}
+use Rattle.std.proofs.Common.{◌≡◌, ℕ, Bool, true, false, cond, not, List, [], ◌∷◌, map, filter, Some, refl, sym}
+use Rattle.std.proofs.Common.{ap, subst}
+use Rattle.std.specs.List.{AllByRecursion, IsDistinct}
 use Rattle.std.specs.Map.{keys_of, lookup}
 use Rattle.std.specs.Str.{bytes_eq}
-use Rattle.std.proofs.lemmas.Bool.{false_from_ne_true}
 use Rattle.std.proofs.lemmas.Slice.Eq.{bytes_eq-Decides}
 use Rattle.std.proofs.lemmas.Map.Keys.{IsDistinct-head, IsDistinct-tail}
 use Rattle.ocf_types.specs.State.{at_id}
@@ -61,13 +61,15 @@ module _ {A : Type 0} where
       gone (x ∷ xs) a g = (rw a.0 (later x.1 g.0), gone xs a.1 g.1)
 
       by : (b : Bool) → bytes_eq id e.0 ≡ b
-          → (lookup (bytes_eq id) es ≡ Some r → (P r → Q (f r)) → AllByRecursion (λ x. P x.1) es → AllByRecursion (λ x. Q x.1) (at_id id f es))
+          → (lookup (bytes_eq id) es ≡ Some r → (P r → Q (f r)) → AllByRecursion (λ x. P x.1) es
+          → AllByRecursion (λ x. Q x.1) (at_id id f es))
           → AllByRecursion (λ x. Q x.1) (at_id id f (e ∷ es))
       by true same rest =
           let there : Some e.1 ≡ Some r = rw same at at in
           let is : e.1 ≡ r = cc in
           let distinct_here = IsDistinct-head bytes_eq e.0 (keys_of es) distinct in (
             rw same (subst (λ (x : A). Q (f x)) (sym is) (here (subst (λ (x : A). P x) is h.0))),
-            gone es (subst (λ (k : List ℕ). AllByRecursion (λ y. bytes_eq k y ≡ false) (keys_of es)) (sym ((bytes_eq-Decides id e.0).0 same)) distinct_here) h.1,
+            gone es (subst (λ (k : List ℕ). AllByRecursion (λ y. bytes_eq k y ≡ false) (keys_of es))
+                (sym ((bytes_eq-Decides id e.0).0 same)) distinct_here) h.1,
           )
       by false other rest = (rw other (later e.1 h.0), rest (rw other at at) here h.1)

@@ -46,7 +46,16 @@ with_resource next_call queue monitors = record {
   next_call = next_call;
   next_run = 1;
   clock = 0;
-  resources = (r1, record { provider = codes "pacemaker"; agent = codes "Dummy"; params = []; history = record no_history { queue = queue }; recurring = monitors }) ∷ [];
+  resources = (
+    r1,
+    record {
+      provider = codes "pacemaker";
+      agent = codes "Dummy";
+      params = [];
+      history = record no_history { queue = queue };
+      recurring = monitors;
+    },
+  ) ∷ [];
 }
 
 -- a second register of the same id is refused
@@ -56,7 +65,9 @@ registered_twice = refl
 
 -- r1 runs its start, and its stop is queued
 abbrev stopped : State
-stopped = after_all registered (at 5 (change.Step r1 (step.Exec (op 1 task.Start))) ∷ at 10 (change.Step r1 (step.Begin 1 1)) ∷ at 20 (change.Step r1 (step.Exec (op 2 task.Stop))) ∷ [])
+stopped =
+    after_all registered (at 5 (change.Step r1 (step.Exec (op 1 task.Start))) ∷ at 10 (change.Step r1 (step.Begin 1 1))
+    ∷ at 20 (change.Step r1 (step.Exec (op 2 task.Stop))) ∷ [])
 
 -- a boot drops what is queued, and then interrupts what runs
 booted_history : option_map (λ r. r.history.ended) (resource_at (boot stopped 500) r1) ≡ Some (
@@ -65,7 +76,16 @@ booted_history : option_map (λ r. r.history.ended) (resource_at (boot stopped 5
 booted_history = refl
 
 -- what ran is the last of these results
-interrupted_last : IsSomeAnd (resource_at (boot stopped 500) r1) (λ r. IsLast (record { call = 1; run = 1; action = action.Start; interval = 0; since = 10; at = 500; outcome = Interrupted }) r.history.ended)
+interrupted_last : IsSomeAnd (resource_at (boot stopped 500) r1)
+    (λ r. IsLast (record {
+      call = 1;
+      run = 1;
+      action = action.Start;
+      interval = 0;
+      since = 10;
+      at = 500;
+      outcome = Interrupted;
+    }) r.history.ended)
 interrupted_last = (record { call = 2; run = 0; action = action.Stop; interval = 0; since = 500; at = 500; outcome = Dropped } ∷ [], refl)
 
 -- and no second boot is needed

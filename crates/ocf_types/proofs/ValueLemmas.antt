@@ -1,10 +1,10 @@
 -- Which texts are values of parameters.
-use Rattle.std.proofs.Common.{◌≡◌, ℕ, ◌≤◌, Bool, true, false, not, ◌&&◌, eqb, leb, List, length, refl}
+use Rattle.std.proofs.Common.{◌≡◌, ℕ, ◌≤◌, Bool, true, false, not, eqb, leb, List, length, refl}
 use Rattle.std.specs.List.{list_all}
 use Rattle.std.specs.Str.{is_utf8, IsUtf8}
-use Rattle.std.proofs.lemmas.Bool.{le-leb, leb-true}
+use Rattle.std.proofs.lemmas.Bool.{le-leb}
 use Rattle.std.proofs.lemmas.Str.{IsUtf8-from_is_utf8, is_utf8-from_IsUtf8}
-use Rattle.ocf_types.specs.Laws.{both}
+use Rattle.ocf_types.specs.Laws.{and_false}
 use Rattle.ocf_types.specs.Values.{is_param_value}
 
 pub is_value : (bs : List ℕ) → length bs ≤ 1024 → list_all (λ b. not (eqb b 0)) bs ≡ true → IsUtf8 bs → is_param_value bs ≡ true
@@ -16,12 +16,5 @@ not_utf8 : (bs : List ℕ) (b : Bool) → is_utf8 bs ≡ b → ¬ (IsUtf8 bs) �
 not_utf8 bs true e bad = absurd (bad (IsUtf8-from_is_utf8 bs e))
 not_utf8 bs false e bad = refl
 
-and_false : (b : Bool) → (b && false) ≡ false
-and_false true = refl
-and_false false = refl
-
 pub is_no_value : (bs : List ℕ) → ¬ (IsUtf8 bs) → is_param_value bs ≡ false
 is_no_value bs bad = rw (not_utf8 bs (is_utf8 bs) refl bad) (and_false _)
-
-pub value_short : (v : List ℕ) → is_param_value v ≡ true → length v ≤ 1024
-value_short v e = leb-true _ _ (both _ _ (both _ _ e).0).0

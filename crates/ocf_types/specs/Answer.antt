@@ -1,5 +1,6 @@
 -- Which event a command is, or which refusal, and what a question is answered.
-use Rattle.std.specs.Prelude.{ℕ, ◌==◌, Bool, false, max, min, nat_lt, nat_le, is_some, is_none, List, [], ◌∷◌, length, map, Result, Ok, Err, if◌then◌else◌, ⊤}
+use Rattle.std.specs.Prelude.{ℕ, ◌==◌, Bool, false, max, min, nat_lt, nat_le, is_some, is_none, List, [], ◌∷◌, length, map, Result, Ok, Err}
+use Rattle.std.specs.Prelude.{if◌then◌else◌, ⊤}
 use Rattle.std.specs.Option.{option_map_or}
 use Rattle.ocf_types.specs.Limits.{num_max, event_limit, resources_limit, queue_limit, recurring_limit}
 use Rattle.ocf_types.specs.Kinds.{Change, Event, Command, Info, Reply}
@@ -12,7 +13,8 @@ use Rattle.ocf_types.specs.declared.command.Question.TheVariants as question
 use Rattle.ocf_types.specs.declared.event.Step.TheVariants as step
 use Rattle.ocf_types.specs.declared.event.Change.TheVariants as change
 use Rattle.ocf_types.specs.declared.refusal.Refusal.{Refusal}
-use Rattle.ocf_types.specs.declared.refusal.Refusal.TheVariants.{UnknownResource, Exists, Busy, QueueFull, RecurringFull, NoSuchRecurring, TooManyResources, TooLarge, CallsSpent}
+use Rattle.ocf_types.specs.declared.refusal.Refusal.TheVariants.{UnknownResource, Exists, Busy, QueueFull, RecurringFull, NoSuchRecurring}
+use Rattle.ocf_types.specs.declared.refusal.Refusal.TheVariants.{TooManyResources, TooLarge, CallsSpent}
 use Rattle.ocf_types.specs.declared.reply.ReplyOf.TheVariants as reply
 
 -- the moment of what happens now: a clock that is handed in is cut at the greatest moment, and never goes back
@@ -25,7 +27,8 @@ change_of call (command.Register r) = change.Register r
 change_of call (command.Unregister id) = change.Unregister id
 change_of call (command.SetParams id ps) = change.Step id (step.SetParams ps)
 change_of call (command.Exec id t timeout) = change.Step id (step.Exec (record { call = call; task = t; timeout = timeout }))
-change_of call (command.Recur id interval timeout level) = change.Step id (step.Recur (record { call = call; interval = interval; timeout = timeout; level = level }))
+change_of call (command.Recur id interval timeout level) =
+    change.Step id (step.Recur (record { call = call; interval = interval; timeout = timeout; level = level }))
 change_of call (command.Cancel id interval) = change.Step id (step.Cancel interval)
 change_of call (command.Forget id) = change.Step id step.Forget
 
@@ -44,14 +47,19 @@ holds_at s id test = option_map_or test (resource_at s id) false
 
 -- the refusals that a command may meet, each with its test, in the order in which they are tried
 abbrev pub tests : State → Command → ℕ → List (Refusal × Bool)
-tests s (command.Register r) size = (Exists, is_some (resource_at s r.id)) ∷ (TooManyResources, nat_le resources_limit (length s.resources)) ∷ (TooLarge, nat_lt event_limit size) ∷ []
+tests s (command.Register r) size =
+    (Exists, is_some (resource_at s r.id)) ∷ (TooManyResources, nat_le resources_limit (length s.resources))
+    ∷ (TooLarge, nat_lt event_limit size) ∷ []
 tests s (command.Unregister id) size = (UnknownResource, is_none (resource_at s id)) ∷ (Busy, holds_at s id (λ r. is_busy r.history)) ∷ []
 tests s (command.SetParams id ps) size = (UnknownResource, is_none (resource_at s id)) ∷ (TooLarge, nat_lt event_limit size) ∷ []
-tests s (command.Exec id t timeout) size = (UnknownResource, is_none (resource_at s id)) ∷ (QueueFull, holds_at s id (λ r. nat_le queue_limit (length r.history.queue))) ∷ (CallsSpent, s.next_call == num_max) ∷ []
+tests s (command.Exec id t timeout) size =
+    (UnknownResource, is_none (resource_at s id)) ∷ (QueueFull, holds_at s id (λ r. nat_le queue_limit (length r.history.queue)))
+    ∷ (CallsSpent, s.next_call == num_max) ∷ []
 tests s (command.Recur id interval timeout level) size =
     (UnknownResource, is_none (resource_at s id)) ∷ (Exists, holds_at s id (λ r. is_some (of_interval interval r.recurring)))
     ∷ (RecurringFull, holds_at s id (λ r. nat_le recurring_limit (length r.recurring))) ∷ (CallsSpent, s.next_call == num_max) ∷ []
-tests s (command.Cancel id interval) size = (UnknownResource, is_none (resource_at s id)) ∷ (NoSuchRecurring, holds_at s id (λ r. is_none (of_interval interval r.recurring))) ∷ []
+tests s (command.Cancel id interval) size =
+    (UnknownResource, is_none (resource_at s id)) ∷ (NoSuchRecurring, holds_at s id (λ r. is_none (of_interval interval r.recurring))) ∷ []
 tests s (command.Forget id) size = (UnknownResource, is_none (resource_at s id)) ∷ []
 
 -- the first refusal whose test holds, else the event

@@ -24,10 +24,12 @@ IsReady (o ∷ os) monitors call = call ≡ o.call
 abbrev pub StepApplies : ℕ → ℕ → Step → Resource → Type 0
 StepApplies next_call next_run (step.SetParams ps) r = ⊤
 StepApplies next_call next_run (step.Exec o) r = (length r.history.queue < queue_limit) × IsNext o.call next_call
-StepApplies next_call next_run (step.Recur m) r = (length r.recurring < recurring_limit) × (of_interval m.interval r.recurring ≡ None) × IsNext m.call next_call
+StepApplies next_call next_run (step.Recur m) r =
+    (length r.recurring < recurring_limit) × (of_interval m.interval r.recurring ≡ None) × IsNext m.call next_call
 StepApplies next_call next_run (step.Cancel interval) r = IsSome (of_interval interval r.recurring)
 StepApplies next_call next_run step.Forget r = ⊤
-StepApplies next_call next_run (step.Begin call run) r = (r.history.running ≡ None) × IsReady r.history.queue r.recurring call × IsNext run next_run
+StepApplies next_call next_run (step.Begin call run) r =
+    (r.history.running ≡ None) × IsReady r.history.queue r.recurring call × IsNext run next_run
 StepApplies next_call next_run (step.Result run end) r = IsSomeAnd r.history.running (λ x. x.run ≡ run)
 
 -- where a change applies

@@ -1,6 +1,7 @@
 -- The due moments of recurring monitors, and the pick: what a resource begins now. Pacemaker Explained, recurring
 -- monitor operations, interval; the order among operations is this executor's own.
-use Rattle.std.specs.Prelude.{◌≡◌, ℕ, ◌+◌, ◌<◌, ◌≤◌, ◌⊎◌, ◌==◌, ◌&&◌, nat_lt, Bool, false, List, [], ◌∷◌, Option, Some, None, is_some, if◌then◌else◌, MatchOption, All, Contains, option_and_then, option_map}
+use Rattle.std.specs.Prelude.{◌≡◌, ℕ, ◌+◌, ◌<◌, ◌≤◌, ◌⊎◌, ◌==◌, ◌&&◌, nat_lt, Bool, false, List, [], ◌∷◌, Option, Some, None, is_some}
+use Rattle.std.specs.Prelude.{if◌then◌else◌, MatchOption, All, Contains, option_and_then, option_map}
 use Rattle.std.specs.List.{filter_map}
 use Rattle.std.specs.Option.{option_map_or}
 use Rattle.std.specs.Str.{bytes_eq}
@@ -38,7 +39,8 @@ abbrev pub sets : State → Event → List ℕ → ℕ → Option ℕ
 sets s e id call = sets_by e.change
   where
     sets_by : Change → Option ℕ
-    sets_by (change.Step other what) = if bytes_eq other id then option_and_then (λ r. step_sets r e.at what call) (resource_at s id) else None
+    sets_by (change.Step other what) =
+        if bytes_eq other id then option_and_then (λ r. step_sets r e.at what call) (resource_at s id) else None
     sets_by _ = None
 
 -- the first of two that is there

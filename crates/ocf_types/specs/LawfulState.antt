@@ -33,7 +33,8 @@ IsIntervalOf interval action = (interval < 2 ^ 32) × (0 < interval → action �
 abbrev pub IsLawfulRunning : ℕ → ℕ → ℕ → Option Running → Type 0
 IsLawfulRunning next_call next_run clock None = ⊤
 IsLawfulRunning next_call next_run clock (Some x) =
-    IsDrawn x.call × (x.call < next_call) × IsDrawn x.run × (x.run < next_run) × IsMillis x.timeout × IsIntervalOf x.interval (action_of x.task) × (x.since ≤ clock)
+    IsDrawn x.call × (x.call < next_call) × IsDrawn x.run × (x.run < next_run) × IsMillis x.timeout
+    × IsIntervalOf x.interval (action_of x.task) × (x.since ≤ clock)
 
 abbrev pub IsOutcome : Outcome → Type 0
 IsOutcome (Run end) = IsRunEnd end

@@ -1,21 +1,67 @@
--- Lemmas on tests, lists, orders and boots, for proofs here and in the crates above.
-use Rattle.std.specs.Prelude.{◌≡◌, ℕ, Bool, true, false, ◌&&◌, List, [], ◌∷◌, ◌++◌}
-use Rattle.std.specs.List.{AllByRecursion, IsDistinct, list_any}
-use Rattle.std.specs.Ordering.{is_lt}
+-- Lemmas on tests, lists, orders, events and boots, for proofs here and in the crates above.
+use Rattle.std.specs.Prelude.{◌≡◌, ℕ, ◌+◌, ◌<◌, ◌==◌, Bool, true, false, ◌&&◌, List, [], ◌∷◌, ◌++◌, length, take, Some}
+use Rattle.std.specs.List.{AllByRecursion, IsDistinct, flat_map, list_any}
+use Rattle.std.specs.Ordering.{is_lt, ordering_reverse}
+use Rattle.std.specs.Str.{bytes_eq}
 use Rattle.std.specs.declared.cmp.Ordering.{Ordering}
 use Rattle.std.specs.declared.cmp.Ordering.TheVariants.{Less, Equal, Greater}
-use Rattle.std.proofs.Common.{inl, inr, arith, refl, ap}
+use Rattle.std.proofs.Common.{get_or, inl, inr, arith, refl, sym, ap, subst, ◌∙◌}
+use Rattle.std.proofs.lemmas.Bool.Decides.{nat_tests}
 use Rattle.std.proofs.lemmas.Cmp.{nat_list_cmp_total}
+use Rattle.std.proofs.lemmas.List.{append-nil, take_more}
+use Rattle.std.proofs.lemmas.List.Concat.{flat_map-append, flat_map-cons}
+use Rattle.std.proofs.lemmas.List.Sums.{fold-append}
+use Rattle.std.proofs.lemmas.Slice.Eq.{bytes_eq-Decides}
 use Rattle.ocf_types.specs.declared.event.Change.TheVariants as change
 use Rattle.ocf_types.specs.Due.{IsBefore}
 use Rattle.ocf_types.specs.Params.{is_before}
 use Rattle.ocf_types.specs.Resource.{is_busy}
-use Rattle.ocf_types.specs.State.{Registry, changed}
+use Rattle.ocf_types.specs.Kinds.{Event}
+use Rattle.ocf_types.specs.State.{Registry, State, after, after_all, changed}
 
 -- both sides of a test that holds
 pub both : (a b : Bool) → (a && b) ≡ true → (a ≡ true) × (b ≡ true)
 both true b e = (refl, e)
 both false b e = absurd cc
+
+pub and_true : (a b : Bool) → a ≡ true → b ≡ true → (a && b) ≡ true
+and_true true b a_is b_is = b_is
+and_true false b a_is b_is = a_is
+
+pub and_false : (b : Bool) → (b && false) ≡ false
+and_false true = refl
+and_false false = refl
+
+-- what a test of numbers says
+pub same_number : (a b : ℕ) → a ≡ b → (a == b) ≡ true
+same_number a b same = grind (arith, nat_tests)
+
+pub zero_from_test : (n : ℕ) → true ≡ (n == 0) → n ≡ 0
+zero_from_test n is = grind (arith, nat_tests)
+
+pub some_from_test : (n : ℕ) → false ≡ (n == 0) → 0 < n
+some_from_test n is = grind (arith, nat_tests)
+
+-- what is there twice is the same
+pub some_is : {A : Type 0} (x y : A) → Some x ≡ Some y → x ≡ y
+some_is x y is = cc
+
+-- a list without a length is empty
+pub nil_of : (xs : List ℕ) → length xs ≡ 0 → xs ≡ []
+nil_of [] none = refl
+nil_of (x ∷ xs) none = absurd (omega (arith, none))
+
+-- what is joined of one element more
+pub flat_more : {A B : Type 0} (f : A → List B) (xs : List A) (i : ℕ) (x : A) → i < length xs → x ≡ get_or xs i x
+    → flat_map f (take (i + 1) xs) ≡ flat_map f (take i xs) ++ f x
+flat_more f xs i x lt is =
+    let more : take (i + 1) xs ≡ take i xs ++ x ∷ [] = take_more xs i x lt ∙ ap (λ y. take i xs ++ y ∷ []) (sym is) in
+    let one : flat_map f (x ∷ []) ≡ f x = flat_map-cons f x [] ∙ append-nil (f x) in
+    ap (flat_map f) more ∙ flat_map-append f (take i xs) (x ∷ []) ∙ ap (λ t. flat_map f (take i xs) ++ t) one
+
+-- the state after events behind others
+pub after_all-append : (s : State) (es fs : List Event) → after_all s (es ++ fs) ≡ after_all (after_all s es) fs
+after_all-append s es fs = fold-append after s es fs
 
 module _ {A : Type 0} where
   -- a weaker fact of each
@@ -38,6 +84,26 @@ pub less_is : (r : Ordering) → is_lt r ≡ true → r ≡ Less
 less_is Less h = refl
 less_is Equal h = absurd cc
 less_is Greater h = absurd cc
+
+-- a name is not before itself
+pub not_self : (r : Ordering) → r ≡ ordering_reverse r → is_lt r ≡ false
+not_self Less e = absurd cc
+not_self Equal e = refl
+not_self Greater e = refl
+
+pub not_before_itself : (a : List ℕ) → is_before a a ≡ false
+not_before_itself a = not_self _ (nat_list_cmp_total.antisymm a a)
+
+-- a name before another is not that
+pub before_differs : (a b : List ℕ) → is_before a b ≡ true → bytes_eq b a ≡ false
+before_differs a b h = by (bytes_eq b a) refl
+  where
+    by : (t : Bool) → bytes_eq b a ≡ t → t ≡ false
+    by true e =
+        let same : b ≡ a = (bytes_eq-Decides b a).0 e in
+        let itself : is_before a a ≡ true = subst (λ x. is_before a x ≡ true) same h in
+        absurd (let no : is_before a a ≡ false = not_before_itself a in cc)
+    by false e = refl
 
 -- a name before another one that is before a third is before it
 pub before_trans : (a b c : List ℕ) → is_before a b ≡ true → is_before b c ≡ true → is_before a c ≡ true

@@ -21,3 +21,4 @@ pub mod Places
 pub mod Laws
 pub mod NameLaws
 pub mod RegistryLaws
+pub mod LengthLaws

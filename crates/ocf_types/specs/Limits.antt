@@ -1,6 +1,8 @@
 -- The limits by name: those of the code, and how long spellings are.
 use Rattle.std.specs.Prelude.{ℕ, ◌+◌, ◌*◌}
-use Rattle.ocf_types.specs.declared.limits.TheConstants.{NUM_MAX, NAME_LIMIT, VALUE_LIMIT, PARAMS_LIMIT, RESOURCES_LIMIT, QUEUE_LIMIT, RECURRING_LIMIT, ENDED_KEPT, KEY_LIMIT, EVENT_LIMIT, BODY_LIMIT, PART_LIMIT, RESERVE, LINE_LIMIT, METADATA_LIMIT, DEFAULT_TIMEOUT, HEAD_LEN, CREATED_LEN}
+use Rattle.ocf_types.specs.declared.limits.TheConstants.{NUM_MAX, NAME_LIMIT, VALUE_LIMIT, PARAMS_LIMIT, RESOURCES_LIMIT, QUEUE_LIMIT}
+use Rattle.ocf_types.specs.declared.limits.TheConstants.{RECURRING_LIMIT, ENDED_KEPT, KEY_LIMIT, EVENT_LIMIT, BODY_LIMIT, PART_LIMIT}
+use Rattle.ocf_types.specs.declared.limits.TheConstants.{RESERVE, LINE_LIMIT, METADATA_LIMIT, DEFAULT_TIMEOUT, HEAD_LEN, CREATED_LEN}
 
 -- the greatest moment, call id and run number
 abbrev pub num_max : ℕ

@@ -1,7 +1,9 @@
 -- Refusals, with their numbers and words.
 use Rattle.std.specs.Prelude.{ℕ, List, codes}
 use Rattle.ocf_types.specs.declared.refusal.Refusal.{Refusal}
-use Rattle.ocf_types.specs.declared.refusal.Refusal.TheVariants.{Syntax, UnknownOp, BadName, BadValue, UnknownResource, Exists, Busy, QueueFull, RecurringFull, NoSuchRecurring, TooManyResources, TooLarge, CallsSpent, JournalFull, Memory, Disk, Closed}
+use Rattle.ocf_types.specs.declared.refusal.Refusal.TheVariants.{Syntax, UnknownOp, BadName, BadValue, UnknownResource, Exists, Busy}
+use Rattle.ocf_types.specs.declared.refusal.Refusal.TheVariants.{QueueFull, RecurringFull, NoSuchRecurring, TooManyResources, TooLarge}
+use Rattle.ocf_types.specs.declared.refusal.Refusal.TheVariants.{CallsSpent, JournalFull, Memory, Disk, Closed}
 
 -- the number and the word of a refusal
 abbrev pub refusal_row : Refusal → ℕ × List ℕ

@@ -1,6 +1,7 @@
 -- Lemmas on lists that are cut by a test, on resources by their ids, and on changes and refusals, for proofs here and in the
 -- crates above.
-use Rattle.std.specs.Prelude.{◌≡◌, ◌≢◌, ℕ, Bool, true, false, cond, not, List, [], ◌∷◌, ◌++◌, ◌==◌, map, filter, is_some, Option, Some, None, Result, Ok, Err}
+use Rattle.std.specs.Prelude.{◌≡◌, ◌≢◌, ℕ, Bool, true, false, cond, not, List, [], ◌∷◌, ◌++◌, ◌==◌, map, filter, is_some, Option, Some}
+use Rattle.std.specs.Prelude.{None, Ok, Err}
 use Rattle.std.specs.List.{AllByRecursion, IsDistinct, list_any}
 use Rattle.std.specs.Map.{keys_of, lookup}
 use Rattle.std.specs.Str.{bytes_eq}
@@ -10,6 +11,7 @@ use Rattle.std.proofs.lemmas.Bool.Decides.{Decides-eqb}
 use Rattle.std.proofs.lemmas.Map.Entries.{lookup-filter-keys}
 use Rattle.std.proofs.lemmas.Map.Keys.{IsDistinct-head, IsDistinct-tail, IsDistinct-cons}
 use Rattle.std.proofs.lemmas.Slice.Eq.{bytes_eq-Decides}
+use Rattle.std.specs.Option.{IsSomeAnd}
 use Rattle.ocf_types.specs.declared.event.Change.TheVariants as change
 use Rattle.ocf_types.specs.declared.operation.Recur.{Recur}
 use Rattle.ocf_types.specs.declared.refusal.Refusal.{Refusal}
@@ -25,6 +27,11 @@ same_id id = (bytes_eq-Decides id id).1 refl
 -- ids that differ
 pub other_id : (id other : List ℕ) → id ≢ other → bytes_eq other id ≡ false
 other_id id other h = false_from_ne_true _ (λ e. h (sym ((bytes_eq-Decides other id).0 e)))
+
+-- ids that differ from one another, seen from the other
+pub other_way : (a b : List ℕ) → bytes_eq a b ≡ false → bytes_eq b a ≡ false
+other_way a b h = false_from_ne_true _ (λ e. let same : bytes_eq a b ≡ true = (bytes_eq-Decides a b).1 (sym ((bytes_eq-Decides b a).0 e)) in
+    let no : true ≡ false = sym same ∙ h in cc)
 
 -- what one id names, an id that differs does not
 pub apart : (id other : List ℕ) → id ≢ other → (k : List ℕ) → bytes_eq other k ≡ true → not (bytes_eq id k) ≡ true
@@ -48,7 +55,8 @@ module _ {A : Type 0} where
   keys_filter key P test [] h = tt
   keys_filter key P test (x ∷ xs) h = by (test x) (keys_filter key P test xs h.1)
     where
-      by : (b : Bool) → AllByRecursion P (map key (filter test xs)) → AllByRecursion P (map key (cond b (x ∷ filter test xs) (filter test xs)))
+      by : (b : Bool) → AllByRecursion P (map key (filter test xs))
+          → AllByRecursion P (map key (cond b (x ∷ filter test xs) (filter test xs)))
       by true k = (h.0, k)
       by false k = k
 
@@ -68,6 +76,20 @@ module _ {A : Type 0} where
       → lookup (bytes_eq other) (es ++ e ∷ []) ≡ lookup (bytes_eq other) es
   lookup-push_other other [] e h = rw h refl
   lookup-push_other other (x ∷ xs) e h = ap (λ (o : Option A). cond (bytes_eq other x.0) (Some x.1) o) (lookup-push_other other xs e h)
+
+  -- what is done to the entry of an id is found there
+  pub lookup-at_id_here : (id : List ℕ) (f : A → A) (es : List (List ℕ × A)) (v : A) → lookup (bytes_eq id) es ≡ Some v
+      → lookup (bytes_eq id) (at_id id f es) ≡ Some (f v)
+  lookup-at_id_here id f [] v at = absurd (let none : None ≡ Some v = at in cc)
+  lookup-at_id_here id f (e ∷ es) v at = by (bytes_eq id e.0) refl (lookup-at_id_here id f es v)
+    where
+      by : (b : Bool) → bytes_eq id e.0 ≡ b → (lookup (bytes_eq id) es ≡ Some v → lookup (bytes_eq id) (at_id id f es) ≡ Some (f v))
+          → cond (bytes_eq id e.0) (Some (cond b (f e.1) e.1)) (lookup (bytes_eq id) (at_id id f es)) ≡ Some (f v)
+      by true same rest =
+          let here : Some e.1 ≡ Some v = rw same at at in
+          let is : e.1 ≡ v = cc in
+          rw same (ap (λ (x : A). Some (f x)) is)
+      by false other rest = rw other (rest (rw other at at))
 
   -- what is done to the entry of an id is not done to that of another
   pub lookup-at_id_other : (id other : List ℕ) (f : A → A) (es : List (List ℕ × A)) → id ≢ other
@@ -102,6 +124,11 @@ module _ {A : Type 0} where
   pub none_is : (o : Option A) → is_some o ≡ false → o ≡ None
   none_is None h = refl
   none_is (Some x) h = absurd (cc)
+
+-- where a fact holds of what is there, it is there, and the fact holds of it
+pub found : {A : Type 0} (o : Option A) (P : A → Type 0) → IsSomeAnd o P → (x : A) × (o ≡ Some x) × P x
+found None P h = absurd h
+found (Some x) P h = (x, refl, h)
 
 -- a change leaves a resource that it does not name as it was
 pub other_stays : (at : ℕ) (c : Change) (rs : Registry) (id other : List ℕ) → named c ≡ Some id → id ≢ other

@@ -1,6 +1,7 @@
 -- One resource, as plain lists, and what happens to it. Pacemaker Explained, resource operations; how many results
 -- are kept, and what a boot does, is this executor's own.
-use Rattle.std.specs.Prelude.{ℕ, ◌-◌, ◌==◌, Bool, ◌||◌, List, [], ◌∷◌, ◌++◌, map, length, drop, find, filter, not, nat_lt, Option, Some, None, option_map, option_to_list, is_some}
+use Rattle.std.specs.Prelude.{ℕ, ◌-◌, ◌==◌, Bool, ◌||◌, List, [], ◌∷◌, ◌++◌, map, length, drop, find, filter, not, nat_lt, Option, Some}
+use Rattle.std.specs.Prelude.{None, option_map, option_to_list, is_some}
 use Rattle.ocf_types.specs.Limits.{ended_kept}
 use Rattle.ocf_types.specs.Params.{ParamList}
 use Rattle.ocf_types.specs.Actions.{action_of}
@@ -40,11 +41,13 @@ run_of_op run at o = record { call = o.call; run = run; task = o.task; timeout =
 
 -- the run of a recurring monitor, begun at a moment
 abbrev pub run_of_monitor : ℕ → ℕ → Recur → Running
-run_of_monitor run at m = record { call = m.call; run = run; task = Monitor m.level; timeout = m.timeout; interval = m.interval; since = at }
+run_of_monitor run at m =
+    record { call = m.call; run = run; task = Monitor m.level; timeout = m.timeout; interval = m.interval; since = at }
 
 -- the result of a run that ended at a moment
 abbrev pub ended_of : Outcome → ℕ → Running → Ended
-ended_of outcome at x = record { call = x.call; run = x.run; action = action_of x.task; interval = x.interval; since = x.since; at = at; outcome = outcome }
+ended_of outcome at x =
+    record { call = x.call; run = x.run; action = action_of x.task; interval = x.interval; since = x.since; at = at; outcome = outcome }
 
 -- the result of a queued action that was never begun
 abbrev pub dropped_of : ℕ → Op → Ended

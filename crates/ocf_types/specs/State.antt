@@ -20,6 +20,11 @@ pub record State : Type 0 where
   pub clock : ℕ
   pub resources : Registry
 
+-- the state of these numbers and this registry
+abbrev pub state_of : ℕ → ℕ → ℕ → Registry → State
+state_of next_call next_run clock resources =
+    record { next_call = next_call; next_run = next_run; clock = clock; resources = resources }
+
 abbrev pub empty : State
 empty = record { next_call = 1; next_run = 1; clock = 0; resources = [] }
 
@@ -53,7 +58,8 @@ stepped at (step.Result run end) r = on_history (ended (Run end) at) r
 
 -- the id and the resource of a registration, with what it does and its recurring monitors
 abbrev pub resource_of : Registration → History → List Recur → List ℕ × Resource
-resource_of r history recurring = (r.id, record { provider = r.provider; agent = r.agent; params = r.params; history = history; recurring = recurring })
+resource_of r history recurring =
+    (r.id, record { provider = r.provider; agent = r.agent; params = r.params; history = history; recurring = recurring })
 
 -- a resource as it is registered: all its lists are empty
 abbrev pub registered : Registration → List ℕ × Resource

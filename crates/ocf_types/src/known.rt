@@ -1,5 +1,6 @@
 //! A value of a type is lawful: what a caller may know of it. The bodies read what they need to, and do nothing.
-ghost use Rattle.ocf_types.specs.Lawful.{IsLawfulRegistration, IsLawfulOp, IsLawfulRecur, IsRunEnd, IsLawfulStep, IsLawfulChange, IsLawfulEvent, IsLawfulCommand};
+ghost use Rattle.ocf_types.specs.Lawful.{IsLawfulRegistration, IsLawfulOp, IsLawfulRecur, IsRunEnd, IsLawfulStep, IsLawfulChange};
+ghost use Rattle.ocf_types.specs.Lawful.{IsLawfulEvent, IsLawfulCommand};
 
 use crate::command::CommandOf;
 use crate::event::{Change, EventOf, Registration, Step};

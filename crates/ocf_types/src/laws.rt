@@ -1,6 +1,5 @@
 //! Laws of the definitions, each the contract of a function that does nothing.
-ghost use Rattle.std.specs.Prelude.{◌≡◌, ◌≢◌, ℕ, ◌≤◌, List, length, Some, Ok, IsTrue, IsSomeAnd, filter, not};
-ghost use Rattle.std.specs.Str.{bytes_eq};
+ghost use Rattle.std.specs.Prelude.{◌≡◌, ◌≢◌, ℕ, ◌≤◌, List, length, Some, Ok, IsTrue, IsSomeAnd};
 ghost use Rattle.ocf_types.specs.declared.event.Step.TheVariants as step;
 ghost use Rattle.ocf_types.specs.declared.event.Change.TheVariants as change;
 ghost use Rattle.ocf_types.specs.declared.outcome.RunEnd.{RunEnd};

@@ -1,7 +1,8 @@
 //! Which texts are names.
 ghost use Rattle.std.specs.Prelude.{◌≡◌};
 ghost use Rattle.std.specs.List.{list_all};
-ghost use Rattle.ocf_types.specs.Names.{is_name_byte, is_id_byte, is_first_byte, is_word_byte, is_dots, has_name_length, is_rsc_id, is_provider, is_agent_type, is_param_name};
+ghost use Rattle.ocf_types.specs.Names.{is_name_byte, is_id_byte, is_first_byte, is_word_byte, is_dots, has_name_length, is_rsc_id};
+ghost use Rattle.ocf_types.specs.Names.{is_provider, is_agent_type, is_param_name};
 
 use crate::limits::NAME_LIMIT;
 use thiserror::Error;

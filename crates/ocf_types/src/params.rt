@@ -1,7 +1,6 @@
 //! Parameters, sorted by name.
-ghost use Rattle.std.specs.Prelude.{◌≡◌, ◌↔◌, ◌≤◌, ◌<◌, ◌++◌, [], ◌∷◌, None, true, false, length, count_by, slice_get, IsOk, OnOk, OnErr, IfOk, IsTrue};
-ghost use Rattle.std.specs.Option.{option_map_or};
-ghost use Rattle.std.specs.Str.{bytes_eq};
+ghost use Rattle.std.specs.Prelude.{◌≡◌, ◌↔◌, ◌<◌, ◌++◌, [], ◌∷◌, None, true, false, length, count_by, IsOk, OnOk, OnErr};
+ghost use Rattle.std.specs.Prelude.{IfOk, IsTrue};
 ghost use Rattle.ocf_types.specs.Params.{AreParams, is_before, is_after, last_name, has_param, with_param};
 
 use crate::limits::PARAMS_LIMIT;
@@ -99,7 +98,6 @@ impl<A: Allocator> Params<A> {
 
     /// Sets a parameter: one of the same name gets the new value, another comes in its place by name. It is
     /// `BadValue` just where it would be the 65th. One that is there takes no memory.
-    #[tactic(auto, using(crate::proofs::InsertLemmas::place_below, crate::proofs::InsertLemmas::set_there, crate::proofs::InsertLemmas::insert_new, crate::proofs::InsertLemmas::set_lawful, crate::proofs::InsertLemmas::insert_lawful))]
     pub fn insert(&mut self, name: ParamName, value: ParamValue<A>) -> Result<(), ValueError>
         ensures ok { OnOk result (self.new ≡ with_param name value self.old) }
         ensures full { result ≡ Err ValueError.BadValue ↔ ((length self.old ≡ PARAMS_LIMIT) × (has_param name self.old ≡ false)) }

@@ -1,5 +1,4 @@
 //! Replies to requests, notices of results, and ends of turns and tidies.
-ghost use Rattle.std.specs.Prelude.{◌≡◌};
 
 use crate::agent::{AgentType, Provider};
 use crate::items::Items;

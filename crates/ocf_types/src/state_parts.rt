@@ -21,18 +21,19 @@ pub struct StateParts<A: Allocator = Global> {
 }
 
 impl<A: Allocator> Model for StateParts<A> {
-    ghost use Rattle.ocf_types.specs.State.{State};
+    ghost use Rattle.ocf_types.specs.State.{State, state_of};
     ghost use Rattle.ocf_types.specs.LawfulState.{IsLawfulState};
 
     ghost Value = { State };
 
-    ghost view = { λ s. record { next_call = s.next_call; next_run = s.next_run; clock = s.clock; resources = s.resources.items } };
+    ghost view = { λ s. state_of s.next_call s.next_run s.clock s.resources.items };
 
-    ghost invariant = { λ s. IsLawfulState (record { next_call = s.next_call; next_run = s.next_run; clock = s.clock; resources = s.resources.items }) };
+    ghost invariant = { λ s. IsLawfulState (state_of s.next_call s.next_run s.clock s.resources.items) };
 }
 
 impl<A: Allocator> StateParts<A> {
     ghost use Rattle.ocf_types.specs.LawfulState.{IsLawfulState};
+    ghost use Rattle.ocf_types.specs.State.{state_of};
 
     /// The state of these numbers and resources, in order of registration.
     pub fn new(
@@ -41,8 +42,8 @@ impl<A: Allocator> StateParts<A> {
         clock: Moment,
         resources: Vec<ResourceParts<A>, A>,
     ) -> Self
-        requires { IsLawfulState (record { next_call = next_call; next_run = next_run; clock = clock; resources = resources.items }) }
-        ensures { result ≡ record { next_call = next_call; next_run = next_run; clock = clock; resources = resources.items } }
+        requires { IsLawfulState (state_of next_call next_run clock resources.items) }
+        ensures { result ≡ state_of next_call next_run clock resources.items }
     {
         StateParts {
             next_call,

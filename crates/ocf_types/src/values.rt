@@ -63,7 +63,7 @@ impl<A: Allocator> ParamValue<A> {
     }
 
     /// The text of the value.
-    #[tactic(auto, using(crate::proofs::ValueLemmas::value_short))]
+    #[tactic(auto, using(crate::specs::LengthLaws::value_short))]
     pub fn as_str(&self) -> &str
         ensures bytes { result.now ≡ self.now }
         ensures lawful { IsTrue (is_param_value result.now) }

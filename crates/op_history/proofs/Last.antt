@@ -1,5 +1,6 @@
 -- A ring of the last n of a list that grows at its end.
-use Rattle.std.proofs.Common.{◌≡◌, ℕ, ◌+◌, ◌-◌, ◌<◌, ◌≤◌, List, [], ◌∷◌, ◌++◌, length, map, take, drop, get_or, refl, sym, ap, ◌∙◌, arith, length-append, length-drop, append_assoc}
+use Rattle.std.proofs.Common.{◌≡◌, ℕ, ◌+◌, ◌-◌, ◌<◌, ◌≤◌, List, [], ◌∷◌, ◌++◌, length, map, take, drop, get_or, refl, sym, ap, ◌∙◌, arith}
+use Rattle.std.proofs.Common.{length-append, length-drop, append_assoc}
 use Rattle.std.proofs.lemmas.List.{drop-append-le, drop-drop, map_more, take_more}
 use Rattle.circular_buffer.specs.Buffer.{Buffer, buffer, keep_last}
 

@@ -1,5 +1,5 @@
 //! The results that are kept.
-ghost use Rattle.std.specs.Prelude.{◌≡◌, ◌<◌, ◌≤◌, [], ◌∷◌, ◌++◌, length, map, slice_get, IfOk};
+ghost use Rattle.std.specs.Prelude.{◌≡◌, ◌<◌, ◌≤◌, [], ◌++◌, length, map, slice_get, IfOk};
 ghost use Rattle.std.specs.Prelude.{option_to_list};
 ghost use Rattle.ocf_types.specs.Resource.{kept, last_ended, ended_of, dropped_of};
 

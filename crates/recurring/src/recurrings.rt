@@ -1,5 +1,6 @@
 //! The recurring monitors of one resource.
-ghost use Rattle.std.specs.Prelude.{◌≡◌, ◌<◌, ◌≤◌, ◌↔◌, [], ◌∷◌, ◌++◌, length, slice_get, nat_le, is_some, IsSome, IsNone, IsErr, OnOk, OnErr};
+ghost use Rattle.std.specs.Prelude.{◌≡◌, ◌<◌, ◌≤◌, ◌↔◌, [], ◌∷◌, ◌++◌, length, slice_get, nat_le, is_some, IsSome, IsNone, IsErr, OnOk};
+ghost use Rattle.std.specs.Prelude.{OnErr};
 ghost use Rattle.ocf_types.specs.Resource.{of_call, of_interval, without_interval};
 ghost use Rattle.ocf_types.specs.Due.{IsLeastDue};
 ghost use Rattle.recurring.specs.Monitors.{recurs, pairs, all_due_at, cancelled, settled, restarted};

@@ -1,17 +1,30 @@
 use Rattle.std.proofs.Common.{arith}
 use Rattle.ocf_types.specs.declared.event.Step.TheVariants as step
 use Rattle.ocf_types.specs.declared.event.Change.TheVariants as change
-use Rattle.ocf_types.proofs.Lengths.{id_short, length-event, length-step, length-begin, length-result, event_short}
+use Rattle.ocf_types.proofs.Lengths.{length-event, length-step, length-begin, length-result, event_short}
 use Rattle.ocf_types.proofs.StateLengths.{state_short}
 use Rattle.ocf_types.proofs.laws.lengths.Goals as goal
+use Rattle.ocf_types.specs.LengthLaws.{id_short}
 
 pub returns-clause-result : goal.returns-clause-result
 returns-clause-result c at run id end h =
-    omega (arith, length-event at (change.Step id (step.Result run end)), length-step id (step.Result run end), length-result run end, id_short id h)
+    omega (
+      arith,
+      length-event at (change.Step id (step.Result run end)),
+      length-step id (step.Result run end),
+      length-result run end,
+      id_short id h,
+    )
 
 pub returns-clause-begin : goal.returns-clause-begin
 returns-clause-begin c at call run id h =
-    omega (arith, length-event at (change.Step id (step.Begin call run)), length-step id (step.Begin call run), length-begin call run, id_short id h)
+    omega (
+      arith,
+      length-event at (change.Step id (step.Begin call run)),
+      length-step id (step.Begin call run),
+      length-begin call run,
+      id_short id h,
+    )
 
 pub returns-clause-boot : goal.returns-clause-boot
 returns-clause-boot c at = length-event at change.Boot

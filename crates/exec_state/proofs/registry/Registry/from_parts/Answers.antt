@@ -9,13 +9,15 @@ use Rattle.exec_state.proofs.registry.Registry.from_parts.Goals as goal
 
 pub from_parts-requires : goal.from_parts-requires
 from_parts-requires g c =
-    fact_next (λ (e : List ℕ × Resource). FitsRoom e.1) (seen_all c.loop-part.resources.entries) (into_iter_items c.loop-part.part-iterator) c.args.parts.items _ c.in-Some.part
+    fact_next (λ (e : List ℕ × Resource). FitsRoom e.1) (seen_all c.loop-part.resources.entries)
+    (into_iter_items c.loop-part.part-iterator) c.args.parts.items _ c.in-Some.part
     c.loop-part.invariant.0 c.in-Some.ensures.steps.0 c.requires.room
 
 -- the next one is not among those before it
 pub insert-requires : goal.insert-requires
 insert-requires g c =
-    let absent = absent_next (seen_all c.loop-part.resources.entries) (into_iter_items c.loop-part.part-iterator) c.args.parts.items _ c.in-Some.part
+    let absent = absent_next (seen_all c.loop-part.resources.entries)
+    (into_iter_items c.loop-part.part-iterator) c.args.parts.items _ c.in-Some.part
     c.loop-part.invariant.0 c.in-Some.ensures.steps.0 c.requires.ids in
     rw (ap (λ e. e.0) c.in_ok-id.ensures.state) absent
 
@@ -25,9 +27,11 @@ loop-part-preserved g c =
     let ms = monitors_all c.loop-part.resources.entries in
     let one : seen_all c.insert.new.resources.entries ≡ done ++ c.in-Some.part ∷ []
     = c.in_ok-insert.ensures.resources ∙ ap (λ e. done ++ e ∷ []) c.in_ok-id.ensures.state in
-    let monitors : monitors_all c.insert.new.resources.entries ≡ ms ++ (c.in-Some.part.0, all_due_at c.args.due c.in-Some.part.1.recurring) ∷ []
+    let monitors : monitors_all c.insert.new.resources.entries
+    ≡ ms ++ (c.in-Some.part.0, all_due_at c.args.due c.in-Some.part.1.recurring) ∷ []
     = rw (← ap (λ e. e.0) c.in_ok-id.ensures.state, ← c.in_ok-id.ensures.monitors) c.in_ok-insert.ensures.monitors in
-    let before : done ++ c.in-Some.part ∷ into_iter_items c.next.new.self ≡ c.args.parts.items = rw (← c.in-Some.ensures.steps.0) c.loop-part.invariant.0 in (
+    let before : done ++ c.in-Some.part ∷ into_iter_items c.next.new.self ≡ c.args.parts.items = rw
+    (← c.in-Some.ensures.steps.0) c.loop-part.invariant.0 in (
       one_more _ done (into_iter_items c.next.new.self) c.args.parts.items c.in-Some.part one before,
       due_one_more c.args.due _ done _ ms c.in-Some.part one monitors c.loop-part.invariant.1,
       search rules,
@@ -36,7 +40,8 @@ loop-part-preserved g c =
 pub returns-clause-resources : goal.returns-clause-resources
 returns-clause-resources g c =
     let done = seen_all c.loop-part.resources.entries in
-    let empty : into_iter_items c.loop-part.part-iterator ≡ [] = nil_from_length _ (sym c.loop-part.invariant.2 ∙ c.in-None.ensures.steps.0) in
+    let empty : into_iter_items c.loop-part.part-iterator ≡ [] = nil_from_length _
+    (sym c.loop-part.invariant.2 ∙ c.in-None.ensures.steps.0) in
     sym (append-nil done) ∙ rw empty at c.loop-part.invariant.0
 
 pub returns-clause-monitors : goal.returns-clause-monitors

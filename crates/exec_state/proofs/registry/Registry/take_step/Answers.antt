@@ -26,7 +26,8 @@ unreachable-requires g c =
 pub returns-clause-resources : goal.returns-clause-resources
 returns-clause-resources g c =
     let h = c.get_mut.follows.holds c.take_step.new.self in
-    rw (← c.self.view_is) (ap seen_all h.0 ∙ look_all-set_value seen c.args.id.now (stepped c.args.at c.args.step) c.self.inside.resources.entries
+    rw (← c.self.view_is) (ap seen_all h.0
+    ∙ look_all-set_value seen c.args.id.now (stepped c.args.at c.args.step) c.self.inside.resources.entries
     c.in-Some.resource.now c.take_step.new.self c.get_mut.ensures.unique (sym c.in-Some.ensures.value) c.take_step.ensures.state)
 
 pub returns-clause-monitors : goal.returns-clause-monitors

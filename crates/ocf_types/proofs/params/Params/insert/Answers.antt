@@ -7,7 +7,8 @@ use Rattle.ocf_types.proofs.InsertLemmas.{place_below, set_there, insert_new, se
 use Rattle.ocf_types.proofs.params.Params.insert.Goals as goal
 
 -- what the count of the lesser names, and the test of the one at that place, say of the parameters themselves
-place_is : (name : List ℕ) (ps qs : ParamList) (n : ℕ) → n ≡ count_by (λ p. is_before p.0 name) qs → qs ≡ ps → n ≡ count_by (λ p. is_before p.0 name) ps
+place_is : (name : List ℕ) (ps qs : ParamList) (n : ℕ) → n ≡ count_by (λ p. is_before p.0 name) qs → qs ≡ ps
+    → n ≡ count_by (λ p. is_before p.0 name) ps
 place_is name ps qs n h e = h ∙ ap (λ (xs : ParamList). count_by (λ p. is_before p.0 name) xs) e
 
 pub index_mut-requires : goal.index_mut-requires
@@ -15,9 +16,12 @@ index_mut-requires g c =
     let name : List ℕ = c.args.name in
     let ps : ParamList = c.self.inside.entries.items in
     let place = place_is name ps c.as_slice.result.now c.lesser_names-place.result c.lesser_names-place.ensures c.as_slice.ensures.value in
-    let there : has_param name ps ≡ true = sym (c.is_there.ensures ∙ ap (λ (xs : ParamList). has_param name xs) c.as_slice-2.ensures.value) ∙ c.if-is_there.true in
-    let below : c.lesser_names-place.result < length ps = place_below name ps c.self.invariant.sorted c.lesser_names-place.result place there in
-    let len : length ps ≡ vec_len c.self.inside.entries = ap (λ (xs : ParamList). length xs) (sym c.as_slice.ensures.value) ∙ c.as_slice.ensures.len in
+    let there : has_param name ps ≡ true = sym (c.is_there.ensures ∙ ap (λ (xs : ParamList). has_param name xs) c.as_slice-2.ensures.value)
+    ∙ c.if-is_there.true in
+    let below : c.lesser_names-place.result < length ps =
+    place_below name ps c.self.invariant.sorted c.lesser_names-place.result place there in
+    let len : length ps ≡ vec_len c.self.inside.entries = ap (λ (xs : ParamList). length xs) (sym c.as_slice.ensures.value)
+    ∙ c.as_slice.ensures.len in
     omega (arith, below, len)
 
 pub invariant_of-self : goal.invariant_of-self
@@ -26,7 +30,8 @@ invariant_of-self g c =
     let value : List ℕ = c.args.value in
     let ps : ParamList = c.self.inside.entries.items in
     let place = place_is name ps c.as_slice.result.now c.lesser_names-place.result c.lesser_names-place.ensures c.as_slice.ensures.value in
-    let there : has_param name ps ≡ true = sym (c.is_there.ensures ∙ ap (λ (xs : ParamList). has_param name xs) c.as_slice-2.ensures.value) ∙ c.if-is_there.true in
+    let there : has_param name ps ≡ true = sym (c.is_there.ensures ∙ ap (λ (xs : ParamList). has_param name xs) c.as_slice-2.ensures.value)
+    ∙ c.if-is_there.true in
     let named : is_param_name name ≡ true = subst (λ x. is_param_name x ≡ true) c.as_bytes.ensures.bytes c.as_bytes.ensures.lawful in
     let valued : is_param_value value ≡ true = subst (λ x. is_param_value x ≡ true) c.as_str.ensures.bytes c.as_str.ensures.lawful in
     set_lawful name value ps c.lesser_names-place.result c.self.invariant named valued place there
@@ -37,8 +42,10 @@ returns-then-is_there-clause-ok g c =
     let value : List ℕ = c.args.value in
     let ps : ParamList = c.self.inside.entries.items in
     let place = place_is name ps c.as_slice.result.now c.lesser_names-place.result c.lesser_names-place.ensures c.as_slice.ensures.value in
-    let there : has_param name ps ≡ true = sym (c.is_there.ensures ∙ ap (λ (xs : ParamList). has_param name xs) c.as_slice-2.ensures.value) ∙ c.if-is_there.true in
-    set_there name ps c.self.invariant.sorted value c.lesser_names-place.result place there ∙ ap (λ (xs : ParamList). with_param name value xs) c.self.view_is
+    let there : has_param name ps ≡ true = sym (c.is_there.ensures ∙ ap (λ (xs : ParamList). has_param name xs) c.as_slice-2.ensures.value)
+    ∙ c.if-is_there.true in
+    set_there name ps c.self.invariant.sorted value c.lesser_names-place.result place there
+    ∙ ap (λ (xs : ParamList). with_param name value xs) c.self.view_is
 
 -- what a growth that was not refused leaves
 pushed : (ok bad : Bool) (old new added : ParamList) → new ≡ (if ok then added else old) → ok ≡ not bad → bad ≡ false → new ≡ added
@@ -51,13 +58,16 @@ invariant_of-self-2 g c =
     let ps : ParamList = c.self.inside.entries.items in
     let n : ℕ = c.lesser_names-place.result in
     let place = place_is name ps c.as_slice.result.now n c.lesser_names-place.ensures c.as_slice.ensures.value in
-    let gone : has_param name ps ≡ false = sym (c.is_there.ensures ∙ ap (λ (xs : ParamList). has_param name xs) c.as_slice-2.ensures.value) ∙ c.if-is_there.false in
+    let gone : has_param name ps ≡ false = sym (c.is_there.ensures ∙ ap (λ (xs : ParamList). has_param name xs) c.as_slice-2.ensures.value)
+    ∙ c.if-is_there.false in
     let named : is_param_name name ≡ true = subst (λ x. is_param_name x ≡ true) c.as_bytes.ensures.bytes c.as_bytes.ensures.lawful in
     let valued : is_param_value value ≡ true = subst (λ x. is_param_value x ≡ true) c.as_str.ensures.bytes c.as_str.ensures.lawful in
-    let len : length ps ≡ vec_len c.self.inside.entries = ap (λ (xs : ParamList). length xs) (sym c.as_slice.ensures.value) ∙ c.as_slice.ensures.len in
+    let len : length ps ≡ vec_len c.self.inside.entries = ap (λ (xs : ParamList). length xs) (sym c.as_slice.ensures.value)
+    ∙ c.as_slice.ensures.len in
     let at_most : length ps ≤ 64 = c.self.invariant.at_most_64 in
     let room : length ps < 64 = omega (arith, at_most, len, c.len.ensures, c.if-len-eq-PARAMS_LIMIT.false) in
-    let new = pushed (is_ok c.insert.result) c.is_err.result ps c.insert.new.self.items (insert ps n (name, value)) c.insert.ensures.items c.is_err.ensures.negation c.if-is_err.false in
+    let new = pushed (is_ok c.insert.result) c.is_err.result ps c.insert.new.self.items
+    (insert ps n (name, value)) c.insert.ensures.items c.is_err.ensures.negation c.if-is_err.false in
     subst AreParams (sym new) (insert_lawful name value ps n c.self.invariant named valued place gone room)
 
 pub returns-clause-ok : goal.returns-clause-ok
@@ -67,6 +77,8 @@ returns-clause-ok g c =
     let ps : ParamList = c.self.inside.entries.items in
     let n : ℕ = c.lesser_names-place.result in
     let place = place_is name ps c.as_slice.result.now n c.lesser_names-place.ensures c.as_slice.ensures.value in
-    let gone : has_param name ps ≡ false = sym (c.is_there.ensures ∙ ap (λ (xs : ParamList). has_param name xs) c.as_slice-2.ensures.value) ∙ c.if-is_there.false in
-    let new = pushed (is_ok c.insert.result) c.is_err.result ps c.insert.new.self.items (insert ps n (name, value)) c.insert.ensures.items c.is_err.ensures.negation c.if-is_err.false in
+    let gone : has_param name ps ≡ false = sym (c.is_there.ensures ∙ ap (λ (xs : ParamList). has_param name xs) c.as_slice-2.ensures.value)
+    ∙ c.if-is_there.false in
+    let new = pushed (is_ok c.insert.result) c.is_err.result ps c.insert.new.self.items
+    (insert ps n (name, value)) c.insert.ensures.items c.is_err.ensures.negation c.if-is_err.false in
     new ∙ insert_new name ps c.self.invariant.sorted value n place gone ∙ ap (λ (xs : ParamList). with_param name value xs) c.self.view_is

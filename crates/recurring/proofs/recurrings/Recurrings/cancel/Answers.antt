@@ -5,7 +5,9 @@ use Rattle.recurring.proofs.Recurs.{recurs-cancelled}
 use Rattle.recurring.proofs.recurrings.Recurrings.cancel.Goals as goal
 
 pub returns-clause-ok : goal.returns-clause-ok
-returns-clause-ok c = rw (← c.self.view_is) (filter-from_retain _ (λ m. not (m.recur.interval == c.args.interval)) _ (λ x b f' y called. search rules) _ _ c.retain.ensures.filtered)
+returns-clause-ok c =
+    rw (← c.self.view_is) (filter-from_retain _ (λ m. not (m.recur.interval == c.args.interval)) _
+    (λ x b f' y called. search rules) _ _ c.retain.ensures.filtered)
 
 pub returns-clause-recurs : goal.returns-clause-recurs
 returns-clause-recurs c = ap recurs (returns-clause-ok c) ∙ recurs-cancelled c.args.interval c.args.self.now

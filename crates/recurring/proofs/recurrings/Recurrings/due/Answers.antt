@@ -19,4 +19,5 @@ returns c =
     let ms : List Monitor = c.as_slice-m-items.result.now in
     let all : take c.loop-m.m-index ms ≡ ms = take_all c.loop-m.m-index ms (omega arith) in
     let call : c.map.result ≡ option_map (λ m. m.recur.call) c.loop-m.first = search rules in
-    rw (call, ← c.self.view_is, ← c.as_slice-m-items.ensures.value, ← all) (first_due_call (pairs (take c.loop-m.m-index ms)) c.args.now c.loop-m.first c.loop-m.invariant)
+    rw (call, ← c.self.view_is, ← c.as_slice-m-items.ensures.value, ← all)
+    (first_due_call (pairs (take c.loop-m.m-index ms)) c.args.now c.loop-m.first c.loop-m.invariant)

@@ -7,7 +7,9 @@ use Rattle.recurring.proofs.recurrings.Recurrings.restart.Goals as goal
 
 pub loop-m-preserved : goal.loop-m-preserved
 loop-m-preserved c =
-    rw (c.due_at.ensures, c.get.ensures.value, ← c.m-item.is) (map_over_more (due_at c.args.at) c.as_mut_slice-m-items.result.now c.loop-m.m-items c.loop-m.m-index c.m-item.result (omega arith) c.loop-m.invariant c.m-item.is)
+    rw (c.due_at.ensures, c.get.ensures.value, ← c.m-item.is)
+    (map_over_more (due_at c.args.at) c.as_mut_slice-m-items.result.now c.loop-m.m-items c.loop-m.m-index c.m-item.result
+    (omega arith) c.loop-m.invariant c.m-item.is)
 
 pub returns-clause-due : goal.returns-clause-due
 returns-clause-due c = grind (arith, common_steps)
