@@ -1,2 +1,3 @@
 pub mod AgentLemmas
 pub mod CommandLemmas
+pub mod MetaLemmas

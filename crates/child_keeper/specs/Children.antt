@@ -3,7 +3,8 @@ use Rattle.std.specs.Prelude.{ℕ, ◌+◌, ◌-◌, ◌==◌, ⊤, List, [], �
 use Rattle.ocf_types.specs.Limits.{resources_limit}
 use Rattle.ocf_types.specs.declared.outcome.StartFault.{StartFault}
 use Rattle.child_keeper.specs.declared.answer.Answer.{Answer}
-use Rattle.child_keeper.specs.declared.answer.Answer.TheVariants.{Started, StartFault as NotStarted, Running, Exited, Signaled, PollFault, Killed, KillFault as NotKilled}
+use Rattle.child_keeper.specs.declared.answer.Answer.TheVariants.{Started, StartFault as NotStarted, Running, Exited, Signaled, PollFault}
+use Rattle.child_keeper.specs.declared.answer.Answer.TheVariants.{Killed, KillFault as NotKilled}
 use Rattle.child_keeper.specs.declared.answer.Entry.{Entry}
 use Rattle.child_keeper.specs.declared.answer.KillFault.{KillFault}
 use Rattle.child_keeper.specs.declared.answer.Poll.{Poll}

@@ -1,19 +1,29 @@
--- When an agent may be started.
-use Rattle.std.specs.Prelude.{◌≡◌, ℕ, List, Some, option_and_then}
+-- When an agent may be started, and which.
+use Rattle.std.specs.Prelude.{◌≡◌, Some}
+use Rattle.ocf_types.specs.Resource.{Resource}
 use Rattle.ocf_types.specs.State.{State, resource_at}
 use Rattle.ocf_types.specs.declared.operation.Running.{Running}
 use Rattle.disk_model.specs.View.{View}
 use Rattle.exec_journal.specs.Journal.{Settled}
 use Rattle.exec_journal.specs.declared.journal.Journal.{Journal}
+use Rattle.ocf_env.specs.Instances.{registration_of}
+use Rattle.ocf_env.specs.Invocations.{IsInvocation}
+use Rattle.ocf_env.specs.Places.{Call, Place}
+use Rattle.ocf_env.specs.declared.launches.LaunchOf.{LaunchOf}
 
--- the resource of this id runs an action under this call and run
-pub record RunsUnder (s : State) (id : List ℕ) (call run : ℕ) : Type 0 where
+-- At this state an action runs under the launch's call and run in the resource of its id; the launch calls the agent that
+-- is registered there, for that action, with the parameters that are registered, at some site.
+pub record IsLaunch (s : State) (launch : LaunchOf Call) : Type 0 where
+  pub site : Place
+  pub resource : Resource
   pub running : Running
-  pub is : option_and_then (λ r. r.history.running) (resource_at s id) ≡ Some running
-  pub call_is : running.call ≡ call
-  pub run_is : running.run ≡ run
+  pub is : resource_at s launch.id ≡ Some resource
+  pub runs : resource.history.running ≡ Some running
+  pub call_is : running.call ≡ launch.call
+  pub run_is : running.run ≡ launch.run
+  pub invocation : IsInvocation site (registration_of launch.id resource) running.task launch.invocation
 
--- the journal, over a disk that is seen so, is settled at a state in which the resource runs under this call and run:
--- whatever a stop leaves, the action's begin is found
-abbrev pub MayStart : {D M : Type 0} → Journal D M → View → List ℕ → ℕ → ℕ → Type 0
-MayStart j v id call run = (s : State) × Settled j v s × RunsUnder s id call run
+-- the journal, over a disk that is seen so, is settled at a state in which the launched action runs: whatever a stop leaves,
+-- its begin is found
+abbrev pub MayStart : {D M : Type 0} → Journal D M → View → LaunchOf Call → Type 0
+MayStart j v launch = (s : State) × Settled j v s × IsLaunch s launch

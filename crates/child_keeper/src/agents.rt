@@ -1,8 +1,9 @@
 // The children that live, each under its run.
-ghost use Rattle.std.specs.Prelude.{◌≡◌, ◌↔◌, ◌+◌, ◌<◌, ◌≤◌, ◌==◌, ◌++◌, [], ◌∷◌, Contains, IfNone, IfOk, IsTrue, OnSome, Some, length, slice_get, vec_len};
+ghost use Rattle.std.specs.Prelude.{◌≡◌, ◌↔◌, ◌+◌, ◌<◌, ◌≤◌, ◌==◌, ◌++◌, [], ◌∷◌, ℕ, Contains, IfNone, IfOk, IfSome, IsTrue, OnSome};
+ghost use Rattle.std.specs.Prelude.{Some, length, slice_get, vec_len};
 ghost use Rattle.std.specs.List.{position_from};
 ghost use Rattle.std.specs.Vec.{vec_capacity};
-ghost use Rattle.child_keeper.specs.Agents.{runs_of};
+ghost use Rattle.child_keeper.specs.Agents.{others_of, runs_of};
 ghost use Rattle.child_keeper.specs.Children.{live_limit, without_run};
 
 use crate::live::LIVE_LIMIT;
@@ -45,6 +46,7 @@ impl<P: OpenProcess + Drop, A: Allocator> Agents<P, A> {
     pub fn add(&mut self, run: RunId, child: Child<P>)
         requires few { length (runs_of self.old.agents.items) < LIVE_LIMIT }
         ensures added { runs_of self.new.agents.items ≡ runs_of self.old.agents.items ++ run ∷ [] }
+        ensures child { self.new.agents.items ≡ self.old.agents.items ++ record { run = run; child = child } ∷ [] }
     {
         self.agents.push_reserved(Agent { run, child });
     }
@@ -72,6 +74,7 @@ impl<P: OpenProcess + Drop, A: Allocator> Agents<P, A> {
     pub fn ask(&mut self, run: RunId) -> io::Result<Option<ExitStatus>>
         requires lives { Contains (runs_of self.old.agents.items) run }
         ensures stay { runs_of self.new.agents.items ≡ runs_of self.old.agents.items }
+        ensures others { others_of run self.new.agents.items ≡ others_of run self.old.agents.items }
     {
         let place = self.place(run);
         self.agents[place].child.try_wait()
@@ -81,6 +84,8 @@ impl<P: OpenProcess + Drop, A: Allocator> Agents<P, A> {
     pub fn take(&mut self, run: RunId) -> Child<P>
         requires lives { Contains (runs_of self.old.agents.items) run }
         ensures gone { runs_of self.new.agents.items ≡ without_run run (runs_of self.old.agents.items) }
+        ensures child { Contains self.old.agents.items (record { run = run; child = result }) }
+        ensures others { self.new.agents.items ≡ others_of run self.old.agents.items }
     {
         let place = self.place(run);
         let agent = self.agents.remove(place);
@@ -92,6 +97,8 @@ impl<P: OpenProcess + Drop, A: Allocator> Agents<P, A> {
     pub fn pop(&mut self) -> Option<Child<P>>
         ensures fewer { OnSome result (vec_len self.new.agents + 1 ≡ vec_len self.old.agents) }
         ensures none { IfNone result (runs_of self.new.agents.items ≡ []) }
+        ensures last { IfSome result (λ child. (run : ℕ)
+            × (self.old.agents.items ≡ self.new.agents.items ++ record { run = run; child = child } ∷ [])) }
     {
         Some(self.agents.pop()?.child)
     }

@@ -1,6 +1,7 @@
 // The command that is started for an invocation.
 ghost use Rattle.std.specs.Prelude.{◌≡◌, ◌++◌, ◌∷◌, [], ℕ, List, IfOk, OnOk, None, Some, bytes_eq, codes, if◌then◌else◌, true};
-ghost use Rattle.std.specs.Process.{SameDir, SameEnv, SameProgramAndArgs, clears_env, command_args, command_dir, command_program, command_var, var_after};
+ghost use Rattle.std.specs.Process.{SameDir, SameEnv, SameProgramAndArgs, clears_env, command_args, command_dir, command_program};
+ghost use Rattle.std.specs.Process.{command_var, var_after};
 ghost use Rattle.child_keeper.specs.Commands.{Asks};
 
 use ocf_env::{Invocation, Text};

@@ -1,9 +1,11 @@
 //! Laws of children and of their book, each the contract of a function that does nothing.
-ghost use Rattle.std.specs.Prelude.{◌≡◌, ◌≢◌, ◌↔◌, ◌⊎◌, ℕ, ◌+◌, ◌≤◌, List, [], ◌∷◌, ◌++◌, Contains, IsOk, IsTrue, Ok, Option, Result, Some, cond, is_ok, length};
+ghost use Rattle.std.specs.Prelude.{◌≡◌, ◌≢◌, ◌↔◌, ◌⊎◌, ℕ, ◌+◌, ◌≤◌, List, [], ◌∷◌, ◌++◌, Contains, IsOk, IsTrue, Result, Some};
+ghost use Rattle.std.specs.Prelude.{cond, is_ok, length};
 ghost use Rattle.ocf_types.specs.declared.outcome.StartFault.{StartFault};
 ghost use Rattle.ocf_env.specs.Places.{Pair};
 ghost use Rattle.ocf_env.specs.Variables.{are_ascending};
-ghost use Rattle.child_keeper.specs.Children.{Asked, AsksNothing, ChildrenView, after_kill, after_poll, after_start, kill_answer, poll_answer, start_answer};
+ghost use Rattle.child_keeper.specs.Children.{Asked, AsksNothing, ChildrenView, after_kill, after_poll, after_start, kill_answer};
+ghost use Rattle.child_keeper.specs.Children.{poll_answer, start_answer};
 ghost use Rattle.child_keeper.specs.Commands.{given};
 ghost use Rattle.child_keeper.specs.declared.answer.Entry.{Entry};
 ghost use Rattle.child_keeper.specs.declared.answer.KillFault.{KillFault};
@@ -35,7 +37,8 @@ pub fn starts_asked()
     ensures start { (v : ChildrenView) (run at r t : ℕ) (answer : Result Unit StartFault)
         → Asked (after_start v run at answer).book r t ↔ (Asked v.book r t ⊎ ((r ≡ run) × (t ≡ at))) }
     ensures poll { (v : ChildrenView) (run r t : ℕ) (answer : Poll) → Asked (after_poll v run answer).book r t ↔ Asked v.book r t }
-    ensures kill { (v : ChildrenView) (run r t : ℕ) (answer : Result Unit KillFault) → Asked (after_kill v run answer).book r t ↔ Asked v.book r t }
+    ensures kill { (v : ChildrenView) (run r t : ℕ) (answer : Result Unit KillFault) → Asked (after_kill v run answer).book r t
+        ↔ Asked v.book r t }
 {}
 
 /// After a call a run lives just where it lived before, but the one that is named: it lives after a start that was done,

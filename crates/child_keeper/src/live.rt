@@ -1,5 +1,5 @@
 // The runs whose children live.
-ghost use Rattle.std.specs.Prelude.{◌≡◌, ◌↔◌, ◌<◌, ◌≤◌, ◌++◌, [], ◌∷◌, Contains, IfOk, IsTrue, length, vec_len};
+ghost use Rattle.std.specs.Prelude.{◌≡◌, ◌↔◌, ◌<◌, ◌≤◌, ◌++◌, [], ◌∷◌, Contains, IfOk, IsTrue, length};
 ghost use Rattle.std.specs.Vec.{vec_capacity};
 ghost use Rattle.child_keeper.specs.Children.{without_run, live_limit};
 

@@ -1,5 +1,5 @@
 //! The metadata of agents.
-ghost use Rattle.std.specs.Prelude.{◌≡◌, ◌≢◌, ◌≤◌, IfErr, IfOk, IfSome, vec_len};
+ghost use Rattle.std.specs.Prelude.{◌≡◌, ◌≢◌, ◌≤◌, ◌++◌, IfErr, IfOk, IfSome, IsSomeAnd, if◌then◌else◌, vec_len};
 ghost use Rattle.ocf_types.specs.Limits.{metadata_limit};
 ghost use Rattle.ocf_types.specs.declared.outcome.MetaFault.TheVariants.{Failed};
 
@@ -29,7 +29,8 @@ enum Heard {
 // Keeps a chunk where it fits as a whole, and whether it does.
 fn keep<A: Allocator>(kept: &mut Vec<u8, A>, chunk: &[u8]) -> bool
     requires { vec_len kept.old ≤ metadata_limit }
-    ensures { vec_len kept.new ≤ metadata_limit }
+    ensures limit { vec_len kept.new ≤ metadata_limit }
+    ensures kept { kept.new.items ≡ (if result then kept.old.items ++ chunk.now else kept.old.items) }
 {
     chunk.len() <= METADATA_LIMIT - kept.len() && kept.extend_from_slice(chunk).is_ok()
 }
@@ -37,7 +38,8 @@ fn keep<A: Allocator>(kept: &mut Vec<u8, A>, chunk: &[u8]) -> bool
 // Reads a stream to its end, and keeps what fits.
 fn hear<S: Read, A: Allocator>(stream: &mut S, kept: &mut Vec<u8, A>) -> Heard
     requires { vec_len kept.old ≤ metadata_limit }
-    ensures { vec_len kept.new ≤ metadata_limit }
+    ensures limit { vec_len kept.new ≤ metadata_limit }
+    ensures whole { result ≡ Heard.Whole → IfSome (S.remaining stream.old) (λ bytes. kept.new.items ≡ kept.old.items ++ bytes) }
 {
     let mut heard = Heard::Whole;
     let mut chunk = [0u8; CHUNK];
@@ -59,7 +61,9 @@ fn hear<S: Read, A: Allocator>(stream: &mut S, kept: &mut Vec<u8, A>) -> Heard
 // Reads what a child writes. One that cannot be read is killed.
 fn hear_child<P: OpenProcess, A: Allocator>(child: &mut Child<P>, kept: &mut Vec<u8, A>) -> Heard
     requires { vec_len kept.old ≤ metadata_limit }
-    ensures { vec_len kept.new ≤ metadata_limit }
+    ensures limit { vec_len kept.new ≤ metadata_limit }
+    ensures whole { result ≡ Heard.Whole → IsSomeAnd child.old.stdout (λ stdout.
+        IfSome (P.Stdout.remaining stdout) (λ bytes. kept.new.items ≡ kept.old.items ++ bytes)) }
 {
     let heard = match &mut child.stdout {
         Some(stdout) => hear(stdout, kept),

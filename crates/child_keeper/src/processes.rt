@@ -1,10 +1,7 @@
 //! Children of the system.
-ghost use Rattle.std.specs.Prelude.{◌≡◌, ◌<◌, [], Contains, IfOk, length};
-ghost use Rattle.exec_journal.specs.Journal.{journal_disk};
+ghost use Rattle.std.specs.Prelude.{◌≡◌, ◌<◌, [], Contains, IfOk};
 ghost use Rattle.child_keeper.specs.Agents.{runs_of};
-ghost use Rattle.child_keeper.specs.Children.{after_kill, after_poll, after_start, live_limit, without_run};
-ghost use Rattle.child_keeper.specs.Commands.{Asks};
-ghost use Rattle.child_keeper.specs.MayStart.{MayStart};
+ghost use Rattle.child_keeper.specs.Children.{without_run};
 
 use crate::agents::Agents;
 use crate::book::Book;

@@ -84,8 +84,9 @@ impl<A: Allocator + Copy> Children for Scripted<A> {
         requires room { 0 < (children_of self.old).room }
         requires few { length (children_of self.old).live < live_limit }
         requires rising { (children_of self.old).last_run < launch.now.run }
-        requires may_start { MayStart journal.now (D.view (journal_disk journal.now)) launch.now.id launch.now.call launch.now.run }
-        ensures started { children_of self.new ≡ after_start (children_of self.old) launch.now.run (D.view (journal_disk journal.now)).clock result }
+        requires may_start { MayStart journal.now (D.view (journal_disk journal.now)) launch.now }
+        ensures started { children_of self.new
+            ≡ after_start (children_of self.old) launch.now.run (D.view (journal_disk journal.now)).clock result }
         ensures scripted { result ≡ next_start (script_of self.old) }
         ensures goes_on { script_of self.new ≡ started_on (script_of self.old) }
     {

@@ -1,20 +1,20 @@
 -- What resources pick: there is always one answer, and what two lists of resources pick is what both together do.
-use Rattle.std.proofs.Common.{◌≡◌, ◌⊎◌, inl, inr, ℕ, zero, suc, ◌+◌, ◌<◌, ◌≤◌, ◌==◌, Bool, true, false, cond, List, [], ◌∷◌, ◌++◌, map, length, take, drop, slice_get, slice_index_or, Option, Some, None, MatchOption, All, Contains, option_map, option_to_list, refl, sym, ap, subst, ◌∙◌, arith}
+use Rattle.std.proofs.Common.{◌≡◌, ◌⊎◌, inl, inr, ℕ, zero, suc, ◌+◌, ◌<◌, ◌≤◌, ◌==◌, true, false, cond, List, [], ◌∷◌, ◌++◌}
+use Rattle.std.proofs.Common.{length, take, drop, slice_get, slice_index_or, Option, Some, None, MatchOption, All, Contains, option_map}
+use Rattle.std.proofs.Common.{refl, sym, ap, subst, ◌∙◌, arith}
 use Rattle.std.specs.List.{AllByRecursion, IsDistinct}
 use Rattle.std.specs.Map.{keys_of, lookup}
 use Rattle.std.specs.Str.{bytes_eq}
-use Rattle.std.proofs.lemmas.Bool.{cases_lt, false_from_ne_true}
-use Rattle.std.proofs.lemmas.Bool.Decides.{Decides-eqb}
+use Rattle.std.proofs.lemmas.Bool.{cases_lt}
 use Rattle.std.proofs.lemmas.List.{append-nil, append_assoc, length-append, take-append-drop, take_more}
 use Rattle.std.proofs.lemmas.List.Elements.{All-from_recursion}
 use Rattle.std.proofs.lemmas.Map.Keys.{IsDistinct-head, IsDistinct-tail}
-use Rattle.std.proofs.lemmas.Slice.Eq.{bytes_eq-Decides}
 use Rattle.ocf_types.specs.Due.{Due, IsBefore, IsLeastDue, IsPick, IsPickOf, due_pairs}
 use Rattle.ocf_types.specs.Resource.{History, Resource, begun_from, of_call, run_of_monitor, run_of_op}
 use Rattle.ocf_types.specs.State.{Registry, State, resource_at}
 use Rattle.ocf_types.specs.LawfulState.{IsLawfulState}
 use Rattle.ocf_types.specs.Laws.{IsBefore-trans}
-use Rattle.ocf_types.specs.RegistryLaws.{call_of}
+use Rattle.ocf_types.specs.RegistryLaws.{call_of, other_way, same_id}
 use Rattle.ocf_types.specs.Places.{at_place, id_at, no_entry}
 use Rattle.ocf_types.specs.declared.action.Task.TheVariants.{Monitor}
 use Rattle.ocf_types.specs.declared.operation.Op.{Op}
@@ -24,29 +24,26 @@ use Rattle.exec_state.specs.Store.{IsChoice, Store, dues}
 use Rattle.exec_turn.specs.Actives.{Active, active_of}
 use Rattle.exec_turn.specs.Picks.{ArePicks, begun_in, Chooses}
 
--- ids that differ from one another, seen from the other
-pub other_way : (a b : List ℕ) → bytes_eq a b ≡ false → bytes_eq b a ≡ false
-other_way a b h = false_from_ne_true _ (λ e. let same : bytes_eq a b ≡ true = (bytes_eq-Decides a b).1 (sym ((bytes_eq-Decides b a).0 e)) in
-    let no : true ≡ false = sym same ∙ h in cc)
-
--- an id is that of itself
-pub same_id : (id : List ℕ) → bytes_eq id id ≡ true
-same_id id = (bytes_eq-Decides id id).1 refl
-
 -- each entry is found by its id, where these are distinct
 pub own_found : (rs : Registry) → IsDistinct bytes_eq (keys_of rs) → AllByRecursion (λ e. lookup (bytes_eq e.0) rs ≡ Some e.1) rs
 own_found [] h = tt
-own_found (e ∷ es) h =
-    (rw (same_id e.0) refl, behind es (IsDistinct-head bytes_eq e.0 (keys_of es) h) (own_found es (IsDistinct-tail bytes_eq e.0 (keys_of es) h)))
+own_found (e ∷ es) h = (
+  rw (same_id e.0) refl,
+  behind es (IsDistinct-head bytes_eq e.0 (keys_of es) h)
+      (own_found es (IsDistinct-tail bytes_eq e.0 (keys_of es) h)),
+)
   where
-    behind : (xs : Registry) → AllByRecursion (λ k. bytes_eq e.0 k ≡ false) (keys_of xs) → AllByRecursion (λ x. lookup (bytes_eq x.0) es ≡ Some x.1) xs
+    behind : (xs : Registry) → AllByRecursion (λ k. bytes_eq e.0 k ≡ false) (keys_of xs)
+        → AllByRecursion (λ x. lookup (bytes_eq x.0) es ≡ Some x.1) xs
         → AllByRecursion (λ x. lookup (bytes_eq x.0) (e ∷ es) ≡ Some x.1) xs
     behind [] a g = tt
     behind (x ∷ xs) a g = (rw (other_way e.0 x.0 a.0) g.0, behind xs a.1 g.1)
 
 -- the resource at a place is that of its id
-pub found_at : (s : State) (place : ℕ) → IsLawfulState s → place < length s.resources → resource_at s (id_at s place) ≡ Some (at_place s place)
-found_at s place h lt = All-from_recursion (λ e. lookup (bytes_eq e.0) s.resources ≡ Some e.1) s.resources (own_found s.resources h.ids) place no_entry lt
+pub found_at : (s : State) (place : ℕ) → IsLawfulState s → place < length s.resources
+    → resource_at s (id_at s place) ≡ Some (at_place s place)
+found_at s place h lt =
+    All-from_recursion (λ e. lookup (bytes_eq e.0) s.resources ≡ Some e.1) s.resources (own_found s.resources h.ids) place no_entry lt
 
 pub found_by : (s : State) (place : ℕ) (id own : List ℕ) → IsLawfulState s → place < length s.resources → id ≡ own → own ≡ id_at s place
     → resource_at s id ≡ Some (at_place s place)
@@ -113,7 +110,8 @@ least_due (p ∷ ps) now = by (cases_lt now p.0) (least_due ps now)
             p.0,
             contains_first p ps,
             now_due,
-            all_cons (λ q. q.0 ≤ now → IsBefore p q) p ps (λ le. before_same p) (λ k d lt le. IsBefore-trans p (due, call) (slice_index_or ps k d) b (least k d lt le)),
+            all_cons (λ q. q.0 ≤ now → IsBefore p q) p ps (λ le. before_same p)
+                (λ k d lt le. IsBefore-trans p (due, call) (slice_index_or ps k d) b (least k d lt le)),
           ),
         )
         choose (inr b) = (
@@ -144,7 +142,8 @@ some_picks due at run (e ∷ es) =
     (begun_in at run e p.0 ++ rest.0, (p.0, rest.0, p.1, rest.1, refl))
 
 -- what two lists of resources pick, one behind the other
-pub picks_append : (due : Due) (at run : ℕ) (xs ys : Registry) (first bs : List Active) → ArePicks due at run xs first → ArePicks due at (run + length first) ys bs
+pub picks_append : (due : Due) (at run : ℕ) (xs ys : Registry) (first bs : List Active) → ArePicks due at run xs first
+    → ArePicks due at (run + length first) ys bs
     → ArePicks due at run (xs ++ ys) (first ++ bs)
 picks_append due at run [] ys first bs h k =
     let here : run + length first ≡ run = omega (arith, ap (λ (l : List Active). length l) h) in
@@ -157,7 +156,8 @@ picks_append due at run (x ∷ xs) ys first bs (call, rest, pick, more, is) k =
     (call, rest ++ bs, pick, behind, ap (λ (l : List Active). l ++ bs) is ∙ append_assoc own rest bs)
 
 -- what one resource picks
-one_pick : (due : Due) (at run : ℕ) (e : List ℕ × Resource) (chosen : Option Running) → Chooses due at run e chosen → ArePicks due at run (e ∷ []) (active_of e.0 chosen)
+one_pick : (due : Due) (at run : ℕ) (e : List ℕ × Resource) (chosen : Option Running) → Chooses due at run e chosen
+    → ArePicks due at run (e ∷ []) (active_of e.0 chosen)
 one_pick due at run e chosen (call, pick, is) = (call, [], pick, refl, sym is ∙ sym (append-nil _))
 
 -- what the resources up to a place pick, and that at the place
@@ -186,10 +186,12 @@ picks_cut due at run next rs place bs x lt before is now =
     )
 
 -- what is chosen is a pick
-pub is_pick : (s : Store) (place at : ℕ) (id : List ℕ) (pick : Option ℕ) → IsLawfulState s.state → place < length s.state.resources → id ≡ id_at s.state place
+pub is_pick : (s : Store) (place at : ℕ) (id : List ℕ) (pick : Option ℕ) → IsLawfulState s.state → place < length s.state.resources
+    → id ≡ id_at s.state place
     → IsChoice s id at pick → IsPick (at_place s.state place) (dues s (id_at s.state place)) at pick
 is_pick s place at id pick lawful lt is h =
-    subst (λ (o : Option Resource). MatchOption o (pick ≡ None) (λ r. IsPick r (dues s (id_at s.state place)) at pick)) (found_at s.state place lawful lt)
+    subst (λ (o : Option Resource). MatchOption o (pick ≡ None) (λ r. IsPick r (dues s (id_at s.state place)) at pick))
+    (found_at s.state place lawful lt)
     (subst (λ (i : List ℕ). IsChoice s i at pick) is h)
 
 -- the first queued action runs
@@ -205,7 +207,8 @@ runs_monitor [] monitor run at h none = refl
 runs_monitor (q ∷ qs) monitor run at h none = absurd (omega (arith, none))
 
 -- the call of a pick is that of the first queued action
-picks_op : (x : Option Running) (queue : List Op) (pairs : List (ℕ × ℕ)) (now call : ℕ) (o : Op) → IsPickOf x queue pairs now (Some call) → slice_get queue 0 ≡ Some o → o.call ≡ call
+picks_op : (x : Option Running) (queue : List Op) (pairs : List (ℕ × ℕ)) (now call : ℕ) (o : Op) → IsPickOf x queue pairs now (Some call)
+    → slice_get queue 0 ≡ Some o → o.call ≡ call
 picks_op (Some x) queue pairs now call o pick is = absurd (let no : Some call ≡ None = pick in cc)
 picks_op None [] pairs now call o pick is = absurd (let no : None ≡ Some o = is in cc)
 picks_op None (q ∷ qs) pairs now call o pick is =
@@ -216,7 +219,8 @@ picks_op None (q ∷ qs) pairs now call o pick is =
     ap (λ (y : Op). y.call) (sym this) ∙ sym call_is
 
 -- what a resource begins where an action is queued
-pub begins_op : (due : Due) (at run call : ℕ) (e : List ℕ × Resource) (o : Op) → IsPick e.1 (due e.0) at (Some call) → slice_get e.1.history.queue 0 ≡ Some o
+pub begins_op : (due : Due) (at run call : ℕ) (e : List ℕ × Resource) (o : Op) → IsPick e.1 (due e.0) at (Some call)
+    → slice_get e.1.history.queue 0 ≡ Some o
     → Chooses due at run e (Some (record { call = call; run = run; task = o.task; timeout = o.timeout; interval = 0; since = at }))
 begins_op due at run call e o pick is =
     let r = e.1 in
@@ -224,21 +228,25 @@ begins_op due at run call e o pick is =
       Some call,
       pick,
       ap (λ (x : Option Running). active_of e.0 x) (runs_op r.history.queue (of_call call r.recurring) run at r.history o is)
-          ∙ ap (λ n. active_of e.0 (Some (record { call = n; run = run; task = o.task; timeout = o.timeout; interval = 0; since = at }))) call_is,
+          ∙ ap (λ n. active_of e.0
+          (Some (record { call = n; run = run; task = o.task; timeout = o.timeout; interval = 0; since = at }))) call_is,
     )
 
 -- what it begins where none is
 pub begins_monitor : (due : Due) (at run call interval : ℕ) (e : List ℕ × Resource) (m : Recur) → IsPick e.1 (due e.0) at (Some call)
     → length e.1.history.queue ≡ 0 → Some m ≡ of_call call e.1.recurring → interval ≡ m.interval
-    → Chooses due at run e (Some (record { call = call; run = run; task = Monitor m.level; timeout = m.timeout; interval = interval; since = at }))
+    → Chooses due at run e (Some
+    (record { call = call; run = run; task = Monitor m.level; timeout = m.timeout; interval = interval; since = at }))
 begins_monitor due at run call interval e m pick none is every =
     let r = e.1 in
     let call_is : m.call ≡ call = call_of call r.recurring m (sym is) in
-    let runs = runs_monitor r.history.queue (of_call call r.recurring) run at r.history none ∙ ap (λ (o : Option Recur). option_map (run_of_monitor run at) o) (sym is) in (
+    let runs = runs_monitor r.history.queue (of_call call r.recurring) run at r.history none
+    ∙ ap (λ (o : Option Recur). option_map (run_of_monitor run at) o) (sym is) in (
       Some call,
       pick,
       ap (λ (x : Option Running). active_of e.0 x) runs
-          ∙ (λ k. active_of e.0 (Some (record { call = call_is k; run = run; task = Monitor m.level; timeout = m.timeout; interval = sym every k; since = at }))),
+          ∙ (λ k. active_of e.0 (Some
+          (record { call = call_is k; run = run; task = Monitor m.level; timeout = m.timeout; interval = sym every k; since = at }))),
     )
 
 -- and where no monitor has that call
@@ -246,7 +254,8 @@ pub begins_no_monitor : (due : Due) (at run call : ℕ) (e : List ℕ × Resourc
     → length e.1.history.queue ≡ 0 → None ≡ of_call call e.1.recurring → Chooses due at run e None
 begins_no_monitor due at run call e pick none is =
     let r = e.1 in
-    let runs = runs_monitor r.history.queue (of_call call r.recurring) run at r.history none ∙ ap (λ (o : Option Recur). option_map (run_of_monitor run at) o) (sym is) in
+    let runs = runs_monitor r.history.queue (of_call call r.recurring) run at r.history none
+    ∙ ap (λ (o : Option Recur). option_map (run_of_monitor run at) o) (sym is) in
     (Some call, pick, ap (λ (x : Option Running). active_of e.0 x) runs)
 
 -- it begins nothing where it picks nothing
@@ -260,13 +269,16 @@ from_get (y ∷ ys) zero x h = let same : Some y ≡ Some x = h in let this : y 
 from_get (y ∷ ys) (suc i) x h = from_get ys i x h
 
 -- a search for a monitor by its call, up to a place
-pub search_more : (call : ℕ) (monitors : List Recur) (i : ℕ) (m : Recur) → of_call call monitors ≡ of_call call (drop i monitors) → slice_get monitors i ≡ Some m
+pub search_more : (call : ℕ) (monitors : List Recur) (i : ℕ) (m : Recur) → of_call call monitors ≡ of_call call (drop i monitors)
+    → slice_get monitors i ≡ Some m
     → (m.call == call) ≡ false → of_call call monitors ≡ of_call call (drop (i + 1) monitors)
 search_more call monitors i m so_far h is =
     let on : suc i ≡ i + 1 = omega arith in
-    so_far ∙ ap (of_call call) (from_get monitors i m h) ∙ ap (λ b. cond b (Some m) (of_call call (drop (suc i) monitors))) is ∙ ap (λ n. of_call call (drop n monitors)) on
+    so_far ∙ ap (of_call call) (from_get monitors i m h) ∙ ap (λ b. cond b (Some m) (of_call call (drop (suc i) monitors))) is
+    ∙ ap (λ n. of_call call (drop n monitors)) on
 
-pub search_found : (call : ℕ) (monitors : List Recur) (i : ℕ) (m : Recur) → of_call call monitors ≡ of_call call (drop i monitors) → slice_get monitors i ≡ Some m
+pub search_found : (call : ℕ) (monitors : List Recur) (i : ℕ) (m : Recur) → of_call call monitors ≡ of_call call (drop i monitors)
+    → slice_get monitors i ≡ Some m
     → (m.call == call) ≡ true → Some m ≡ of_call call monitors
 search_found call monitors i m so_far h is =
     sym (so_far ∙ ap (of_call call) (from_get monitors i m h) ∙ ap (λ b. cond b (Some m) (of_call call (drop (suc i) monitors))) is)

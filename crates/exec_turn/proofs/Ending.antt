@@ -13,7 +13,7 @@ use Rattle.ocf_types.specs.State.{Registry, State, after, at_id, resource_at, st
 use Rattle.ocf_types.specs.declared.event.Step.TheVariants as step
 use Rattle.ocf_types.specs.declared.operation.Running.{Running}
 use Rattle.ocf_types.specs.declared.outcome.RunEnd.{RunEnd}
-use Rattle.child_keeper.specs.MayStart.{RunsUnder}
+use Rattle.exec_turn.specs.Starts.{RunsUnder}
 use Rattle.exec_turn.specs.Actives.{Active, active, active_in, result_of, runs_of}
 
 -- no key is the id
@@ -32,7 +32,8 @@ pub record Between (id : List ℕ) (f : Resource → Resource) (r : Resource) (r
   pub is : rs ≡ before ++ (id, r) ∷ behind
   pub changed : at_id id f rs ≡ before ++ (id, f r) ∷ behind
 
-pub between : (id : List ℕ) (f : Resource → Resource) (r : Resource) (rs : Registry) → IsDistinct bytes_eq (keys_of rs) → lookup (bytes_eq id) rs ≡ Some r → Between id f r rs
+pub between : (id : List ℕ) (f : Resource → Resource) (r : Resource) (rs : Registry) → IsDistinct bytes_eq (keys_of rs)
+    → lookup (bytes_eq id) rs ≡ Some r → Between id f r rs
 between id f r [] distinct at = absurd (let none : None ≡ Some r = at in cc)
 between id f r (e ∷ es) distinct at = by (bytes_eq id e.0) refl (between id f r es (IsDistinct-tail bytes_eq e.0 (keys_of es) distinct))
   where
@@ -46,7 +47,9 @@ between id f r (e ∷ es) distinct at = by (bytes_eq id e.0) refl (between id f 
           before = [];
           behind = es;
           is = ap (λ (k : List ℕ). (k, e.1) ∷ es) key ∙ ap (λ (v : Resource). (id, v) ∷ es) value;
-          changed = rw same (ap (λ (k : List ℕ). (k, f e.1) ∷ at_id id f es) key ∙ ap (λ (v : Resource). (id, f v) ∷ at_id id f es) value ∙ ap (λ (l : Registry). (id, f r) ∷ l) (absent_kept id f es absent));
+          changed =
+              rw same (ap (λ (k : List ℕ). (k, f e.1) ∷ at_id id f es) key ∙ ap (λ (v : Resource). (id, f v) ∷ at_id id f es) value
+              ∙ ap (λ (l : Registry). (id, f r) ∷ l) (absent_kept id f es absent));
         }
     by false other rest =
         let found = rest (rw other at at) in
@@ -63,17 +66,20 @@ keys_kept id f [] = refl
 keys_kept id f (e ∷ es) = ap (λ (ks : List (List ℕ)). e.0 ∷ ks) (keys_kept id f es)
 
 -- another resource stays as it is
-pub other_kept : (id other : List ℕ) (f : Resource → Resource) (rs : Registry) → (other ≡ id → ⊥) → lookup (bytes_eq other) (at_id id f rs) ≡ lookup (bytes_eq other) rs
+pub other_kept : (id other : List ℕ) (f : Resource → Resource) (rs : Registry) → (other ≡ id → ⊥)
+    → lookup (bytes_eq other) (at_id id f rs) ≡ lookup (bytes_eq other) rs
 other_kept id other f [] differ = refl
 other_kept id other f (e ∷ es) differ = by (bytes_eq other e.0) (bytes_eq id e.0) refl refl (other_kept id other f es differ)
   where
-    by : (b d : Bool) → bytes_eq other e.0 ≡ b → bytes_eq id e.0 ≡ d → lookup (bytes_eq other) (at_id id f es) ≡ lookup (bytes_eq other) es → lookup (bytes_eq other) (at_id id f (e ∷ es)) ≡ lookup (bytes_eq other) (e ∷ es)
+    by : (b d : Bool) → bytes_eq other e.0 ≡ b → bytes_eq id e.0 ≡ d → lookup (bytes_eq other) (at_id id f es) ≡ lookup (bytes_eq other) es
+        → lookup (bytes_eq other) (at_id id f (e ∷ es)) ≡ lookup (bytes_eq other) (e ∷ es)
     by true true here same rest = absurd (differ ((bytes_eq-Decides other e.0).0 here ∙ sym ((bytes_eq-Decides id e.0).0 same)))
     by true false here same rest = rw (here, same) refl
     by false d here same rest = rw here rest
 
 -- the resource of what runs
-pub runs_there : (o : Option Resource) (x : Running) → option_and_then (λ r. r.history.running) o ≡ Some x → (r : Resource) × (o ≡ Some r) × (r.history.running ≡ Some x)
+pub runs_there : (o : Option Resource) (x : Running) → option_and_then (λ r. r.history.running) o ≡ Some x
+    → (r : Resource) × (o ≡ Some r) × (r.history.running ≡ Some x)
 runs_there None x is = absurd (let none : None ≡ Some x = is in cc)
 runs_there (Some r) x is = (r, refl, is)
 
@@ -87,13 +93,15 @@ pub record OneLess (old new : List ℕ) (run : ℕ) : Type 0 where
 abbrev runs_in : Registry → List ℕ
 runs_in rs = runs_of (flat_map active_in rs)
 
-runs_split : (before behind : Registry) (e : List ℕ × Resource) → runs_in (before ++ e ∷ behind) ≡ runs_in before ++ (runs_of (active_in e) ++ runs_in behind)
+runs_split : (before behind : Registry) (e : List ℕ × Resource)
+    → runs_in (before ++ e ∷ behind) ≡ runs_in before ++ (runs_of (active_in e) ++ runs_in behind)
 runs_split before behind e =
     ap runs_of (flat_map-append active_in before (e ∷ behind))
     ∙ map-append (λ (a : Active). a.running.run) (flat_map active_in before) (active_in e ++ flat_map active_in behind)
     ∙ ap (λ (l : List ℕ). runs_in before ++ l) (map-append (λ (a : Active). a.running.run) (active_in e) (flat_map active_in behind))
 
-pub one_less : (s : State) (at : ℕ) (a : Active) (end : RunEnd) → IsDistinct bytes_eq (keys_of s.resources) → RunsUnder s a.id a.running.call a.running.run
+pub one_less : (s : State) (at : ℕ) (a : Active) (end : RunEnd) → IsDistinct bytes_eq (keys_of s.resources)
+    → RunsUnder s a.id a.running.call a.running.run
     → OneLess (runs_of (active s)) (runs_of (active (after s (result_of at a end)))) a.running.run
 one_less s at a end distinct runs =
     let f = stepped at (step.Result a.running.run end) in
@@ -101,19 +109,25 @@ one_less s at a end distinct runs =
     let r = there.0 in
     let found = between a.id f r s.resources distinct there.1 in
     let here : runs_of (active_in (a.id, r)) ≡ a.running.run ∷ [] =
-    ap (λ (o : Option Running). runs_of (map (λ x. record { id = a.id; running = x }) (option_to_list o))) there.2 ∙ ap (λ (n : ℕ). n ∷ []) runs.run_is in
+    ap (λ (o : Option Running). runs_of (map (λ x. record { id = a.id; running = x }) (option_to_list o))) there.2
+    ∙ ap (λ (n : ℕ). n ∷ []) runs.run_is in
     record {
       before = runs_in found.before;
       behind = runs_in found.behind;
-      old_is = ap runs_in found.is ∙ runs_split found.before found.behind (a.id, r) ∙ ap (λ (l : List ℕ). runs_in found.before ++ (l ++ runs_in found.behind)) here;
+      old_is =
+          ap runs_in found.is ∙ runs_split found.before found.behind (a.id, r)
+          ∙ ap (λ (l : List ℕ). runs_in found.before ++ (l ++ runs_in found.behind)) here;
       new_is = ap runs_in found.changed ∙ runs_split found.before found.behind (a.id, f r);
     }
 
 -- the others run on
-pub runs_on : (s : State) (at : ℕ) (a : Active) (end : RunEnd) (id : List ℕ) (call run : ℕ) → (id ≡ a.id → ⊥) → RunsUnder s id call run → RunsUnder (after s (result_of at a end)) id call run
+pub runs_on : (s : State) (at : ℕ) (a : Active) (end : RunEnd) (id : List ℕ) (call run : ℕ) → (id ≡ a.id → ⊥) → RunsUnder s id call run
+    → RunsUnder (after s (result_of at a end)) id call run
 runs_on s at a end id call run differ runs = record {
   running = runs.running;
-  is = ap (λ (o : Option Resource). option_and_then (λ r. r.history.running) o) (other_kept a.id id (stepped at (step.Result a.running.run end)) s.resources differ) ∙ runs.is;
+  is =
+      ap (λ (o : Option Resource). option_and_then (λ r. r.history.running) o)
+      (other_kept a.id id (stepped at (step.Result a.running.run end)) s.resources differ) ∙ runs.is;
   call_is = runs.call_is;
   run_is = runs.run_is;
 }

@@ -1,8 +1,9 @@
 -- The ends of a turn.
-use Rattle.std.proofs.Common.{◌≡◌, inl, inr, ℕ, List, [], ◌∷◌, ◌++◌, Ok, Err, map, refl, sym, ◌∙◌, ap, subst, append_assoc, append-nil}
-use Rattle.ocf_types.specs.Due.{Due, due_after}
+use Rattle.std.proofs.Common.{◌≡◌, inl, inr, ℕ, List, [], ◌++◌, Ok, Err, map, refl, sym, ◌∙◌, ap, subst, append_assoc, append-nil}
+use Rattle.ocf_types.specs.Due.{Due}
 use Rattle.ocf_types.specs.Kinds.{Event}
-use Rattle.ocf_types.specs.State.{State, after, after_all}
+use Rattle.ocf_types.specs.Laws.{after_all-append}
+use Rattle.ocf_types.specs.State.{State, after_all}
 use Rattle.ocf_types.specs.declared.reply.Notice.{Notice}
 use Rattle.ocf_types.specs.declared.reply.TurnEnd.{TurnEnd}
 use Rattle.ocf_types.specs.declared.reply.TurnEnd.TheVariants as turn_end
@@ -15,7 +16,7 @@ use Rattle.child_keeper.specs.declared.answer.Entry.{Entry}
 use Rattle.exec_journal.specs.Place.{Place}
 use Rattle.exec_journal.specs.Room.{Roomy}
 use Rattle.exec_turn.specs.Actives.{Active}
-use Rattle.exec_turn.specs.Laws.{after_all-append, joined, then_started}
+use Rattle.exec_turn.specs.Laws.{due_after_all-append, joined, then_started}
 use Rattle.exec_turn.specs.Picks.{begins}
 use Rattle.exec_turn.specs.Pieces.{Leaves}
 use Rattle.exec_turn.specs.Polls.{polls, results}
@@ -23,12 +24,9 @@ use Rattle.exec_turn.specs.Starts.{Started, refusal_notices, refusals, starts}
 use Rattle.exec_turn.specs.Turn.{IsTurn, PickedAt, PicksBehind, Scene, Told, Whole, due_after_all, scene}
 use Rattle.exec_turn.specs.Turns.{BeginsRow, PollsRow, StartsRow, Turns}
 
-due_after_all-append : (s : State) (due : Due) (es fs : List Event) → due_after_all s due (es ++ fs) ≡ due_after_all (after_all s es) (due_after_all s due es) fs
-due_after_all-append s due [] fs = refl
-due_after_all-append s due (e ∷ es) fs = due_after_all-append (after s e) (due_after s due e) es fs
-
 -- nothing was done
-pub book_full : (v : View) (x : Scene) (from : ChildrenView) → Leaves v v x.state x.state [] [] [] → Goes v v Roomy → Turns v v x x.state x.due from from [] turn_end.BookFull
+pub book_full : (v : View) (x : Scene) (from : ChildrenView) → Leaves v v x.state x.state [] [] [] → Goes v v Roomy
+    → Turns v v x x.state x.due from from [] turn_end.BookFull
 book_full v x from leaves roomy = record {
   entries = [];
   events = [];
@@ -42,9 +40,11 @@ book_full v x from leaves roomy = record {
   roomy = roomy;
 }
 
-module _ (at : ℕ) (v0 v1 : View) (s0 s1 : State) (d0 d1 : Due) (p0 p1 : Place) (from c1 : ChildrenView) (n1 : List Notice) (roomy1 : Goes v0 v1 Roomy) where
+module _ (at : ℕ) (v0 v1 : View) (s0 s1 : State) (d0 d1 : Due) (p0 p1 : Place) (from c1 : ChildrenView) (n1 : List Notice)
+    (roomy1 : Goes v0 v1 Roomy) where
   -- the row of results failed
-  pub no_results : (f : DiskFault) → PollsRow v0 v1 (scene s0 d0 p0 at) (scene s1 d1 p1 at) from c1 n1 (Err f) → Grew v0.failures v1.failures → Turns v0 v1 (scene s0 d0 p0 at) s1 d1 from c1 n1 turn_end.Disk
+  pub no_results : (f : DiskFault) → PollsRow v0 v1 (scene s0 d0 p0 at) (scene s1 d1 p1 at) from c1 n1 (Err f)
+      → Grew v0.failures v1.failures → Turns v0 v1 (scene s0 d0 p0 at) s1 d1 from c1 n1 turn_end.Disk
   no_results f p grew = record {
     entries = polls at p.answers;
     events = [];
@@ -58,7 +58,8 @@ module _ (at : ℕ) (v0 v1 : View) (s0 s1 : State) (d0 d1 : Due) (p0 p1 : Place)
     roomy = roomy1;
   }
 
-  module _ (u : Unit) (p : PollsRow v0 v1 (scene s0 d0 p0 at) (scene s1 d1 p1 at) from c1 n1 (Ok u)) (v2 : View) (s2 : State) (d2 : Due) (p2 : Place) (begun : List Active) (end : TurnEnd) (roomy2 : Goes v1 v2 Roomy) where
+  module _ (u : Unit) (p : PollsRow v0 v1 (scene s0 d0 p0 at) (scene s1 d1 p1 at) from c1 n1 (Ok u)) (v2 : View) (s2 : State) (d2 : Due)
+      (p2 : Place) (begun : List Active) (end : TurnEnd) (roomy2 : Goes v1 v2 Roomy) where
     roomy12 : Goes v0 v2 Roomy
     roomy12 = runs_joined v0 v1 v2 Roomy roomy1 roomy2
 
@@ -69,7 +70,8 @@ module _ (at : ℕ) (v0 v1 : View) (s0 s1 : State) (d0 d1 : Due) (p0 p1 : Place)
     picks picked = subst (λ (x : Scene). PickedAt end x begun) p.moves picked
 
     -- the row of begins failed
-    pub no_begins : (f : DiskFault) → BeginsRow v1 v2 (scene s1 d1 p1 at) (scene s2 d2 p2 at) begun end (Err f) → Grew v1.failures v2.failures → Grew v0.failures v2.failures → Turns v0 v2 (scene s0 d0 p0 at) s2 d2 from c1 n1 turn_end.Disk
+    pub no_begins : (f : DiskFault) → BeginsRow v1 v2 (scene s1 d1 p1 at) (scene s2 d2 p2 at) begun end (Err f)
+        → Grew v1.failures v2.failures → Grew v0.failures v2.failures → Turns v0 v2 (scene s0 d0 p0 at) s2 d2 from c1 n1 turn_end.Disk
     no_begins f b grew since =
         let both = joined v0 v1 v2 s0 s1 s2 (polls at p.answers) [] (results at p.answers) [] (begins at begun) p.leaves b.leaves in
         record {
@@ -78,15 +80,18 @@ module _ (at : ℕ) (v0 v1 : View) (s0 s1 : State) (d0 d1 : Due) (p0 p1 : Place)
           pending = begins at begun;
           book = p.book;
           does = inr (inl (p.answers, end, begun, p.each, picks b.picked, refl, refl, refl, p.told_is));
-          leaves = subst (λ (l : List Entry). Leaves v0 v2 s0 s2 l (results at p.answers) (begins at begun)) (append-nil (polls at p.answers))
-              (subst (λ (l : List Event). Leaves v0 v2 s0 s2 (polls at p.answers ++ []) l (begins at begun)) (append-nil (results at p.answers)) both);
+          leaves =
+              subst (λ (l : List Entry). Leaves v0 v2 s0 s2 l (results at p.answers) (begins at begun)) (append-nil (polls at p.answers))
+              (subst (λ (l : List Event). Leaves v0 v2 s0 s2 (polls at p.answers ++ []) l (begins at begun))
+              (append-nil (results at p.answers)) both);
           due_is = b.moves.1 ∙ due1;
           whole = λ not. absurd (not refl);
           cause = λ _. since;
           roomy = roomy12;
         }
 
-    module _ (w : Unit) (b : BeginsRow v1 v2 (scene s1 d1 p1 at) (scene s2 d2 p2 at) begun end (Ok w)) (v3 : View) (s3 : State) (d3 : Due) (p3 : Place) (c2 : ChildrenView) (n3 : List Notice) (roomy3 : Goes v2 v3 Roomy) (lawful : v2.honest → Lawful v2) where
+    module _ (w : Unit) (b : BeginsRow v1 v2 (scene s1 d1 p1 at) (scene s2 d2 p2 at) begun end (Ok w)) (v3 : View) (s3 : State) (d3 : Due)
+        (p3 : Place) (c2 : ChildrenView) (n3 : List Notice) (roomy3 : Goes v2 v3 Roomy) (lawful : v2.honest → Lawful v2) where
       abbrev before : List Event
       before = results at p.answers ++ begins at begun
 
@@ -105,15 +110,19 @@ module _ (at : ℕ) (v0 v1 : View) (s0 s1 : State) (d0 d1 : Due) (p0 p1 : Place)
       state2 : s2 ≡ after_all s1 (begins at begun)
       state2 = ap (λ (x : Scene). x.state) b.moves
 
-      module _ (answers : List Started) (each : map (λ a. a.what) answers ≡ begun) (book2 : c2.book ≡ c1.book ++ starts v2.clock answers) where
+      module _ (answers : List Started) (each : map (λ a. a.what) answers ≡ begun)
+          (book2 : c2.book ≡ c1.book ++ starts v2.clock answers) where
         abbrev entries : List Entry
         entries = polls at p.answers ++ starts v2.clock answers
 
         book_all : c2.book ≡ from.book ++ entries
-        book_all = book2 ∙ ap (λ (l : List Entry). l ++ starts v2.clock answers) p.book ∙ append_assoc from.book (polls at p.answers) (starts v2.clock answers)
+        book_all =
+            book2 ∙ ap (λ (l : List Entry). l ++ starts v2.clock answers) p.book
+            ∙ append_assoc from.book (polls at p.answers) (starts v2.clock answers)
 
         begun_leaves : Leaves v0 v2 s0 s2 entries before []
-        begun_leaves = joined v0 v1 v2 s0 s1 s2 (polls at p.answers) (starts v2.clock answers) (results at p.answers) (begins at begun) [] p.leaves
+        begun_leaves =
+            joined v0 v1 v2 s0 s1 s2 (polls at p.answers) (starts v2.clock answers) (results at p.answers) (begins at begun) [] p.leaves
             (then_started v1 v2 s1 s2 at v2.clock begun answers lawful refl each b.leaves)
 
         ended : (es pending : List Event) → Leaves v2 v3 s2 s3 [] es pending → Leaves v0 v3 s0 s3 entries (before ++ es) pending
@@ -132,21 +141,25 @@ module _ (at : ℕ) (v0 v1 : View) (s0 s1 : State) (d0 d1 : Due) (p0 p1 : Place)
         }
 
       -- the row of refused starts failed
-      pub no_refusals : (f : DiskFault) → StartsRow v2 v3 (scene s2 d2 p2 at) (scene s3 d3 p3 at) begun c1 c2 n1 n3 (Err f) → Grew v0.failures v3.failures → Turns v0 v3 (scene s0 d0 p0 at) s3 d3 from c2 n3 turn_end.Disk
+      pub no_refusals : (f : DiskFault) → StartsRow v2 v3 (scene s2 d2 p2 at) (scene s3 d3 p3 at) begun c1 c2 n1 n3 (Err f)
+          → Grew v0.failures v3.failures → Turns v0 v3 (scene s0 d0 p0 at) s3 d3 from c2 n3 turn_end.Disk
       no_refusals f x since = record {
         entries = entries x.answers x.each x.book;
         events = before;
         pending = refusals at x.answers;
         book = book_all x.answers x.each x.book;
         does = inr (inr (end, all_told x.answers x.each x.book, refl, refl, refl, x.told_is ∙ p.told_is));
-        leaves = subst (λ (l : List Event). Leaves v0 v3 s0 s3 (entries x.answers x.each x.book) l (refusals at x.answers)) (append-nil before) (ended x.answers x.each x.book [] (refusals at x.answers) x.leaves);
+        leaves =
+            subst (λ (l : List Event). Leaves v0 v3 s0 s3 (entries x.answers x.each x.book) l (refusals at x.answers)) (append-nil before)
+            (ended x.answers x.each x.book [] (refusals at x.answers) x.leaves);
         due_is = x.moves.1 ∙ due2;
         whole = λ not. absurd (not refl);
         cause = λ _. since;
         roomy = roomy13;
       }
 
-      is_whole : (e : TurnEnd) (x : Scene) (es : List Entry) (events pending : List Event) (told : List Notice) → PickedAt e (scene s1 d1 p1 at) begun → Whole e x es events pending told → IsTurn e x es events pending told
+      is_whole : (e : TurnEnd) (x : Scene) (es : List Entry) (events pending : List Event) (told : List Notice)
+          → PickedAt e (scene s1 d1 p1 at) begun → Whole e x es events pending told → IsTurn e x es events pending told
       is_whole turn_end.Done x es events pending told h done = done
       is_whole turn_end.RunsSpent x es events pending told h done = done
       is_whole turn_end.Full x es events pending told h done = done
@@ -165,10 +178,13 @@ module _ (at : ℕ) (v0 v1 : View) (s0 s1 : State) (d0 d1 : Due) (p0 p1 : Place)
       not_disk turn_end.Disk h is = absurd h.0
 
       -- all of it went well
-      pub whole_turn : (z : Unit) → StartsRow v2 v3 (scene s2 d2 p2 at) (scene s3 d3 p3 at) begun c1 c2 n1 n3 (Ok z) → Turns v0 v3 (scene s0 d0 p0 at) s3 d3 from c2 n3 end
+      pub whole_turn : (z : Unit) → StartsRow v2 v3 (scene s2 d2 p2 at) (scene s3 d3 p3 at) begun c1 c2 n1 n3 (Ok z)
+          → Turns v0 v3 (scene s0 d0 p0 at) s3 d3 from c2 n3 end
       whole_turn z x =
           let due3 : d3 ≡ due_after_all s0 d0 (before ++ refusals at x.answers) = ap (λ (y : Scene). y.due) x.moves
-          ∙ ap (λ (s : State). due_after_all s d2 (refusals at x.answers)) (state2 ∙ ap (λ (s : State). after_all s (begins at begun)) state1 ∙ sym (after_all-append s0 (results at p.answers) (begins at begun)))
+          ∙ ap (λ (s : State). due_after_all s d2 (refusals at x.answers))
+          (state2 ∙ ap (λ (s : State). after_all s (begins at begun)) state1
+          ∙ sym (after_all-append s0 (results at p.answers) (begins at begun)))
           ∙ ap (λ (d : Due). due_after_all (after_all s0 before) d (refusals at x.answers)) due2
           ∙ sym (due_after_all-append s0 d0 before (refusals at x.answers)) in
           let es = entries x.answers x.each x.book in
@@ -177,8 +193,14 @@ module _ (at : ℕ) (v0 v1 : View) (s0 s1 : State) (d0 d1 : Due) (p0 p1 : Place)
             events = before ++ refusals at x.answers;
             pending = [];
             book = book_all x.answers x.each x.book;
-            does = is_whole end (scene s0 d0 p0 at) es (before ++ refusals at x.answers) [] n3 b.picked
-                (all_told x.answers x.each x.book, refl, refl, refl, x.told_is ∙ ap (λ (l : List Notice). l ++ refusal_notices at x.answers) p.told_is);
+            does = is_whole end (scene s0 d0 p0 at) es (before ++ refusals at x.answers) [] n3 b.picked (
+              all_told x.answers x.each x.book,
+              refl,
+              refl,
+              refl,
+              x.told_is
+                  ∙ ap (λ (l : List Notice). l ++ refusal_notices at x.answers) p.told_is,
+            );
             leaves = ended x.answers x.each x.book (refusals at x.answers) [] x.leaves;
             due_is = due3;
             whole = λ _. refl;

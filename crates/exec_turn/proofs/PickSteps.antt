@@ -1,9 +1,9 @@
 -- What is started with what has begun, and the row of begins so far.
-use Rattle.std.proofs.Common.{◌≡◌, ◌↔◌, ◌⊎◌, inl, inr, ℕ, ◌+◌, ◌<◌, ◌≤◌, List, [], ◌∷◌, ◌++◌, length, take, Some, IsTrue, Contains, refl, sym, ap, subst, ◌∙◌, arith}
+use Rattle.std.proofs.Common.{◌≡◌, ◌⊎◌, inl, inr, ℕ, ◌+◌, ◌<◌, ◌≤◌, List, [], ◌∷◌, ◌++◌, length, take, Some, refl}
+use Rattle.std.proofs.Common.{sym, ap, subst, ◌∙◌, arith}
 use Rattle.std.specs.List.{AllByRecursion}
 use Rattle.std.proofs.lemmas.Bool.{cases_lt}
 use Rattle.std.proofs.lemmas.List.{length-append, map-append}
-use Rattle.ocf_types.specs.Actions.{action_of, action_word}
 use Rattle.ocf_types.specs.Due.{Due}
 use Rattle.ocf_types.specs.Kinds.{Event, Registration}
 use Rattle.ocf_types.specs.Params.{ParamList}
@@ -14,12 +14,12 @@ use Rattle.ocf_types.specs.State.{State}
 use Rattle.ocf_types.specs.declared.action.Task.{Task}
 use Rattle.ocf_types.specs.declared.operation.Running.{Running}
 use Rattle.ocf_env.specs.Places.{Call, Place}
-use Rattle.ocf_env.specs.Programs.{agent_path, arguments_at, program_at}
-use Rattle.ocf_env.specs.Variables.{IsVariable, are_ascending}
 use Rattle.exec_journal.specs.Front.{spelled_row}
 use Rattle.exec_journal.specs.Rows.{IsTooLong, kept_free}
 use Rattle.exec_turn.specs.Actives.{Active}
-use Rattle.exec_turn.specs.Launches.{IsInvocation, IsOfOne, IsStart, all_starting, registration_of, what_starts}
+use Rattle.ocf_env.specs.Instances.{registration_of}
+use Rattle.ocf_env.specs.Invocations.{IsInvocation}
+use Rattle.exec_turn.specs.Launches.{IsOfOne, IsStart, all_starting, what_starts}
 use Rattle.exec_turn.specs.Picks.{ArePicks, Chooses, Cut, MayBegin, begin_of, begins}
 use Rattle.exec_turn.specs.declared.picks.StartOf.{StartOf}
 use Rattle.exec_turn.proofs.Choosing.{picks_cut}
@@ -27,20 +27,13 @@ use Rattle.exec_turn.proofs.Choosing.{picks_cut}
 -- what is called for these texts is called for the resource whose texts they are
 pub invoked : (site : Place) (id : List ℕ) (r : Resource) (task : Task) (call : Call) (own provider agent : List ℕ) (params : ParamList)
     → id ≡ own → provider ≡ r.provider → agent ≡ r.agent → params ≡ r.params
-    → call.program ≡ program_at site.via (agent_path site.root provider agent)
-    → call.arguments ≡ arguments_at site.via (agent_path site.root provider agent) (action_word (action_of task))
-    → IsTrue (are_ascending call.environment)
-    → ((name value : List ℕ) → Contains call.environment (name, value)
-    ↔ IsVariable site (record { id = own; provider = provider; agent = agent; params = params }) task name value)
-    → IsInvocation site id r task call
-invoked site id r task call own provider agent params id_is provider_is agent_is params_is program arguments sorted variables =
+    → IsInvocation site (record { id = own; provider = provider; agent = agent; params = params }) task call
+    → IsInvocation site (registration_of id r) task call
+invoked site id r task call own provider agent params id_is provider_is agent_is params_is is =
     let given : Registration = record { id = own; provider = provider; agent = agent; params = params } in
-    let same : given ≡ registration_of id r = λ k. record { id = sym id_is k; provider = provider_is k; agent = agent_is k; params = params_is k } in record {
-      program = subst (λ (x : Registration). call.program ≡ program_at site.via (agent_path site.root x.provider x.agent)) same program;
-      arguments = subst (λ (x : Registration). call.arguments ≡ arguments_at site.via (agent_path site.root x.provider x.agent) (action_word (action_of task))) same arguments;
-      sorted = sorted;
-      variables = subst (λ (x : Registration). (name value : List ℕ) → Contains call.environment (name, value) ↔ IsVariable site x task name value) same variables;
-    }
+    let same : given ≡ registration_of id r =
+    λ k. record { id = sym id_is k; provider = provider_is k; agent = agent_is k; params = params_is k } in
+    subst (λ (x : Registration). IsInvocation site x task call) same is
 
 -- one more begin makes the row longer by its spelling
 pub row_longer : (es : List Event) (e : Event) → length (spelled_row (es ++ e ∷ [])) ≡ length (spelled_row es) + length (spelled_event e)
@@ -67,24 +60,30 @@ pub spelled_more : (at len more : ℕ) (bs : List Active) (a : Active) (row : Li
     → len ≡ length (spelled_row row) → more ≡ length (spelled_event e) → length (spelled_row (begins at (bs ++ a ∷ []))) ≡ len + more
 spelled_more at len more bs a row e row_is e_is len_is more_is =
     let grown : begins at (bs ++ a ∷ []) ≡ row ++ e ∷ [] = begins_push at bs a ∙ (λ k. sym row_is k ++ sym e_is k ∷ []) in
-    let size : length (spelled_row (begins at (bs ++ a ∷ []))) ≡ length (spelled_row (row ++ e ∷ [])) = ap (λ (l : List Event). length (spelled_row l)) grown in
+    let size : length (spelled_row (begins at (bs ++ a ∷ []))) ≡ length (spelled_row (row ++ e ∷ [])) = ap
+    (λ (l : List Event). length (spelled_row l)) grown in
     omega (arith, size, row_longer row e, len_is, more_is)
 
 pub longer : {A : Type 0} (bs : List A) (a : A) → length (bs ++ a ∷ []) ≡ length bs + 1
 longer bs a = length-append bs (a ∷ [])
 
 -- where a longer row does not fit
-pub too_long : (s : State) (tail at run size : ℕ) (bs : List Active) (a : Active) → run ≡ s.next_run + length bs → run + 1 ≤ 9007199254740991
+pub too_long : (s : State) (tail at run size : ℕ) (bs : List Active) (a : Active) → run ≡ s.next_run + length bs
+    → run + 1 ≤ 9007199254740991
     → length (spelled_row (begins at (bs ++ a ∷ []))) ≡ size → 8388608 < tail + 5 + size + 1 + 32768
     → (s.next_run + length (bs ++ a ∷ []) ≤ 9007199254740991) × IsTooLong tail (begins at (bs ++ a ∷ []))
-too_long s tail at run size bs a run_is drawn size_is over = (omega (arith, run_is, drawn, longer bs a), omega (arith, kept at bs a, size_is, over))
+too_long s tail at run size bs a run_is drawn size_is over =
+    (omega (arith, run_is, drawn, longer bs a), omega (arith, kept at bs a, size_is, over))
 
 -- where it does
-pub may_more : (s : State) (tail at run size : ℕ) (bs : List Active) (a : Active) → run ≡ s.next_run + length bs → run + 1 ≤ 9007199254740991
+pub may_more : (s : State) (tail at run size : ℕ) (bs : List Active) (a : Active) → run ≡ s.next_run + length bs
+    → run + 1 ≤ 9007199254740991
     → length (spelled_row (begins at (bs ++ a ∷ []))) ≡ size → tail + 5 + size + 1 + 32768 ≤ 8388608 → MayBegin s tail at (bs ++ a ∷ [])
 may_more s tail at run size bs a run_is drawn size_is fit = record {
   runs = omega (arith, run_is, drawn, longer bs a);
-  room = λ some over. let over2 : 8388608 < tail + 5 + length (spelled_row (begins at (bs ++ a ∷ []))) + 1 + kept_free (begins at (bs ++ a ∷ [])) = over in
+  room =
+      λ some over. let over2 : 8388608
+      < tail + 5 + length (spelled_row (begins at (bs ++ a ∷ []))) + 1 + kept_free (begins at (bs ++ a ∷ [])) = over in
       absurd (omega (arith, kept at bs a, size_is, fit, over2));
 }
 
@@ -97,8 +96,10 @@ above n m h = by (cases_lt m n)
     by (inr le) = absurd (h le)
 
 -- the picks are cut before what a place would begin
-pub cut_at : (s : State) (due : Due) (at next place : ℕ) (bs : List Active) (x : Running) (Why : List Active → Type 0) → place < length s.resources
-    → ArePicks due at s.next_run (take place s.resources) bs → next ≡ s.next_run + length bs → Chooses due at next (entry_at s place) (Some x)
+pub cut_at : (s : State) (due : Due) (at next place : ℕ) (bs : List Active) (x : Running) (Why : List Active → Type 0)
+    → place < length s.resources
+    → ArePicks due at s.next_run (take place s.resources) bs → next ≡ s.next_run + length bs
+    → Chooses due at next (entry_at s place) (Some x)
     → Why (bs ++ record { id = id_at s place; running = x } ∷ []) → Cut s due at bs Why
 cut_at s due at next place bs x Why lt before is now why =
     let cut = picks_cut due at s.next_run next s.resources place bs x lt before is now in record {
@@ -109,13 +110,16 @@ cut_at s due at next place bs x Why lt before is now why =
     }
 
 -- the row with one more begin
-pub row_more : (at : ℕ) (bs : List Active) (a : Active) (row longer_row : List Event) (e : Event) → longer_row ≡ row ++ e ∷ [] → row ≡ begins at bs → e ≡ begin_of at a
+pub row_more : (at : ℕ) (bs : List Active) (a : Active) (row longer_row : List Event) (e : Event) → longer_row ≡ row ++ e ∷ []
+    → row ≡ begins at bs → e ≡ begin_of at a
     → longer_row ≡ begins at (bs ++ a ∷ [])
 row_more at bs a row longer_row e grown row_is e_is = grown ∙ (λ k. row_is k ++ e_is k ∷ []) ∙ sym (begins_push at bs a)
 
 -- one more start
-pub starting_more : (xs ys : List (StartOf Call)) (x : StartOf Call) (a : Active) → ys ≡ xs ++ x ∷ [] → what_starts x ≡ a → all_starting ys ≡ all_starting xs ++ a ∷ []
-starting_more xs ys x a grown is = ap all_starting grown ∙ map-append what_starts xs (x ∷ []) ∙ ap (λ (y : Active). all_starting xs ++ y ∷ []) is
+pub starting_more : (xs ys : List (StartOf Call)) (x : StartOf Call) (a : Active) → ys ≡ xs ++ x ∷ [] → what_starts x ≡ a
+    → all_starting ys ≡ all_starting xs ++ a ∷ []
+starting_more xs ys x a grown is =
+    ap all_starting grown ∙ map-append what_starts xs (x ∷ []) ∙ ap (λ (y : Active). all_starting xs ++ y ∷ []) is
 
 pub one_longer : {A : Type 0} (xs ys : List A) (x : A) → ys ≡ xs ++ x ∷ [] → length ys ≡ length xs + 1
 one_longer xs ys x grown = ap (λ (l : List _). length l) grown ∙ longer xs x

@@ -1,5 +1,7 @@
 -- One poll after another: the rows that they make, who lives on, and the room of the book.
-use Rattle.std.proofs.Common.{◌≡◌, ⊎_elim, ℕ, zero, suc, ◌+◌, ◌*◌, ◌<◌, ◌≤◌, nat_eq, Bool, true, false, cond, if◌then◌else◌, not, List, [], ◌∷◌, ◌++◌, map, length, Option, Some, None, option_to_list, Result, Contains, slice_index_or, refl, sym, ◌∙◌, ap, subst, arith, append-nil, take, drop}
+use Rattle.std.proofs.Common.{◌≡◌, ⊎_elim, ℕ, zero, suc, ◌+◌, ◌*◌, ◌<◌, ◌≤◌, nat_eq, Bool, true, false, cond, if◌then◌else◌, not, List, []}
+use Rattle.std.proofs.Common.{◌∷◌, ◌++◌, map, length, Option, Some, None, option_to_list, Result, Contains, slice_index_or, refl, sym, ◌∙◌}
+use Rattle.std.proofs.Common.{ap, subst, arith, append-nil, take, drop}
 use Rattle.std.specs.List.{AllByRecursion, IsDistinct, flat_map}
 use Rattle.std.proofs.lemmas.Cmp.{nat_eq_equiv}
 use Rattle.std.proofs.lemmas.Grind.{flat_map-append}
@@ -42,10 +44,12 @@ polled_live at x (poll.Exited code) kill v = refl
 polled_live at x poll.Signaled kill v = refl
 polled_live at x poll.Fault kill v = refl
 
-pub polled_room : (at : ℕ) (x : Running) (answer : Poll) (kill : Result Unit KillFault) (v : ChildrenView) → v.room ≤ (polled_on at x answer kill v).room + 2
+pub polled_room : (at : ℕ) (x : Running) (answer : Poll) (kill : Result Unit KillFault) (v : ChildrenView)
+    → v.room ≤ (polled_on at x answer kill v).room + 2
 polled_room at x poll.Running kill v = by (is_late at x)
   where
-    by : (b : Bool) → v.room ≤ (if b then after_kill (after_poll v x.run poll.Running) x.run kill else after_poll v x.run poll.Running).room + 2
+    by : (b : Bool) → v.room
+        ≤ (if b then after_kill (after_poll v x.run poll.Running) x.run kill else after_poll v x.run poll.Running).room + 2
     by true = omega arith
     by false = omega arith
 polled_room at x (poll.Exited code) kill v = omega arith
@@ -53,14 +57,17 @@ polled_room at x poll.Signaled kill v = omega arith
 polled_room at x poll.Fault kill v = omega arith
 
 -- the children where an action that runs is late, and was killed
-pub polled_late : (at : ℕ) (x : Running) (kill : Result Unit KillFault) (v v1 v2 : ChildrenView) → is_late at x ≡ true → v1 ≡ after_poll v x.run poll.Running → v2 ≡ after_kill v1 x.run kill
+pub polled_late : (at : ℕ) (x : Running) (kill : Result Unit KillFault) (v v1 v2 : ChildrenView) → is_late at x ≡ true
+    → v1 ≡ after_poll v x.run poll.Running → v2 ≡ after_kill v1 x.run kill
     → (v2 ≡ polled_on at x poll.Running kill v) × (Some run_end.TimedOut ≡ ending at x poll.Running)
 polled_late at x kill v v1 v2 late one two = (rw late (two ∙ ap (λ w. after_kill w x.run kill) one), rw late refl)
 
 -- one poll, and none
-pub polled_one : (at : ℕ) (id : List ℕ) (x : Running) (o : Option Running) (answer : Poll) (kill : Result Unit KillFault) (old new : ChildrenView) (end : Option RunEnd)
+pub polled_one : (at : ℕ) (id : List ℕ) (x : Running) (o : Option Running) (answer : Poll) (kill : Result Unit KillFault)
+    (old new : ChildrenView) (end : Option RunEnd)
     → o ≡ Some x → IsPoll answer → new ≡ polled_on at x answer kill old → end ≡ ending at x answer
-    → Polls at (active_of id o) old new (map (result_of at (record { id = id; running = x })) (option_to_list end)) (map (notice_of at (record { id = id; running = x })) (option_to_list end))
+    → Polls at (active_of id o) old new (map (result_of at (record { id = id; running = x })) (option_to_list end))
+    (map (notice_of at (record { id = id; running = x })) (option_to_list end))
 polled_one at id x o answer kill old new end is byte children ended =
     let who : Active = record { id = id; running = x } in record {
       answers = record { who = who; poll = answer; kill = kill } ∷ [];
@@ -81,7 +88,8 @@ polled_none at id o v is = record {
   told_is = refl;
 }
 
-after_polls-append : (at : ℕ) (v : ChildrenView) (ps qs : List Polled) → after_polls at v (ps ++ qs) ≡ after_polls at (after_polls at v ps) qs
+after_polls-append : (at : ℕ) (v : ChildrenView) (ps qs : List Polled)
+    → after_polls at v (ps ++ qs) ≡ after_polls at (after_polls at v ps) qs
 after_polls-append at v [] qs = refl
 after_polls-append at v (p ∷ ps) qs = after_polls-append at (polled_on at p.who.running p.poll p.kill v) ps qs
 
@@ -92,9 +100,14 @@ polls_more at xs ys v v1 v2 row more told later f g = record {
   answers = f.answers ++ g.answers;
   each = map-append _ f.answers g.answers ∙ ap (λ (l : List Active). l ++ whos g.answers) f.each ∙ ap (λ (l : List Active). xs ++ l) g.each;
   bytes = each_append _ f.answers g.answers f.bytes g.bytes;
-  children = g.children ∙ ap (λ (w : ChildrenView). after_polls at w g.answers) f.children ∙ sym (after_polls-append at v f.answers g.answers);
-  row_is = ap (λ (l : List Event). l ++ more) f.row_is ∙ ap (λ (l : List Event). results at f.answers ++ l) g.row_is ∙ sym (flat_map-append _ f.answers g.answers);
-  told_is = ap (λ (l : List Notice). l ++ later) f.told_is ∙ ap (λ (l : List Notice). result_notices at f.answers ++ l) g.told_is ∙ sym (flat_map-append _ f.answers g.answers);
+  children =
+      g.children ∙ ap (λ (w : ChildrenView). after_polls at w g.answers) f.children ∙ sym (after_polls-append at v f.answers g.answers);
+  row_is =
+      ap (λ (l : List Event). l ++ more) f.row_is ∙ ap (λ (l : List Event). results at f.answers ++ l) g.row_is
+      ∙ sym (flat_map-append _ f.answers g.answers);
+  told_is =
+      ap (λ (l : List Notice). l ++ later) f.told_is ∙ ap (λ (l : List Notice). result_notices at f.answers ++ l) g.told_is
+      ∙ sym (flat_map-append _ f.answers g.answers);
 }
 
 -- who lives is found at the first place or behind it
@@ -119,7 +132,8 @@ lives_without run r (y ∷ ys) apart has = ⊎_elim
     by true has = has
     by false has = Contains-append_right (y ∷ []) (without_run run ys) r has
 
-pub lives_after : (end : Option RunEnd) (run r : ℕ) (live : List ℕ) → nat_eq run r ≡ false → Contains live r → Contains (live_after end run live) r
+pub lives_after : (end : Option RunEnd) (run r : ℕ) (live : List ℕ) → nat_eq run r ≡ false → Contains live r
+    → Contains (live_after end run live) r
 lives_after None run r live apart has = has
 lives_after (Some end) run r live apart has = lives_without run r live apart has
 
@@ -127,20 +141,25 @@ lives_after (Some end) run r live apart has = lives_without run r live apart has
 abbrev pub Live : List ℕ → List ℕ → Type 0
 Live live runs = AllByRecursion (λ run. Contains live run) runs
 
-pub all_live_after : (end : Option RunEnd) (run : ℕ) (live runs : List ℕ) → AllByRecursion (λ r. nat_eq run r ≡ false) runs → Live live runs → Live (live_after end run live) runs
+pub all_live_after : (end : Option RunEnd) (run : ℕ) (live runs : List ℕ) → AllByRecursion (λ r. nat_eq run r ≡ false) runs → Live live runs
+    → Live (live_after end run live) runs
 all_live_after end run live [] apart has = tt
 all_live_after end run live (r ∷ rs) apart has = (lives_after end run r live apart.0 has.0, all_live_after end run live rs apart.1 has.1)
 
 -- behind polls the other runs live on
-live_on : (at : ℕ) (ps : List Polled) (v : ChildrenView) (runs : List ℕ) → IsDistinct nat_eq (runs_of (whos ps) ++ runs) → Live v.live runs → Live (after_polls at v ps).live runs
+live_on : (at : ℕ) (ps : List Polled) (v : ChildrenView) (runs : List ℕ) → IsDistinct nat_eq (runs_of (whos ps) ++ runs) → Live v.live runs
+    → Live (after_polls at v ps).live runs
 live_on at [] v runs distinct has = has
 live_on at (p ∷ ps) v runs distinct has =
     let apart = each_second _ (runs_of (whos ps)) runs (IsDistinct-head nat_eq p.who.running.run (runs_of (whos ps) ++ runs) distinct) in
     let end = ending at p.who.running p.poll in
-    live_on at ps (polled_on at p.who.running p.poll p.kill v) runs (IsDistinct-tail nat_eq p.who.running.run (runs_of (whos ps) ++ runs) distinct)
-    (subst (λ (live : List ℕ). Live live runs) (sym (polled_live at p.who.running p.poll p.kill v)) (all_live_after end p.who.running.run v.live runs apart has))
+    live_on at ps (polled_on at p.who.running p.poll p.kill v) runs
+    (IsDistinct-tail nat_eq p.who.running.run (runs_of (whos ps) ++ runs) distinct)
+    (subst (λ (live : List ℕ). Live live runs) (sym (polled_live at p.who.running p.poll p.kill v))
+    (all_live_after end p.who.running.run v.live runs apart has))
 
-pub others_live : (at : ℕ) (all rest : List Active) (old new : ChildrenView) (row : List Event) (told : List Notice) → Polls at all old new row told
+pub others_live : (at : ℕ) (all rest : List Active) (old new : ChildrenView) (row : List Event) (told : List Notice)
+    → Polls at all old new row told
     → IsDistinct nat_eq (runs_of (all ++ rest)) → Live old.live (runs_of (all ++ rest)) → Live new.live (runs_of rest)
 others_live at all rest old new row told h distinct has =
     let both : runs_of (all ++ rest) ≡ runs_of all ++ runs_of rest = map-append _ all rest in
@@ -168,7 +187,8 @@ room_after at (p ∷ ps) v =
 pub active_more : (s : State) (place : ℕ) → place < length s.resources
     → flat_map active_in (take (place + 1) s.resources) ≡ flat_map active_in (take place s.resources) ++ active_in (entry_at s place)
 active_more s place within =
-    ap (flat_map active_in) (take_more s.resources place no_entry within) ∙ flat_map-append active_in (take place s.resources) (entry_at s place ∷ [])
+    ap (flat_map active_in) (take_more s.resources place no_entry within)
+    ∙ flat_map-append active_in (take place s.resources) (entry_at s place ∷ [])
     ∙ ap (λ (l : List Active). flat_map active_in (take place s.resources) ++ l) (append-nil (active_in (entry_at s place)))
 
 pub active_rest : (s : State) (place : ℕ) → place < length s.resources
@@ -176,7 +196,8 @@ pub active_rest : (s : State) (place : ℕ) → place < length s.resources
 active_rest s place within = ap (flat_map active_in) (drop_more s.resources place no_entry within)
 
 -- the book's room behind polls
-pub room_behind : (at : ℕ) (all : List Active) (old new : ChildrenView) (row : List Event) (told : List Notice) → Polls at all old new row told → old.room ≤ new.room + 2 * length all
+pub room_behind : (at : ℕ) (all : List Active) (old new : ChildrenView) (row : List Event) (told : List Notice)
+    → Polls at all old new row told → old.room ≤ new.room + 2 * length all
 room_behind at all old new row told h =
     let many : length h.answers ≡ length all = sym (length-map h.answers _) ∙ ap (λ (l : List Active). length l) h.each in
     let room : new.room ≡ (after_polls at old h.answers).room = ap (λ (w : ChildrenView). w.room) h.children in

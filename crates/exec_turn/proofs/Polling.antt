@@ -1,5 +1,7 @@
 -- What polls enter into the book, and what their results do to a state.
-use Rattle.std.proofs.Common.{◌≡◌, ⊎_elim, inl, ℕ, ◌+◌, ◌*◌, ◌≤◌, nat_eq, Bool, true, false, cond, if◌then◌else◌, not, List, [], ◌∷◌, ◌++◌, map, length, Option, Some, None, option_to_list, Result, Ok, Err, Contains, IsSomeAnd, append_assoc, length-append, refl, sym, ◌∙◌, ap, subst, arith, append-nil}
+use Rattle.std.proofs.Common.{◌≡◌, ⊎_elim, inl, ℕ, ◌+◌, ◌*◌, ◌≤◌, nat_eq, Bool, true, false, cond, if◌then◌else◌, not, List, [], ◌∷◌, ◌++◌}
+use Rattle.std.proofs.Common.{map, length, Option, Some, None, option_to_list, Result, Ok, Err, Contains, IsSomeAnd, append_assoc}
+use Rattle.std.proofs.Common.{length-append, refl, sym, ◌∙◌, ap, subst, arith, append-nil}
 use Rattle.std.specs.List.{AllByRecursion, IsDistinct}
 use Rattle.std.specs.Map.{keys_of}
 use Rattle.std.specs.Str.{bytes_eq}
@@ -33,11 +35,13 @@ use Rattle.exec_turn.specs.Actives.{Active, active, result_of, runs_of}
 use Rattle.exec_turn.specs.Lives.{Tends}
 use Rattle.exec_turn.specs.Polls.{IsPoll, Polled, after_polls, ending, entries_of, is_late, polled_on, polls, results, said}
 use Rattle.exec_turn.specs.Rows.{MayRecord}
-use Rattle.exec_turn.proofs.Results.{IsActive, RunsIn, distinct_other, each_active, each_middle, each_other, each_runs, length-all_in, middle_apart, others_run, same_keys}
+use Rattle.exec_turn.proofs.Results.{IsActive, RunsIn, distinct_other, each_active, each_middle, each_other, each_runs, length-all_in}
+use Rattle.exec_turn.proofs.Results.{middle_apart, others_run, same_keys}
 use Rattle.exec_turn.proofs.PollSteps.{Live, all_live_after, contains_one, live_after, polled_live, room_after, whos}
 
 -- the entries of one poll
-polled_book : (at : ℕ) (x : Running) (answer : Poll) (kill : Result Unit KillFault) (v : ChildrenView) → (polled_on at x answer kill v).book ≡ v.book ++ entries_of at x answer kill
+polled_book : (at : ℕ) (x : Running) (answer : Poll) (kill : Result Unit KillFault) (v : ChildrenView)
+    → (polled_on at x answer kill v).book ≡ v.book ++ entries_of at x answer kill
 polled_book at x poll.Running kill v = by (is_late at x)
   where
     by : (b : Bool) → (if b then after_kill (after_poll v x.run poll.Running) x.run kill else after_poll v x.run poll.Running).book
@@ -48,10 +52,12 @@ polled_book at x (poll.Exited code) kill v = refl
 polled_book at x poll.Signaled kill v = refl
 polled_book at x poll.Fault kill v = refl
 
-polled_last : (at : ℕ) (x : Running) (answer : Poll) (kill : Result Unit KillFault) (v : ChildrenView) → (polled_on at x answer kill v).last_run ≡ v.last_run
+polled_last : (at : ℕ) (x : Running) (answer : Poll) (kill : Result Unit KillFault) (v : ChildrenView)
+    → (polled_on at x answer kill v).last_run ≡ v.last_run
 polled_last at x poll.Running kill v = by (is_late at x)
   where
-    by : (b : Bool) → (if b then after_kill (after_poll v x.run poll.Running) x.run kill else after_poll v x.run poll.Running).last_run ≡ v.last_run
+    by : (b : Bool) → (if b then after_kill (after_poll v x.run poll.Running) x.run kill else after_poll v x.run poll.Running).last_run
+        ≡ v.last_run
     by true = refl
     by false = refl
 polled_last at x (poll.Exited code) kill v = refl
@@ -60,7 +66,8 @@ polled_last at x poll.Fault kill v = refl
 
 -- the book gets their entries, nothing is started, and each takes two places of the book at most
 pub polls_book : (at : ℕ) (v : ChildrenView) (ps : List Polled)
-    → ((after_polls at v ps).book ≡ v.book ++ polls at ps) × ((after_polls at v ps).last_run ≡ v.last_run) × (v.room ≤ (after_polls at v ps).room + 2 * length ps)
+    → ((after_polls at v ps).book ≡ v.book ++ polls at ps) × ((after_polls at v ps).last_run ≡ v.last_run)
+    × (v.room ≤ (after_polls at v ps).room + 2 * length ps)
 polls_book at v [] = (sym (append-nil v.book), refl, omega arith)
 polls_book at v (p ∷ ps) =
     let x = p.who.running in
@@ -85,7 +92,8 @@ kill_unasked (Err x) h = h
 abbrev IsUnasked : Entry → Type 0
 IsUnasked e = IsOfStart e.answer → ⊥
 
-entries_unasked : (at : ℕ) (x : Running) (answer : Poll) (kill : Result Unit KillFault) → AllByRecursion IsUnasked (entries_of at x answer kill)
+entries_unasked : (at : ℕ) (x : Running) (answer : Poll) (kill : Result Unit KillFault)
+    → AllByRecursion IsUnasked (entries_of at x answer kill)
 entries_unasked at x poll.Running kill = (poll_unasked poll.Running, by (is_late at x))
   where
     by : (b : Bool) → AllByRecursion IsUnasked (if b then said x.run (kill_answer kill) ∷ [] else [])
@@ -97,11 +105,14 @@ entries_unasked at x poll.Fault kill = (poll_unasked poll.Fault, tt)
 
 polls_unasked : (at : ℕ) (ps : List Polled) → AllByRecursion IsUnasked (polls at ps)
 polls_unasked at [] = tt
-polls_unasked at (p ∷ ps) = each_append IsUnasked (entries_of at p.who.running p.poll p.kill) (polls at ps) (entries_unasked at p.who.running p.poll p.kill) (polls_unasked at ps)
+polls_unasked at (p ∷ ps) =
+    each_append IsUnasked (entries_of at p.who.running p.poll p.kill) (polls at ps) (entries_unasked at p.who.running p.poll p.kill)
+    (polls_unasked at ps)
 
 -- no poll asks for a start
 pub polls_ask_nothing : (at : ℕ) (ps : List Polled) (run clock : ℕ) → Asked (polls at ps) run clock → ⊥
-polls_ask_nothing at ps run clock h = asked_polls (polls at ps) run clock (All-from_recursion IsUnasked (polls at ps) (polls_unasked at ps)) h
+polls_ask_nothing at ps run clock h =
+    asked_polls (polls at ps) run clock (All-from_recursion IsUnasked (polls at ps) (polls_unasked at ps)) h
 
 -- how a run ended has a spelling
 ending_lawful : (at : ℕ) (x : Running) (answer : Poll) (end : RunEnd) → ending at x answer ≡ Some end → IsPoll answer → IsRunEnd end
@@ -120,13 +131,16 @@ results_of at a end = map (result_of at a) (option_to_list end)
 
 -- a result is spelled in so many bytes at most: the law `lengths` of ocf_types
 abbrev pub AreShort : Type 0
-AreShort = (at run : ℕ) (id : List ℕ) (end : RunEnd) → IsId id → length (spelled_event (record { at = at; change = change.Step id (step.Result run end) })) ≤ longest_result
+AreShort =
+    (at run : ℕ) (id : List ℕ) (end : RunEnd) → IsId id
+    → length (spelled_event (record { at = at; change = change.Step id (step.Result run end) })) ≤ longest_result
 
 -- what is asked of each poll for its result to apply
 abbrev CanEnd : Polled → Type 0
 CanEnd p = IsActive p.who × IsPoll p.poll
 
-result_applies : AreShort → (at : ℕ) (s : State) (a : Active) (end : RunEnd) → IsActive a → IsRunEnd end → s.clock ≤ at → IsMoment at → RunsIn s.resources a → Applies s (result_of at a end)
+result_applies : AreShort → (at : ℕ) (s : State) (a : Active) (end : RunEnd) → IsActive a → IsRunEnd end → s.clock ≤ at → IsMoment at
+    → RunsIn s.resources a → Applies s (result_of at a end)
 result_applies short at s a end active end_is later moment runs = record {
   spelled = record {
     lawful = record { at = moment; change = (active.0, (active.1, end_is)) };
@@ -140,36 +154,50 @@ result_applies short at s a end active end_is later moment runs = record {
     runs_as None is = absurd cc
     runs_as (Some x) is = let same : x ≡ a.running = cc in ap (λ (y : Running). y.run) same
 
-    by : (o : Option Resource) → IsSomeAnd o (λ r. r.history.running ≡ Some a.running) → IsSomeAnd o (StepApplies s.next_call s.next_run (step.Result a.running.run end))
+    by : (o : Option Resource) → IsSomeAnd o (λ r. r.history.running ≡ Some a.running)
+        → IsSomeAnd o (StepApplies s.next_call s.next_run (step.Result a.running.run end))
     by None h = h
     by (Some r) h = runs_as r.history.running h
 
 -- the results apply in their places, where all else that runs was polled before and runs on
-results_apply : AreShort → (at : ℕ) (s : State) (kept : List Active) (ps : List Polled) → active s ≡ kept ++ whos ps → IsDistinct bytes_eq (keys_of s.resources) → s.clock ≤ at → IsMoment at
+results_apply : AreShort → (at : ℕ) (s : State) (kept : List Active) (ps : List Polled) → active s ≡ kept ++ whos ps
+    → IsDistinct bytes_eq (keys_of s.resources) → s.clock ≤ at → IsMoment at
     → AllByRecursion CanEnd ps → AllApply s (results at ps)
 results_apply short at s kept [] is distinct later moment can = tt
 results_apply short at s kept (p ∷ ps) is distinct later moment can =
-    by (ending at p.who.running p.poll) refl (results_apply short at s (kept ++ p.who ∷ []) ps (is ∙ sym (append_assoc kept (p.who ∷ []) (whos ps))) distinct later moment can.1)
-    (λ end. results_apply short at (after s (result_of at p.who end)) kept ps (others_run at s kept p.who (whos ps) end distinct is) (same_keys at s p.who end distinct) (omega arith) moment can.1)
+    by (ending at p.who.running p.poll) refl
+    (results_apply short at s (kept ++ p.who ∷ []) ps (is ∙ sym (append_assoc kept (p.who ∷ []) (whos ps))) distinct later moment can.1)
+    (λ end. results_apply short at (after s (result_of at p.who end)) kept ps (others_run at s kept p.who (whos ps) end distinct is)
+    (same_keys at s p.who end distinct) (omega arith) moment can.1)
   where
     runs : RunsIn s.resources p.who
-    runs = each_middle (RunsIn s.resources) kept p.who (whos ps) (subst (AllByRecursion (RunsIn s.resources)) is (each_runs s.resources distinct))
+    runs =
+        each_middle (RunsIn s.resources) kept p.who (whos ps)
+        (subst (AllByRecursion (RunsIn s.resources)) is (each_runs s.resources distinct))
 
-    by : (end : Option RunEnd) → ending at p.who.running p.poll ≡ end → AllApply s (results at ps) → ((e : RunEnd) → AllApply (after s (result_of at p.who e)) (results at ps))
+    by : (end : Option RunEnd) → ending at p.who.running p.poll ≡ end → AllApply s (results at ps)
+        → ((e : RunEnd) → AllApply (after s (result_of at p.who e)) (results at ps))
         → AllApply s (results_of at p.who end ++ results at ps)
     by None none same more = same
-    by (Some end) ended same more = (result_applies short at s p.who end can.0.0 (ending_lawful at p.who.running p.poll end ended can.0.1) later moment runs, more end)
+    by (Some end) ended same more =
+        (result_applies short at s p.who end can.0.0 (ending_lawful at p.who.running p.poll end ended can.0.1) later moment runs, more end)
 
 -- they are short, results, and no registrations
 results_fit : AreShort → (at : ℕ) (ps : List Polled) → AllByRecursion CanEnd ps → length (spelled_row (results at ps)) ≤ 84 * length ps
 results_fit short at [] can = omega arith
 results_fit short at (p ∷ ps) can = by (ending at p.who.running p.poll) (results_fit short at ps can.1)
   where
-    by : (end : Option RunEnd) → length (spelled_row (results at ps)) ≤ 84 * length ps → length (spelled_row (results_of at p.who end ++ results at ps)) ≤ 84 * length (p ∷ ps)
+    by : (end : Option RunEnd) → length (spelled_row (results at ps)) ≤ 84 * length ps
+        → length (spelled_row (results_of at p.who end ++ results at ps)) ≤ 84 * length (p ∷ ps)
     by None rest = omega (arith, rest)
     by (Some end) rest =
         let e = result_of at p.who end in
-        omega (arith, rest, short at p.who.running.run p.who.id end can.0.0.0, length-append (spelled_event e) (spelled_row (results at ps)))
+        omega (
+          arith,
+          rest,
+          short at p.who.running.run p.who.id end can.0.0.0,
+          length-append (spelled_event e) (spelled_row (results at ps)),
+        )
 
 results_are : (at : ℕ) (ps : List Polled) → are_results (results at ps) ≡ true
 results_are at [] = refl
@@ -183,7 +211,8 @@ results_plain : (at : ℕ) (ps : List Polled) → AllByRecursion (λ e. IsRegist
 results_plain at [] = tt
 results_plain at (p ∷ ps) = by (ending at p.who.running p.poll) (results_plain at ps)
   where
-    by : (end : Option RunEnd) → AllByRecursion (λ e. IsRegistration e.change → ⊥) (results at ps) → AllByRecursion (λ e. IsRegistration e.change → ⊥) (results_of at p.who end ++ results at ps)
+    by : (end : Option RunEnd) → AllByRecursion (λ e. IsRegistration e.change → ⊥) (results at ps)
+        → AllByRecursion (λ e. IsRegistration e.change → ⊥) (results_of at p.who end ++ results at ps)
     by None rest = rest
     by (Some end) rest = (λ h. h, rest)
 
@@ -196,7 +225,8 @@ pub few_active : (s : State) → length (active s) ≤ length s.resources
 few_active s = length-all_in s.resources
 
 -- the row of results of all that runs in a lawful state may be recorded, wherever the tail is
-pub results_may_record : AreShort → (at : ℕ) (s : State) (ps : List Polled) (tail : ℕ) → IsLawfulState s → s.clock ≤ at → IsMoment at → whos ps ≡ active s → AllByRecursion (λ p. IsPoll p.poll) ps
+pub results_may_record : AreShort → (at : ℕ) (s : State) (ps : List Polled) (tail : ℕ) → IsLawfulState s → s.clock ≤ at → IsMoment at
+    → whos ps ≡ active s → AllByRecursion (λ p. IsPoll p.poll) ps
     → MayRecord s tail (results at ps)
 results_may_record short at s ps tail lawful later moment each bytes =
     let can = can_end ps (subst (AllByRecursion IsActive) (sym each) (each_active s lawful)) bytes in
@@ -214,7 +244,8 @@ shorter_without : (run : ℕ) (live : List ℕ) → length (without_run run live
 shorter_without run [] = omega arith
 shorter_without run (y ∷ ys) = by (nat_eq y run) (shorter_without run ys)
   where
-    by : (b : Bool) → length (without_run run ys) ≤ length ys → length (cond (not b) (y ∷ without_run run ys) (without_run run ys)) ≤ length (y ∷ ys)
+    by : (b : Bool) → length (without_run run ys) ≤ length ys
+        → length (cond (not b) (y ∷ without_run run ys) (without_run run ys)) ≤ length (y ∷ ys)
     by true rest = omega arith
     by false rest = omega arith
 
@@ -227,18 +258,21 @@ fewer_without run (y ∷ ys) has = ⊎_elim
     (λ there. by (nat_eq y run) (fewer_without run ys there))
     (Contains-append_cases (y ∷ []) ys run has)
   where
-    by : (b : Bool) → length (without_run run ys) + 1 ≤ length ys → length (cond (not b) (y ∷ without_run run ys) (without_run run ys)) + 1 ≤ length (y ∷ ys)
+    by : (b : Bool) → length (without_run run ys) + 1 ≤ length ys
+        → length (cond (not b) (y ∷ without_run run ys) (without_run run ys)) + 1 ≤ length (y ∷ ys)
     by true rest = omega arith
     by false rest = omega arith
 
 -- one result
-tends_after_result : (at : ℕ) (s : State) (kept : List Active) (a : Active) (rest : List Active) (end : RunEnd) (live : List ℕ) → IsDistinct bytes_eq (keys_of s.resources) → active s ≡ kept ++ a ∷ rest
+tends_after_result : (at : ℕ) (s : State) (kept : List Active) (a : Active) (rest : List Active) (end : RunEnd) (live : List ℕ)
+    → IsDistinct bytes_eq (keys_of s.resources) → active s ≡ kept ++ a ∷ rest
     → Tends s live → Tends (after s (result_of at a end)) (without_run a.running.run live)
 tends_after_result at s kept a rest end live distinct is tends =
     let run = a.running.run in
     let others : active (after s (result_of at a end)) ≡ kept ++ rest = others_run at s kept a rest end distinct is in
     let runs : runs_of (active s) ≡ runs_of kept ++ run ∷ runs_of rest = ap runs_of is ∙ map-append _ kept (a ∷ rest) in
-    let later : runs_of (active (after s (result_of at a end))) ≡ runs_of kept ++ runs_of rest = ap runs_of others ∙ map-append _ kept rest in
+    let later : runs_of (active (after s (result_of at a end))) ≡ runs_of kept ++ runs_of rest = ap runs_of others
+    ∙ map-append _ kept rest in
     let apart = subst (IsDistinct nat_eq) runs tends.distinct in
     let lives = subst (Live live) runs tends.each_lives in
     let fewer = fewer_without run live (each_middle (λ r. Contains live r) (runs_of kept) run (runs_of rest) lives) in
@@ -247,27 +281,35 @@ tends_after_result at s kept a rest end live distinct is tends =
     let few = tends.few in
     record {
       each_lives = subst (Live (without_run run live)) (sym later)
-          (all_live_after (Some end) run live (runs_of kept ++ runs_of rest) (middle_apart nat_eq nat_eq_equiv (runs_of kept) run (runs_of rest) apart)
+          (all_live_after (Some end) run live (runs_of kept ++ runs_of rest)
+          (middle_apart nat_eq nat_eq_equiv (runs_of kept) run (runs_of rest) apart)
           (each_other (λ r. Contains live r) (runs_of kept) run (runs_of rest) lives));
       distinct = subst (IsDistinct nat_eq) (sym later) (distinct_other nat_eq nat_eq_equiv (runs_of kept) run (runs_of rest) apart);
       few = omega (arith, fewer, few, many, many_later, length-append kept (a ∷ rest), length-append kept rest);
     }
 
-tends_behind : (at : ℕ) (s : State) (kept : List Active) (ps : List Polled) (v : ChildrenView) → IsDistinct bytes_eq (keys_of s.resources) → active s ≡ kept ++ whos ps
+tends_behind : (at : ℕ) (s : State) (kept : List Active) (ps : List Polled) (v : ChildrenView) → IsDistinct bytes_eq (keys_of s.resources)
+    → active s ≡ kept ++ whos ps
     → Tends s v.live → Tends (after_all s (results at ps)) (after_polls at v ps).live
 tends_behind at s kept [] v distinct is tends = tends
 tends_behind at s kept (p ∷ ps) v distinct is tends =
-    by (ending at p.who.running p.poll) (polled_live at p.who.running p.poll p.kill v) (tends_behind at s (kept ++ p.who ∷ []) ps w distinct (is ∙ sym (append_assoc kept (p.who ∷ []) (whos ps))))
-    (λ end. tends_behind at (after s (result_of at p.who end)) kept ps w (same_keys at s p.who end distinct) (others_run at s kept p.who (whos ps) end distinct is))
+    by (ending at p.who.running p.poll) (polled_live at p.who.running p.poll p.kill v)
+    (tends_behind at s (kept ++ p.who ∷ []) ps w distinct (is ∙ sym (append_assoc kept (p.who ∷ []) (whos ps))))
+    (λ end. tends_behind at (after s (result_of at p.who end)) kept ps w (same_keys at s p.who end distinct)
+    (others_run at s kept p.who (whos ps) end distinct is))
   where
     w : ChildrenView
     w = polled_on at p.who.running p.poll p.kill v
 
-    by : (end : Option RunEnd) → w.live ≡ live_after end p.who.running.run v.live → (Tends s w.live → Tends (after_all s (results at ps)) (after_polls at w ps).live)
-        → ((e : RunEnd) → Tends (after s (result_of at p.who e)) w.live → Tends (after_all (after s (result_of at p.who e)) (results at ps)) (after_polls at w ps).live)
+    by : (end : Option RunEnd) → w.live ≡ live_after end p.who.running.run v.live
+        → (Tends s w.live → Tends (after_all s (results at ps)) (after_polls at w ps).live)
+        → ((e : RunEnd) → Tends (after s (result_of at p.who e)) w.live
+        → Tends (after_all (after s (result_of at p.who e)) (results at ps)) (after_polls at w ps).live)
         → Tends (after_all s (results_of at p.who end ++ results at ps)) (after_polls at w ps).live
     by None live same more = same (subst (Tends s) (sym live) tends)
-    by (Some end) live same more = more end (subst (Tends (after s (result_of at p.who end))) (sym live) (tends_after_result at s kept p.who (whos ps) end v.live distinct is tends))
+    by (Some end) live same more =
+        more end (subst (Tends (after s (result_of at p.who end))) (sym live)
+        (tends_after_result at s kept p.who (whos ps) end v.live distinct is tends))
 
 -- behind the row of results what still runs lives
 pub tends_after_polls : (at : ℕ) (s : State) (v : ChildrenView) (ps : List Polled) → IsLawfulState s → whos ps ≡ active s → Tends s v.live

@@ -1,7 +1,8 @@
 -- What runs in a state, and what a result of it leaves.
-use Rattle.std.proofs.Common.{◌≡◌, ℕ, ◌≤◌, Bool, true, false, cond, not, List, [], ◌∷◌, ◌++◌, map, filter, length, Option, Some, None, option_to_list, IsSomeAnd, IsTrue, refl, sym, ◌∙◌, ap, subst, arith}
+use Rattle.std.proofs.Common.{◌≡◌, ℕ, ◌≤◌, Bool, true, false, cond, not, List, [], ◌∷◌, ◌++◌, map, filter, length, Option, Some, None}
+use Rattle.std.proofs.Common.{IsSomeAnd, IsTrue, refl, sym, ◌∙◌, ap, subst, arith}
 use Rattle.std.specs.Cmp.{IsEquivalence}
-use Rattle.std.specs.List.{AllByRecursion, IsDistinct, flat_map}
+use Rattle.std.specs.List.{AllByRecursion, IsDistinct}
 use Rattle.std.specs.Map.{keys_of, lookup}
 use Rattle.std.specs.Str.{bytes_eq}
 use Rattle.std.proofs.lemmas.Cmp.{nat_list_eq_equiv}
@@ -23,7 +24,8 @@ abbrev pub ids_of : List Active → List (List ℕ)
 ids_of all = map (λ a. a.id) all
 
 -- a fact of the later ones, and of one more where a resource runs an action
-by_running : (P : List Active → Type 0) (id : List ℕ) (o : Option Running) (rest : List Active) → P rest → ((x : Running) → o ≡ Some x → P (record { id = id; running = x } ∷ rest)) → P (active_of id o ++ rest)
+by_running : (P : List Active → Type 0) (id : List ℕ) (o : Option Running) (rest : List Active) → P rest
+    → ((x : Running) → o ≡ Some x → P (record { id = id; running = x } ∷ rest)) → P (active_of id o ++ rest)
 by_running P id None rest none some = none
 by_running P id (Some x) rest none some = some x refl
 
@@ -71,7 +73,8 @@ module _ {K : Type 0} (eq : K → K → Bool) (laws : IsEquivalence eq) where
   distinct_second (x ∷ xs) ys d = distinct_second xs ys (IsDistinct-tail eq x (xs ++ ys) d)
 
 -- the ids of what runs are distinct, as those of the resources
-ids_apart : (id : List ℕ) (rs : Registry) → AllByRecursion (λ k. bytes_eq id k ≡ false) (keys_of rs) → AllByRecursion (λ k. bytes_eq id k ≡ false) (ids_of (all_in rs))
+ids_apart : (id : List ℕ) (rs : Registry) → AllByRecursion (λ k. bytes_eq id k ≡ false) (keys_of rs)
+    → AllByRecursion (λ k. bytes_eq id k ≡ false) (ids_of (all_in rs))
 ids_apart id [] h = tt
 ids_apart id (e ∷ rs) h =
     let rest = ids_apart id rs h.1 in
@@ -82,7 +85,8 @@ ids_distinct [] d = d
 ids_distinct (e ∷ rs) d =
     let rest = ids_distinct rs (IsDistinct-tail bytes_eq e.0 (keys_of rs) d) in
     let apart = ids_apart e.0 rs (IsDistinct-head bytes_eq e.0 (keys_of rs) d) in
-    by_running (λ l. IsDistinct bytes_eq (ids_of l)) e.0 e.1.history.running (all_in rs) rest (λ x is. IsDistinct-cons bytes_eq e.0 (ids_of (all_in rs)) apart rest)
+    by_running (λ l. IsDistinct bytes_eq (ids_of l)) e.0 e.1.history.running (all_in rs) rest
+    (λ x is. IsDistinct-cons bytes_eq e.0 (ids_of (all_in rs)) apart rest)
 
 -- what runs, but that of an id
 abbrev without_id : List ℕ → List Active → List Active
@@ -92,16 +96,19 @@ module _ (at : ℕ) (id : List ℕ) (run : ℕ) (end : RunEnd) where
   abbrev ended_in : Registry → Registry
   ended_in rs = at_id id (stepped at (step.Result run end)) rs
 
-  filtered : (b : Bool) (key : List ℕ) (o : Option Running) → bytes_eq id key ≡ b → without_id id (active_of key o) ≡ cond b [] (active_of key o)
+  filtered : (b : Bool) (key : List ℕ) (o : Option Running) → bytes_eq id key ≡ b
+      → without_id id (active_of key o) ≡ cond b [] (active_of key o)
   filtered true key None is = refl
   filtered true key (Some x) is = rw is refl
   filtered false key None is = refl
   filtered false key (Some x) is = rw is refl
 
-  one_gone : (e : List ℕ × Resource) → active_in (e.0, cond (bytes_eq id e.0) (stepped at (step.Result run end) e.1) e.1) ≡ without_id id (active_in e)
+  one_gone : (e : List ℕ × Resource)
+      → active_in (e.0, cond (bytes_eq id e.0) (stepped at (step.Result run end) e.1) e.1) ≡ without_id id (active_in e)
   one_gone e = by (bytes_eq id e.0) refl
     where
-      by : (b : Bool) → bytes_eq id e.0 ≡ b → active_in (e.0, cond b (stepped at (step.Result run end) e.1) e.1) ≡ without_id id (active_in e)
+      by : (b : Bool) → bytes_eq id e.0 ≡ b
+          → active_in (e.0, cond b (stepped at (step.Result run end) e.1) e.1) ≡ without_id id (active_in e)
       by true is = sym (filtered true e.0 e.1.history.running is)
       by false is = sym (filtered false e.0 e.1.history.running is)
 
@@ -121,7 +128,8 @@ all_kept : (id : List ℕ) (xs : List Active) → AllByRecursion (λ k. bytes_eq
 all_kept id [] h = refl
 all_kept id (x ∷ xs) h = rw h.0 (ap (λ (l : List Active). x ∷ l) (all_kept id xs h.1))
 
-middle_gone : (kept : List Active) (a : Active) (rest : List Active) → IsDistinct bytes_eq (ids_of (kept ++ a ∷ rest)) → without_id a.id (kept ++ a ∷ rest) ≡ kept ++ rest
+middle_gone : (kept : List Active) (a : Active) (rest : List Active) → IsDistinct bytes_eq (ids_of (kept ++ a ∷ rest))
+    → without_id a.id (kept ++ a ∷ rest) ≡ kept ++ rest
 middle_gone [] a rest d = rw (nat_list_eq_equiv.refl a.id) (all_kept a.id rest (IsDistinct-head bytes_eq a.id (ids_of rest) d))
 middle_gone (x ∷ xs) a rest d =
     let apart : bytes_eq x.id a.id ≡ false = middle_of xs (IsDistinct-head bytes_eq x.id (ids_of (xs ++ a ∷ rest)) d) in
@@ -133,20 +141,23 @@ middle_gone (x ∷ xs) a rest d =
     middle_of (y ∷ ys) h = middle_of ys h.1
 
 -- behind a result of what ran between others the others run
-pub others_run : (at : ℕ) (s : State) (kept : List Active) (a : Active) (rest : List Active) (end : RunEnd) → IsDistinct bytes_eq (keys_of s.resources) → active s ≡ kept ++ a ∷ rest
+pub others_run : (at : ℕ) (s : State) (kept : List Active) (a : Active) (rest : List Active) (end : RunEnd)
+    → IsDistinct bytes_eq (keys_of s.resources) → active s ≡ kept ++ a ∷ rest
     → active (after s (result_of at a end)) ≡ kept ++ rest
 others_run at s kept a rest end distinct is =
     gone at a.id a.running.run end s.resources ∙ ap (without_id a.id) is
     ∙ middle_gone kept a rest (subst (λ (l : List Active). IsDistinct bytes_eq (ids_of l)) is (ids_distinct s.resources distinct))
 
-pub same_keys : (at : ℕ) (s : State) (a : Active) (end : RunEnd) → IsDistinct bytes_eq (keys_of s.resources) → IsDistinct bytes_eq (keys_of (after s (result_of at a end)).resources)
+pub same_keys : (at : ℕ) (s : State) (a : Active) (end : RunEnd) → IsDistinct bytes_eq (keys_of s.resources)
+    → IsDistinct bytes_eq (keys_of (after s (result_of at a end)).resources)
 same_keys at s a end distinct = subst (IsDistinct bytes_eq) (sym (keys_stay at a.id a.running.run end s.resources)) distinct
 
 -- an action runs in the resource of its id
 abbrev pub RunsIn : Registry → Active → Type 0
 RunsIn rs a = IsSomeAnd (lookup (bytes_eq a.id) rs) (λ r. r.history.running ≡ Some a.running)
 
-runs_later : (e : List ℕ × Resource) (rs : Registry) (all : List Active) → AllByRecursion (λ k. bytes_eq e.0 k ≡ false) (ids_of all) → AllByRecursion (RunsIn rs) all → AllByRecursion (RunsIn (e ∷ rs)) all
+runs_later : (e : List ℕ × Resource) (rs : Registry) (all : List Active) → AllByRecursion (λ k. bytes_eq e.0 k ≡ false) (ids_of all)
+    → AllByRecursion (RunsIn rs) all → AllByRecursion (RunsIn (e ∷ rs)) all
 runs_later e rs [] apart h = tt
 runs_later e rs (a ∷ all) apart h =
     let other : bytes_eq a.id e.0 ≡ false = nat_list_eq_equiv.symm a.id e.0 ∙ apart.0 in
@@ -157,13 +168,15 @@ each_runs [] distinct = tt
 each_runs (e ∷ rs) distinct =
     let apart = ids_apart e.0 rs (IsDistinct-head bytes_eq e.0 (keys_of rs) distinct) in
     let rest = runs_later e rs (all_in rs) apart (each_runs rs (IsDistinct-tail bytes_eq e.0 (keys_of rs) distinct)) in
-    by_running (AllByRecursion (RunsIn (e ∷ rs))) e.0 e.1.history.running (all_in rs) rest (λ x is. (rw (nat_list_eq_equiv.refl e.0) is, rest))
+    by_running (AllByRecursion (RunsIn (e ∷ rs))) e.0 e.1.history.running (all_in rs) rest
+    (λ x is. (rw (nat_list_eq_equiv.refl e.0) is, rest))
 
 -- what runs in a lawful state has an id and a run
 abbrev pub IsActive : Active → Type 0
 IsActive a = IsId a.id × IsDrawn a.running.run
 
-each_lawful : (next_call next_run clock : ℕ) (rs : Registry) → AllByRecursion (λ e. IsTrue (is_rsc_id e.0)) rs → AllByRecursion (λ e. IsLawfulResource next_call next_run clock e.1) rs
+each_lawful : (next_call next_run clock : ℕ) (rs : Registry) → AllByRecursion (λ e. IsTrue (is_rsc_id e.0)) rs
+    → AllByRecursion (λ e. IsLawfulResource next_call next_run clock e.1) rs
     → AllByRecursion IsActive (all_in rs)
 each_lawful next_call next_run clock [] named lawful = tt
 each_lawful next_call next_run clock (e ∷ rs) named lawful =

@@ -1,12 +1,13 @@
 -- How the parts of a call follow one another.
-use Rattle.std.specs.Prelude.{◌≡◌, ◌⊎◌, ℕ, List, [], ◌∷◌, ◌++◌, ◌==◌, true, map, Contains}
+use Rattle.std.specs.Prelude.{◌≡◌, ◌⊎◌, ℕ, List, [], ◌∷◌, ◌++◌, ◌==◌, map, Contains}
 use Rattle.std.specs.List.{list_any}
 use Rattle.std.proofs.Common.{inl, inr, ⊎_elim, arith, refl, sym, ◌∙◌, ap, subst, append_assoc}
 use Rattle.std.proofs.lemmas.Bool.{or_left, or_right}
-use Rattle.std.proofs.lemmas.Bool.Decides.{nat_tests}
 use Rattle.std.proofs.lemmas.List.{append-nil}
 use Rattle.std.proofs.lemmas.List.Elements.{Contains-append_cases, Contains-push_cases}
+use Rattle.ocf_types.specs.Due.{Due, due_after}
 use Rattle.ocf_types.specs.Kinds.{Event}
+use Rattle.ocf_types.specs.Laws.{after_all-append, same_number}
 use Rattle.ocf_types.specs.State.{State, after, after_all}
 use Rattle.disk_model.specs.Image.{Image}
 use Rattle.disk_model.specs.Laws.{joined as runs_joined, started, weakened}
@@ -20,11 +21,13 @@ use Rattle.exec_turn.specs.Actives.{Active}
 use Rattle.exec_turn.specs.Picks.{begins}
 use Rattle.exec_turn.specs.Pieces.{BegunAt, HasBegin, Leaves, Prefix, is_begin}
 use Rattle.exec_turn.specs.Starts.{Started, starts}
+use Rattle.exec_turn.specs.Turn.{due_after_all}
 
--- the state after two lists of events
-pub after_all-append : (s : State) (es fs : List Event) → after_all s (es ++ fs) ≡ after_all (after_all s es) fs
-after_all-append s [] fs = refl
-after_all-append s (e ∷ es) fs = after_all-append (after s e) es fs
+-- the due moments after two lists of events
+pub due_after_all-append : (s : State) (due : Due) (es fs : List Event)
+    → due_after_all s due (es ++ fs) ≡ due_after_all (after_all s es) (due_after_all s due es) fs
+due_after_all-append s due [] fs = refl
+due_after_all-append s due (e ∷ es) fs = due_after_all-append (after s e) (due_after s due e) es fs
 
 -- the first of some events are among the first of more
 widened : (s : State) (es fs : List Event) (c : Image) → Prefix s es c → Prefix s (es ++ fs) c
@@ -32,8 +35,13 @@ widened s es fs c h = (h.0, h.1 ++ fs, sym (append_assoc h.0 h.1 fs) ∙ ap (λ 
 
 -- all of some events, and then the first of more
 shifted : (s : State) (es fs : List Event) (c : Image) → Prefix (after_all s es) fs c → Prefix s (es ++ fs) c
-shifted s es fs c h =
-    (es ++ h.0, h.1, append_assoc es h.0 h.1 ∙ ap (λ (l : List Event). es ++ l) h.2, subst (λ (t : State). FoundAs t c) (sym (after_all-append s es h.0)) h.3)
+shifted s es fs c h = (
+  es ++ h.0,
+  h.1,
+  append_assoc es h.0 h.1
+      ∙ ap (λ (l : List Event). es ++ l) h.2,
+  subst (λ (t : State). FoundAs t c) (sym (after_all-append s es h.0)) h.3,
+)
 
 either : (s : State) (es : List Event) (c : Image) → EitherSide s es c → Prefix s es c
 either s es c (inl same) = ([], es, refl, same)
@@ -45,11 +53,13 @@ has_later run [] fs h = h
 has_later run (e ∷ es) fs h = or_right (is_begin run e.change) (list_any (λ e. is_begin run e.change) (es ++ fs)) (has_later run es fs h)
 
 -- what was begun stays begun, whatever is recorded behind it and whatever was recorded before it
-begun_on : (mid new : View) (s : State) (es fs : List Event) (run clock : ℕ) → BegunAt mid s es run clock → Goes mid new (Prefix (after_all s es) fs) → BegunAt new s (es ++ fs) run clock
+begun_on : (mid new : View) (s : State) (es fs : List Event) (run clock : ℕ) → BegunAt mid s es run clock
+    → Goes mid new (Prefix (after_all s es) fs) → BegunAt new s (es ++ fs) run clock
 begun_on mid new s es fs run clock begun goes =
     let a = begun.first in
     let b = begun.rest in
-    let split : after_all s es ≡ after_all (after_all s a) b = ap (λ (l : List Event). after_all s l) (sym begun.split) ∙ after_all-append s a b in record {
+    let split : after_all s es ≡ after_all (after_all s a) b = ap (λ (l : List Event). after_all s l) (sym begun.split)
+    ∙ after_all-append s a b in record {
       first = a;
       rest = b ++ fs;
       split = sym (append_assoc a b fs) ∙ ap (λ (l : List Event). l ++ fs) begun.split;
@@ -61,7 +71,8 @@ begun_on mid new s es fs run clock begun goes =
           (goes.before h clock c begun.earlier left);
     }
 
-begun_behind : (v : View) (s : State) (es fs : List Event) (run clock : ℕ) → BegunAt v (after_all s es) fs run clock → BegunAt v s (es ++ fs) run clock
+begun_behind : (v : View) (s : State) (es fs : List Event) (run clock : ℕ) → BegunAt v (after_all s es) fs run clock
+    → BegunAt v s (es ++ fs) run clock
 begun_behind v s es fs run clock begun = record {
   first = es ++ begun.first;
   rest = begun.rest;
@@ -74,23 +85,30 @@ begun_behind v s es fs run clock begun = record {
 -- a start that is asked in two books together is asked in one of them
 pub asked_in : (es fs : List Entry) (run clock : ℕ) → Asked (es ++ fs) run clock → Asked es run clock ⊎ Asked fs run clock
 asked_in es fs run clock h =
-    ⊎_elim (λ x. inl (h.0, h.1, x)) (λ y. inr (h.0, h.1, y)) (Contains-append_cases es fs (record { run = run; at = clock; answer = h.0 }) h.2)
+    ⊎_elim (λ x. inl (h.0, h.1, x)) (λ y. inr (h.0, h.1, y))
+    (Contains-append_cases es fs (record { run = run; at = clock; answer = h.0 }) h.2)
 
 -- Two parts of a call, one after the other, the first with nothing pending.
-pub joined : (old mid new : View) (s t u : State) (es fs : List Entry) (first next pending : List Event) → Leaves old mid s t es first [] → Leaves mid new t u fs next pending
+pub joined : (old mid new : View) (s t u : State) (es fs : List Entry) (first next pending : List Event) → Leaves old mid s t es first []
+    → Leaves mid new t u fs next pending
     → Leaves old new s u (es ++ fs) (first ++ next) pending
 joined old mid new s t u es fs first next pending one two =
-    let later : Leaves mid new (after_all s first) u fs next pending = subst (λ (x : State). Leaves mid new x u fs next pending) one.state two in
+    let later : Leaves mid new (after_all s first) u fs next pending = subst
+    (λ (x : State). Leaves mid new x u fs next pending) one.state two in
     let all = next ++ pending in
     let grouped : first ++ all ≡ (first ++ next) ++ pending = sym (append_assoc first next pending) in
     let before : Goes old mid (Prefix s (first ++ all)) =
-    weakened old mid (Prefix s (first ++ [])) (Prefix s (first ++ all)) (λ h c p. widened s first all c (subst (λ (l : List Event). Prefix s l c) (append-nil first) p)) one.goes in
-    let behind : Goes mid new (Prefix s (first ++ all)) = weakened mid new (Prefix (after_all s first) all) (Prefix s (first ++ all)) (λ h c p. shifted s first all c p) later.goes in record {
+    weakened old mid (Prefix s (first ++ [])) (Prefix s (first ++ all))
+    (λ h c p. widened s first all c (subst (λ (l : List Event). Prefix s l c) (append-nil first) p)) one.goes in
+    let behind : Goes mid new (Prefix s (first ++ all)) = weakened mid new (Prefix (after_all s first) all) (Prefix s (first ++ all))
+    (λ h c p. shifted s first all c p) later.goes in record {
       state = later.state ∙ sym (after_all-append s first next);
-      goes = subst (λ (l : List Event). Goes old new (Prefix s l)) grouped (runs_joined old mid new (Prefix s (first ++ all)) before behind);
+      goes =
+          subst (λ (l : List Event). Goes old new (Prefix s l)) grouped (runs_joined old mid new (Prefix s (first ++ all)) before behind);
       now = later.now;
       starts = λ run clock asked. subst (λ (l : List Event). BegunAt new s l run clock) grouped (⊎_elim
-          (λ x. begun_on mid new s first all run clock (subst (λ (l : List Event). BegunAt mid s l run clock) (append-nil first) (one.starts run clock x)) later.goes)
+          (λ x. begun_on mid new s first all run clock
+          (subst (λ (l : List Event). BegunAt mid s l run clock) (append-nil first) (one.starts run clock x)) later.goes)
           (λ y. begun_behind new s first all run clock (later.starts run clock y))
           (asked_in es fs run clock asked));
     }
@@ -100,17 +118,21 @@ pub asked_none : (run clock : ℕ) → Asked [] run clock → ⊥
 asked_none run clock h = let none = h.2.1 in omega (arith, none)
 
 -- A row that was recorded: a stop now leaves all of it.
-pub recorded : (old new : View) (s t : State) (es : List Event) → Goes old new (EitherSide s es) → (new.honest → (c : Image) → new.now c → FoundAs (after_all s es) c) → t ≡ after_all s es
+pub recorded : (old new : View) (s t : State) (es : List Event) → Goes old new (EitherSide s es)
+    → (new.honest → (c : Image) → new.now c → FoundAs (after_all s es) c) → t ≡ after_all s es
     → Leaves old new s t [] es []
 recorded old new s t es goes now state = record {
   state = state;
-  goes = subst (λ (l : List Event). Goes old new (Prefix s l)) (sym (append-nil es)) (weakened old new (EitherSide s es) (Prefix s es) (λ h c either_side. either s es c either_side) goes);
+  goes =
+      subst (λ (l : List Event). Goes old new (Prefix s l)) (sym (append-nil es))
+      (weakened old new (EitherSide s es) (Prefix s es) (λ h c either_side. either s es c either_side) goes);
   now = λ h c left. inl (subst (λ (x : State). FoundAs x c) (sym state) (now h c left));
   starts = λ run clock asked. absurd (asked_none run clock asked);
 }
 
 -- Entries that ask no start, at a moment at which a stop leaves this state.
-pub told : (v : View) (s : State) (es : List Entry) → (v.honest → Lawful v) → (v.honest → (c : Image) → v.now c → FoundAs s c) → ((run clock : ℕ) → Asked es run clock → ⊥)
+pub told : (v : View) (s : State) (es : List Entry) → (v.honest → Lawful v) → (v.honest → (c : Image) → v.now c → FoundAs s c)
+    → ((run clock : ℕ) → Asked es run clock → ⊥)
     → Leaves v v s s es [] []
 told v s es lawful now none = record {
   state = refl;
@@ -120,31 +142,35 @@ told v s es lawful now none = record {
 }
 
 -- The same, and then a part with no entry.
-pub told_then : (old new : View) (s t : State) (es : List Entry) (events pending : List Event) → (old.honest → Lawful old) → (old.honest → (c : Image) → old.now c → FoundAs s c)
+pub told_then : (old new : View) (s t : State) (es : List Entry) (events pending : List Event) → (old.honest → Lawful old)
+    → (old.honest → (c : Image) → old.now c → FoundAs s c)
     → ((run clock : ℕ) → Asked es run clock → ⊥) → Leaves old new s t [] events pending → Leaves old new s t es events pending
 told_then old new s t es events pending lawful now none leaves =
-    subst (λ (l : List Entry). Leaves old new s t l events pending) (append-nil es) (joined old old new s s t es [] [] events pending (told old s es lawful now none) leaves)
+    subst (λ (l : List Entry). Leaves old new s t l events pending) (append-nil es)
+    (joined old old new s s t es [] [] events pending (told old s es lawful now none) leaves)
 
-same_run : (a b : ℕ) → a ≡ b → (a == b) ≡ true
-same_run a b same = grind (arith, nat_tests)
-
-asked_one : (e x : Entry) → Contains (e ∷ []) x → e ≡ x
+pub asked_one : (e x : Entry) → Contains (e ∷ []) x → e ≡ x
 asked_one e x h = ⊎_elim (λ none. let bad = none.1 in absurd (omega (arith, bad))) (λ same. same) (Contains-push_cases [] e x h)
 
 -- each start that is asked is of something whose begin is in the row
-asked_starts : (at clock : ℕ) (xs : List Started) (run u : ℕ) → Asked (starts clock xs) run u → (u ≡ clock) × HasBegin run (begins at (map (λ x. x.what) xs))
+asked_starts : (at clock : ℕ) (xs : List Started) (run u : ℕ) → Asked (starts clock xs) run u
+    → (u ≡ clock) × HasBegin run (begins at (map (λ x. x.what) xs))
 asked_starts at clock [] run u asked = absurd (asked_none run u asked)
 asked_starts at clock (x ∷ xs) run u asked = ⊎_elim
     (λ here.
-    let same = asked_one _ _ here.2 in
-    (sym (ap (λ (e : Entry). e.at) same), or_left (x.what.running.run == run) (list_any (λ e. is_begin run e.change) (begins at (map (λ x. x.what) xs))) (same_run x.what.running.run run (ap (λ (e : Entry). e.run) same))))
+    let same = asked_one _ _ here.2 in (
+      sym (ap (λ (e : Entry). e.at) same),
+      or_left (x.what.running.run == run) (list_any (λ e. is_begin run e.change) (begins at (map (λ x. x.what) xs)))
+          (same_number x.what.running.run run (ap (λ (e : Entry). e.run) same)),
+    ))
     (λ there.
     let later = asked_starts at clock xs run u there in
     (later.0, or_right (x.what.running.run == run) (list_any (λ e. is_begin run e.change) (begins at (map (λ x. x.what) xs))) later.1))
     (asked_in (starts clock (x ∷ [])) (starts clock xs) run u asked)
 
 -- The starts behind their begins: none of what a stop leaves from then on lacks one.
-pub then_started : (old new : View) (s t : State) (at clock : ℕ) (bs : List Active) (xs : List Started) → (new.honest → Lawful new) → clock ≡ new.clock → map (λ x. x.what) xs ≡ bs
+pub then_started : (old new : View) (s t : State) (at clock : ℕ) (bs : List Active) (xs : List Started) → (new.honest → Lawful new)
+    → clock ≡ new.clock → map (λ x. x.what) xs ≡ bs
     → Leaves old new s t [] (begins at bs) [] → Leaves old new s t (starts clock xs) (begins at bs) []
 then_started old new s t at clock bs xs lawful same each leaves = record {
   state = leaves.state;

@@ -55,7 +55,8 @@ pub record Cut (s : State) (due : Due) (at : ℕ) (begun : List Active) (Why : L
 abbrev pub PickedAs : TurnEnd → State → Due → ℕ → ℕ → List Active → Type 0
 PickedAs turn_end.Done s due tail at begun = ArePicks due at s.next_run s.resources begun
 PickedAs turn_end.RunsSpent s due tail at begun = Cut s due at begun (λ more. num_max < s.next_run + length more)
-PickedAs turn_end.Full s due tail at begun = Cut s due at begun (λ more. (s.next_run + length more ≤ num_max) × IsTooLong tail (begins at more))
+PickedAs turn_end.Full s due tail at begun =
+    Cut s due at begun (λ more. (s.next_run + length more ≤ num_max) × IsTooLong tail (begins at more))
 PickedAs turn_end.Memory s due tail at begun = Cut s due at begun (MayBegin s tail at)
 PickedAs turn_end.Closed s due tail at begun = ⊥
 PickedAs turn_end.BookFull s due tail at begun = ⊥

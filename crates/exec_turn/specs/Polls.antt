@@ -1,6 +1,7 @@
 -- The first row of a turn: every action that runs is polled, and each end makes a result. Pacemaker Explained, resource
 -- operations, timeout.
-use Rattle.std.specs.Prelude.{◌≡◌, ℕ, ◌+◌, ◌<◌, nat_le, Bool, List, [], ◌∷◌, map, fold, Option, Some, None, option_to_list, Result, if◌then◌else◌, ⊤}
+use Rattle.std.specs.Prelude.{◌≡◌, ℕ, ◌+◌, ◌<◌, nat_le, Bool, List, [], ◌∷◌, map, fold, Option, Some, None, option_to_list, Result}
+use Rattle.std.specs.Prelude.{if◌then◌else◌, ⊤}
 use Rattle.std.specs.List.{flat_map, AllByRecursion}
 use Rattle.ocf_types.specs.Kinds.{Event}
 use Rattle.ocf_types.specs.declared.operation.Running.{Running}
@@ -30,14 +31,16 @@ said run answer = record { run = run; at = 0; answer = answer }
 
 -- what the book gets: the poll, and the kill of an action that runs past its timeout
 abbrev pub entries_of : ℕ → Running → Poll → Result Unit KillFault → List Entry
-entries_of at x poll.Running kill = said x.run (poll_answer poll.Running) ∷ (if is_late at x then said x.run (kill_answer kill) ∷ [] else [])
+entries_of at x poll.Running kill =
+    said x.run (poll_answer poll.Running) ∷ (if is_late at x then said x.run (kill_answer kill) ∷ [] else [])
 entries_of at x (poll.Exited code) kill = said x.run (poll_answer (poll.Exited code)) ∷ []
 entries_of at x poll.Signaled kill = said x.run (poll_answer poll.Signaled) ∷ []
 entries_of at x poll.Fault kill = said x.run (poll_answer poll.Fault) ∷ []
 
 -- the children after them
 abbrev pub polled_on : ℕ → Running → Poll → Result Unit KillFault → ChildrenView → ChildrenView
-polled_on at x poll.Running kill v = if is_late at x then after_kill (after_poll v x.run poll.Running) x.run kill else after_poll v x.run poll.Running
+polled_on at x poll.Running kill v =
+    if is_late at x then after_kill (after_poll v x.run poll.Running) x.run kill else after_poll v x.run poll.Running
 polled_on at x (poll.Exited code) kill v = after_poll v x.run (poll.Exited code)
 polled_on at x poll.Signaled kill v = after_poll v x.run poll.Signaled
 polled_on at x poll.Fault kill v = after_poll v x.run poll.Fault

@@ -1,14 +1,14 @@
 -- The third row of a turn: what has begun is started, and each refused start makes a result.
-use Rattle.std.specs.Prelude.{◌≡◌, ℕ, ◌<◌, List, [], ◌∷◌, map, fold, Result, Ok, Err, ⊤}
+use Rattle.std.specs.Prelude.{◌≡◌, ℕ, ◌<◌, List, [], ◌∷◌, map, fold, option_and_then, Result, Ok, Err, Some, ⊤}
 use Rattle.std.specs.List.{flat_map, AllByRecursion}
 use Rattle.ocf_types.specs.Kinds.{Event}
-use Rattle.ocf_types.specs.State.{State}
+use Rattle.ocf_types.specs.State.{State, resource_at}
+use Rattle.ocf_types.specs.declared.operation.Running.{Running}
 use Rattle.ocf_types.specs.declared.outcome.RunEnd.{RunEnd}
 use Rattle.ocf_types.specs.declared.outcome.RunEnd.TheVariants.{NotStarted}
 use Rattle.ocf_types.specs.declared.outcome.StartFault.{StartFault}
 use Rattle.ocf_types.specs.declared.reply.Notice.{Notice}
 use Rattle.child_keeper.specs.Children.{ChildrenView, after_start, start_answer}
-use Rattle.child_keeper.specs.MayStart.{RunsUnder}
 use Rattle.child_keeper.specs.declared.answer.Entry.{Entry}
 use Rattle.exec_turn.specs.Actives.{Active, notice_of, result_of}
 
@@ -44,6 +44,13 @@ pub record Starts (at clock : ℕ) (all : List Active) (old new : ChildrenView) 
   pub children : new ≡ after_starts clock old answers
   pub row_is : row ≡ refusals at answers
   pub told_is : told ≡ refusal_notices at answers
+
+-- the resource of this id runs an action under this call and run
+pub record RunsUnder (s : State) (id : List ℕ) (call run : ℕ) : Type 0 where
+  pub running : Running
+  pub is : option_and_then (λ r. r.history.running) (resource_at s id) ≡ Some running
+  pub call_is : running.call ≡ call
+  pub run_is : running.run ≡ run
 
 -- each of these runs under its call and its run
 abbrev pub AllRun : State → List Active → Type 0

@@ -77,7 +77,8 @@ NoResults x entries events pending told = (ps : List Polled) × EachPolled x ps
 
 -- one whose row of begins failed: nothing was started
 abbrev pub NoBegins : Scene → List Entry → List Event → List Event → List Notice → Type 0
-NoBegins x entries events pending told = (ps : List Polled) × (end : TurnEnd) × (bs : List Active) × EachPolled x ps × PicksBehind end x ps bs
+NoBegins x entries events pending told =
+    (ps : List Polled) × (end : TurnEnd) × (bs : List Active) × EachPolled x ps × PicksBehind end x ps bs
     × (entries ≡ polls x.at ps) × (events ≡ results x.at ps) × (pending ≡ begins x.at bs) × (told ≡ result_notices x.at ps)
 
 -- one whose row of refused starts failed
@@ -95,4 +96,5 @@ IsTurn turn_end.Done x entries events pending told = Whole turn_end.Done x entri
 IsTurn turn_end.RunsSpent x entries events pending told = Whole turn_end.RunsSpent x entries events pending told
 IsTurn turn_end.Full x entries events pending told = Whole turn_end.Full x entries events pending told
 IsTurn turn_end.Memory x entries events pending told = Whole turn_end.Memory x entries events pending told
-IsTurn turn_end.Disk x entries events pending told = NoResults x entries events pending told ⊎ (NoBegins x entries events pending told ⊎ NoRefusals x entries events pending told)
+IsTurn turn_end.Disk x entries events pending told =
+    NoResults x entries events pending told ⊎ (NoBegins x entries events pending told ⊎ NoRefusals x entries events pending told)

@@ -37,7 +37,8 @@ LeavesRow old new x y entries row (Ok done) = Leaves old new x.state y.state ent
 LeavesRow old new x y entries row (Err fault) = Leaves old new x.state y.state entries [] row
 
 -- The first step: polls, and the row of their results.
-pub record PollsRow (old new : View) (x y : Scene) (from to : ChildrenView) (told : List Notice) (result : Result Unit DiskFault) : Type 0 where
+pub record PollsRow (old new : View) (x y : Scene) (from to : ChildrenView) (told : List Notice)
+    (result : Result Unit DiskFault) : Type 0 where
   pub answers : List Polled
   pub each : EachPolled x answers
   pub book : to.book ≡ from.book ++ polls x.at answers
@@ -53,7 +54,8 @@ pub record BeginsRow (old new : View) (x y : Scene) (begun : List Active) (end :
   pub leaves : LeavesRow old new x y [] (begins x.at begun) result
 
 -- The third: starts, and the row of results of those that were refused.
-pub record StartsRow (old new : View) (x y : Scene) (begun : List Active) (from to : ChildrenView) (was told : List Notice) (result : Result Unit DiskFault) : Type 0 where
+pub record StartsRow (old new : View) (x y : Scene) (begun : List Active) (from to : ChildrenView) (was told : List Notice)
+    (result : Result Unit DiskFault) : Type 0 where
   pub answers : List Started
   pub each : map (λ a. a.what) answers ≡ begun
   pub book : to.book ≡ from.book ++ starts old.clock answers
@@ -62,7 +64,8 @@ pub record StartsRow (old new : View) (x y : Scene) (begun : List Active) (from 
   pub told_is : told ≡ (if is_ok result then was ++ refusal_notices x.at answers else was)
 
 -- A turn of an open executor: from what it finds to a state, due moments and children, with what is told.
-pub record Turns (old new : View) (x : Scene) (t : State) (due : Due) (from to : ChildrenView) (told : List Notice) (end : TurnEnd) : Type 0 where
+pub record Turns (old new : View) (x : Scene) (t : State) (due : Due) (from to : ChildrenView) (told : List Notice)
+    (end : TurnEnd) : Type 0 where
   -- its entries in the children's book, its events, and those that a disk fault left pending
   pub entries : List Entry
   pub events : List Event

@@ -1,5 +1,5 @@
 //! The polls of a turn.
-ghost use Rattle.std.specs.Prelude.{◌≡◌, ◌<◌, ◌≤◌, ◌+◌, ◌*◌, ◌++◌, [], List, Contains, length, vec_len, Result};
+ghost use Rattle.std.specs.Prelude.{◌≡◌, ◌<◌, ◌≤◌, ◌+◌, ◌*◌, ◌++◌, List, Contains, length, vec_len, Result};
 ghost use Rattle.std.specs.List.{AllByRecursion};
 ghost use Rattle.std.specs.Vec.{vec_capacity};
 ghost use Rattle.ocf_types.specs.Kinds.{Event};
@@ -58,11 +58,13 @@ fn poll_at<C: Children, A: Allocator + Copy>(
     notices: &mut Vec<Notice, A>,
 )
     requires place { place < length state.now.state.resources }
-    requires lives { AllByRecursion (λ run. Contains (C.view children.old).live run) (runs_of (active_in (entry_at state.now.state place))) }
+    requires lives { AllByRecursion (λ run. Contains (C.view children.old).live run)
+        (runs_of (active_in (entry_at state.now.state place))) }
     requires room { 2 * length (active_in (entry_at state.now.state place)) ≤ (C.view children.old).room }
     requires row_room { vec_len row.old < vec_capacity row.old }
     requires notice_room { vec_len notices.old < vec_capacity notices.old }
-    ensures polled { (more : List Event) × (told : List Notice) × Polls at (active_in (entry_at state.now.state place)) (C.view children.old) (C.view children.new) more told
+    ensures polled { (more : List Event) × (told : List Notice)
+        × Polls at (active_in (entry_at state.now.state place)) (C.view children.old) (C.view children.new) more told
         × (row.new.items ≡ row.old.items ++ more) × (notices.new.items ≡ notices.old.items ++ told) }
     ensures row_few { vec_len row.new ≤ vec_len row.old + 1 }
     ensures notices_few { vec_len notices.new ≤ vec_len notices.old + 1 }

@@ -5,11 +5,11 @@ ghost use Rattle.std.specs.Vec.{vec_capacity};
 ghost use Rattle.ocf_types.specs.declared.outcome.StartFault.{StartFault};
 ghost use Rattle.ocf_types.specs.declared.reply.Notice.{Notice};
 ghost use Rattle.child_keeper.specs.Children.{after_start, live_limit};
-ghost use Rattle.child_keeper.specs.MayStart.{RunsUnder};
+ghost use Rattle.child_keeper.specs.MayStart.{IsLaunch};
 ghost use Rattle.exec_journal.specs.Journal.{Settled, journal_disk};
 ghost use Rattle.exec_turn.specs.Actives.{notice_of, result_of};
-ghost use Rattle.exec_turn.specs.Launches.{IsOfOne, all_starting, what_starts};
-ghost use Rattle.exec_turn.specs.Starts.{AllRun, Rising, Starts, refused_end};
+ghost use Rattle.exec_turn.specs.Launches.{AllLaunch, IsOfOne, all_starting, what_starts};
+ghost use Rattle.exec_turn.specs.Starts.{Rising, Starts, refused_end};
 
 use crate::picks::Start;
 use child_keeper::Children;
@@ -31,7 +31,7 @@ fn start_one<D: Disk + Drop, C: Children, A: Allocator + Copy>(
     notices: &mut Vec<Notice, A>,
 )
     requires settled { Settled journal.now (D.view (journal_disk journal.now)) state.now.state }
-    requires runs { RunsUnder state.now.state start.now.launch.id start.now.running.call start.now.running.run }
+    requires launches { IsLaunch state.now.state start.now.launch }
     requires of_one { IsOfOne start.now }
     requires rising { (C.view children.old).last_run < start.now.running.run }
     requires few { length (C.view children.old).live < live_limit }
@@ -72,14 +72,16 @@ pub(crate) fn start_all<D: Disk + Drop, C: Children, A: Allocator + Copy>(
     notices: &mut Vec<Notice, A>,
 )
     requires settled { Settled journal.now (D.view (journal_disk journal.now)) state.now.state }
-    requires run { AllRun state.now.state (all_starting starts.now) }
+    requires launches { AllLaunch state.now.state starts.now }
     requires of_one { AllByRecursion IsOfOne starts.now }
     requires rising { Rising (C.view children.old).last_run (all_starting starts.now) }
     requires few { length (C.view children.old).live + length starts.now ≤ live_limit }
     requires room { length starts.now ≤ (C.view children.old).room }
     requires row_room { length starts.now ≤ vec_capacity row.old }
     requires notice_room { vec_len notices.old + length starts.now ≤ vec_capacity notices.old }
-    ensures started { (told : List Notice) × Starts at (D.view (journal_disk journal.now)).clock (all_starting starts.now) (C.view children.old) (C.view children.new) row.new.items told
+    ensures started { (told : List Notice)
+        × Starts at (D.view (journal_disk journal.now)).clock (all_starting starts.now) (C.view children.old)
+        (C.view children.new) row.new.items told
         × (notices.new.items ≡ notices.old.items ++ told) }
     ensures row_room { vec_capacity row.new ≡ vec_capacity row.old }
     ensures notice_room { vec_capacity notices.new ≡ vec_capacity notices.old }

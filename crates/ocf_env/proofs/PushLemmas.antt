@@ -13,15 +13,19 @@ valued old new name v w e f = e ∙ ap (λ (x : List ℕ). old ++ (name, x) ∷ 
 pub two_more : (old mid new : List Pair) (x y : Pair) → mid ≡ old ++ x ∷ [] → new ≡ mid ++ y ∷ [] → new ≡ old ++ (x ∷ y ∷ [])
 two_more old mid new x y e f = f ∙ ap (λ (l : List Pair). l ++ y ∷ []) e ∙ append_assoc old (x ∷ []) (y ∷ [])
 
-pub params_more : (ps : ParamList) (i : ℕ) (p : Pair) (old mid new : List Pair) → i < length ps → p ≡ get_or ps i p → mid ≡ old ++ param_pairs (take i ps) → new ≡ mid ++ (reskey p.0, p.1) ∷ []
+pub params_more : (ps : ParamList) (i : ℕ) (p : Pair) (old mid new : List Pair) → i < length ps → p ≡ get_or ps i p
+    → mid ≡ old ++ param_pairs (take i ps) → new ≡ mid ++ (reskey p.0, p.1) ∷ []
     → new ≡ old ++ param_pairs (take (i + 1) ps)
 params_more ps i p old mid new h at e f =
     let taken : take (i + 1) ps ≡ take i ps ++ p ∷ [] = take_more ps i p h ∙ ap (λ (x : Pair). take i ps ++ x ∷ []) (sym at) in
-    let listed : param_pairs (take (i + 1) ps) ≡ param_pairs (take i ps) ++ (reskey p.0, p.1) ∷ [] = ap (λ (x : ParamList). param_pairs x) taken ∙ map-append (λ (q : Pair). (reskey q.0, q.1)) (take i ps) (p ∷ []) in
-    f ∙ ap (λ (l : List Pair). l ++ (reskey p.0, p.1) ∷ []) e ∙ append_assoc old (param_pairs (take i ps)) ((reskey p.0, p.1) ∷ []) ∙ ap (λ (l : List Pair). old ++ l) (sym listed)
+    let listed : param_pairs (take (i + 1) ps) ≡ param_pairs (take i ps) ++ (reskey p.0, p.1) ∷ [] = ap
+    (λ (x : ParamList). param_pairs x) taken ∙ map-append (λ (q : Pair). (reskey q.0, q.1)) (take i ps) (p ∷ []) in
+    f ∙ ap (λ (l : List Pair). l ++ (reskey p.0, p.1) ∷ []) e ∙ append_assoc old (param_pairs (take i ps)) ((reskey p.0, p.1) ∷ [])
+    ∙ ap (λ (l : List Pair). old ++ l) (sym listed)
 
 -- the parts of a list that were appended one after another
-pub in_five : (none one two three four five a b c e : List Pair) (d : Pair) → none ≡ [] → one ≡ none ++ a → two ≡ one ++ b → three ≡ two ++ c → four ≡ three ++ d ∷ [] → five ≡ four ++ e
+pub in_five : (none one two three four five a b c e : List Pair) (d : Pair) → none ≡ [] → one ≡ none ++ a → two ≡ one ++ b
+    → three ≡ two ++ c → four ≡ three ++ d ∷ [] → five ≡ four ++ e
     → five ≡ a ++ (b ++ (c ++ d ∷ e))
 in_five none one two three four five a b c e d h i j k l m =
     let grown : five ≡ (((a ++ b) ++ c) ++ d ∷ []) ++ e = rw (m, l, k, j, i, h) refl in

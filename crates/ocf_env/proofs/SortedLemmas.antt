@@ -1,5 +1,5 @@
 -- The environment ascends.
-use Rattle.std.proofs.Common.{◌≡◌, ℕ, Bool, true, ◌&&◌, List, [], ◌∷◌, ◌++◌, Some, None, refl, codes}
+use Rattle.std.proofs.Common.{◌≡◌, ℕ, true, ◌&&◌, List, [], ◌∷◌, ◌++◌, Some, None, refl, codes}
 use Rattle.ocf_types.specs.Names.{is_param_name}
 use Rattle.ocf_types.specs.Values.{is_param_value}
 use Rattle.ocf_types.specs.Params.{ParamList, is_before, are_params_after, AreParams}
@@ -9,16 +9,14 @@ use Rattle.ocf_types.specs.declared.action.Task.TheVariants as task
 use Rattle.ocf_env.specs.Places.{Place, Pair}
 use Rattle.ocf_env.specs.Variables.{reskey, are_ascending_after, are_ascending}
 use Rattle.ocf_env.specs.Lists.{param_pairs, instance_pair, last_pairs, action_pairs, meta_pairs}
-use Rattle.ocf_types.specs.Laws.{both}
-
-and_true : (a b : Bool) → a ≡ true → b ≡ true → (a && b) ≡ true
-and_true a b h k = rw (h, k) refl
+use Rattle.ocf_types.specs.Laws.{and_true, both}
 
 -- names of parameters are ordered as their variables are
 reskey_before : (a b : List ℕ) → is_before (reskey a) (reskey b) ≡ is_before a b
 reskey_before a b = refl
 
-params_before : (last : List ℕ) (ps : ParamList) (rest : List Pair) → are_params_after (Some last) ps ≡ true → ((name : List ℕ) → are_ascending_after (Some (reskey name)) rest ≡ true)
+params_before : (last : List ℕ) (ps : ParamList) (rest : List Pair) → are_params_after (Some last) ps ≡ true
+    → ((name : List ℕ) → are_ascending_after (Some (reskey name)) rest ≡ true)
     → are_ascending_after (Some (reskey last)) (param_pairs ps ++ rest) ≡ true
 params_before last [] rest h k = k last
 params_before last (p ∷ ps) rest h k =
@@ -26,11 +24,13 @@ params_before last (p ∷ ps) rest h k =
     let first = both (is_before last p.0) (is_param_name p.0) (both (is_before last p.0 && is_param_name p.0) (is_param_value p.1) s.0).0 in
     and_true _ _ first.0 (params_before p.0 ps rest s.1 k)
 
-behind_params : (site : Place) (r : Registration) (name : List ℕ) → are_ascending_after (Some (reskey name)) (instance_pair r.id ∷ last_pairs site r.provider r.agent) ≡ true
+behind_params : (site : Place) (r : Registration) (name : List ℕ)
+    → are_ascending_after (Some (reskey name)) (instance_pair r.id ∷ last_pairs site r.provider r.agent) ≡ true
 behind_params site r name = refl
 
 behind_version : (site : Place) (r : Registration) (ps : ParamList) → are_params_after None ps ≡ true
-    → are_ascending_after (Some (codes "OCF_RA_VERSION_MINOR")) (param_pairs ps ++ instance_pair r.id ∷ last_pairs site r.provider r.agent) ≡ true
+    → are_ascending_after (Some (codes "OCF_RA_VERSION_MINOR")) (param_pairs ps ++ instance_pair r.id ∷ last_pairs site r.provider r.agent)
+    ≡ true
 behind_version site r [] h = refl
 behind_version site r (p ∷ ps) h =
     let s = both (is_param_name p.0 && is_param_value p.1) (are_params_after (Some p.0) ps) h in

@@ -3,4 +3,5 @@ pub mod Programs
 pub mod Variables
 pub mod Lists
 pub mod Instances
+pub mod Invocations
 pub mod Keys

@@ -1,5 +1,5 @@
 //! Programs with their arguments and environments.
-ghost use Rattle.std.specs.Prelude.{◌≡◌, ◌++◌, IfOk, Option, Some, None};
+ghost use Rattle.std.specs.Prelude.{◌≡◌, IfOk, Some, None};
 ghost use Rattle.ocf_env.specs.Programs.{agent_path, program_at, arguments_at};
 
 use crate::site::Site;
@@ -72,7 +72,8 @@ fn direct<A: Allocator + Copy>(
     action: Text<A>,
     environment: Pairs<A>,
 ) -> Result<Invocation<A>, AllocError>
-    ensures { IfOk result (λ i. i ≡ record { program = program_at None file; arguments = arguments_at None file action; environment = environment.items }) }
+    ensures { IfOk result (λ i. i
+        ≡ record { program = program_at None file; arguments = arguments_at None file action; environment = environment.items }) }
 {
     let mut arguments = Vec::new(alloc);
     arguments.push(action)?;
@@ -90,7 +91,12 @@ fn through<A: Allocator + Copy>(
     action: Text<A>,
     environment: Pairs<A>,
 ) -> Result<Invocation<A>, AllocError>
-    ensures { IfOk result (λ i. i ≡ record { program = program_at (Some via.now) file; arguments = arguments_at (Some via.now) file action; environment = environment.items }) }
+    ensures { IfOk result (λ i. i
+        ≡ record {
+          program = program_at (Some via.now) file;
+          arguments = arguments_at (Some via.now) file action;
+          environment = environment.items;
+        }) }
 {
     let program = copied(alloc, via)?;
     let mut arguments = Vec::new(alloc);
@@ -111,7 +117,12 @@ pub fn called<A: Allocator + Copy, S: Allocator>(
     action: &str,
     environment: Pairs<A>,
 ) -> Result<Invocation<A>, AllocError>
-    ensures { IfOk result (λ i. i ≡ record { program = program_at site.now.via file; arguments = arguments_at site.now.via file action.now; environment = environment.items }) }
+    ensures { IfOk result (λ i. i
+        ≡ record {
+          program = program_at site.now.via file;
+          arguments = arguments_at site.now.via file action.now;
+          environment = environment.items;
+        }) }
 {
     let action = copied(alloc, action)?;
     match site.via() {

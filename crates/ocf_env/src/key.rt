@@ -1,5 +1,5 @@
 //! Keys of operations.
-ghost use Rattle.std.specs.Prelude.{◌≡◌, ◌≤◌, ◌++◌, codes, length};
+ghost use Rattle.std.specs.Prelude.{◌≡◌};
 ghost use Rattle.ocf_env.specs.Keys.{key_text};
 
 use crate::text::ascii;

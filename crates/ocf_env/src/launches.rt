@@ -1,7 +1,7 @@
 //! Calls of agents.
 ghost use Rattle.std.specs.Prelude.{◌≡◌, ◌↔◌, ℕ, List, codes, IfOk, Contains, IsTrue};
-ghost use Rattle.ocf_types.specs.Actions.{action_of, action_word};
 ghost use Rattle.ocf_env.specs.Instances.{registered};
+ghost use Rattle.ocf_env.specs.Invocations.{IsInvocation};
 ghost use Rattle.ocf_env.specs.Programs.{agent_path, program_at, arguments_at};
 ghost use Rattle.ocf_env.specs.Variables.{IsVariable, IsAgentVariable, are_ascending};
 
@@ -41,7 +41,8 @@ fn action_variables<A: Allocator + Copy, S: Allocator, P: Allocator>(
     task: Task,
 ) -> Result<Pairs<A>, AllocError>
     ensures sorted { IfOk result (λ e. IsTrue (are_ascending e.items)) }
-    ensures variables { IfOk result (λ e. (name value : List ℕ) → Contains e.items (name, value) ↔ IsVariable site.now (registered instance.now) task name value) }
+    ensures variables { IfOk result
+        (λ e. (name value : List ℕ) → Contains e.items (name, value) ↔ IsVariable site.now (registered instance.now) task name value) }
 {
     let mut pairs = Vec::new(alloc);
     push_level(alloc, &mut pairs, task)?;
@@ -59,7 +60,8 @@ fn meta_variables<A: Allocator + Copy, S: Allocator>(
     agent: &AgentType,
 ) -> Result<Pairs<A>, AllocError>
     ensures sorted { IfOk result (λ e. IsTrue (are_ascending e.items)) }
-    ensures variables { IfOk result (λ e. (name value : List ℕ) → Contains e.items (name, value) ↔ IsAgentVariable site.now provider.now agent.now name value) }
+    ensures variables { IfOk result
+        (λ e. (name value : List ℕ) → Contains e.items (name, value) ↔ IsAgentVariable site.now provider.now agent.now name value) }
 {
     let mut pairs = Vec::new(alloc);
     push_version(alloc, &mut pairs)?;
@@ -79,11 +81,7 @@ pub fn launch<A: Allocator + Copy, S: Allocator, P: Allocator>(
     call: CallId,
     run: RunId,
 ) -> Result<Launch<A>, AllocError>
-    ensures program { IfOk result (λ l. l.invocation.program ≡ program_at site.now.via (agent_path site.now.root instance.now.provider.now instance.now.agent.now)) }
-    ensures arguments { IfOk result (λ l. l.invocation.arguments
-        ≡ arguments_at site.now.via (agent_path site.now.root instance.now.provider.now instance.now.agent.now) (action_word (action_of task))) }
-    ensures sorted { IfOk result (λ l. IsTrue (are_ascending l.invocation.environment)) }
-    ensures variables { IfOk result (λ l. (name value : List ℕ) → Contains l.invocation.environment (name, value) ↔ IsVariable site.now (registered instance.now) task name value) }
+    ensures invocation { IfOk result (λ l. IsInvocation site.now (registered instance.now) task l.invocation) }
     ensures id { IfOk result (λ l. l.id ≡ instance.now.id.now) }
     ensures call { IfOk result (λ l. l.call ≡ call) }
     ensures run { IfOk result (λ l. l.run ≡ run) }
@@ -108,9 +106,11 @@ pub fn launch_meta<A: Allocator + Copy, S: Allocator>(
     agent: &AgentType,
 ) -> Result<Invocation<A>, AllocError>
     ensures program { IfOk result (λ i. i.program ≡ program_at site.now.via (agent_path site.now.root provider.now agent.now)) }
-    ensures arguments { IfOk result (λ i. i.arguments ≡ arguments_at site.now.via (agent_path site.now.root provider.now agent.now) (codes "meta-data")) }
+    ensures arguments { IfOk result
+        (λ i. i.arguments ≡ arguments_at site.now.via (agent_path site.now.root provider.now agent.now) (codes "meta-data")) }
     ensures sorted { IfOk result (λ i. IsTrue (are_ascending i.environment)) }
-    ensures variables { IfOk result (λ i. (name value : List ℕ) → Contains i.environment (name, value) ↔ IsAgentVariable site.now provider.now agent.now name value) }
+    ensures variables { IfOk result
+        (λ i. (name value : List ℕ) → Contains i.environment (name, value) ↔ IsAgentVariable site.now provider.now agent.now name value) }
 {
     let environment = meta_variables(alloc, site, provider, agent)?;
     let file = agent_file(alloc, site, provider, agent)?;

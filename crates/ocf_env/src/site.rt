@@ -1,5 +1,5 @@
 //! Where agents are.
-ghost use Rattle.std.specs.Prelude.{◌≡◌, Option, Some, None, IfSome, IfNone};
+ghost use Rattle.std.specs.Prelude.{◌≡◌, Some, None, IfSome, IfNone};
 
 use crate::text::Text;
 use std::alloc::{Allocator, Global};

@@ -1,5 +1,5 @@
 //! Variables, in the order of their names.
-ghost use Rattle.std.specs.Prelude.{◌≡◌, ◌++◌, [], ◌∷◌, IfOk, OnOk, decimal};
+ghost use Rattle.std.specs.Prelude.{◌≡◌, ◌++◌, [], ◌∷◌, OnOk, decimal};
 ghost use Rattle.ocf_types.specs.Actions.{level_number};
 ghost use Rattle.ocf_types.specs.Params.{AreParams};
 ghost use Rattle.ocf_env.specs.Variables.{reskey};

@@ -5,7 +5,8 @@ use Rattle.child_keeper.proofs.command.push_variables.Given as goal
 abbrev pub invariant-loop-name : goal.invariant-loop-name
 invariant-loop-name g l = record {
   call : SameProgramAndArgs l.fn.command l.command;
-  variables : (name : List ℕ) → command_var l.command name ≡ var_after Some Some name (command_var l.fn.command name) (take l.name-index l.variables);
+  variables : (name : List ℕ)
+      → command_var l.command name ≡ var_after Some Some name (command_var l.fn.command name) (take l.name-index l.variables);
   cleared : clears_env l.command ≡ clears_env l.fn.command;
   folder : SameDir l.fn.command l.command;
 }

@@ -11,7 +11,8 @@ polled (poll.Exited code) run live = no_more run live
 polled poll.Signaled run live = no_more run live
 polled poll.Fault run live = no_more run live
 
-ended : (answer : Poll) (run : ℕ) (live : List ℕ) → Contains live run → answer ≢ poll.Running → length (live_polled answer run live) + 1 ≤ length live
+ended : (answer : Poll) (run : ℕ) (live : List ℕ) → Contains live run → answer ≢ poll.Running
+    → length (live_polled answer run live) + 1 ≤ length live
 ended poll.Running run live lives other = absurd (other refl)
 ended (poll.Exited code) run live lives other = fewer run live lives
 ended poll.Signaled run live lives other = fewer run live lives

@@ -18,7 +18,11 @@ only_asked run at r t answer (told, is, (zero, within, e)) = (sym (ap (λ (x : E
 only_asked run at r t answer (told, is, (suc k, within, e)) = absurd (omega (arith, within))
 
 is_asked : (run at r t : ℕ) (answer : Result Unit StartFault) → r ≡ run → t ≡ at → Asked (entry_of run at answer ∷ []) r t
-is_asked run at r t answer run_is at_is = (start_answer answer, of_start answer, (0, omega arith, λ i. record { run = sym run_is i; at = sym at_is i; answer = start_answer answer }))
+is_asked run at r t answer run_is at_is = (
+  start_answer answer,
+  of_start answer,
+  (0, omega arith, λ i. record { run = sym run_is i; at = sym at_is i; answer = start_answer answer }),
+)
 
 pub returns-clause-joined : goal.returns-clause-joined
 returns-clause-joined c = asked_append

@@ -6,13 +6,15 @@ use Rattle.child_keeper.specs.declared.answer.Poll.TheVariants as poll
 use Rattle.child_keeper.proofs.laws.who_lives.Goals as goal
 
 -- after an answer that the child does not run
-ended : (run r : ℕ) (live : List ℕ) (answer : Poll) → (answer ≡ poll.Running → ⊥) → Contains (without_run run live) r ↔ (Contains live r × ((answer ≡ poll.Running) ⊎ (r ≢ run)))
+ended : (run r : ℕ) (live : List ℕ) (answer : Poll) → (answer ≡ poll.Running → ⊥) → Contains (without_run run live) r
+    ↔ (Contains live r × ((answer ≡ poll.Running) ⊎ (r ≢ run)))
 ended run r live answer not_running = (
   λ lives. ((lived run r live lives).0, inr (lived run r live lives).1),
   λ lives. elim lives.1 [ inl running ↦ absurd (not_running running) | inr other ↦ kept run r live other lives.0 ],
 )
 
-polled : (run r : ℕ) (live : List ℕ) (answer : Poll) → Contains (live_polled answer run live) r ↔ (Contains live r × ((answer ≡ poll.Running) ⊎ (r ≢ run)))
+polled : (run r : ℕ) (live : List ℕ) (answer : Poll) → Contains (live_polled answer run live) r
+    ↔ (Contains live r × ((answer ≡ poll.Running) ⊎ (r ≢ run)))
 polled run r live poll.Running = (λ lives. (lives, inl refl), λ lives. lives.0)
 polled run r live (poll.Exited code) = ended run r live (poll.Exited code) (λ e. cc)
 polled run r live poll.Signaled = ended run r live poll.Signaled (λ e. cc)

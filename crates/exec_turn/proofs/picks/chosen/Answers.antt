@@ -9,8 +9,11 @@ pub returns-in_err-call : goal.returns-in_err-call
 returns-in_err-call g c =
     let s = c.args.state.now in
     let e = entry_at s.state c.args.place in
-    let pick = is_pick s c.args.place c.args.at c.id_at.result.now None c.known.ensures.lawful c.requires.place c.id_at.ensures c.in_err-call.ensures in record {
-      chosen = subst (Chooses (dues s) c.args.at c.args.run e) (sym c.from_residual.ensures) (begins_none (dues s) c.args.at c.args.run e pick);
+    let pick =
+    is_pick s c.args.place c.args.at c.id_at.result.now None c.known.ensures.lawful c.requires.place c.id_at.ensures
+    c.in_err-call.ensures in record {
+      chosen =
+          subst (Chooses (dues s) c.args.at c.args.run e) (sym c.from_residual.ensures) (begins_none (dues s) c.args.at c.args.run e pick);
     }
 
 pub returns-then-queue_len-gt0 : goal.returns-then-queue_len-gt0
@@ -18,7 +21,8 @@ returns-then-queue_len-gt0 g c =
     let s = c.args.state.now in
     let e = entry_at s.state c.args.place in
     let call = c.in_ok-call.call in
-    let pick = is_pick s c.args.place c.args.at c.id_at.result.now (Some call) c.known.ensures.lawful c.requires.place c.id_at.ensures c.in_ok-call.ensures in record {
+    let pick = is_pick s c.args.place c.args.at c.id_at.result.now
+    (Some call) c.known.ensures.lawful c.requires.place c.id_at.ensures c.in_ok-call.ensures in record {
       chosen = begins_op (dues s) c.args.at c.args.run call e c.queued_at-op.result pick c.queued_at-op.ensures;
     }
 
@@ -27,7 +31,8 @@ returns-in_err-monitor g c =
     let s = c.args.state.now in
     let e = entry_at s.state c.args.place in
     let call = c.in_ok-call.call in
-    let pick = is_pick s c.args.place c.args.at c.id_at.result.now (Some call) c.known.ensures.lawful c.requires.place c.id_at.ensures c.in_ok-call.ensures in
+    let pick = is_pick s c.args.place c.args.at c.id_at.result.now
+    (Some call) c.known.ensures.lawful c.requires.place c.id_at.ensures c.in_ok-call.ensures in
     let none : length e.1.history.queue ≡ 0 = omega (arith, c.queue_len.ensures.value, c.if-queue_len-gt0.false) in record {
       chosen = subst (Chooses (dues s) c.args.at c.args.run e) (sym c.from_residual-in_err-monitor.ensures)
           (begins_no_monitor (dues s) c.args.at c.args.run call e pick none c.in_err-monitor.ensures.monitor);
@@ -38,7 +43,10 @@ returns g c =
     let s = c.args.state.now in
     let e = entry_at s.state c.args.place in
     let call = c.in_ok-call.call in
-    let pick = is_pick s c.args.place c.args.at c.id_at.result.now (Some call) c.known.ensures.lawful c.requires.place c.id_at.ensures c.in_ok-call.ensures in
+    let pick = is_pick s c.args.place c.args.at c.id_at.result.now
+    (Some call) c.known.ensures.lawful c.requires.place c.id_at.ensures c.in_ok-call.ensures in
     let none : length e.1.history.queue ≡ 0 = omega (arith, c.queue_len.ensures.value, c.if-queue_len-gt0.false) in record {
-      chosen = begins_monitor (dues s) c.args.at c.args.run call c.get.result e c.in_ok-monitor.monitor pick none c.in_ok-monitor.ensures.monitor c.get.ensures.value;
+      chosen =
+          begins_monitor (dues s) c.args.at c.args.run call c.get.result e c.in_ok-monitor.monitor pick none c.in_ok-monitor.ensures.monitor
+          c.get.ensures.value;
     }

@@ -1,4 +1,5 @@
-use Rattle.std.proofs.Common.{◌≡◌, ◌<◌, ◌≤◌, ◌+◌, ◌++◌, [], ◌∷◌, List, ℕ, Some, None, true, false, length, take, refl, sym, ap, subst, ◌∙◌, arith}
+use Rattle.std.proofs.Common.{◌≡◌, ◌<◌, ◌≤◌, ◌+◌, ◌++◌, [], ◌∷◌, List, ℕ, Some, None, true, false, length, take, refl, sym, ap, subst, ◌∙◌}
+use Rattle.std.proofs.Common.{arith}
 use Rattle.std.proofs.lemmas.List.{append-nil, length-map}
 use Rattle.std.specs.List.{AllByRecursion}
 use Rattle.ocf_types.specs.Kinds.{Event}
@@ -12,7 +13,8 @@ use Rattle.exec_turn.specs.Actives.{Active}
 use Rattle.exec_turn.specs.Launches.{IsStart, all_starting, what_starts}
 use Rattle.exec_turn.specs.Picks.{ArePicks, MayBegin, begins}
 use Rattle.exec_turn.proofs.Choosing.{picks_more}
-use Rattle.exec_turn.proofs.PickSteps.{above, cut_at, each_push, longer, may_more, one_longer, row_more, spelled_more, starting_more, too_long}
+use Rattle.exec_turn.proofs.PickSteps.{above, cut_at, each_push, longer, may_more, one_longer, row_more, spelled_more, starting_more}
+use Rattle.exec_turn.proofs.PickSteps.{too_long}
 use Rattle.exec_turn.proofs.picks.pick_all.Goals as goal
 
 pub loop-place-preserved-in_default : goal.loop-place-preserved-in_default
@@ -26,7 +28,9 @@ loop-place-preserved-in_default g c =
     let bs : List Active = all_starting items in
     let within : place < length s.resources = omega (arith, c.loop-place-test.true, c.len-place-end.ensures.value) in
     let run_is : c.loop-place.run ≡ s.next_run + length bs = omega (arith, inv.run, length-map items what_starts) in
-    let more = picks_more due at s.next_run c.loop-place.run s.resources place bs None within inv.picked run_is c.in_default.ensures.chosen in record {
+    let more =
+    picks_more due at s.next_run c.loop-place.run s.resources place bs None within inv.picked run_is c.in_default.ensures.chosen in
+    record {
       picked = subst (λ (l : List Active). ArePicks due at s.next_run (take (place + 1) s.resources) l) (append-nil bs) more;
       row = inv.row;
       are_starts = inv.are_starts;
@@ -55,7 +59,8 @@ returns-in_default-new-clause-picked g c =
     let a : Active = record { id = id_at s place; running = x } in
     let spent : 9007199254740991 < c.get.result + 1 = above (c.get.result + 1) 9007199254740991
     (λ le. let no : false ≡ true = c.in_default-new.ensures.lawful.1 (omega arith, le) in cc) in (
-      cut_at s due at c.loop-place.run place bs x (λ more. num_max < s.next_run + length more) within inv.picked run_is c.in-Some.ensures.chosen
+      cut_at s due at c.loop-place.run place bs x
+          (λ more. num_max < s.next_run + length more) within inv.picked run_is c.in-Some.ensures.chosen
           (omega (arith, run_is, longer bs a, spent, c.get.ensures.value)),
       record { runs = omega (arith, run_is, inv.drawn); room = inv.room },
     )
@@ -76,10 +81,14 @@ returns-then-not-fits-clause-picked g c =
     let tail = c.args.journal.now.tail.at in
     let drawn : c.loop-place.run + 1 ≤ 9007199254740991 = omega (arith, (c.in-Some-new.ensures.lawful.0 refl).1, c.get.ensures.value) in
     let size : length (spelled_row (begins at (bs ++ a ∷ []))) ≡ c.loop-place.len + c.spelled_len-len.result
-    = spelled_more at c.loop-place.len c.spelled_len-len.result bs a c.loop-place.row.items c.begin_at-begin.result inv.row c.begin_at-begin.ensures.begin inv.len c.spelled_len-len.ensures in
+    =
+    spelled_more at c.loop-place.len c.spelled_len-len.result bs a c.loop-place.row.items c.begin_at-begin.result inv.row
+    c.begin_at-begin.ensures.begin inv.len c.spelled_len-len.ensures in
     let all = c.loop-place.len + c.spelled_len-len.result in
-    let over : 8388608 < tail + 5 + all + 1 + 32768 = above (tail + 5 + all + 1 + 32768) 8388608 (λ le. let no : false ≡ true = c.if-not-fits.ensures.value.1 le in cc) in (
-      cut_at s due at c.loop-place.run place bs x (λ more. (s.next_run + length more ≤ num_max) × IsTooLong tail (begins at more)) within inv.picked run_is
+    let over : 8388608 < tail + 5 + all + 1 + 32768 = above (tail + 5 + all + 1 + 32768) 8388608
+    (λ le. let no : false ≡ true = c.if-not-fits.ensures.value.1 le in cc) in (
+      cut_at s due at c.loop-place.run place bs x
+          (λ more. (s.next_run + length more ≤ num_max) × IsTooLong tail (begins at more)) within inv.picked run_is
           c.in-Some.ensures.chosen (too_long s tail at c.loop-place.run all bs a run_is drawn size over),
       record { runs = omega (arith, run_is, inv.drawn); room = inv.room },
     )
@@ -100,7 +109,9 @@ returns-in_default-start_of-clause-picked g c =
     let tail = c.args.journal.now.tail.at in
     let drawn : c.loop-place.run + 1 ≤ 9007199254740991 = omega (arith, (c.in-Some-new.ensures.lawful.0 refl).1, c.get.ensures.value) in
     let size : length (spelled_row (begins at (bs ++ a ∷ []))) ≡ c.loop-place.len + c.spelled_len-len.result
-    = spelled_more at c.loop-place.len c.spelled_len-len.result bs a c.loop-place.row.items c.begin_at-begin.result inv.row c.begin_at-begin.ensures.begin inv.len c.spelled_len-len.ensures in
+    =
+    spelled_more at c.loop-place.len c.spelled_len-len.result bs a c.loop-place.row.items c.begin_at-begin.result inv.row
+    c.begin_at-begin.ensures.begin inv.len c.spelled_len-len.ensures in
     let fit : tail + 5 + (c.loop-place.len + c.spelled_len-len.result) + 1 + 32768 ≤ 8388608 = c.if-not-fits.ensures.value.0 refl in
     let may = may_more s tail at c.loop-place.run (c.loop-place.len + c.spelled_len-len.result) bs a run_is drawn size fit in (
       cut_at s due at c.loop-place.run place bs x (MayBegin s tail at) within inv.picked run_is c.in-Some.ensures.chosen may,
@@ -123,20 +134,28 @@ loop-place-preserved g c =
     let tail = c.args.journal.now.tail.at in
     let drawn : c.loop-place.run + 1 ≤ 9007199254740991 = omega (arith, (c.in-Some-new.ensures.lawful.0 refl).1, c.get.ensures.value) in
     let size : length (spelled_row (begins at (bs ++ a ∷ []))) ≡ c.loop-place.len + c.spelled_len-len.result
-    = spelled_more at c.loop-place.len c.spelled_len-len.result bs a c.loop-place.row.items c.begin_at-begin.result inv.row c.begin_at-begin.ensures.begin inv.len c.spelled_len-len.ensures in
+    =
+    spelled_more at c.loop-place.len c.spelled_len-len.result bs a c.loop-place.row.items c.begin_at-begin.result inv.row
+    c.begin_at-begin.ensures.begin inv.len c.spelled_len-len.ensures in
     let fit : tail + 5 + (c.loop-place.len + c.spelled_len-len.result) + 1 + 32768 ≤ 8388608 = c.if-not-fits.ensures.value.0 refl in
     let may = may_more s tail at c.loop-place.run (c.loop-place.len + c.spelled_len-len.result) bs a run_is drawn size fit in
     let grown : c.push_reserved-in-loop-place.new.self.items ≡ items ++ c.in-Ok.start ∷ [] = c.push_reserved-in-loop-place.ensures.items in
     let all : all_starting c.push_reserved-in-loop-place.new.self.items ≡ bs ++ a ∷ []
     = starting_more items c.push_reserved-in-loop-place.new.self.items c.in-Ok.start a grown c.in-Ok.ensures.what in
     let row_is : c.push_reserved.new.self.items ≡ begins at (bs ++ a ∷ [])
-    = row_more at bs a c.loop-place.row.items c.push_reserved.new.self.items c.begin_at-begin.result c.push_reserved.ensures.items inv.row c.begin_at-begin.ensures.begin in
+    =
+    row_more at bs a c.loop-place.row.items c.push_reserved.new.self.items c.begin_at-begin.result c.push_reserved.ensures.items inv.row
+    c.begin_at-begin.ensures.begin in
     let short : length (spelled_event c.begin_at-begin.result) ≤ 90 = c.begin_at-begin.ensures.short in
-    let more = picks_more due at s.next_run c.loop-place.run s.resources place bs (Some x) within inv.picked run_is c.in-Some.ensures.chosen in
-    let count : length c.push_reserved-in-loop-place.new.self.items ≡ length items + 1 = one_longer items c.push_reserved-in-loop-place.new.self.items c.in-Ok.start grown in record {
+    let more = picks_more due at s.next_run c.loop-place.run s.resources place bs
+    (Some x) within inv.picked run_is c.in-Some.ensures.chosen in
+    let count : length c.push_reserved-in-loop-place.new.self.items ≡ length items + 1 =
+    one_longer items c.push_reserved-in-loop-place.new.self.items c.in-Ok.start grown in record {
       picked = subst (λ (l : List Active). ArePicks due at s.next_run (take (place + 1) s.resources) l) (sym all) more;
       row = row_is ∙ ap (begins at) (sym all);
-      are_starts = subst (AllByRecursion (IsStart c.args.site.now s)) (sym grown) (each_push (IsStart c.args.site.now s) items c.in-Ok.start inv.are_starts c.in-Ok.ensures.start);
+      are_starts =
+          subst (AllByRecursion (IsStart c.args.site.now s)) (sym grown)
+          (each_push (IsStart c.args.site.now s) items c.in-Ok.start inv.are_starts c.in-Ok.ensures.start);
       run = omega (arith, c.in-Some-new.ensures.value, c.get.ensures.value, inv.run, count);
       drawn = omega (arith, c.in-Some-new.ensures.value, c.get.ensures.value, drawn);
       room = subst (λ (l : List Active). 0 < length l → IsTooLong tail (begins at l) → ⊥) (sym all) may.room;

@@ -12,7 +12,8 @@ poll_at-requires-clause-lives g c =
     let s = c.args.state.now.state in
     let here = active_in (entry_at s c.loop-place.place) in
     let later = flat_map active_in (drop (c.loop-place.place + 1) s.resources) in
-    let live = subst (λ (l : List Active). Live (g.C.Children.view c.loop-place.children).live (runs_of l)) (active_rest s c.loop-place.place (search rules)) c.loop-place.invariant.lives in
+    let live = subst (λ (l : List Active). Live (g.C.Children.view c.loop-place.children).live (runs_of l))
+    (active_rest s c.loop-place.place (search rules)) c.loop-place.invariant.lives in
     each_first _ (runs_of here) (runs_of later) (subst (Live (g.C.Children.view c.loop-place.children).live) (map-append _ here later) live)
 
 pub loop-place-preserved : goal.loop-place-preserved
@@ -29,7 +30,8 @@ loop-place-preserved g c =
     let is = active_rest s place within in
     let distinct = subst (λ (l : List Active). IsDistinct nat_eq (runs_of l)) is inv.distinct in
     let lives = subst (λ (l : List Active). Live old.live (runs_of l)) is inv.lives in
-    let both = polls_more c.args.at (flat_map active_in (take place s.resources)) here (g.C.Children.view c.args.children.now) old new c.loop-place.row.items more.0 c.loop-place.notices.items more.1 inv.polled more.2 in
+    let both = polls_more c.args.at (flat_map active_in (take place s.resources)) here
+    (g.C.Children.view c.args.children.now) old new c.loop-place.row.items more.0 c.loop-place.notices.items more.1 inv.polled more.2 in
     let size : length (flat_map active_in (drop place s.resources)) ≡ length (here ++ later) = ap (λ (l : List Active). length l) is in
     record {
       polled = rw (active_more s place within, more.3, more.4) both;

@@ -10,7 +10,8 @@ invariant-loop-place g l =
     let rs = l.state.state.resources in
     let to_come = flat_map active_in (drop l.place rs) in
     record {
-      polled : Polls l.at (flat_map active_in (take l.place rs)) (g.C.Children.view l.fn.children) (g.C.Children.view l.children) l.row.items l.notices.items;
+      polled : Polls l.at (flat_map active_in (take l.place rs)) (g.C.Children.view l.fn.children)
+          (g.C.Children.view l.children) l.row.items l.notices.items;
       lives : AllByRecursion (λ run. Contains (g.C.Children.view l.children).live run) (runs_of to_come);
       distinct : IsDistinct nat_eq (runs_of to_come);
       room : 2 * length to_come ≤ (g.C.Children.view l.children).room;

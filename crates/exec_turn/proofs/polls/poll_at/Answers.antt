@@ -9,14 +9,16 @@ use Rattle.exec_turn.proofs.polls.poll_at.Goals as goal
 pub returns-in_default-clause-polled : goal.returns-in_default-clause-polled
 returns-in_default-clause-polled g c =
     let e = entry_at c.args.state.now.state c.args.place in
-    let none = polled_none c.args.at e.0 e.1.history.running (g.C.Children.view c.args.children.now) (sym c.running_at.ensures ∙ c.in_default.is) in
+    let none = polled_none c.args.at e.0 e.1.history.running (g.C.Children.view c.args.children.now)
+    (sym c.running_at.ensures ∙ c.in_default.is) in
     ([], [], none, sym (append-nil _), sym (append-nil _))
 
 pub returns-in_default-ask-clause-polled : goal.returns-in_default-ask-clause-polled
 returns-in_default-ask-clause-polled g c =
     let e = entry_at c.args.state.now.state c.args.place in
     let h = c.in_default-ask.ensures.polled in
-    let one = polled_one c.args.at e.0 c.in-Some.running e.1.history.running h.0 h.1 (g.C.Children.view c.args.children.now) (g.C.Children.view c.ask.new.children) None
+    let one = polled_one c.args.at e.0 c.in-Some.running e.1.history.running h.0 h.1 (g.C.Children.view c.args.children.now)
+    (g.C.Children.view c.ask.new.children) None
     (sym c.running_at.ensures ∙ c.in-Some.is) h.2 h.3 h.4 in
     ([], [], one, sym (append-nil _), sym (append-nil _))
 
@@ -34,13 +36,16 @@ returns-clause-polled g c =
     let who : Active = record { id = e.0; running = c.in-Some.running } in
     let row_id : c.copied-id.result ≡ e.0 = ◌∙◌ {c = e.0} c.copied-id.ensures c.id_at.ensures in
     let told_id : c.copied-id-2.result ≡ e.0 = ◌∙◌ {c = e.0} c.copied-id-2.ensures c.id_at-2.ensures in
-    let one = polled_one c.args.at e.0 c.in-Some.running e.1.history.running h.0 h.1 (g.C.Children.view c.args.children.now) (g.C.Children.view c.ask.new.children) (Some end)
+    let one = polled_one c.args.at e.0 c.in-Some.running e.1.history.running h.0 h.1 (g.C.Children.view c.args.children.now)
+    (g.C.Children.view c.ask.new.children) (Some end)
     (sym c.running_at.ensures ∙ c.in-Some.is) h.2 h.3 h.4 in (
       result_of c.args.at who end ∷ [],
       notice_of c.args.at who end ∷ [],
       one,
-      subst (λ (id : List ℕ). c.push_reserved.new.self.items ≡ c.args.row.now.items ++ result_of c.args.at (record { id = id; running = c.in-Some.running }) end ∷ [])
+      subst (λ (id : List ℕ). c.push_reserved.new.self.items
+          ≡ c.args.row.now.items ++ result_of c.args.at (record { id = id; running = c.in-Some.running }) end ∷ [])
           row_id c.push_reserved.ensures.items,
       subst (λ (n : Notice). c.push_reserved-2.new.self.items ≡ c.args.notices.now.items ++ n ∷ [])
-          (same_notice c.copied-id-2.result e.0 c.ended_of-result.result (notice_of c.args.at who end).result told_id c.ended_of-result.ensures) c.push_reserved-2.ensures.items,
+          (same_notice c.copied-id-2.result e.0 c.ended_of-result.result
+          (notice_of c.args.at who end).result told_id c.ended_of-result.ensures) c.push_reserved-2.ensures.items,
     )

@@ -2,19 +2,23 @@ use Rattle.std.proofs.Common.{◌≡◌, ◌+◌, ◌++◌, ◌∙◌, List, [],
 use Rattle.std.proofs.lemmas.List.{append-nil, drop_more, map-append, take_more}
 use Rattle.ocf_types.specs.declared.reply.Notice.{Notice}
 use Rattle.child_keeper.specs.Children.{ChildrenView}
-use Rattle.child_keeper.specs.MayStart.{RunsUnder}
 use Rattle.exec_journal.specs.Journal.{journal_disk}
 use Rattle.ocf_env.specs.Places.{Call}
+use Rattle.child_keeper.specs.MayStart.{IsLaunch}
 use Rattle.exec_turn.specs.Actives.{Active, notice_of}
 use Rattle.exec_turn.specs.Launches.{IsOfOne, all_starting, what_starts}
 use Rattle.exec_turn.specs.Starts.{Rising, Starts, refused_end}
 use Rattle.exec_turn.specs.declared.picks.StartOf.{StartOf}
-use Rattle.exec_turn.proofs.Starting.{each_at, each_of_map, one_live, starts_more}
+use Rattle.exec_turn.proofs.Starting.{each_at, one_live, starts_more}
 use Rattle.exec_turn.proofs.starts.start_all.Goals as goal
 
 pub loop-start-init : goal.loop-start-init
 loop-start-init g c = record {
-  started = ([], record { answers = []; each = refl; children = refl; row_is = c.clear.ensures.items; told_is = refl }, sym (append-nil c.args.notices.now.items));
+  started = (
+    [],
+    record { answers = []; each = refl; children = refl; row_is = c.clear.ensures.items; told_is = refl },
+    sym (append-nil c.args.notices.now.items),
+  );
   rising = c.requires.rising;
   few = omega (arith, c.requires.few);
   room = omega (arith, c.requires.room);
@@ -24,11 +28,10 @@ loop-start-init g c = record {
   notice_room = refl;
 }
 
-pub start_one-requires-clause-runs : goal.start_one-requires-clause-runs
-start_one-requires-clause-runs g c =
-    let s = c.args.state.now.state in
-    each_at (λ (x : StartOf Call). RunsUnder s x.launch.id x.running.call x.running.run) c.args.starts.now c.loop-start.start-index c.start-item.result
-    (each_of_map what_starts (λ a. RunsUnder s a.id a.running.call a.running.run) c.args.starts.now c.requires.run) c.loop-start-test.true c.start-item.is
+pub start_one-requires-clause-launches : goal.start_one-requires-clause-launches
+start_one-requires-clause-launches g c =
+    each_at (λ (x : StartOf Call). IsLaunch c.args.state.now.state x.launch) c.args.starts.now c.loop-start.start-index c.start-item.result
+    c.requires.launches c.loop-start-test.true c.start-item.is
 
 pub start_one-requires-clause-of_one : goal.start_one-requires-clause-of_one
 start_one-requires-clause-of_one g c =
@@ -49,19 +52,27 @@ loop-start-preserved g c =
     let started = c.start_one.ensures.started in
     let answer = started.0 in
     let taken : all_starting (take (i + 1) all) ≡ all_starting (take i all) ++ a ∷ [] =
-    ap all_starting (take_more all i x c.loop-start-test.true ∙ ap (λ (y : StartOf Call). take i all ++ y ∷ []) (sym c.start-item.is)) ∙ map-append what_starts (take i all) (x ∷ []) in
-    let split : drop i all ≡ x ∷ drop (i + 1) all = drop_more all i x c.loop-start-test.true ∙ ap (λ (y : StartOf Call). y ∷ drop (i + 1) all) (sym c.start-item.is) in
-    let rises : Rising old.last_run (all_starting (x ∷ drop (i + 1) all)) = subst (λ (l : List (StartOf Call)). Rising old.last_run (all_starting l)) split inv.rising in
+    ap all_starting (take_more all i x c.loop-start-test.true ∙ ap (λ (y : StartOf Call). take i all ++ y ∷ []) (sym c.start-item.is))
+    ∙ map-append what_starts (take i all) (x ∷ []) in
+    let split : drop i all ≡ x ∷ drop (i + 1) all = drop_more all i x c.loop-start-test.true
+    ∙ ap (λ (y : StartOf Call). y ∷ drop (i + 1) all) (sym c.start-item.is) in
+    let rises : Rising old.last_run (all_starting (x ∷ drop (i + 1) all)) = subst
+    (λ (l : List (StartOf Call)). Rising old.last_run (all_starting l)) split inv.rising in
     let last : new.last_run ≡ x.running.run = ap (λ (v : ChildrenView). v.last_run) started.1 in
     record {
       started = (
         told ++ map (notice_of c.args.at a) (refused_end answer),
-        subst (λ (l : List Active). Starts c.args.at clock l (view c.args.children.now) new c.start_one.new.row.items (told ++ map (notice_of c.args.at a) (refused_end answer))) (sym taken)
-            (starts_more c.args.at clock (all_starting (take i all)) a (view c.args.children.now) old new c.loop-start.row.items c.start_one.new.row.items told _ answer inv.started.1 started.1 started.2 refl),
-        started.3 ∙ ap (λ (l : List Notice). l ++ map (notice_of c.args.at a) (refused_end answer)) inv.started.2 ∙ append_assoc c.args.notices.now.items told (map (notice_of c.args.at a) (refused_end answer)),
+        subst (λ (l : List Active). Starts c.args.at clock l (view c.args.children.now) new c.start_one.new.row.items
+            (told ++ map (notice_of c.args.at a) (refused_end answer))) (sym taken)
+            (starts_more c.args.at clock (all_starting (take i all)) a
+            (view c.args.children.now) old new c.loop-start.row.items c.start_one.new.row.items told _ answer inv.started.1 started.1
+            started.2 refl),
+        started.3 ∙ ap (λ (l : List Notice). l ++ map (notice_of c.args.at a) (refused_end answer)) inv.started.2
+            ∙ append_assoc c.args.notices.now.items told (map (notice_of c.args.at a) (refused_end answer)),
       );
       rising = subst (λ k. Rising k (all_starting (drop (i + 1) all))) (sym last) rises.1;
-      few = let live = ap (λ (v : ChildrenView). length v.live) started.1 in omega (arith, inv.few, live, one_live x.running.run old.live answer);
+      few = let live = ap (λ (v : ChildrenView). length v.live) started.1 in
+          omega (arith, inv.few, live, one_live x.running.run old.live answer);
       room = let left = ap (λ (v : ChildrenView). v.room) started.1 in omega (arith, inv.room, left);
       row_len = omega (arith, inv.row_len, c.start_one.ensures.row_len);
       notice_len = omega (arith, inv.notice_len, c.start_one.ensures.notice_len);

@@ -1,6 +1,12 @@
 use Rattle.std.proofs.Common.{rules}
 use Rattle.std.proofs.Math.Seq.{map-set_same}
+use Rattle.child_keeper.proofs.AgentLemmas.{others-set}
 use Rattle.child_keeper.proofs.agents.Agents.ask.Goals as goal
 
 pub returns : goal.returns
-returns g c = record { stay = map-set_same _ _ c.place-place.result _ c.index_mut.result.now (search rules) }
+returns g c =
+    record {
+      stay = map-set_same _ _ c.place-place.result _ c.index_mut.result.now (search rules);
+      others = others-set (λ a. a.run) c.args.run c.place-place.result _ _ c.index_mut.result.now c.place-place.ensures.found
+          (search rules);
+    }

@@ -5,10 +5,16 @@ use Rattle.child_keeper.proofs.agents.Agents.place.Goals as goal
 pub returns-clause-within : goal.returns-clause-within
 returns-clause-within g c =
     let size : length c.args.self.now.agents.items ≡ vec_len c.args.self.now.agents = search rules in
-    omega (arith, size, found_within (λ a. a.run) c.args.run c.in-Some.place c.args.self.now.agents.items (sym c.first.ensures ∙ c.in-Some.is))
+    omega (
+      arith,
+      size,
+      found_within (λ a. a.run) c.args.run c.in-Some.place c.args.self.now.agents.items
+          (sym c.first.ensures ∙ c.in-Some.is),
+    )
 
 pub returns-clause-found : goal.returns-clause-found
 returns-clause-found g c = found (λ a. a.run) c.args.run c.in-Some.place c.args.self.now.agents.items (sym c.first.ensures ∙ c.in-Some.is)
 
 pub unreachable-requires : goal.unreachable-requires
-unreachable-requires g c = not_found (λ a. a.run) c.args.run 0 c.args.self.now.agents.items (sym c.first.ensures ∙ c.in-None.is) c.requires.lives
+unreachable-requires g c =
+    not_found (λ a. a.run) c.args.run 0 c.args.self.now.agents.items (sym c.first.ensures ∙ c.in-None.is) c.requires.lives

@@ -1,8 +1,28 @@
-use Rattle.std.proofs.Common.{not, rules}
-use Rattle.std.specs.Prelude.{◌==◌}
+use Rattle.std.proofs.Common.{◌≡◌, ap, arith, length, not, rules, subst, sym, vec_len, ◌∙◌}
+use Rattle.std.specs.Prelude.{◌==◌, slice_index_or}
 use Rattle.std.proofs.lemmas.Fn.{filter_same}
-use Rattle.child_keeper.proofs.AgentLemmas.{taken}
+use Rattle.child_keeper.specs.Agents.{others_of, runs_of}
+use Rattle.child_keeper.proofs.AgentLemmas.{run_at, runs-others, taken}
 use Rattle.child_keeper.proofs.agents.Agents.take.Goals as goal
 
 pub returns : goal.returns
-returns g c = record { gone = taken (λ a. a.run) c.args.run c.place-place.result c.args.self.now.agents.items c.remove-agent.new.self.items c.retain.new.self.items c.place-place.ensures.found c.remove-agent.ensures.items (filter_same _ (λ a. not (a.run == c.args.run)) _ (λ x b f' t. search rules) _ _ c.retain.ensures.filtered) }
+returns g c =
+    let children = c.args.self.now.agents.items in
+    let place = c.place-place.result in
+    let agent = c.remove-agent.result in
+    let at = c.place-place.ensures.found in
+    let others : c.retain.new.self.items ≡ others_of c.args.run children =
+    taken (λ a. a.run) c.args.run place children c.remove-agent.new.self.items c.retain.new.self.items at c.remove-agent.ensures.items
+    (filter_same _ (λ a. not (a.run == c.args.run)) _ (λ x b f' t. search rules) _ _ c.retain.ensures.filtered) in
+    let size : length children ≡ vec_len c.args.self.now.agents = search rules in
+    let run_is = ap (λ a. a.run) c.remove-agent.ensures.value ∙ run_at (λ a. a.run) c.args.run place children agent at in
+    record {
+      gone = ap runs_of others ∙ runs-others (λ a. a.run) c.args.run children;
+      child = (
+        place,
+        omega (arith, size, c.place-place.ensures.within),
+        subst (λ r. let a = record agent { run = r } in slice_index_or children place a ≡ a) run_is
+            (sym c.remove-agent.ensures.value),
+      );
+      others = others;
+    }
