@@ -1,5 +1,6 @@
 -- What the machine of one resource begins in a turn.
-use Rattle.std.proofs.Common.{◌≡◌, ◌⊎◌, inl, inr, ℕ, ◌≤◌, true, List, [], ◌∷◌, ◌++◌, map, Option, Some, None, refl, sym, ap, subst, ◌∙◌, arith}
+use Rattle.std.proofs.Common.{◌≡◌, ◌⊎◌, inl, inr, ℕ, ◌≤◌, true, List, [], ◌∷◌, ◌++◌, map, Option, Some, None, refl, sym, ap, subst, ◌∙◌}
+use Rattle.std.proofs.Common.{arith}
 use Rattle.std.proofs.lemmas.List.{append-nil}
 use Rattle.ocf_types.specs.Due.{Due, IsPick}
 use Rattle.ocf_types.specs.Kinds.{Event}
@@ -17,17 +18,22 @@ use Rattle.executor.specs.Singles.{Single, SingleBegin, SingleRest, has_monitor}
 use Rattle.executor.proofs.AlonePicks.{IsChosen, begun_one, pick_same}
 
 -- it begins nothing where nothing of it is begun
-rests : (y : Single) (at clock : ℕ) (bs : List Active) (zs : List Started) → bs ≡ [] → map (λ x. x.what) zs ≡ bs → ((r : Resource) → y.resource ≡ Some r → IsPick r y.due at None)
+rests : (y : Single) (at clock : ℕ) (bs : List Active) (zs : List Started) → bs ≡ [] → map (λ x. x.what) zs ≡ bs
+    → ((r : Resource) → y.resource ≡ Some r → IsPick r y.due at None)
     → SingleRest at y (starts clock zs) (begins at bs ++ refusals at zs)
-rests y at clock bs [] none each picks = record { none_picked = picks; no_entries = refl; no_events = ap (λ (l : List Active). begins at l ++ []) none }
+rests y at clock bs [] none each picks =
+    record { none_picked = picks; no_entries = refl; no_events = ap (λ (l : List Active). begins at l ++ []) none }
 rests y at clock bs (z ∷ zs) none each picks = absurd (let no : z.what ∷ map (λ x. x.what) zs ≡ [] = each ∙ none in cc)
 
 -- the begin of a call under a run, and how its start ended
 abbrev begun_events : List ℕ → ℕ → ℕ → ℕ → List RunEnd → List Event
-begun_events id at call run ends = record { at = at; change = change.Step id (step.Begin call run) } ∷ map (λ end. record { at = at; change = change.Step id (step.Result run end) }) ends
+begun_events id at call run ends =
+    record { at = at; change = change.Step id (step.Begin call run) }
+    ∷ map (λ end. record { at = at; change = change.Step id (step.Result run end) }) ends
 
 -- it begins what is begun of it
-begins_it : (y : Single) (id : List ℕ) (at clock n c : ℕ) (r : Resource) (bs : List Active) (zs : List Started) (x : Running) → y.resource ≡ Some r → y.next_run ≤ n
+begins_it : (y : Single) (id : List ℕ) (at clock n c : ℕ) (r : Resource) (bs : List Active) (zs : List Started) (x : Running)
+    → y.resource ≡ Some r → y.next_run ≤ n
     → IsPick r y.due at (Some c) → bs ≡ record { id = id; running = x } ∷ [] → x.call ≡ c → x.run ≡ n → map (λ x. x.what) zs ≡ bs
     → SingleBegin id at y (starts clock zs) (begins at bs ++ refusals at zs)
 begins_it y id at clock n c r bs [] x is le pick one call run each =
@@ -51,15 +57,20 @@ begins_it y id at clock n c r bs (z ∷ []) x is le pick one call run each =
       clock = clock;
       answer = z.answer;
       one_entry = ap (λ (k : ℕ). entry k ∷ []) (ap (λ (w : Active). w.running.run) same ∙ run);
-      begins = ap (λ (l : List Active). begins at l ++ refusals at (z ∷ [])) one ∙ ap (λ (l : List Event). begins at (a ∷ []) ++ l) (append-nil (map (result_of at z.what) ends))
+      begins =
+          ap (λ (l : List Active). begins at l ++ refusals at (z ∷ [])) one
+          ∙ ap (λ (l : List Event). begins at (a ∷ []) ++ l) (append-nil (map (result_of at z.what) ends))
           ∙ ap (λ (w : Active). begins at (a ∷ []) ++ map (result_of at w) ends) same
           ∙ ap (λ (k : ℕ). begun_events id at k x.run ends) call ∙ ap (λ (k : ℕ). begun_events id at c k ends) run;
     }
 
 -- what is begun of it behind the results, where it stands there with these due moments
-pub single_begins : (y : Single) (id : List ℕ) (at clock run : ℕ) (moments : Due) (o : Option Resource) (bs : List Active) (zs : List Started) → y.resource ≡ o
-    → ((call : ℕ) → has_monitor o call ≡ true → y.due call ≡ moments id call) → y.next_run ≤ run → IsChosen moments at run id o bs → map (λ x. x.what) zs ≡ bs
-    → SingleRest at y (starts clock zs) (begins at bs ++ refusals at zs) ⊎ SingleBegin id at y (starts clock zs) (begins at bs ++ refusals at zs)
+pub single_begins : (y : Single) (id : List ℕ) (at clock run : ℕ) (moments : Due) (o : Option Resource) (bs : List Active)
+    (zs : List Started) → y.resource ≡ o
+    → ((call : ℕ) → has_monitor o call ≡ true → y.due call ≡ moments id call) → y.next_run ≤ run → IsChosen moments at run id o bs
+    → map (λ x. x.what) zs ≡ bs
+    → SingleRest at y (starts clock zs) (begins at bs ++ refusals at zs)
+    ⊎ SingleBegin id at y (starts clock zs) (begins at bs ++ refusals at zs)
 single_begins y id at clock run moments None bs zs is due le none each =
     inl (rests y at clock bs zs none each (λ r there. absurd (let no : None ≡ Some r = sym is ∙ there in cc)))
 single_begins y id at clock run moments (Some r) bs zs is due le (None, n, above, pick, none) each =
@@ -68,4 +79,5 @@ single_begins y id at clock run moments (Some r) bs zs is due le (None, n, above
     subst (λ (p : Resource). IsPick p y.due at None) same (pick_same r (moments id) y.due at None due pick)))
 single_begins y id at clock run moments (Some r) bs zs is due le (Some c, n, above, pick, mine) each =
     let one = begun_one (moments id) at n (id, r) c pick in
-    inr (begins_it y id at clock n c r bs zs one.0 is (omega (arith, le, above)) (pick_same r (moments id) y.due at (Some c) due pick) (mine ∙ one.1) one.2 one.3 each)
+    inr (begins_it y id at clock n c r bs zs one.0 is (omega (arith, le, above)) (pick_same r (moments id) y.due at (Some c) due pick)
+    (mine ∙ one.1) one.2 one.3 each)

@@ -1,5 +1,6 @@
 -- A resource and its due moments after an event: as its own machine has them, whatever the other resources are.
-use Rattle.std.proofs.Common.{◌≡◌, ◌≢◌, ℕ, ◌+◌, ◌≤◌, ◌==◌, Bool, true, false, cond, not, is_some, List, [], ◌∷◌, ◌++◌, filter, find, Option, Some, None, option_map, refl, sym, ap, subst, ◌∙◌, arith}
+use Rattle.std.proofs.Common.{◌≡◌, ◌≢◌, ℕ, ◌+◌, ◌≤◌, ◌==◌, Bool, true, false, cond, not, is_some, List, [], ◌∷◌, ◌++◌, filter, find, Option}
+use Rattle.std.proofs.Common.{Some, None, option_map, refl, sym, ap, subst, ◌∙◌, arith}
 use Rattle.std.specs.Prelude.{⊤}
 use Rattle.std.specs.Map.{lookup}
 use Rattle.std.specs.Option.{option_map_or}
@@ -33,12 +34,14 @@ AreFresh s [] = ⊤
 AreFresh s (e ∷ es) = IsFresh s e.change × AreFresh (after s e) es
 
 module _ {A : Type 0} where
-  lookup-own : (id : List ℕ) (f : A → A) (es : List (List ℕ × A)) → lookup (bytes_eq id) (at_id id f es) ≡ option_map f (lookup (bytes_eq id) es)
+  lookup-own : (id : List ℕ) (f : A → A) (es : List (List ℕ × A))
+      → lookup (bytes_eq id) (at_id id f es) ≡ option_map f (lookup (bytes_eq id) es)
   lookup-own id f [] = refl
   lookup-own id f (e ∷ es) = by (bytes_eq id e.0) (lookup-own id f es)
     where
       by : (b : Bool) → lookup (bytes_eq id) (at_id id f es) ≡ option_map f (lookup (bytes_eq id) es)
-          → cond b (Some (cond b (f e.1) e.1)) (lookup (bytes_eq id) (at_id id f es)) ≡ option_map f (cond b (Some e.1) (lookup (bytes_eq id) es))
+          → cond b (Some (cond b (f e.1) e.1)) (lookup (bytes_eq id) (at_id id f es))
+          ≡ option_map f (cond b (Some e.1) (lookup (bytes_eq id) es))
       by true k = refl
       by false k = k
 
@@ -47,7 +50,8 @@ module _ {A : Type 0} where
   lookup-push id [] e none own = rw own refl
   lookup-push id (x ∷ xs) e none own = by (bytes_eq id x.0) none (λ h. lookup-push id xs e h own)
     where
-      by : (b : Bool) → cond b (Some x.1) (lookup (bytes_eq id) xs) ≡ None → (lookup (bytes_eq id) xs ≡ None → lookup (bytes_eq id) (xs ++ e ∷ []) ≡ Some e.1)
+      by : (b : Bool) → cond b (Some x.1) (lookup (bytes_eq id) xs) ≡ None
+          → (lookup (bytes_eq id) xs ≡ None → lookup (bytes_eq id) (xs ++ e ∷ []) ≡ Some e.1)
           → cond b (Some x.1) (lookup (bytes_eq id) (xs ++ e ∷ [])) ≡ Some e.1
       by true h k = absurd (cc)
       by false h k = k h
@@ -64,11 +68,13 @@ module _ {A : Type 0} where
       by false false e h k = k h
 
   -- what is found with one more that does not pass is found before
-  find_before : (test : A → Bool) (xs : List A) (x : A) → test x ≡ false → is_some (find test (xs ++ x ∷ [])) ≡ true → is_some (find test xs) ≡ true
+  find_before : (test : A → Bool) (xs : List A) (x : A) → test x ≡ false → is_some (find test (xs ++ x ∷ [])) ≡ true
+      → is_some (find test xs) ≡ true
   find_before test [] x fails h = let none : is_some (cond (test x) (Some x) None) ≡ true = h in rw fails at none
   find_before test (y ∷ ys) x fails h = by (test y) h (find_before test ys x fails)
     where
-      by : (t : Bool) → is_some (cond t (Some y) (find test (ys ++ x ∷ []))) ≡ true → (is_some (find test (ys ++ x ∷ [])) ≡ true → is_some (find test ys) ≡ true)
+      by : (t : Bool) → is_some (cond t (Some y) (find test (ys ++ x ∷ []))) ≡ true
+          → (is_some (find test (ys ++ x ∷ [])) ≡ true → is_some (find test ys) ≡ true)
           → is_some (cond t (Some y) (find test ys)) ≡ true
       by true h k = h
       by false h k = k h
@@ -97,7 +103,8 @@ own_sets at (change.Step i what) s id call n =
     rw (is, same_id id) refl
 own_sets at change.Boot s id call n = refl
 
-other_sets : (at : ℕ) (c : Change) (s : State) (id other : List ℕ) (call : ℕ) → named c ≡ Some other → other ≢ id → sets s (record { at = at; change = c }) id call ≡ None
+other_sets : (at : ℕ) (c : Change) (s : State) (id other : List ℕ) (call : ℕ) → named c ≡ Some other → other ≢ id
+    → sets s (record { at = at; change = c }) id call ≡ None
 other_sets at (change.Register r) s id other call n differs = refl
 other_sets at (change.Unregister i) s id other call n differs = refl
 other_sets at (change.Step i what) s id other call n differs =
@@ -106,7 +113,8 @@ other_sets at (change.Step i what) s id other call n differs =
 other_sets at change.Boot s id other call n differs = refl
 
 -- a monitor that is there after a change that set no due moment for it was there before
-monitor_stepped : (at : ℕ) (what : Step) (r : Resource) (call : ℕ) → is_some (of_call call (stepped at what r).recurring) ≡ true → step_sets r at what call ≡ None
+monitor_stepped : (at : ℕ) (what : Step) (r : Resource) (call : ℕ) → is_some (of_call call (stepped at what r).recurring) ≡ true
+    → step_sets r at what call ≡ None
     → is_some (of_call call r.recurring) ≡ true
 monitor_stepped at (step.Recur m) r call h none = find_before (λ x. x.call == call) r.recurring m (by (m.call == call) none) h
   where
@@ -116,7 +124,8 @@ monitor_stepped at (step.Recur m) r call h none = find_before (λ x. x.call == c
 monitor_stepped at (step.Cancel interval) r call h none = find_fewer (λ x. x.call == call) (λ x. not (x.interval == interval)) r.recurring h
 monitor_stepped at _ r call h none = h
 
-monitor_before : (at : ℕ) (c : Change) (was : Option Resource) (call : ℕ) → has_monitor (single_changed at c was) call ≡ true → single_sets at c was call ≡ None
+monitor_before : (at : ℕ) (c : Change) (was : Option Resource) (call : ℕ) → has_monitor (single_changed at c was) call ≡ true
+    → single_sets at c was call ≡ None
     → has_monitor was call ≡ true
 monitor_before at (change.Register r) was call h none = absurd (cc)
 monitor_before at (change.Unregister i) was call h none = absurd (cc)
@@ -146,22 +155,26 @@ or_else_alike None a b h = h refl
 or_else_alike (Some n) a b h = refl
 
 -- an event that names it
-stands_own : (y : Single) (s : State) (moments : Due) (id : List ℕ) (e : Event) → Stands y s moments id → named e.change ≡ Some id → IsFresh s e.change
+stands_own : (y : Single) (s : State) (moments : Due) (id : List ℕ) (e : Event) → Stands y s moments id → named e.change ≡ Some id
+    → IsFresh s e.change
     → Stands (single_after y e) (after s e) (due_after s moments e) id
 stands_own y s moments id e stands n next =
     let is : resource_at (after s e) id ≡ single_changed e.at e.change (resource_at s id) = own_changed e.at e.change s id n next in
-    let has : (call : ℕ) → has_monitor (resource_at (after s e) id) call ≡ has_monitor (single_changed e.at e.change (resource_at s id)) call = λ call. ap (λ o. has_monitor o call) is in record {
+    let has : (call : ℕ) → has_monitor (resource_at (after s e) id) call
+    ≡ has_monitor (single_changed e.at e.change (resource_at s id)) call = λ call. ap (λ o. has_monitor o call) is in record {
       resource = ap (single_changed e.at e.change) stands.resource ∙ sym is;
       due = λ call there.
           let there2 : has_monitor (single_changed e.at e.change (resource_at s id)) call ≡ true = sym (has call) ∙ there in
           rw (stands.resource, there2, there, own_sets e.at e.change s id call n)
-          (or_else_alike (single_sets e.at e.change (resource_at s id) call) (y.due call) (moments id call) (λ none. stands.due call (monitor_before e.at e.change (resource_at s id) call there2 none)));
+          (or_else_alike (single_sets e.at e.change (resource_at s id) call) (y.due call) (moments id call)
+          (λ none. stands.due call (monitor_before e.at e.change (resource_at s id) call there2 none)));
       calls = calls_above s e.change y.next_call next stands.calls;
       runs = runs_above s e.change y.next_run next stands.runs;
     }
 
 -- one that names another
-stands_other : (y : Single) (s : State) (moments : Due) (id other : List ℕ) (e : Event) → Stands y s moments id → named e.change ≡ Some other → other ≢ id
+stands_other : (y : Single) (s : State) (moments : Due) (id other : List ℕ) (e : Event) → Stands y s moments id
+    → named e.change ≡ Some other → other ≢ id
     → Stands y (after s e) (due_after s moments e) id
 stands_other y s moments id other e stands n differs =
     let is : resource_at (after s e) id ≡ resource_at s id = other_stays e.at e.change s.resources other id n differs in record {
@@ -183,7 +196,8 @@ stands_on y s moments id e stands next = by_name e.change refl
 
     by_own : (other : List ℕ) (b : Bool) → named e.change ≡ Some other → bytes_eq id other ≡ b → goal b
     by_own other true n same = stands_own y s moments id e stands (n ∙ ap Some (sym ((bytes_eq-Decides id other).0 same))) next
-    by_own other false n differs = stands_other y s moments id other e stands n (λ is. both_ways (bytes_eq id other) differs ((bytes_eq-Decides id other).1 (sym is)))
+    by_own other false n differs =
+        stands_other y s moments id other e stands n (λ is. both_ways (bytes_eq id other) differs ((bytes_eq-Decides id other).1 (sym is)))
 
     by_name : (c : Change) → e.change ≡ c → goal (option_map_or (bytes_eq id) (named c) false)
     by_name (change.Register r) is = by_own r.id (bytes_eq id r.id) (ap named is) refl
@@ -202,6 +216,7 @@ stands_all y s moments id [] stands next = stands
 stands_all y s moments id (e ∷ es) stands next =
     let one = events_of id (e ∷ []) in
     let split : single_after_all y (events_of id (e ∷ es)) ≡ single_after_all (single_after_all y one) (events_of id es) =
-    ap (single_after_all y) (filter-append (λ f. option_map_or (bytes_eq id) (named f.change) false) (e ∷ []) es) ∙ single-append y one (events_of id es) in
+    ap (single_after_all y) (filter-append (λ f. option_map_or (bytes_eq id) (named f.change) false) (e ∷ []) es)
+    ∙ single-append y one (events_of id es) in
     subst (λ (z : Single). Stands z (after_all (after s e) es) (due_after_all (after s e) (due_after s moments e) es) id) (sym split)
     (stands_all (single_after_all y one) (after s e) (due_after s moments e) id es (stands_on y s moments id e stands next.0) next.1)

@@ -10,7 +10,8 @@ use Rattle.ocf_types.specs.Laws.{each_append}
 
 module _ {A : Type 0} where
   -- two facts of each make a third
-  pub each_both : (P Q R : A → Type 0) → ((x : A) → P x → Q x → R x) → (xs : List A) → AllByRecursion P xs → AllByRecursion Q xs → AllByRecursion R xs
+  pub each_both : (P Q R : A → Type 0) → ((x : A) → P x → Q x → R x) → (xs : List A) → AllByRecursion P xs → AllByRecursion Q xs
+      → AllByRecursion R xs
   each_both P Q R f [] h k = tt
   each_both P Q R f (x ∷ xs) h k = (f x h.0 k.0, each_both P Q R f xs h.1 k.1)
 
@@ -27,11 +28,6 @@ module _ {A : Type 0} where
   pub each_last : (P : A → Type 0) (xs ys : List A) → AllByRecursion P (xs ++ ys) → AllByRecursion P ys
   each_last P [] ys h = h
   each_last P (x ∷ xs) ys h = each_last P xs ys h.1
-
-  -- a filter that nothing passes
-  pub filter_none : (test : A → Bool) (xs : List A) → AllByRecursion (λ x. test x ≡ false) xs → filter test xs ≡ []
-  filter_none test [] h = refl
-  filter_none test (x ∷ xs) h = rw (h.0, filter_none test xs h.1) refl
 
   -- a filter that all pass alike
   pub filter_alike : (test : A → Bool) (b : Bool) (xs : List A) → AllByRecursion (λ x. test x ≡ b) xs → filter test xs ≡ cond b xs []
@@ -60,9 +56,20 @@ module _ {A B : Type 0} where
   each_unmap P f [] h = tt
   each_unmap P f (x ∷ xs) h = (h.0, each_unmap P f xs h.1)
 
-  pub each_flat_map : (P : B → Type 0) (f : A → List B) → ((x : A) → AllByRecursion P (f x)) → (xs : List A) → AllByRecursion P (flat_map f xs)
-  each_flat_map P f h [] = tt
-  each_flat_map P f h (x ∷ xs) = each_append P (f x) (flat_map f xs) (h x) (each_flat_map P f h xs)
+  -- a fact of all that each makes
+  pub each_into : (P : B → Type 0) (f : A → List B) (xs : List A) → AllByRecursion P (flat_map f xs)
+      → AllByRecursion (λ x. AllByRecursion P (f x)) xs
+  each_into P f [] h = tt
+  each_into P f (x ∷ xs) h = (each_first P (f x) (flat_map f xs) h, each_into P f xs (each_last P (f x) (flat_map f xs) h))
+
+  pub each_out : (P : B → Type 0) (f : A → List B) (xs : List A) → AllByRecursion (λ x. AllByRecursion P (f x)) xs
+      → AllByRecursion P (flat_map f xs)
+  each_out P f [] h = tt
+  each_out P f (x ∷ xs) h = each_append P (f x) (flat_map f xs) h.0 (each_out P f xs h.1)
+
+  pub each_flat_map : (P : B → Type 0) (f : A → List B) → ((x : A) → AllByRecursion P (f x)) → (xs : List A)
+      → AllByRecursion P (flat_map f xs)
+  each_flat_map P f h xs = each_out P f xs (each_of_all (λ x. AllByRecursion P (f x)) h xs)
 
   -- of what is made of each, a filter keeps what is made of those whose thing passes
   pub filter-map : (test : B → Bool) (f : A → B) (xs : List A) → filter test (map f xs) ≡ map f (filter (λ x. test (f x)) xs)
@@ -70,7 +77,8 @@ module _ {A B : Type 0} where
   filter-map test f (x ∷ xs) = by (test (f x)) (filter-map test f xs)
     where
       by : (b : Bool) → filter test (map f xs) ≡ map f (filter (λ x. test (f x)) xs)
-          → cond b (f x ∷ filter test (map f xs)) (filter test (map f xs)) ≡ map f (cond b (x ∷ filter (λ x. test (f x)) xs) (filter (λ x. test (f x)) xs))
+          → cond b (f x ∷ filter test (map f xs)) (filter test (map f xs))
+          ≡ map f (cond b (x ∷ filter (λ x. test (f x)) xs) (filter (λ x. test (f x)) xs))
       by true k = ap (λ (l : List B). f x ∷ l) k
       by false k = k
 
@@ -87,14 +95,16 @@ module _ {A B : Type 0} where
 
 module _ {A : Type 0} (key : A → ℕ) (own : A → Bool) where
   -- where keys differ, those of an owner's elements are found among them, and no others
-  pub owned : (xs : List A) → IsDistinct nat_eq (map key xs) → AllByRecursion (λ x. list_any (nat_eq (key x)) (map key (filter own xs)) ≡ own x) xs
+  pub owned : (xs : List A) → IsDistinct nat_eq (map key xs)
+      → AllByRecursion (λ x. list_any (nat_eq (key x)) (map key (filter own xs)) ≡ own x) xs
   owned [] h = tt
   owned (x ∷ xs) h =
       let head = IsDistinct-head nat_eq (key x) (map key xs) h in
       let rest = owned xs (IsDistinct-tail nat_eq (key x) (map key xs) h) in (
         here (own x) refl,
         each_both (λ y. nat_eq (key x) (key y) ≡ false) (λ y. list_any (nat_eq (key y)) (map key (filter own xs)) ≡ own y)
-            (λ y. list_any (nat_eq (key y)) (map key (filter own (x ∷ xs))) ≡ own y) there xs (each_unmap (λ y. nat_eq (key x) y ≡ false) key xs head) rest,
+            (λ y. list_any (nat_eq (key y)) (map key (filter own (x ∷ xs))) ≡ own y) there xs
+            (each_unmap (λ y. nat_eq (key x) y ≡ false) key xs head) rest,
       )
     where
       here : (b : Bool) → own x ≡ b → list_any (nat_eq (key x)) (map key (cond b (x ∷ filter own xs) (filter own xs))) ≡ b

@@ -1,5 +1,7 @@
 -- What a request does, and what it is answered.
-use Rattle.std.proofs.Common.{◌≡◌, ◌⊎◌, inl, inr, ℕ, ◌≤◌, false, max, List, [], ◌∷◌, length, Some, Result, Ok, Err, le_of_eq, refl, sym, ap, subst, ◌∙◌, arith}
+use Rattle.std.proofs.Common.{◌≡◌, ◌⊎◌, inl, inr, ℕ, ◌≤◌, false, List, [], ◌∷◌, length, Some, Result, Ok, Err, le_of_eq, refl, sym, ap}
+use Rattle.std.proofs.Common.{subst, ◌∙◌}
+use Rattle.std.proofs.Math.Nat.{max-eq_right}
 use Rattle.std.specs.List.{AllByRecursion}
 use Rattle.ocf_types.specs.Answer.{asked_event, change_of, event_of, moment, tests}
 use Rattle.ocf_types.specs.Due.{Due, due_after}
@@ -31,12 +33,9 @@ pub record Does {D : Type 0} (now : ℕ) (old new : Sight D) (es : List Event) :
   pub next : AreFresh old.state es
   pub clock : new.state.clock ≤ cut now
 
-max_is : (a b : ℕ) → a ≤ b → max a b ≡ b
-max_is a b h = omega arith
-
 -- where moments do not go back, a moment is the one that is handed in
 pub moment_is : (s : State) (now : ℕ) → s.clock ≤ cut now → moment s now ≡ cut now
-moment_is s now h = max_is s.clock (cut now) h
+moment_is s now h = max-eq_right h
 
 -- a call that left the executor as it was
 pub rested : {D : Type 0} (now : ℕ) (old new : Sight D) → old.state.clock ≤ cut now → new ≡ old → Does now old new []
@@ -58,13 +57,15 @@ told_or_refused e reply (inr (inr (inl memory))) = inr (refusal.Memory, memory, 
 told_or_refused e reply (inr (inr (inr disk))) = inr (refusal.Disk, disk, λ h. h)
 
 -- the event that is acknowledged is recorded
-told_done : (s : State) (e : Event) (c : Change) (moments : Due) → (recorded e (acknowledged c) ≡ e ∷ []) × (due_left s e (acknowledged c) moments ≡ due_after s moments e)
+told_done : (s : State) (e : Event) (c : Change) (moments : Due)
+    → (recorded e (acknowledged c) ≡ e ∷ []) × (due_left s e (acknowledged c) moments ≡ due_after s moments e)
 told_done s e (change.Step i (step.Exec o)) moments = (refl, refl)
 told_done s e (change.Step i (step.Recur m)) moments = (refl, refl)
 told_done s e _ moments = (refl, refl)
 
 -- the event that a command asks for is new where no test held, and names the resource that the command is about
-asked_fresh : (s : State) (c : Command) (size : ℕ) → AllByRecursion (λ t. t.1 ≡ false) (tests s c size) → IsFresh s (change_of s.next_call c)
+asked_fresh : (s : State) (c : Command) (size : ℕ) → AllByRecursion (λ t. t.1 ≡ false) (tests s c size)
+    → IsFresh s (change_of s.next_call c)
 asked_fresh s (command.Register r) size h = none_is (resource_at s r.id) h.0
 asked_fresh s (command.Exec i task timeout) size h = refl
 asked_fresh s (command.Recur i interval timeout level) size h = refl
@@ -85,7 +86,8 @@ pub record Commands {D : Type 0} (now : ℕ) (c : Command) (old new : Sight D) (
   pub does : Does now old new deeds.events
   pub follows : IsPlain reply → Follows (event_of old.state now c) reply deeds.events
 
-pub commands : {D : Type 0} (look : D → View) (now : ℕ) (c : Command) (old new : Sight D) (reply : Reply) (deeds : Deeds) → old.state.clock ≤ cut now
+pub commands : {D : Type 0} (look : D → View) (now : ℕ) (c : Command) (old new : Sight D) (reply : Reply) (deeds : Deeds)
+    → old.state.clock ≤ cut now
     → TakesRequest look now (asked.Command c) old new reply deeds → Commands now c old new reply deeds
 commands {D} look now c old new reply deeds clock takes =
     subst (λ (x : Deeds). Commands now c old new reply x) (sym takes.does) (by (event_of old.state now c) refl takes.serves)
@@ -93,19 +95,28 @@ commands {D} look now c old new reply deeds clock takes =
     size : ℕ
     size = length (spelled_event (asked_event old.state now c))
 
-    by_reply : (e : Event) → event_of old.state now c ≡ Ok e → Records look e old new reply → (reply ≡ acknowledged e.change) ⊎ IsRefused reply → Commands now c old new reply (command_deeds (Ok e) reply)
+    by_reply : (e : Event) → event_of old.state now c ≡ Ok e → Records look e old new reply
+        → (reply ≡ acknowledged e.change) ⊎ IsRefused reply → Commands now c old new reply (command_deeds (Ok e) reply)
     by_reply e is serves (inl told) =
         let went = passed (tests old.state c size) (asked_event old.state now c) e is in
         let done = told_done old.state e e.change old.due in
         let row : recorded e reply ≡ e ∷ [] = ap (recorded e) told ∙ done.0 in
         let after_one : new.state ≡ after old.state e = serves.leaves.state ∙ ap (after_all old.state) row in record {
           no_entries = refl;
-          names = subst (AllName (commanded c)) (sym row) (subst (λ (f : Event). AllName (commanded c) (f ∷ [])) went.0 (asked_names old.state.next_call c, tt));
+          names =
+              subst (AllName (commanded c)) (sym row)
+              (subst (λ (f : Event). AllName (commanded c) (f ∷ [])) went.0 (asked_names old.state.next_call c, tt));
           does = record {
             state = serves.leaves.state;
-            due = serves.due ∙ ap (λ (r : Reply). due_left old.state e r old.due) told ∙ done.1 ∙ ap (due_after_all old.state old.due) (sym row);
-            next = subst (AreFresh old.state) (sym row) (subst (λ (f : Event). AreFresh old.state (f ∷ [])) went.0 (asked_fresh old.state c size went.1, tt));
-            clock = subst (λ (x : State). x.clock ≤ cut now) (sym after_one) (subst (λ (f : Event). f.at ≤ cut now) went.0 (le_of_eq (moment_is old.state now clock)));
+            due =
+                serves.due ∙ ap (λ (r : Reply). due_left old.state e r old.due) told ∙ done.1
+                ∙ ap (due_after_all old.state old.due) (sym row);
+            next =
+                subst (AreFresh old.state) (sym row)
+                (subst (λ (f : Event). AreFresh old.state (f ∷ [])) went.0 (asked_fresh old.state c size went.1, tt));
+            clock =
+                subst (λ (x : State). x.clock ≤ cut now) (sym after_one)
+                (subst (λ (f : Event). f.at ≤ cut now) went.0 (le_of_eq (moment_is old.state now clock)));
           };
           follows = λ plain. subst (λ (w : Result Event Refusal). Follows w reply (recorded e reply)) (sym is) (told, row);
         }
@@ -123,7 +134,8 @@ commands {D} look now c old new reply deeds clock takes =
           follows = λ plain. absurd (shared (subst IsPlain refused plain));
         }
 
-    by : (v : Result Event Refusal) → event_of old.state now c ≡ v → Obeys look v old new reply → Commands now c old new reply (command_deeds v reply)
+    by : (v : Result Event Refusal) → event_of old.state now c ≡ v → Obeys look v old new reply
+        → Commands now c old new reply (command_deeds v reply)
     by (Err why) is serves = record {
       no_entries = refl;
       names = tt;

@@ -1,5 +1,6 @@
 -- What rows and entries of a turn keep of one resource.
-use Rattle.std.proofs.Common.{◌≡◌, ℕ, Bool, true, false, cond, List, [], ◌∷◌, map, filter, flat_map, Option, Some, None, option_and_then, option_to_list, Result, refl, sym, ap, subst, ◌∙◌, arith}
+use Rattle.std.proofs.Common.{◌≡◌, ℕ, Bool, true, false, cond, List, [], ◌∷◌, map, filter, flat_map, Option, Some, None, option_and_then}
+use Rattle.std.proofs.Common.{option_to_list, Result, refl, sym, ap, subst, ◌∙◌, arith}
 use Rattle.std.specs.List.{AllByRecursion, IsDistinct}
 use Rattle.std.specs.Map.{keys_of, lookup}
 use Rattle.std.specs.Option.{option_map_or}
@@ -24,7 +25,8 @@ use Rattle.ocf_types.specs.Laws.{each_weaken}
 use Rattle.executor.specs.Parts.{events_of}
 use Rattle.executor.specs.Singles.{SinglePoll}
 use Rattle.executor.proofs.AloneChanges.{AreFresh, IsFresh}
-use Rattle.executor.proofs.AloneLists.{each_flat_map, each_map, each_of_all, each_unmap, filter-flat_map, filter-map, filter_alike, filter_none, filter_same}
+use Rattle.executor.proofs.AloneLists.{each_flat_map, each_map, each_of_all, each_unmap, filter-flat_map, filter-map, filter_alike}
+use Rattle.executor.proofs.AloneLists.{filter_same}
 
 -- an event that names this id
 abbrev pub names_it : List ℕ → Event → Bool
@@ -48,9 +50,10 @@ module _ {A : Type 0} where
           → cond b (e ∷ rest) rest ≡ map (λ r. (id, r)) (option_to_list (cond b (Some e.1) (lookup (bytes_eq id) es)))
       by true same go =
           let k : id ≡ e.0 = (bytes_eq-Decides id e.0).0 same in
-          let none : rest ≡ [] = filter_none (λ x. bytes_eq id x.0) es
+          let none : rest ≡ [] = filter_alike (λ x. bytes_eq id x.0) false es
           (each_unmap (λ y. bytes_eq id y ≡ false) (λ x. x.0) es
-          (subst (λ (j : List ℕ). AllByRecursion (λ y. bytes_eq j y ≡ false) (keys_of es)) (sym k) (IsDistinct-head bytes_eq e.0 (keys_of es) distinct))) in
+          (subst (λ (j : List ℕ). AllByRecursion (λ y. bytes_eq j y ≡ false) (keys_of es)) (sym k)
+          (IsDistinct-head bytes_eq e.0 (keys_of es) distinct))) in
           ap (λ (l : List (List ℕ × A)). e ∷ l) none ∙ ap (λ (j : List ℕ). (j, e.1) ∷ []) (sym k)
       by false other go = go
 
@@ -58,7 +61,8 @@ module _ {A : Type 0} where
 pub own_active : (s : State) (id : List ℕ) → IsDistinct bytes_eq (keys_of s.resources)
     → filter (λ a. bytes_eq id a.id) (active s) ≡ active_of id (option_and_then (λ r. r.history.running) (resource_at s id))
 own_active s id distinct =
-    filter-flat_map (λ a. bytes_eq id a.id) (λ e. bytes_eq id e.0) active_in s.resources (each_of_all (λ e. filter (λ a. bytes_eq id a.id) (active_in e) ≡ cond (bytes_eq id e.0) (active_in e) []) each s.resources)
+    filter-flat_map (λ a. bytes_eq id a.id) (λ e. bytes_eq id e.0) active_in s.resources
+    (each_of_all (λ e. filter (λ a. bytes_eq id a.id) (active_in e) ≡ cond (bytes_eq id e.0) (active_in e) []) each s.resources)
     ∙ ap (flat_map active_in) (one_entry id s.resources distinct) ∙ by (resource_at s id)
   where
     each : (e : List ℕ × Resource) → filter (λ a. bytes_eq id a.id) (active_in e) ≡ cond (bytes_eq id e.0) (active_in e) []
@@ -66,12 +70,14 @@ own_active s id distinct =
         (each_map (λ a. bytes_eq id a.id ≡ bytes_eq id e.0) (λ x. record { id = e.0; running = x }) (option_to_list e.1.history.running)
         (each_of_all (λ x. bytes_eq id e.0 ≡ bytes_eq id e.0) (λ x. refl) (option_to_list e.1.history.running)))
 
-    by : (o : Option Resource) → flat_map active_in (map (λ r. (id, r)) (option_to_list o)) ≡ active_of id (option_and_then (λ r. r.history.running) o)
+    by : (o : Option Resource)
+        → flat_map active_in (map (λ r. (id, r)) (option_to_list o)) ≡ active_of id (option_and_then (λ r. r.history.running) o)
     by None = refl
     by (Some r) = append-nil (active_of id r.history.running)
 
 -- each entry of a poll is of its run
-poll_runs : (mine : ℕ → Bool) (at : ℕ) (x : Running) (p : Poll) (kill : Result Unit KillFault) (b : Bool) → mine x.run ≡ b → AllByRecursion (λ e. mine e.run ≡ b) (entries_of at x p kill)
+poll_runs : (mine : ℕ → Bool) (at : ℕ) (x : Running) (p : Poll) (kill : Result Unit KillFault) (b : Bool) → mine x.run ≡ b
+    → AllByRecursion (λ e. mine e.run ≡ b) (entries_of at x p kill)
 poll_runs mine at x poll.Running kill b h = (h, by (is_late at x))
   where
     by : (late : Bool) → AllByRecursion (λ e. mine e.run ≡ b) (cond late (said x.run (kill_answer kill) ∷ []) [])
@@ -84,36 +90,47 @@ poll_runs mine at x poll.Fault kill b h = (h, tt)
 -- the polls that an id has, and what they make
 pub polls_kept : (mine : ℕ → Bool) (id : List ℕ) (at : ℕ) (ps : List Polled) → AreOwn mine id (map (λ p. p.who) ps)
     → filter (λ e. mine e.run) (polls at ps) ≡ polls at (filter (λ p. bytes_eq id p.who.id) ps)
-polls_kept mine id at ps h = filter-flat_map (λ e. mine e.run) (λ p. bytes_eq id p.who.id) (λ p. entries_of at p.who.running p.poll p.kill) ps
+polls_kept mine id at ps h =
+    filter-flat_map (λ e. mine e.run) (λ p. bytes_eq id p.who.id) (λ p. entries_of at p.who.running p.poll p.kill) ps
     (each_weaken (λ p. mine p.who.running.run ≡ bytes_eq id p.who.id)
-    (λ p. filter (λ e. mine e.run) (entries_of at p.who.running p.poll p.kill) ≡ cond (bytes_eq id p.who.id) (entries_of at p.who.running p.poll p.kill) [])
-    (λ p same. filter_alike (λ e. mine e.run) (bytes_eq id p.who.id) (entries_of at p.who.running p.poll p.kill) (poll_runs mine at p.who.running p.poll p.kill (bytes_eq id p.who.id) same))
+    (λ p. filter (λ e. mine e.run) (entries_of at p.who.running p.poll p.kill)
+    ≡ cond (bytes_eq id p.who.id) (entries_of at p.who.running p.poll p.kill) [])
+    (λ p same. filter_alike (λ e. mine e.run) (bytes_eq id p.who.id) (entries_of at p.who.running p.poll p.kill)
+    (poll_runs mine at p.who.running p.poll p.kill (bytes_eq id p.who.id) same))
     ps (each_unmap (λ a. mine a.running.run ≡ bytes_eq id a.id) (λ p. p.who) ps h))
 
-ends_kept : (id : List ℕ) (at : ℕ) (a : Active) (ends : List RunEnd) → events_of id (map (result_of at a) ends) ≡ cond (bytes_eq id a.id) (map (result_of at a) ends) []
+ends_kept : (id : List ℕ) (at : ℕ) (a : Active) (ends : List RunEnd)
+    → events_of id (map (result_of at a) ends) ≡ cond (bytes_eq id a.id) (map (result_of at a) ends) []
 ends_kept id at a ends = filter_alike (names_it id) (bytes_eq id a.id) (map (result_of at a) ends)
-    (each_map (λ e. names_it id e ≡ bytes_eq id a.id) (result_of at a) ends (each_of_all (λ (x : RunEnd). bytes_eq id a.id ≡ bytes_eq id a.id) (λ x. refl) ends))
+    (each_map (λ e. names_it id e ≡ bytes_eq id a.id) (result_of at a) ends
+    (each_of_all (λ (x : RunEnd). bytes_eq id a.id ≡ bytes_eq id a.id) (λ x. refl) ends))
 
-pub results_kept : (id : List ℕ) (at : ℕ) (ps : List Polled) → events_of id (results at ps) ≡ results at (filter (λ p. bytes_eq id p.who.id) ps)
+pub results_kept : (id : List ℕ) (at : ℕ) (ps : List Polled)
+    → events_of id (results at ps) ≡ results at (filter (λ p. bytes_eq id p.who.id) ps)
 results_kept id at ps = filter-flat_map (names_it id) (λ p. bytes_eq id p.who.id) (λ p. map (result_of at p.who) (ends_of at p)) ps
-    (each_of_all (λ p. events_of id (map (result_of at p.who) (ends_of at p)) ≡ cond (bytes_eq id p.who.id) (map (result_of at p.who) (ends_of at p)) []) (λ p. ends_kept id at p.who (ends_of at p)) ps)
+    (each_of_all (λ p. events_of id (map (result_of at p.who) (ends_of at p))
+    ≡ cond (bytes_eq id p.who.id) (map (result_of at p.who) (ends_of at p)) []) (λ p. ends_kept id at p.who (ends_of at p)) ps)
 
 -- the begins and the starts that an id has, and the refused ones
-pub begins_kept : (id : List ℕ) (at : ℕ) (begun : List Active) → events_of id (begins at begun) ≡ begins at (filter (λ a. bytes_eq id a.id) begun)
+pub begins_kept : (id : List ℕ) (at : ℕ) (begun : List Active)
+    → events_of id (begins at begun) ≡ begins at (filter (λ a. bytes_eq id a.id) begun)
 begins_kept id at begun = filter-map (names_it id) (begin_of at) begun
 
 pub starts_kept : (mine : ℕ → Bool) (id : List ℕ) (clock : ℕ) (xs : List Started) → AreOwn mine id (map (λ x. x.what) xs)
     → filter (λ e. mine e.run) (starts clock xs) ≡ starts clock (filter (λ x. bytes_eq id x.what.id) xs)
 starts_kept mine id clock xs h =
     filter-map (λ e. mine e.run) (λ x. record { run = x.what.running.run; at = clock; answer = start_answer x.answer }) xs
-    ∙ ap (starts clock) (filter_same (λ x. mine x.what.running.run) (λ x. bytes_eq id x.what.id) xs (each_unmap (λ a. mine a.running.run ≡ bytes_eq id a.id) (λ x. x.what) xs h))
+    ∙ ap (starts clock) (filter_same (λ x. mine x.what.running.run) (λ x. bytes_eq id x.what.id) xs
+    (each_unmap (λ a. mine a.running.run ≡ bytes_eq id a.id) (λ x. x.what) xs h))
 
 abbrev refused_row : ℕ → Started → List Event
 refused_row at x = map (result_of at x.what) (refused_end x.answer)
 
-pub refusals_kept : (id : List ℕ) (at : ℕ) (xs : List Started) → events_of id (refusals at xs) ≡ refusals at (filter (λ x. bytes_eq id x.what.id) xs)
+pub refusals_kept : (id : List ℕ) (at : ℕ) (xs : List Started)
+    → events_of id (refusals at xs) ≡ refusals at (filter (λ x. bytes_eq id x.what.id) xs)
 refusals_kept id at xs = filter-flat_map (names_it id) (λ x. bytes_eq id x.what.id) (refused_row at) xs
-    (each_of_all (λ x. events_of id (refused_row at x) ≡ cond (bytes_eq id x.what.id) (refused_row at x) []) (λ x. ends_kept id at x.what (refused_end x.answer)) xs)
+    (each_of_all (λ x. events_of id (refused_row at x) ≡ cond (bytes_eq id x.what.id) (refused_row at x) [])
+    (λ x. ends_kept id at x.what (refused_end x.answer)) xs)
 
 -- a result of this moment draws no run, and is new in each state
 pub record IsEnd (at : ℕ) (e : Event) : Type 0 where
@@ -122,13 +139,16 @@ pub record IsEnd (at : ℕ) (e : Event) : Type 0 where
   pub fresh : (t : State) → IsFresh t e.change
 
 ends_are : (at : ℕ) (a : Active) (ends : List RunEnd) → AllByRecursion (IsEnd at) (map (result_of at a) ends)
-ends_are at a ends = each_map (IsEnd at) (result_of at a) ends (each_of_all (λ end. IsEnd at (result_of at a end)) (λ end. record { now = refl; draws = refl; fresh = λ t. tt }) ends)
+ends_are at a ends =
+    each_map (IsEnd at) (result_of at a) ends
+    (each_of_all (λ end. IsEnd at (result_of at a end)) (λ end. record { now = refl; draws = refl; fresh = λ t. tt }) ends)
 
 pub results_end : (at : ℕ) (ps : List Polled) → AllByRecursion (IsEnd at) (results at ps)
 results_end at ps = each_flat_map (IsEnd at) (λ p. map (result_of at p.who) (ends_of at p)) (λ p. ends_are at p.who (ends_of at p)) ps
 
 pub refusals_end : (at : ℕ) (xs : List Started) → AllByRecursion (IsEnd at) (refusals at xs)
-refusals_end at xs = each_flat_map (IsEnd at) (λ x. map (result_of at x.what) (refused_end x.answer)) (λ x. ends_are at x.what (refused_end x.answer)) xs
+refusals_end at xs =
+    each_flat_map (IsEnd at) (λ x. map (result_of at x.what) (refused_end x.answer)) (λ x. ends_are at x.what (refused_end x.answer)) xs
 
 pub ends_fresh : (at : ℕ) (es : List Event) → AllByRecursion (IsEnd at) es → (t : State) → AreFresh t es
 ends_fresh at [] h t = tt
@@ -139,7 +159,8 @@ ends_draw at [] h t = refl
 ends_draw at (e ∷ es) h t = let rest = ends_draw at es h.1 (after t e) in omega (arith, rest, h.0.draws)
 
 -- its own poll, of what runs
-pub single_poll : (id : List ℕ) (at : ℕ) (o : Option Running) (ps : List Polled) → AllByRecursion (λ p. IsPoll p.poll) ps → map (λ p. p.who) ps ≡ active_of id o
+pub single_poll : (id : List ℕ) (at : ℕ) (o : Option Running) (ps : List Polled) → AllByRecursion (λ p. IsPoll p.poll) ps
+    → map (λ p. p.who) ps ≡ active_of id o
     → SinglePoll id at o (polls at ps) (results at ps)
 single_poll id at None [] bytes h = (refl, refl)
 single_poll id at None (p ∷ ps) bytes h = absurd (let no : p.who ∷ map (λ p. p.who) ps ≡ [] = h in cc)
@@ -151,7 +172,8 @@ single_poll id at (Some x) (p ∷ []) bytes h =
       p.kill,
       bytes.0,
       append-nil (entries_of at p.who.running p.poll p.kill) ∙ ap (λ (a : Active). entries_of at a.running p.poll p.kill) is,
-      append-nil (map (result_of at p.who) (ends_of at p)) ∙ ap (λ (a : Active). map (result_of at a) (option_to_list (ending at a.running p.poll))) is,
+      append-nil (map (result_of at p.who) (ends_of at p))
+          ∙ ap (λ (a : Active). map (result_of at a) (option_to_list (ending at a.running p.poll))) is,
     )
 single_poll id at (Some x) (p ∷ q ∷ ps) bytes h =
     let w : Active = record { id = id; running = x } in

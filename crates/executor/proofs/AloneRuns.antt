@@ -1,5 +1,6 @@
 -- Which runs are one resource's: those of its actions that run, and those that it begins.
-use Rattle.std.proofs.Common.{◌≡◌, ℕ, ◌+◌, ◌≤◌, ◌<◌, Bool, true, false, cond, not, List, [], ◌∷◌, ◌++◌, map, filter, flat_map, nat_eq, Option, Some, None, refl, ap, ap₂, subst, ◌∙◌, add-zero, arith}
+use Rattle.std.proofs.Common.{◌≡◌, ℕ, ◌+◌, ◌≤◌, ◌<◌, Bool, true, false, cond, not, List, [], ◌∷◌, ◌++◌, map, filter, flat_map, nat_eq}
+use Rattle.std.proofs.Common.{Option, Some, None, refl, ap, ap₂, subst, ◌∙◌, add-zero, arith}
 use Rattle.std.specs.Prelude.{⊤}
 use Rattle.std.specs.List.{AllByRecursion, IsDistinct, list_any}
 use Rattle.std.specs.Str.{bytes_eq}
@@ -7,6 +8,7 @@ use Rattle.std.proofs.lemmas.Bool.{ne_eqb}
 use Rattle.std.proofs.lemmas.List.{map-append}
 use Rattle.std.proofs.lemmas.List.Elements.{filter-append}
 use Rattle.std.proofs.lemmas.Map.Keys.{IsDistinct-cons, IsDistinct-head, IsDistinct-tail}
+use Rattle.std.proofs.lemmas.Simd.{map-map}
 use Rattle.std.proofs.lemmas.Slice.Eq.{bytes_eq-Decides}
 use Rattle.ocf_types.specs.Kinds.{Change, Event, Step}
 use Rattle.ocf_types.specs.LawfulState.{IsLawfulResource, IsLawfulRunning, IsLawfulState}
@@ -23,23 +25,9 @@ use Rattle.exec_turn.specs.Actives.{Active, active, active_in, runs_of, active_o
 use Rattle.exec_turn.specs.Lives.{Tends}
 use Rattle.executor.specs.Parts.{Apart, own_runs, run_begun}
 use Rattle.executor.proofs.AloneChanges.{AreFresh, IsFresh}
-use Rattle.executor.proofs.AloneLists.{each_first, each_last, each_map, each_unmap, filter-map, owned}
+use Rattle.executor.proofs.AloneLists.{each_first, each_into, each_last, each_map, each_out, each_unmap, filter-map, owned}
 use Rattle.executor.proofs.AloneRows.{AreOwn}
 use Rattle.executor.proofs.AloneTurns.{AllBeginOwn, BeginsOwn}
-
-module _ {A B : Type 0} where
-  -- a fact of all that each makes
-  each_into : (P : B → Type 0) (f : A → List B) (xs : List A) → AllByRecursion P (flat_map f xs) → AllByRecursion (λ x. AllByRecursion P (f x)) xs
-  each_into P f [] h = tt
-  each_into P f (x ∷ xs) h = (each_first P (f x) (flat_map f xs) h, each_into P f xs (each_last P (f x) (flat_map f xs) h))
-
-  each_out : (P : B → Type 0) (f : A → List B) (xs : List A) → AllByRecursion (λ x. AllByRecursion P (f x)) xs → AllByRecursion P (flat_map f xs)
-  each_out P f [] h = tt
-  each_out P f (x ∷ xs) h = each_append P (f x) (flat_map f xs) h.0 (each_out P f xs h.1)
-
-  map-map : {C : Type 0} (g : B → C) (f : A → B) (xs : List A) → map g (map f xs) ≡ map (λ x. g (f x)) xs
-  map-map g f [] = refl
-  map-map g f (x ∷ xs) = rw (map-map g f xs) refl
 
 -- numbers that rise, the first not below this one
 abbrev Rises : ℕ → List ℕ → Type 0
@@ -55,10 +43,12 @@ rises_distinct n [] h = distinct_none nat_eq
 rises_distinct n (y ∷ ys) h = IsDistinct-cons nat_eq y ys (rises_differ y (y + 1) ys (omega arith) h.1) (rises_distinct (y + 1) ys h.1)
 
 -- distinct numbers below those that rise
-below_distinct : (n : ℕ) (xs ys : List ℕ) → IsDistinct nat_eq xs → AllByRecursion (λ x. x < n) xs → Rises n ys → IsDistinct nat_eq (xs ++ ys)
+below_distinct : (n : ℕ) (xs ys : List ℕ) → IsDistinct nat_eq xs → AllByRecursion (λ x. x < n) xs → Rises n ys
+    → IsDistinct nat_eq (xs ++ ys)
 below_distinct n [] ys distinct below h = rises_distinct n ys h
 below_distinct n (x ∷ xs) ys distinct below h =
-    IsDistinct-cons nat_eq x (xs ++ ys) (each_append (λ y. nat_eq x y ≡ false) xs ys (IsDistinct-head nat_eq x xs distinct) (rises_differ x n ys below.0 h))
+    IsDistinct-cons nat_eq x (xs ++ ys)
+    (each_append (λ y. nat_eq x y ≡ false) xs ys (IsDistinct-head nat_eq x xs distinct) (rises_differ x n ys below.0 h))
     (below_distinct n xs ys (IsDistinct-tail nat_eq x xs distinct) below.1 h)
 
 -- an id and its run
@@ -80,8 +70,13 @@ begun_rise : (s : State) (es : List Event) → AreFresh s es → Rises s.next_ru
 begun_rise s [] h = tt
 begun_rise s (e ∷ es) h = by e.change h.0 (begun_rise (after s e) es h.1)
   where
-    by : (c : Change) → IsFresh s c → Rises (s.next_run + runs_drawn c) (map (λ m. m.1) (all_begun es)) → Rises s.next_run (map (λ m. m.1) (marks_begun c ++ all_begun es))
-    by (change.Step id (step.Begin call run)) next rest = (omega (arith, next), subst (λ n. Rises n (map (λ m. m.1) (all_begun es))) (let same : s.next_run + 1 ≡ run + 1 = omega (arith, next) in same) rest)
+    by : (c : Change) → IsFresh s c → Rises (s.next_run + runs_drawn c) (map (λ m. m.1) (all_begun es))
+        → Rises s.next_run (map (λ m. m.1) (marks_begun c ++ all_begun es))
+    by (change.Step id (step.Begin call run)) next rest = (
+      omega (arith, next),
+      subst (λ n. Rises n (map (λ m. m.1) (all_begun es)))
+          (let same : s.next_run + 1 ≡ run + 1 = omega (arith, next) in same) rest,
+    )
     by _ next rest = subst (λ n. Rises n (map (λ m. m.1) (all_begun es))) (add-zero s.next_run) rest
 
 -- all marks of a state and of these events, and which are this resource's
@@ -117,7 +112,8 @@ runs_its id s es =
     ap (map (λ (m : Mark). m.1)) (filter-append (is_its id) (map mark_of (active s)) (all_begun es))
     ∙ map-append (λ (m : Mark). m.1) (filter (is_its id) (map mark_of (active s))) (filter (is_its id) (all_begun es))
     ∙ ap₂ (λ (a b : List ℕ). a ++ b)
-    (ap (map (λ (m : Mark). m.1)) (filter-map (is_its id) mark_of (active s)) ∙ map-map (λ (m : Mark). m.1) mark_of (filter (λ a. bytes_eq id a.id) (active s)))
+    (ap (map (λ (m : Mark). m.1)) (filter-map (is_its id) mark_of (active s))
+    ∙ map-map (λ (m : Mark). m.1) mark_of (filter (λ a. bytes_eq id a.id) (active s)))
     (begun_its id es)
 
 -- a run is one of its runs
@@ -133,17 +129,21 @@ begin_told mine id _ h = tt
 
 begins_told : (mine : ℕ → Bool) (id : List ℕ) (es : List Event) → AllByRecursion (IsTold mine id) (all_begun es) → AllBeginOwn mine id es
 begins_told mine id [] h = tt
-begins_told mine id (e ∷ es) h =
-    (begin_told mine id e.change (each_first (IsTold mine id) (marks_begun e.change) (all_begun es) h), begins_told mine id es (each_last (IsTold mine id) (marks_begun e.change) (all_begun es) h))
+begins_told mine id (e ∷ es) h = (
+  begin_told mine id e.change (each_first (IsTold mine id) (marks_begun e.change) (all_begun es) h),
+  begins_told mine id es (each_last (IsTold mine id) (marks_begun e.change) (all_begun es) h),
+)
 
 -- of all runs, its runs are those of its actions and of what it begins
-pub runs_own : (id : List ℕ) (s : State) (es : List Event) → Apart s → AreFresh s es → AreOwn (is_mine id s es) id (active s) × AllBeginOwn (is_mine id s es) id es
+pub runs_own : (id : List ℕ) (s : State) (es : List Event) → Apart s → AreFresh s es
+    → AreOwn (is_mine id s es) id (active s) × AllBeginOwn (is_mine id s es) id es
 runs_own id s es apart fresh =
     let mine : ℕ → Bool = is_mine id s es in
     let all : AllByRecursion (IsTold mine id) (marks s es) =
     subst (λ (l : List ℕ). AllByRecursion (IsTold (λ run. list_any (nat_eq run) l) id) (marks s es)) (runs_its id s es)
     (owned (λ (m : Mark). m.1) (is_its id) (marks s es) (marks_distinct s es apart fresh)) in
-    let running : AllByRecursion (IsTold mine id) (map mark_of (active s)) = each_first (IsTold mine id) (map mark_of (active s)) (all_begun es) all in
+    let running : AllByRecursion (IsTold mine id) (map mark_of (active s)) = each_first (IsTold mine id) (map mark_of (active s))
+    (all_begun es) all in
     let begun : AllByRecursion (IsTold mine id) (all_begun es) = each_last (IsTold mine id) (map mark_of (active s)) (all_begun es) all in
     (each_unmap (IsTold mine id) mark_of (active s) running, begins_told mine id es begun)
 
@@ -151,7 +151,8 @@ runs_own id s es apart fresh =
 abbrev EntryOwn : (ℕ → Bool) → List ℕ → List ℕ × Resource → Type 0
 EntryOwn mine id e = AreOwn mine id (active_in e)
 
-stepped_own : (mine : ℕ → Bool) (id : List ℕ) (at : ℕ) (what : Step) (e : List ℕ × Resource) → BeginsOwn mine id (change.Step e.0 what) → EntryOwn mine id e
+stepped_own : (mine : ℕ → Bool) (id : List ℕ) (at : ℕ) (what : Step) (e : List ℕ × Resource) → BeginsOwn mine id (change.Step e.0 what)
+    → EntryOwn mine id e
     → EntryOwn mine id (e.0, stepped at what e.1)
 stepped_own mine id at (step.Begin call run) e own h = by e.1.history.queue (of_call call e.1.recurring)
   where
@@ -162,21 +163,28 @@ stepped_own mine id at (step.Begin call run) e own h = by e.1.history.queue (of_
 stepped_own mine id at (step.Result run end) e own h = tt
 stepped_own mine id at _ e own h = h
 
-own_changed : (mine : ℕ → Bool) (id : List ℕ) (at : ℕ) (c : Change) (s : State) → IsFresh s c → BeginsOwn mine id c → AllByRecursion (EntryOwn mine id) s.resources
+own_changed : (mine : ℕ → Bool) (id : List ℕ) (at : ℕ) (c : Change) (s : State) → IsFresh s c → BeginsOwn mine id c
+    → AllByRecursion (EntryOwn mine id) s.resources
     → AllByRecursion (EntryOwn mine id) (changed at c s.resources)
 own_changed mine id at (change.Register r) s fresh own h = each_append (EntryOwn mine id) s.resources (registered r ∷ []) h (tt, tt)
-own_changed mine id at (change.Unregister other) s fresh own h = each_filter (EntryOwn mine id) (λ e. not (bytes_eq other e.0)) s.resources h
+own_changed mine id at (change.Unregister other) s fresh own h =
+    each_filter (EntryOwn mine id) (λ e. not (bytes_eq other e.0)) s.resources h
 own_changed mine id at (change.Step other what) s fresh own h =
     each_map (EntryOwn mine id) (λ e. (e.0, cond (bytes_eq other e.0) (stepped at what e.1) e.1)) s.resources
-    (each_weaken (EntryOwn mine id) (λ e. EntryOwn mine id (e.0, cond (bytes_eq other e.0) (stepped at what e.1) e.1)) (λ e own_e. by e (bytes_eq other e.0) refl own_e) s.resources h)
+    (each_weaken (EntryOwn mine id) (λ e. EntryOwn mine id (e.0, cond (bytes_eq other e.0) (stepped at what e.1) e.1))
+    (λ e own_e. by e (bytes_eq other e.0) refl own_e) s.resources h)
   where
-    by : (e : List ℕ × Resource) (b : Bool) → bytes_eq other e.0 ≡ b → EntryOwn mine id e → EntryOwn mine id (e.0, cond b (stepped at what e.1) e.1)
-    by e true same h = stepped_own mine id at what e (subst (λ (k : List ℕ). BeginsOwn mine id (change.Step k what)) ((bytes_eq-Decides other e.0).0 same) own) h
+    by : (e : List ℕ × Resource) (b : Bool) → bytes_eq other e.0 ≡ b → EntryOwn mine id e
+        → EntryOwn mine id (e.0, cond b (stepped at what e.1) e.1)
+    by e true same h =
+        stepped_own mine id at what e
+        (subst (λ (k : List ℕ). BeginsOwn mine id (change.Step k what)) ((bytes_eq-Decides other e.0).0 same) own) h
     by e false differs h = h
 own_changed mine id at change.Boot s fresh own h = absurd fresh
 
 -- what runs stays told after new events
-pub own_stays : (mine : ℕ → Bool) (id : List ℕ) (s : State) (es : List Event) → AreFresh s es → AllBeginOwn mine id es → AreOwn mine id (active s) → AreOwn mine id (active (after_all s es))
+pub own_stays : (mine : ℕ → Bool) (id : List ℕ) (s : State) (es : List Event) → AreFresh s es → AllBeginOwn mine id es
+    → AreOwn mine id (active s) → AreOwn mine id (active (after_all s es))
 own_stays mine id s [] fresh own h = h
 own_stays mine id s (e ∷ es) fresh own h = own_stays mine id (after s e) es fresh.1 own.1
     (each_out (λ a. mine a.running.run ≡ bytes_eq id a.id) active_in (after s e).resources
@@ -194,6 +202,7 @@ tended_apart s live lawful tends = record {
   runs = tends.distinct;
   below = each_map (λ run. run < s.next_run) (λ a. a.running.run) (active s)
       (each_out (λ a. a.running.run < s.next_run) active_in s.resources
-      (each_weaken (λ e. IsLawfulResource s.next_call s.next_run s.clock e.1) (λ e. AllByRecursion (λ a. a.running.run < s.next_run) (active_in e))
+      (each_weaken (λ e. IsLawfulResource s.next_call s.next_run s.clock e.1)
+      (λ e. AllByRecursion (λ a. a.running.run < s.next_run) (active_in e))
       (λ e own. running_below s.next_call s.next_run s.clock e.0 e.1.history.running own.running) s.resources lawful.resources));
 }

@@ -1,5 +1,6 @@
 -- Each resource's part of a session is a run of its own machine.
-use Rattle.std.proofs.Common.{◌≡◌, ℕ, ◌≤◌, Bool, true, false, true≢false, cond, List, [], ◌∷◌, ◌++◌, filter, Some, refl, sym, ap, subst, ◌∙◌, le_refl, le_trans}
+use Rattle.std.proofs.Common.{◌≡◌, ℕ, ◌≤◌, Bool, true, false, true≢false, cond, List, [], ◌∷◌, ◌++◌, filter, Some, refl, sym, ap, subst}
+use Rattle.std.proofs.Common.{◌∙◌, le_refl, le_trans}
 use Rattle.std.specs.Option.{option_map_or}
 use Rattle.std.specs.List.{AllByRecursion}
 use Rattle.std.specs.Str.{bytes_eq}
@@ -45,11 +46,13 @@ IsStep true id y i r entries events = SingleTakes id y i r entries events
 IsStep false id y i r entries events = (entries ≡ []) × (events ≡ [])
 
 -- an input that concerns it is answered plainly, and so are the later ones
-plain_parts : (id : List ℕ) (i : Input) (r : Reply) (rest : List (Input × Reply)) → AllByRecursion (λ p. IsPlain p.1) (cond (concerns id i) ((i, r) ∷ rest) rest)
+plain_parts : (id : List ℕ) (i : Input) (r : Reply) (rest : List (Input × Reply))
+    → AllByRecursion (λ p. IsPlain p.1) (cond (concerns id i) ((i, r) ∷ rest) rest)
     → (concerns id i ≡ true → IsPlain r) × AllByRecursion (λ p. IsPlain p.1) rest
 plain_parts id i r rest h = by (concerns id i) h
   where
-    by : (b : Bool) → AllByRecursion (λ p. IsPlain p.1) (cond b ((i, r) ∷ rest) rest) → (b ≡ true → IsPlain r) × AllByRecursion (λ p. IsPlain p.1) rest
+    by : (b : Bool) → AllByRecursion (λ p. IsPlain p.1) (cond b ((i, r) ∷ rest) rest)
+        → (b ≡ true → IsPlain r) × AllByRecursion (λ p. IsPlain p.1) rest
     by true h = (λ own. h.0, h.1)
     by false h = (λ own. absurd (true≢false (sym own)), h)
 
@@ -70,33 +73,41 @@ module _ {D : Type 0} (look : D → View) (mine : ℕ → Bool) (id : List ℕ) 
   no_events deeds none = ap (λ (x : Deeds). events_of id x.events) none
 
   -- an executor takes an input, answered plainly where it concerns this resource
-  does : (open_now : Bool) (i : Input) (old new : Sight D) (r : Reply) (deeds : Deeds) → old.state.clock ≤ cut (moment_of i) → (concerns id i ≡ true → IsPlain r)
+  does : (open_now : Bool) (i : Input) (old new : Sight D) (r : Reply) (deeds : Deeds) → old.state.clock ≤ cut (moment_of i)
+      → (concerns id i ≡ true → IsPlain r)
       → TakesWhile open_now look i old new r deeds → Does (moment_of i) old new deeds.events
   does true (input.Request now (asked.Command c)) old new r deeds clock plain takes = (commands look now c old new r deeds clock takes).does
   does true (input.Request now (asked.Question q)) old new r deeds clock plain takes =
       subst (λ (x : Deeds). Does now old new x.events) (sym takes.does) (rested now old new clock takes.serves.1)
-  does true (input.Turn now) old new r deeds clock plain takes = turn_does now old new r deeds (turn_done look now old new r deeds clock (plain refl) takes) clock
-  does false i old new r deeds clock plain takes = subst (λ (x : Deeds). Does (moment_of i) old new x.events) (sym takes.2) (rested (moment_of i) old new clock takes.1)
+  does true (input.Turn now) old new r deeds clock plain takes =
+      turn_does now old new r deeds (turn_done look now old new r deeds clock (plain refl) takes) clock
+  does false i old new r deeds clock plain takes =
+      subst (λ (x : Deeds). Does (moment_of i) old new x.events) (sym takes.2) (rested (moment_of i) old new clock takes.1)
 
-  own_command : (b : Bool) (y : Single) (now : ℕ) (c : Command) (old new : Sight D) (r : Reply) (deeds : Deeds) → bytes_eq id (commanded c) ≡ b → old.state.clock ≤ cut now
+  own_command : (b : Bool) (y : Single) (now : ℕ) (c : Command) (old new : Sight D) (r : Reply) (deeds : Deeds)
+      → bytes_eq id (commanded c) ≡ b → old.state.clock ≤ cut now
       → (b ≡ true → IsPlain r) → Stands y old.state old.due id → Commands now c old new r deeds
       → IsStep b id y (input.Request now (asked.Command c)) r (own_entries deeds.entries) (events_of id deeds.events)
   unfolding own_entries
   own_command true y now c old new r deeds about clock plain stands did =
       let is : id ≡ commanded c = (bytes_eq-Decides id (commanded c)).0 about in
       let kept : events_of id deeds.events ≡ deeds.events = filter_alike (names_it id) true deeds.events
-      (each_weaken (λ e. named e.change ≡ Some (commanded c)) (λ e. names_it id e ≡ true) (λ e name. ap (λ o. option_map_or (bytes_eq id) o false) name ∙ about) deeds.events did.names) in (
+      (each_weaken (λ e. named e.change ≡ Some (commanded c)) (λ e. names_it id e ≡ true)
+      (λ e name. ap (λ o. option_map_or (bytes_eq id) o false) name ∙ about) deeds.events did.names) in (
         ap own_entries did.no_entries,
         subst (λ (l : List Event). SingleCommand (cut now) y c r l) (sym kept)
-            (single_command y old.state now c r deeds.events (stands.resource ∙ ap (resource_at old.state) is) stands.calls clock (plain refl) (did.follows (plain refl))),
+            (single_command y old.state now c r deeds.events (stands.resource ∙ ap (resource_at old.state) is) stands.calls clock
+            (plain refl) (did.follows (plain refl))),
       )
   own_command false y now c old new r deeds about clock plain stands did = (
     ap own_entries did.no_entries,
     filter_alike (names_it id) false deeds.events
-        (each_weaken (λ e. named e.change ≡ Some (commanded c)) (λ e. names_it id e ≡ false) (λ e name. ap (λ o. option_map_or (bytes_eq id) o false) name ∙ about) deeds.events did.names),
+        (each_weaken (λ e. named e.change ≡ Some (commanded c)) (λ e. names_it id e ≡ false)
+        (λ e name. ap (λ o. option_map_or (bytes_eq id) o false) name ∙ about) deeds.events did.names),
   )
 
-  own_question : (b : Bool) (y : Single) (now : ℕ) (q : Question) (old : Sight D) (r : Reply) (deeds : Deeds) → is_about id (asked.Question q) ≡ b → (b ≡ true → IsPlain r)
+  own_question : (b : Bool) (y : Single) (now : ℕ) (q : Question) (old : Sight D) (r : Reply) (deeds : Deeds)
+      → is_about id (asked.Question q) ≡ b → (b ≡ true → IsPlain r)
       → Stands y old.state old.due id → deeds ≡ no_deeds → IsReplyOrMemory (reply_to old.state q) r
       → IsStep b id y (input.Request now (asked.Question q)) r (own_entries deeds.entries) (events_of id deeds.events)
   own_question true y now q old r deeds about plain stands none replies =
@@ -104,12 +115,15 @@ module _ {D : Type 0} (look : D → View) (mine : ℕ → Bool) (id : List ℕ) 
   own_question false y now q old r deeds about plain stands none replies = (no_entries deeds none, no_events deeds none)
 
   -- and so the machine of one resource, where the input concerns it
-  steps : (open_now b : Bool) (y : Single) (i : Input) (old new : Sight D) (r : Reply) (deeds : Deeds) → concerns id i ≡ b → old.state.clock ≤ cut (moment_of i) → (b ≡ true → IsPlain r)
-      → Stands y old.state old.due id → AreApart old.state → AreOwn mine id (active old.state) → AllBeginOwn mine id deeds.events → TakesWhile open_now look i old new r deeds
+  steps : (open_now b : Bool) (y : Single) (i : Input) (old new : Sight D) (r : Reply) (deeds : Deeds) → concerns id i ≡ b
+      → old.state.clock ≤ cut (moment_of i) → (b ≡ true → IsPlain r)
+      → Stands y old.state old.due id → AreApart old.state → AreOwn mine id (active old.state) → AllBeginOwn mine id deeds.events
+      → TakesWhile open_now look i old new r deeds
       → IsStep b id y i r (own_entries deeds.entries) (events_of id deeds.events)
   unfolding own_entries
   steps false true y i old new r deeds about clock plain stands apart own begins takes = absurd (closed_plain i r takes.0 (plain refl))
-  steps false false y i old new r deeds about clock plain stands apart own begins takes = (no_entries deeds takes.2, no_events deeds takes.2)
+  steps false false y i old new r deeds about clock plain stands apart own begins takes =
+      (no_entries deeds takes.2, no_events deeds takes.2)
   steps true b y (input.Request now (asked.Command c)) old new r deeds about clock plain stands apart own begins takes =
       own_command b y now c old new r deeds about clock plain stands (commands look now c old new r deeds clock takes)
   steps true b y (input.Request now (asked.Question q)) old new r deeds about clock plain stands apart own begins takes =
@@ -119,15 +133,19 @@ module _ {D : Type 0} (look : D → View) (mine : ℕ → Bool) (id : List ℕ) 
   steps true false y (input.Turn now) old new r deeds about clock plain stands apart own begins takes = absurd (true≢false about)
 
   -- a step, and a run of the machine from then on
-  goes : (b : Bool) (y : Single) (i : Input) (r : Reply) (rest : List (Input × Reply)) (es fs : List Entry) (first_row later_row : List Event) → IsStep b id y i r es first_row
-      → Alone id (single_after_all y first_row) rest fs later_row → Alone id y (cond b ((i, r) ∷ rest) rest) (es ++ fs) (first_row ++ later_row)
+  goes : (b : Bool) (y : Single) (i : Input) (r : Reply) (rest : List (Input × Reply)) (es fs : List Entry)
+      (first_row later_row : List Event) → IsStep b id y i r es first_row
+      → Alone id (single_after_all y first_row) rest fs later_row
+      → Alone id y (cond b ((i, r) ∷ rest) rest) (es ++ fs) (first_row ++ later_row)
   goes true y i r rest es fs first_row later_row first later = (es, fs, first_row, later_row, refl, refl, first, later)
   goes false y i r rest es fs first_row later_row first later =
       subst (λ (l : List Entry). Alone id y rest (l ++ fs) (first_row ++ later_row)) (sym first.0)
-      (subst (λ (l : List Event). Alone id y rest fs (l ++ later_row)) (sym first.1) (subst (λ (l : List Event). Alone id (single_after_all y l) rest fs later_row) first.1 later))
+      (subst (λ (l : List Event). Alone id y rest fs (l ++ later_row)) (sym first.1)
+      (subst (λ (l : List Event). Alone id (single_after_all y l) rest fs later_row) first.1 later))
 
   alone : (from : ℕ) (y : Single) (x z : Sight D) (is : List Input) (rs : List Reply) (d : Deeds) → x.state.clock ≤ from → AreRising from is
-      → AllByRecursion (λ p. IsPlain p.1) (part id is rs) → Stands y x.state x.due id → AreApart x.state → AreOwn mine id (active x.state) → AllBeginOwn mine id d.events
+      → AllByRecursion (λ p. IsPlain p.1) (part id is rs) → Stands y x.state x.due id → AreApart x.state → AreOwn mine id (active x.state)
+      → AllBeginOwn mine id d.events
       → Session look x is rs z d → Alone id y (part id is rs) (own_entries d.entries) (events_of id d.events)
   unfolding own_entries
   alone from y x z [] [] d clock rises plain stands apart own begins session = (no_entries d session.1, no_events d session.1)
@@ -139,19 +157,27 @@ module _ {D : Type 0} (look : D → View) (mine : ℕ → Bool) (id : List ℕ) 
       let plain2 = plain_parts id i r (part id is rs) plain in
       let did = does x.is_open i x mid r first now plain2.0 takes in
       let all_begin : AllBeginOwn mine id (first.events ++ later.events) = subst (λ (k : Deeds). AllBeginOwn mine id k.events) all begins in
-      let begins_first : AllBeginOwn mine id first.events = each_first (λ e. BeginsOwn mine id e.change) first.events later.events all_begin in
-      let begins_later : AllBeginOwn mine id later.events = each_last (λ e. BeginsOwn mine id e.change) first.events later.events all_begin in
+      let begins_first : AllBeginOwn mine id first.events = each_first
+      (λ e. BeginsOwn mine id e.change) first.events later.events all_begin in
+      let begins_later : AllBeginOwn mine id later.events = each_last
+      (λ e. BeginsOwn mine id e.change) first.events later.events all_begin in
       let y2 = single_after_all y (events_of id first.events) in
       let stands2 : Stands y2 mid.state mid.due id = subst (λ (s : State). Stands y2 s mid.due id) (sym did.state)
-      (subst (λ (u : Due). Stands y2 (after_all x.state first.events) u id) (sym did.due) (stands_all y x.state x.due id first.events stands did.next)) in
+      (subst (λ (u : Due). Stands y2 (after_all x.state first.events) u id) (sym did.due)
+      (stands_all y x.state x.due id first.events stands did.next)) in
       let apart2 : AreApart mid.state = subst AreApart (sym did.state) (ids_stay x.state first.events did.next apart) in
-      let own2 : AreOwn mine id (active mid.state) = subst (λ (s : State). AreOwn mine id (active s)) (sym did.state) (own_stays mine id x.state first.events did.next begins_first own) in
-      let later_alone = alone (cut (moment_of i)) y2 mid z is rs later did.clock later_from.1 plain2.1 stands2 apart2 own2 begins_later rest in
-      let whole = goes (concerns id i) y i r (part id is rs) (own_entries first.entries) (own_entries later.entries) (events_of id first.events) (events_of id later.events)
+      let own2 : AreOwn mine id (active mid.state) = subst (λ (s : State). AreOwn mine id (active s)) (sym did.state)
+      (own_stays mine id x.state first.events did.next begins_first own) in
+      let later_alone =
+      alone (cut (moment_of i)) y2 mid z is rs later did.clock later_from.1 plain2.1 stands2 apart2 own2 begins_later rest in
+      let whole = goes (concerns id i) y i r (part id is rs) (own_entries first.entries) (own_entries later.entries)
+      (events_of id first.events) (events_of id later.events)
       (steps x.is_open (concerns id i) y i x mid r first refl now plain2.0 stands apart own begins_first takes) later_alone in
       subst (λ (k : Deeds). Alone id y (part id (i ∷ is) (r ∷ rs)) (own_entries k.entries) (events_of id k.events)) (sym all)
-      (subst (λ (l : List Entry). Alone id y (part id (i ∷ is) (r ∷ rs)) l (events_of id (first.events ++ later.events))) (sym (filter-append (λ e. mine e.run) first.entries later.entries))
-      (subst (λ (l : List Event). Alone id y (part id (i ∷ is) (r ∷ rs)) (own_entries first.entries ++ own_entries later.entries) l) (sym (filter-append (names_it id) first.events later.events)) whole))
+      (subst (λ (l : List Entry). Alone id y (part id (i ∷ is) (r ∷ rs)) l (events_of id (first.events ++ later.events)))
+      (sym (filter-append (λ e. mine e.run) first.entries later.entries))
+      (subst (λ (l : List Event). Alone id y (part id (i ∷ is) (r ∷ rs)) (own_entries first.entries ++ own_entries later.entries) l)
+      (sym (filter-append (names_it id) first.events later.events)) whole))
 
   -- the events of a session are new
   session_fresh : (from : ℕ) (x z : Sight D) (is : List Input) (rs : List Reply) (d : Deeds) → x.state.clock ≤ from → AreRising from is
@@ -168,7 +194,8 @@ module _ {D : Type 0} (look : D → View) (mine : ℕ → Bool) (id : List ℕ) 
       (fresh-append x.state first.events later.events did.next (subst (λ (s : State). AreFresh s later.events) did.state later_fresh))
 
 -- the law
-pub each_alone : {D : Type 0} (look : D → View) (x z : Sight D) (inputs : List Input) (replies : List Reply) (d : Deeds) (id : List ℕ) → Apart x.state → Session look x inputs replies z d
+pub each_alone : {D : Type 0} (look : D → View) (x z : Sight D) (inputs : List Input) (replies : List Reply) (d : Deeds) (id : List ℕ)
+    → Apart x.state → Session look x inputs replies z d
     → AllByRecursion (λ p. IsPlain p.1) (part id inputs replies) → AreRising x.state.clock inputs
     → Alone id (single_of x id) (part id inputs replies) (entries_of_runs (own_runs id x.state d.events) d.entries) (events_of id d.events)
 unfolding own_entries
@@ -176,5 +203,7 @@ each_alone look x z inputs replies d id apart session plain rises =
     let mine : ℕ → Bool = is_mine id x.state d.events in
     let fresh = session_fresh look mine id x.state.clock x z inputs replies d (le_refl x.state.clock) rises plain session in
     let own = runs_own id x.state d.events apart fresh in
-    let here : Stands (single_of x id) x.state x.due id = record { resource = refl; due = λ call there. refl; calls = le_refl x.state.next_call; runs = le_refl x.state.next_run } in
-    alone look mine id x.state.clock (single_of x id) x z inputs replies d (le_refl x.state.clock) rises plain here apart.ids own.0 own.1 session
+    let here : Stands (single_of x id) x.state x.due id =
+    record { resource = refl; due = λ call there. refl; calls = le_refl x.state.next_call; runs = le_refl x.state.next_run } in
+    alone look mine id x.state.clock (single_of x id) x z inputs replies d
+    (le_refl x.state.clock) rises plain here apart.ids own.0 own.1 session

@@ -1,5 +1,6 @@
 -- A turn that ended done, as the machine of one resource makes it.
-use Rattle.std.proofs.Common.{◌≡◌, ℕ, ◌≤◌, Bool, not, List, [], ◌∷◌, ◌++◌, map, filter, Option, option_and_then, refl, sym, ap, subst, ◌∙◌, arith, ap₂, append_assoc, le_refl}
+use Rattle.std.proofs.Common.{◌≡◌, ℕ, ◌≤◌, Bool, not, List, [], ◌∷◌, ◌++◌, map, filter, Option, option_and_then, refl, sym, ap, subst, ◌∙◌}
+use Rattle.std.proofs.Common.{arith, ap₂, append_assoc, le_refl}
 use Rattle.std.specs.List.{AllByRecursion, IsDistinct}
 use Rattle.std.specs.Prelude.{⊤}
 use Rattle.std.specs.Map.{keys_of}
@@ -36,7 +37,8 @@ use Rattle.executor.proofs.AloneLists.{each_first, each_last, each_map, each_of_
 use Rattle.executor.proofs.AloneBegins.{single_begins}
 use Rattle.executor.proofs.AlonePicks.{begins_fresh, chosen, own_of}
 use Rattle.executor.proofs.AloneRequests.{Does, moment_is}
-use Rattle.executor.proofs.AloneRows.{AreOwn, IsEnd, begins_kept, ends_fresh, names_it, own_active, polls_kept, refusals_end, refusals_kept, results_end, results_kept, single_poll, starts_kept}
+use Rattle.executor.proofs.AloneRows.{AreOwn, IsEnd, begins_kept, ends_fresh, names_it, own_active, polls_kept, refusals_end, refusals_kept}
+use Rattle.executor.proofs.AloneRows.{results_end, results_kept, single_poll, starts_kept}
 
 -- new events behind new events
 pub fresh-append : (s : State) (es fs : List Event) → AreFresh s es → AreFresh (after_all s es) fs → AreFresh s (es ++ fs)
@@ -50,7 +52,8 @@ AreApart s = IsDistinct bytes_eq (keys_of s.resources)
 ids_kept : (at : ℕ) (c : Change) (s : State) → IsFresh s c → AreApart s → IsDistinct bytes_eq (keys_of (changed at c s.resources))
 ids_kept at (change.Register r) s h apart = rw (map-append (λ (e : List ℕ × Resource). e.0) s.resources (registered r ∷ []))
     (IsDistinct-push nat_list_eq_equiv (keys_of s.resources) r.id apart (absent_any r.id s.resources h))
-ids_kept at (change.Unregister id) s h apart = distinct_filter bytes_eq (λ (e : List ℕ × Resource). e.0) (λ e. not (bytes_eq id e.0)) s.resources apart
+ids_kept at (change.Unregister id) s h apart =
+    distinct_filter bytes_eq (λ (e : List ℕ × Resource). e.0) (λ e. not (bytes_eq id e.0)) s.resources apart
 ids_kept at (change.Step id what) s h apart = rw (keys-at_id id (stepped at what) s.resources) apart
 ids_kept at change.Boot s h apart = absurd h
 
@@ -58,7 +61,8 @@ pub ids_stay : (s : State) (es : List Event) → AreFresh s es → AreApart s �
 ids_stay s [] h apart = apart
 ids_stay s (e ∷ es) h apart = ids_stay (after s e) es h.1 (ids_kept e.at e.change s h.0 apart)
 
-clock_behind : (s : State) (at last : ℕ) (es : List Event) → AllByRecursion (λ e. e.at ≡ at) es → at ≤ last → s.clock ≤ last → (after_all s es).clock ≤ last
+clock_behind : (s : State) (at last : ℕ) (es : List Event) → AllByRecursion (λ e. e.at ≡ at) es → at ≤ last → s.clock ≤ last
+    → (after_all s es).clock ≤ last
 clock_behind s at last [] h le clock = clock
 clock_behind s at last (e ∷ es) h le clock = clock_behind (after s e) at last es h.1 le (omega (arith, h.0, le))
 
@@ -79,20 +83,25 @@ pub record TurnDone {D : Type 0} (now : ℕ) (old new : Sight D) (given : Reply)
   pub state : new.state ≡ after_all old.state deeds.events
   pub due : new.due ≡ due_after_all old.state old.due deeds.events
 
-pub turn_done : {D : Type 0} (look : D → View) (now : ℕ) (old new : Sight D) (given : Reply) (deeds : Deeds) → old.state.clock ≤ cut now → IsPlain given
+pub turn_done : {D : Type 0} (look : D → View) (now : ℕ) (old new : Sight D) (given : Reply) (deeds : Deeds) → old.state.clock ≤ cut now
+    → IsPlain given
     → TakesATurn look now old new given deeds → TurnDone now old new given deeds
 turn_done {D} look now old new given deeds clock plain takes =
     let turns = takes.takes.turns in
     let is_done : takes.end ≡ Done = subst IsPlain takes.replies plain in
     let raw : Whole Done (scene old.state old.due old.place (moment old.state now)) turns.entries turns.events turns.pending new.told =
-    subst (λ (e : TurnEnd). IsTurn e (scene old.state old.due old.place (moment old.state now)) turns.entries turns.events turns.pending new.told) is_done turns.does in
+    subst (λ (e : TurnEnd). IsTurn e
+    (scene old.state old.due old.place (moment old.state now)) turns.entries turns.events turns.pending new.told) is_done turns.does in
     let whole : Whole Done (scene old.state old.due old.place (cut now)) turns.entries turns.events turns.pending new.told =
-    subst (λ (at : ℕ). Whole Done (scene old.state old.due old.place at) turns.entries turns.events turns.pending new.told) (moment_is old.state now clock) raw in
+    subst (λ (at : ℕ). Whole Done (scene old.state old.due old.place at) turns.entries turns.events turns.pending new.told)
+    (moment_is old.state now clock) raw in
     let row : deeds.events ≡ turns.events = ap (λ (x : Deeds). x.events) takes.does in record {
       done = takes.replies ∙ ap (λ (e : TurnEnd). reply.Turn e) is_done;
       t = whole.0;
       entries = ap (λ (x : Deeds). x.entries) takes.does ∙ whole.1;
-      events = row ∙ whole.2 ∙ append_assoc (results (cut now) whole.0.polled) (begins (cut now) whole.0.begun) (refusals (cut now) whole.0.started);
+      events =
+          row ∙ whole.2 ∙ append_assoc (results (cut now) whole.0.polled) (begins (cut now) whole.0.begun)
+          (refusals (cut now) whole.0.started);
       state = turns.leaves.state ∙ ap (after_all old.state) (sym row);
       due = turns.due_is ∙ ap (due_after_all old.state old.due) (sym row);
     }
@@ -125,9 +134,12 @@ module _ {D : Type 0} (now : ℕ) (old new : Sight D) (given : Reply) (deeds : D
 
   now_all : AllByRecursion (λ e. e.at ≡ at) (results at turn.t.polled ++ behind)
   unfolding behind
-  now_all = each_append (λ e. e.at ≡ at) (results at turn.t.polled) (begins at turn.t.begun ++ refusals at turn.t.started) (ended (results at turn.t.polled) (results_end at turn.t.polled))
+  now_all =
+      each_append (λ e. e.at ≡ at) (results at turn.t.polled) (begins at turn.t.begun ++ refusals at turn.t.started)
+      (ended (results at turn.t.polled) (results_end at turn.t.polled))
       (each_append (λ e. e.at ≡ at) (begins at turn.t.begun) (refusals at turn.t.started)
-      (each_map (λ e. e.at ≡ at) (begin_of at) turn.t.begun (each_of_all (λ (a : Active). at ≡ at) (λ a. refl) turn.t.begun)) (ended (refusals at turn.t.started) (refusals_end at turn.t.started)))
+      (each_map (λ e. e.at ≡ at) (begin_of at) turn.t.begun (each_of_all (λ (a : Active). at ≡ at) (λ a. refl) turn.t.begun))
+      (ended (refusals at turn.t.started) (refusals_end at turn.t.started)))
     where
       ended : (es : List Event) → AllByRecursion (IsEnd at) es → AllByRecursion (λ e. e.at ≡ at) es
       ended es h = each_weaken (IsEnd at) (λ e. e.at ≡ at) (λ e end. end.now) es h
@@ -156,24 +168,32 @@ module _ {D : Type 0} (now : ℕ) (old new : Sight D) (given : Reply) (deeds : D
     own_started = filter (λ x. bytes_eq id x.what.id) turn.t.started
 
     -- the machine makes its part of the turn
-    pub turn_single : Stands y old.state old.due id → AreApart old.state → AreOwn mine id (active old.state) → AllBeginOwn mine id deeds.events
+    pub turn_single : Stands y old.state old.due id → AreApart old.state → AreOwn mine id (active old.state)
+        → AllBeginOwn mine id deeds.events
         → SingleTurn id (cut now) y given (filter (λ e. mine e.run) deeds.entries) (events_of id deeds.events)
     unfolding at mid moments behind own_polled own_begun own_started
     turn_single stands apart runs own =
         let test : Entry → Bool = λ e. mine e.run in
         let polled_own : AreOwn mine id (map (λ p. p.who) turn.t.polled) = subst (AreOwn mine id) (sym turn.t.each_polled.each) runs in
-        let all_own : AllBeginOwn mine id (results at turn.t.polled ++ (begins at turn.t.begun ++ refusals at turn.t.started)) = subst (AllBeginOwn mine id) turn.events own in
-        let begins_own : AllBeginOwn mine id (begins at turn.t.begun) = each_first (λ e. BeginsOwn mine id e.change) (begins at turn.t.begun) (refusals at turn.t.started)
-        (each_last (λ e. BeginsOwn mine id e.change) (results at turn.t.polled) (begins at turn.t.begun ++ refusals at turn.t.started) all_own) in
+        let all_own : AllBeginOwn mine id (results at turn.t.polled ++ (begins at turn.t.begun ++ refusals at turn.t.started)) = subst
+        (AllBeginOwn mine id) turn.events own in
+        let begins_own : AllBeginOwn mine id (begins at turn.t.begun) = each_first (λ e. BeginsOwn mine id e.change)
+        (begins at turn.t.begun) (refusals at turn.t.started)
+        (each_last (λ e. BeginsOwn mine id e.change) (results at turn.t.polled)
+        (begins at turn.t.begun ++ refusals at turn.t.started) all_own) in
         let begun_own : AreOwn mine id turn.t.begun = each_unmap (λ e. BeginsOwn mine id e.change) (begin_of at) turn.t.begun begins_own in
         let started_own : AreOwn mine id (map (λ x. x.what) turn.t.started) = subst (AreOwn mine id) (sym turn.t.each_started) begun_own in
-        let who : map (λ p. p.who) own_polled ≡ active_of id (running_in y) = sym (filter-map (λ a. bytes_eq id a.id) (λ p. p.who) turn.t.polled) ∙ ap (own_of id) turn.t.each_polled.each
-        ∙ own_active old.state id apart ∙ ap (λ (o : Option Resource). active_of id (option_and_then (λ r. r.history.running) o)) (sym stands.resource) in
+        let who : map (λ p. p.who) own_polled ≡ active_of id (running_in y) = sym
+        (filter-map (λ a. bytes_eq id a.id) (λ p. p.who) turn.t.polled) ∙ ap (own_of id) turn.t.each_polled.each
+        ∙ own_active old.state id apart
+        ∙ ap (λ (o : Option Resource). active_of id (option_and_then (λ r. r.history.running) o)) (sym stands.resource) in
         let own_bytes : AllByRecursion (λ p. IsPoll p.poll) own_polled =
         each_filter (λ p. IsPoll p.poll) (λ p. bytes_eq id p.who.id) turn.t.polled turn.t.each_polled.bytes in
-        let what : map (λ x. x.what) own_started ≡ own_begun = sym (filter-map (λ a. bytes_eq id a.id) (λ x. x.what) turn.t.started) ∙ ap (own_of id) turn.t.each_started in
+        let what : map (λ x. x.what) own_started ≡ own_begun = sym (filter-map (λ a. bytes_eq id a.id) (λ x. x.what) turn.t.started)
+        ∙ ap (own_of id) turn.t.each_started in
         let row : events_of id (results at turn.t.polled) ≡ results at own_polled = results_kept id at turn.t.polled in
-        let there : Stands (single_after_all y (results at own_polled)) mid moments id = subst (λ (l : List Event). Stands (single_after_all y l) mid moments id) row
+        let there : Stands (single_after_all y (results at own_polled)) mid moments id = subst
+        (λ (l : List Event). Stands (single_after_all y l) mid moments id) row
         (stands_all y old.state old.due id (results at turn.t.polled) stands results_new) in record {
           done = turn.done;
           polled = polls at own_polled;
@@ -181,11 +201,17 @@ module _ {D : Type 0} (now : ℕ) (old new : Sight D) (given : Reply) (deeds : D
           results = results at own_polled;
           begins = begins at own_begun ++ refusals at own_started;
           all_entries = ap (filter test) turn.entries ∙ filter-append test (polls at turn.t.polled) (starts turn.t.clock turn.t.started)
-              ∙ ap₂ (λ (a b : List Entry). a ++ b) (polls_kept mine id at turn.t.polled polled_own) (starts_kept mine id turn.t.clock turn.t.started started_own);
-          all_events = ap (events_of id) turn.events ∙ filter-append (names_it id) (results at turn.t.polled) (begins at turn.t.begun ++ refusals at turn.t.started)
+              ∙ ap₂ (λ (a b : List Entry). a ++ b) (polls_kept mine id at turn.t.polled polled_own)
+              (starts_kept mine id turn.t.clock turn.t.started started_own);
+          all_events =
+              ap (events_of id) turn.events
+              ∙ filter-append (names_it id) (results at turn.t.polled) (begins at turn.t.begun ++ refusals at turn.t.started)
               ∙ ap₂ (λ (a b : List Event). a ++ b) row (filter-append (names_it id) (begins at turn.t.begun) (refusals at turn.t.started)
               ∙ ap₂ (λ (a b : List Event). a ++ b) (begins_kept id at turn.t.begun) (refusals_kept id at turn.t.started));
           polls = single_poll id at (running_in y) own_polled own_bytes who;
-          goes_on = single_begins (single_after_all y (results at own_polled)) id at turn.t.clock mid.next_run moments (resource_at mid id) own_begun own_started there.resource there.due there.runs
-              (chosen moments at mid.next_run mid.resources turn.t.begun id (ids_stay old.state (results at turn.t.polled) results_new apart) picks) what;
+          goes_on =
+              single_begins (single_after_all y (results at own_polled)) id at turn.t.clock mid.next_run moments
+              (resource_at mid id) own_begun own_started there.resource there.due there.runs
+              (chosen moments at mid.next_run mid.resources turn.t.begun id
+              (ids_stay old.state (results at turn.t.polled) results_new apart) picks) what;
         }

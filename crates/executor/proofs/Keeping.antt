@@ -1,27 +1,28 @@
 -- Commands leave what runs as it is.
-use Rattle.std.proofs.Common.{◌≡◌, ℕ, ◌+◌, ◌<◌, ◌≤◌, Bool, true, false, ◌||◌, List, [], ◌∷◌, ◌++◌, Ok, Err, Some, None, Option, option_to_list, is_some, map, not, cond, length, nat_eq, nat_lt, Contains, IsSomeAnd, refl, sym, ◌∙◌, ap, subst, arith, append-nil}
-use Rattle.std.specs.List.{AllByRecursion, IsDistinct, flat_map, list_any}
+use Rattle.std.proofs.Common.{◌≡◌, ℕ, ◌<◌, ◌≤◌, Bool, true, false, ◌||◌, List, [], ◌∷◌, ◌++◌, Ok, Some, None, Option}
+use Rattle.std.proofs.Common.{is_some, not, cond, length, nat_eq, nat_lt, Contains, IsSomeAnd, refl, sym, ◌∙◌, ap}
+use Rattle.std.proofs.Common.{subst, arith, append-nil}
+use Rattle.std.specs.List.{AllByRecursion, IsDistinct, list_any}
 use Rattle.std.specs.Map.{keys_of, lookup}
 use Rattle.std.specs.Str.{bytes_eq}
+use Rattle.std.proofs.lemmas.Bool.{or_parts}
 use Rattle.std.proofs.lemmas.Grind.{flat_map-append}
 use Rattle.std.proofs.lemmas.Slice.Eq.{bytes_eq-Decides}
 use Rattle.std.proofs.lemmas.Map.Keys.{IsDistinct-head, IsDistinct-tail}
-use Rattle.ocf_types.specs.Answer.{asked_event, change_of, event_of, first_of, tests}
+use Rattle.ocf_types.specs.Answer.{asked_event, event_of, tests}
 use Rattle.ocf_types.specs.Applies.{Applies, ChangeApplies}
 use Rattle.ocf_types.specs.Kinds.{Change, Command, Event, Registration, Step}
 use Rattle.ocf_types.specs.Resource.{Resource, is_busy}
-use Rattle.ocf_types.specs.Spelling.{spelled_event}
 use Rattle.ocf_types.specs.State.{Registry, State, after, at_id, changed, others, registered, runs_drawn, stepped}
 use Rattle.ocf_types.specs.LawfulState.{IsLawfulState}
+use Rattle.ocf_types.specs.RegistryLaws.{passed}
 use Rattle.ocf_types.specs.declared.command.CommandOf.TheVariants as command
 use Rattle.ocf_types.specs.declared.event.Change.TheVariants as change
 use Rattle.ocf_types.specs.declared.event.Step.TheVariants as step
 use Rattle.ocf_types.specs.declared.operation.Running.{Running}
-use Rattle.ocf_types.specs.declared.refusal.Refusal.{Refusal}
 use Rattle.ocf_types.specs.Boot.{any_busy}
 use Rattle.child_keeper.specs.Children.{ChildrenView, given_up}
 use Rattle.exec_turn.specs.Actives.{Active, active, active_in, active_of, all_in, runs_of}
-use Rattle.exec_turn.specs.Lives.{Tends}
 use Rattle.exec_turn.specs.Turns.{Tended}
 use Rattle.executor.specs.Replies.{KeepsRunning}
 
@@ -35,16 +36,13 @@ asked_keeps s now (command.Recur id interval timeout level) = tt
 asked_keeps s now (command.Cancel id interval) = tt
 asked_keeps s now (command.Forget id) = tt
 
-first_is : (ts : List (Refusal × Bool)) (e x : Event) → first_of ts e ≡ Ok x → e ≡ x
-first_is [] e x is = cc
-first_is ((r, true) ∷ ts) e x is = absurd cc
-first_is ((r, false) ∷ ts) e x is = first_is ts e x is
-
 pub command_keeps : (s : State) (now : ℕ) (c : Command) (e : Event) → event_of s now c ≡ Ok e → KeepsRunning e.change
-command_keeps s now c e is = subst (λ (x : Event). KeepsRunning x.change) (first_is (tests s c _) (asked_event s now c) e is) (asked_keeps s now c)
+command_keeps s now c e is =
+    subst (λ (x : Event). KeepsRunning x.change) (passed (tests s c _) (asked_event s now c) e is).0 (asked_keeps s now c)
 
 -- a step that begins and ends nothing
-step_keeps : (at : ℕ) (id : List ℕ) (what : Step) (r : Resource) → KeepsRunning (change.Step id what) → (stepped at what r).history.running ≡ r.history.running
+step_keeps : (at : ℕ) (id : List ℕ) (what : Step) (r : Resource) → KeepsRunning (change.Step id what)
+    → (stepped at what r).history.running ≡ r.history.running
 step_keeps at id (step.SetParams ps) r keeps = refl
 step_keeps at id (step.Exec o) r keeps = refl
 step_keeps at id (step.Recur m) r keeps = refl
@@ -53,12 +51,14 @@ step_keeps at id step.Forget r keeps = refl
 step_keeps at id (step.Begin call run) r keeps = absurd keeps
 step_keeps at id (step.Result run end) r keeps = absurd keeps
 
-steps_same : (at : ℕ) (id : List ℕ) (what : Step) → KeepsRunning (change.Step id what) → (rs : Registry) → all_in (at_id id (stepped at what) rs) ≡ all_in rs
+steps_same : (at : ℕ) (id : List ℕ) (what : Step) → KeepsRunning (change.Step id what) → (rs : Registry)
+    → all_in (at_id id (stepped at what) rs) ≡ all_in rs
 steps_same at id what keeps [] = refl
 steps_same at id what keeps (e ∷ rs) = by (bytes_eq id e.0) (steps_same at id what keeps rs)
   where
     by : (b : Bool) → all_in (at_id id (stepped at what) rs) ≡ all_in rs
-        → active_of e.0 (cond b (stepped at what e.1) e.1).history.running ++ all_in (at_id id (stepped at what) rs) ≡ active_of e.0 e.1.history.running ++ all_in rs
+        → active_of e.0 (cond b (stepped at what e.1) e.1).history.running ++ all_in (at_id id (stepped at what) rs)
+        ≡ active_of e.0 e.1.history.running ++ all_in rs
     by true rest = λ i. active_of e.0 (step_keeps at id what e.1 keeps i) ++ rest i
     by false rest = λ i. active_of e.0 e.1.history.running ++ rest i
 
@@ -76,10 +76,12 @@ none_removed id (e ∷ rs) apart = by (bytes_eq id e.0) apart.0 (none_removed id
     by true bad rest = absurd (let none : true ≡ false = bad in cc)
     by false _ rest = ap (λ (l : Registry). e ∷ l) rest
 
-removed_same : (id : List ℕ) (rs : Registry) → IsDistinct bytes_eq (keys_of rs) → IsSomeAnd (lookup (bytes_eq id) rs) (λ r. is_busy r.history ≡ false) → all_in (others id rs) ≡ all_in rs
+removed_same : (id : List ℕ) (rs : Registry) → IsDistinct bytes_eq (keys_of rs)
+    → IsSomeAnd (lookup (bytes_eq id) rs) (λ r. is_busy r.history ≡ false) → all_in (others id rs) ≡ all_in rs
 removed_same id [] distinct none = absurd none
 removed_same id (e ∷ rs) distinct quiet =
-    by (bytes_eq id e.0) refl quiet (removed_same id rs (IsDistinct-tail bytes_eq e.0 (keys_of rs) distinct)) (IsDistinct-head bytes_eq e.0 (keys_of rs) distinct)
+    by (bytes_eq id e.0) refl quiet (removed_same id rs (IsDistinct-tail bytes_eq e.0 (keys_of rs) distinct))
+    (IsDistinct-head bytes_eq e.0 (keys_of rs) distinct)
   where
     by : (b : Bool) → bytes_eq id e.0 ≡ b → IsSomeAnd (cond b (Some e.1) (lookup (bytes_eq id) rs)) (λ r. is_busy r.history ≡ false)
         → (IsSomeAnd (lookup (bytes_eq id) rs) (λ r. is_busy r.history ≡ false) → all_in (others id rs) ≡ all_in rs)
@@ -95,7 +97,8 @@ removed_same id (e ∷ rs) distinct quiet =
 added_same : (r : Registration) (rs : Registry) → all_in (rs ++ registered r ∷ []) ≡ all_in rs
 added_same r rs = flat_map-append active_in rs (registered r ∷ []) ∙ append-nil (all_in rs)
 
-change_same : (s : State) (at : ℕ) (c : Change) → IsDistinct bytes_eq (keys_of s.resources) → ChangeApplies s c → KeepsRunning c → all_in (changed at c s.resources) ≡ all_in s.resources
+change_same : (s : State) (at : ℕ) (c : Change) → IsDistinct bytes_eq (keys_of s.resources) → ChangeApplies s c → KeepsRunning c
+    → all_in (changed at c s.resources) ≡ all_in s.resources
 change_same s at (change.Register r) distinct applies keeps = added_same r s.resources
 change_same s at (change.Unregister id) distinct applies keeps = removed_same id s.resources distinct applies
 change_same s at (change.Step id what) distinct applies keeps = steps_same at id what keeps s.resources
@@ -114,14 +117,16 @@ draws_none (change.Step id (step.Result run end)) keeps = absurd keeps
 draws_none change.Boot keeps = absurd keeps
 
 -- so the agents of all that runs still live
-pub kept_tended : (s t : State) (e : Event) (v : ChildrenView) → IsLawfulState s → Applies s e → KeepsRunning e.change → t ≡ after s e → Tended s v → Tended t v
+pub kept_tended : (s t : State) (e : Event) (v : ChildrenView) → IsLawfulState s → Applies s e → KeepsRunning e.change → t ≡ after s e
+    → Tended s v → Tended t v
 kept_tended s t e v lawful applies keeps state tended =
     let same : active t ≡ active s = ap active state ∙ change_same s e.at e.change lawful.ids applies.change keeps in
     let drawn = draws_none e.change keeps in
     let next = ap (λ (u : State). u.next_run) state in
     let low = tended.rising in record {
       tends = record {
-        each_lives = subst (λ (l : List Active). AllByRecursion (λ run. Contains v.live run) (runs_of l)) (sym same) tended.tends.each_lives;
+        each_lives =
+            subst (λ (l : List Active). AllByRecursion (λ run. Contains v.live run) (runs_of l)) (sym same) tended.tends.each_lives;
         distinct = subst (λ (l : List Active). IsDistinct nat_eq (runs_of l)) (sym same) tended.tends.distinct;
         few = subst (λ (l : List Active). length v.live ≤ length l) (sym same) tended.tends.few;
       };
@@ -132,13 +137,9 @@ kept_tended s t e v lawful applies keeps state tended =
 nothing_in : (rs : Registry) → list_any (λ e. is_busy e.1.history) rs ≡ false → all_in rs ≡ []
 nothing_in [] quiet = refl
 nothing_in (e ∷ rs) quiet =
-    let parts = neither (is_busy e.1.history) (list_any (λ x. is_busy x.1.history) rs) quiet in
+    let parts = or_parts (is_busy e.1.history) (list_any (λ x. is_busy x.1.history) rs) quiet in
     let none = quiet_runs (nat_lt 0 (length e.1.history.queue)) e.1.history.running parts.0 in
     ap (λ (o : Option Running). active_of e.0 o ++ all_in rs) none ∙ nothing_in rs parts.1
-  where
-    neither : (a b : Bool) → (a || b) ≡ false → (a ≡ false) × (b ≡ false)
-    neither true b is = absurd (let bad : true ≡ false = is in cc)
-    neither false b is = (refl, is)
 
 pub quiet_tended : (t : State) (v : ChildrenView) → any_busy t ≡ false → v.last_run < t.next_run → Tended t (given_up v)
 unfolding IsDistinct

@@ -16,3 +16,7 @@ pub mod AloneBegins
 pub mod AloneTurns
 pub mod AloneRuns
 pub mod AloneSessions
+pub mod LifeCalls
+pub mod LifeFronts
+pub mod LifeServices
+pub mod Lives

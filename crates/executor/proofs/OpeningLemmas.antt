@@ -1,5 +1,6 @@
 -- An opening of the journal, and then its boot.
-use Rattle.std.proofs.Common.{◌≡◌, ◌<◌, ◌≤◌, inl, inr, ℕ, Bool, true, false, true≢false, cond, List, [], ◌∷◌, Result, IsErrAnd, IfErr, Ok, Err, refl, sym, ◌∙◌, ap, subst, arith}
+use Rattle.std.proofs.Common.{◌≡◌, ◌<◌, ◌≤◌, inl, inr, ℕ, Bool, true, false, true≢false, cond, List, Result, IsErrAnd, IfErr, Ok}
+use Rattle.std.proofs.Common.{Err, refl, sym, ◌∙◌, ap, subst, arith}
 use Rattle.ocf_types.specs.Answer.{moment}
 use Rattle.ocf_types.specs.Boot.{any_busy, boot, boot_at}
 use Rattle.ocf_types.specs.Due.{due_at}
@@ -24,7 +25,8 @@ use Rattle.exec_journal.specs.declared.fault.JournalFault.{JournalFault}
 use Rattle.exec_journal.specs.declared.fault.JournalFault.TheVariants as journal
 use Rattle.executor.specs.declared.opening.OpenError.{OpenError}
 use Rattle.executor.specs.declared.opening.OpenError.TheVariants as why
-use Rattle.executor.specs.Openings.{Boots, BootsFrom, IsQuiet, LacksBoot, LacksRoom, NotOpened, Opened, OpensDisk, StartsLike, booted, told_fault, told_slot, IsOver, IsForeign, IsUnready}
+use Rattle.executor.specs.Openings.{Boots, BootsFrom, IsQuiet, LacksBoot, LacksRoom, NotOpened, Opened, OpensDisk, StartsLike, booted}
+use Rattle.executor.specs.Openings.{told_fault, told_slot, IsOver, IsUnready}
 use Rattle.executor.specs.Reports.{dropped, interrupted}
 use Rattle.executor.specs.Sights.{Sight}
 use Rattle.exec_turn.specs.Turns.{Tended}
@@ -50,8 +52,10 @@ opens_like : (old new : View) (now : ℕ) → Goes old new (OpensLike old) → G
 opens_like old new now goes = weakened old new (OpensLike old) (StartsLike old now) (λ h c left. inl left) goes
 
 -- only the journal was opened, or not even that
-read_only : (old new : View) (now : ℕ) → Goes old new (OpensLike old) → ((old.honest → AllRoomy old) → Goes old new Roomy) → ((old.honest → IsFreshPair old.reads → ⊥) → Rests old new) → OpensDisk old new now
-read_only old new now goes roomy unwritten = record { goes = opens_like old new now goes; roomy = roomy; unwritten = λ quiet. unwritten (λ h. (quiet h).0) }
+read_only : (old new : View) (now : ℕ) → Goes old new (OpensLike old) → ((old.honest → AllRoomy old) → Goes old new Roomy)
+    → ((old.honest → IsFreshPair old.reads → ⊥) → Rests old new) → OpensDisk old new now
+read_only old new now goes roomy unwritten =
+    record { goes = opens_like old new now goes; roomy = roomy; unwritten = λ quiet. unwritten (λ h. (quiet h).0) }
 
 module _ (old new : View) (from : ChildrenView) (now : ℕ) where
   -- the journal was not opened
@@ -89,7 +93,8 @@ module _ (old new : View) (from : ChildrenView) (now : ℕ) where
       never_full journal.Memory is = cc
 
 -- memory was refused once the journal was opened, and the children were given up
-pub unready_memory : (old new : View) (from to : ChildrenView) (now : ℕ) → Opens old new → to ≡ given_up from → NotOpened old new from to now why.Memory
+pub unready_memory : (old new : View) (from to : ChildrenView) (now : ℕ) → Opens old new → to ≡ given_up from
+    → NotOpened old new from to now why.Memory
 unready_memory old new from to now opens kids = record {
   did = read_only old new now opens.goes opens.roomy opens.unwritten;
   children = inr kids;
@@ -103,7 +108,8 @@ unready_memory old new from to now opens kids = record {
 }
 
 -- the children are another journal's
-unready_foreign : (old new : View) (p : Place) (s : State) (from to : ChildrenView) (now : ℕ) → OpensAt p s old new → to ≡ from → s.next_run ≤ from.last_run → NotOpened old new from to now why.Foreign
+unready_foreign : (old new : View) (p : Place) (s : State) (from to : ChildrenView) (now : ℕ) → OpensAt p s old new → to ≡ from
+    → s.next_run ≤ from.last_run → NotOpened old new from to now why.Foreign
 unready_foreign old new p s from to now opens kids later = record {
   did = read_only old new now opens.opens.goes opens.opens.roomy opens.opens.unwritten;
   children = inl kids;
@@ -116,40 +122,61 @@ unready_foreign old new p s from to now opens kids later = record {
   memory = λ is. opens.opens.goes;
 }
 
-pub unready : (old new : View) (p : Place) (s : State) (from to : ChildrenView) (now : ℕ) (fault : OpenError) → OpensAt p s old new → IsUnready from to s fault → NotOpened old new from to now fault
+pub unready : (old new : View) (p : Place) (s : State) (from to : ChildrenView) (now : ℕ) (fault : OpenError) → OpensAt p s old new
+    → IsUnready from to s fault → NotOpened old new from to now fault
 unready old new p s from to now fault opens is = elim is.either [
-  | inl foreign ↦ (let kids = is.foreign foreign in subst (λ (w : OpenError). NotOpened old new from to now w) (sym foreign) (unready_foreign old new p s from to now opens kids.0 kids.1))
-  | inr memory ↦ subst (λ (w : OpenError). NotOpened old new from to now w) (sym memory) (unready_memory old new from to now opens.opens (is.memory memory))
+  | inl foreign ↦ (let kids = is.foreign foreign in
+      subst (λ (w : OpenError). NotOpened old new from to now w) (sym foreign)
+      (unready_foreign old new p s from to now opens kids.0 kids.1))
+  | inr memory ↦ subst (λ (w : OpenError). NotOpened old new from to now w) (sym memory)
+      (unready_memory old new from to now opens.opens (is.memory memory))
 ]
 
-module _ {D : Type 0} (look : D → View) (law : WhatStands) (once : (c : Image) (s t : State) → FoundAs s c → FoundAs t c → s ≡ t) (old : View) (from : ChildrenView) (now : ℕ) (mid : Sight D) (over : IsOver from mid) (opens : OpensAt mid.place mid.state old (look mid.disk)) where
+module _ {D : Type 0} (look : D → View) (law : WhatStands) (once : (c : Image) (s t : State) → FoundAs s c → FoundAs t c → s ≡ t)
+    (old : View) (from : ChildrenView) (now : ℕ) (mid : Sight D) (over : IsOver from mid)
+    (opens : OpensAt mid.place mid.state old (look mid.disk)) where
   -- memory was refused before the boot
   pub report_refused : (d : D) (to : ChildrenView) → d ≡ mid.disk → to ≡ mid.children → NotOpened old (look d) from to now why.Memory
-  report_refused d to same kids = subst (λ (x : D). NotOpened old (look x) from to now why.Memory) (sym same) (unready_memory old (look mid.disk) from to now opens.opens (kids ∙ over.children))
+  report_refused d to same kids =
+      subst (λ (x : D). NotOpened old (look x) from to now why.Memory) (sym same)
+      (unready_memory old (look mid.disk) from to now opens.opens (kids ∙ over.children))
 
   module _ (new : Sight D) where
     both_passed : Passed (look mid.disk) (look new.disk) → Passed old (look new.disk)
     both_passed passed = passed_on old (look mid.disk) (look new.disk) opens.opens.goes.passed passed
 
-    did_both : (goes : Goes (look mid.disk) (look new.disk) (BootsFrom mid.state now)) → (HasRoom mid.place.tail mid.state → Goes (look mid.disk) (look new.disk) Roomy) → (any_busy mid.state ≡ false → new ≡ mid) → OpensDisk old (look new.disk) now
+    did_both : (goes : Goes (look mid.disk) (look new.disk) (BootsFrom mid.state now))
+        → (HasRoom mid.place.tail mid.state → Goes (look mid.disk) (look new.disk) Roomy) → (any_busy mid.state ≡ false → new ≡ mid)
+        → OpensDisk old (look new.disk) now
     did_both goes roomy quiet = record {
       goes = joined old (look mid.disk) (look new.disk) (StartsLike old now)
           (opens_like old (look mid.disk) now opens.opens.goes)
-          (weakened (look mid.disk) (look new.disk) (BootsFrom mid.state now) (StartsLike old now) (λ h c left. inr (mid.state, opens.found (goes.passed.honest h), left)) goes);
-      roomy = λ all. joined old (look mid.disk) (look new.disk) Roomy (opens.opens.roomy all) (supposed (look mid.disk) (look new.disk) Roomy goes.passed (λ h. roomy (opens.room all (goes.passed.honest h))));
+          (weakened (look mid.disk) (look new.disk) (BootsFrom mid.state now) (StartsLike old now)
+          (λ h c left. inr (mid.state, opens.found (goes.passed.honest h), left)) goes);
+      roomy =
+          λ all. joined old (look mid.disk) (look new.disk) Roomy (opens.opens.roomy all)
+          (supposed (look mid.disk) (look new.disk) Roomy goes.passed (λ h. roomy (opens.room all (goes.passed.honest h))));
       unwritten = λ is_quiet. rests is_quiet (any_busy mid.state) refl;
     }
       where
         rests : (old.honest → IsQuiet old.reads) → (b : Bool) → any_busy mid.state ≡ b → Rests old (look new.disk)
-        rests is_quiet false not = subst (λ (x : Sight D). Rests old (look x.disk)) (sym (quiet not)) (opens.opens.unwritten (λ h. (is_quiet h).0))
+        rests is_quiet false not =
+            subst (λ (x : Sight D). Rests old (look x.disk)) (sym (quiet not)) (opens.opens.unwritten (λ h. (is_quiet h).0))
         rests is_quiet true busy =
-            let never : (look new.disk).honest → ⊥ = λ h. let mid_h = goes.passed.honest h in true≢false (sym busy ∙ (is_quiet (opens.opens.goes.passed.honest mid_h)).1 mid.state (opens.found mid_h)) in
-            record { passed = both_passed goes.passed; same = λ h. absurd (never h); still = λ h. absurd (never h); since = λ h. absurd (never h) }
+            let never : (look new.disk).honest → ⊥ = λ h. let mid_h = goes.passed.honest h in
+            true≢false (sym busy ∙ (is_quiet (opens.opens.goes.passed.honest mid_h)).1 mid.state (opens.found mid_h)) in
+            record {
+              passed = both_passed goes.passed;
+              same = λ h. absurd (never h);
+              still = λ h. absurd (never h);
+              since = λ h. absurd (never h);
+            }
 
     -- what has to be booted is no fresh pair, so it stands where it was found
     stands_before : (look mid.disk).honest → any_busy mid.state ≡ true → StandsAt mid.place mid.state old.reads
     stands_before h busy =
-        let not_fresh : old.honest → IsFreshPair old.reads → ⊥ = λ _ fresh. true≢false (sym busy ∙ ap any_busy (law.fresh mid.state old.reads (opens.found h) fresh)) in
+        let not_fresh : old.honest → IsFreshPair old.reads → ⊥ = λ _ fresh. true≢false
+        (sym busy ∙ ap any_busy (law.fresh mid.state old.reads (opens.found h) fresh)) in
         subst (λ (c : Image). StandsAt mid.place mid.state c) ((opens.opens.unwritten not_fresh).same h) (opens.settled h).stands
 
     lacks_room : (look mid.disk).honest → LacksBoot mid.place.tail mid.state → LacksRoom old.reads
@@ -162,8 +189,11 @@ module _ {D : Type 0} (look : D → View) (law : WhatStands) (once : (c : Image)
         let at = (law.once lacks.place mid.place lacks.state mid.state old.reads lacks.stands (stands_before h here.0)).0 in
         subst (λ p. LacksBoot p.tail mid.state) at here
 
-    pub opened : (x : Unit) (final : Sight D) (ran queued : List Notice) → Boots look now mid new (Ok x) → final.is_open ≡ true → final.state ≡ new.state → final.disk ≡ new.disk → final.place ≡ new.place
-        → final.due ≡ due_at final.state (moment mid.state now) → final.children ≡ new.children → final.told ≡ new.told → ran ≡ interrupted mid.state (moment mid.state now) → queued ≡ dropped mid.state (moment mid.state now) → Opened look old from now final ran queued
+    pub opened : (x : Unit) (final : Sight D) (ran queued : List Notice) → Boots look now mid new (Ok x) → final.is_open ≡ true
+        → final.state ≡ new.state → final.disk ≡ new.disk → final.place ≡ new.place
+        → final.due ≡ due_at final.state (moment mid.state now) → final.children ≡ new.children → final.told ≡ new.told
+        → ran ≡ interrupted mid.state (moment mid.state now) → queued ≡ dropped mid.state (moment mid.state now)
+        → Opened look old from now final ran queued
     opened x final ran queued boots is_open state disk place due kids tells ran_is queued_is =
         let honest_new : (look final.disk).honest → (look new.disk).honest = λ h. subst (λ (d : D). (look d).honest) disk h in
         let done : final.state ≡ booted mid.state now = state ∙ boots.state in
@@ -174,7 +204,10 @@ module _ {D : Type 0} (look : D → View) (law : WhatStands) (once : (c : Image)
         let rising : from.last_run < final.state.next_run = omega (arith, next, low) in record {
           over = record { is_open = is_open; children = given; told = tells ∙ boots.told ∙ over.told; rising = rising };
           sound = λ _. record {
-            journal = λ h. subst (λ p. IsSettled p final.state (look final.disk)) (sym place) (subst (λ (s : State). IsSettled new.place s (look final.disk)) (sym state) (subst (λ (d : D). IsSettled new.place new.state (look d)) (sym disk) (boots.settled (honest_new h))));
+            journal =
+                λ h. subst (λ p. IsSettled p final.state (look final.disk)) (sym place)
+                (subst (λ (s : State). IsSettled new.place s (look final.disk)) (sym state)
+                (subst (λ (d : D). IsSettled new.place new.state (look d)) (sym disk) (boots.settled (honest_new h))));
             room = λ busy. absurd (true≢false (sym busy ∙ quiet_now));
             tended = subst (λ (v : ChildrenView). Tended final.state v) (sym given) (quiet_tended final.state from quiet_now rising);
           };
@@ -187,18 +220,21 @@ module _ {D : Type 0} (look : D → View) (law : WhatStands) (once : (c : Image)
             queued = queued_is;
           };
           did = subst (λ (d : D). OpensDisk old (look d) now) (sym disk) (did_both boots.goes boots.roomy boots.quiet);
-          fits = λ h lacks. let bad = boots.full.1 (lacks_boot (boots.goes.passed.honest (honest_new h)) lacks) in let none : ⊥ = cc in none;
+          fits = λ h lacks. let bad = boots.full.1 (lacks_boot (boots.goes.passed.honest (honest_new h)) lacks) in let none : ⊥ = cc in
+              none;
         }
 
     -- the boot failed
-    pub boot_refused : (fault : SlotFault) (d : D) (to : ChildrenView) → Boots look now mid new (Err fault) → d ≡ new.disk → to ≡ new.children → NotOpened old (look d) from to now (told_slot fault)
+    pub boot_refused : (fault : SlotFault) (d : D) (to : ChildrenView) → Boots look now mid new (Err fault) → d ≡ new.disk
+        → to ≡ new.children → NotOpened old (look d) from to now (told_slot fault)
     boot_refused fault d to boots same kids = subst (λ (x : D). NotOpened old (look x) from to now (told_slot fault)) (sym same) (record {
       did = did_both boots.goes boots.roomy boots.quiet;
       children = inr (kids ∙ boots.children ∙ over.children);
       untouched = λ x is. absurd (no_damage fault x is);
       foreign = λ is. absurd (no_foreign fault is);
       damaged = λ h x is. absurd (no_damage fault x is);
-      cause = λ is. let grew = boots.cause (ap Err (as_disk fault is)) in let before = opens.opens.goes.passed.failures in omega (arith, grew, before);
+      cause = λ is. let grew = boots.cause (ap Err (as_disk fault is)) in let before = opens.opens.goes.passed.failures in
+          omega (arith, grew, before);
       full = λ h is. lacks_room (boots.goes.passed.honest h) (boots.full.0 (ap Err (as_full fault is)));
       never_full = λ roomy h is.
           let lacks = boots.full.0 (ap Err (as_full fault is)) in

@@ -1,9 +1,9 @@
 -- Notices, one resource and one action after the other.
-use Rattle.std.proofs.Common.{◌≡◌, ℕ, zero, suc, ◌+◌, ◌<◌, List, [], ◌∷◌, ◌++◌, length, map, take, Some, sym, ap, ◌∙◌, append_assoc, arith}
+use Rattle.std.proofs.Common.{get_or, ◌≡◌, ℕ, ◌+◌, ◌<◌, List, [], ◌∷◌, ◌++◌, length, map, take, Some, sym, ap, ◌∙◌, append_assoc}
 use Rattle.std.specs.Prelude.{slice_get}
 use Rattle.std.specs.List.{flat_map}
-use Rattle.std.proofs.lemmas.List.{append-nil, map_more}
-use Rattle.std.proofs.lemmas.List.Concat.{flat_map-cons}
+use Rattle.std.proofs.lemmas.List.{map_more}
+use Rattle.ocf_types.specs.Laws.{flat_more}
 use Rattle.ocf_types.specs.declared.operation.Op.{Op}
 use Rattle.ocf_types.specs.declared.reply.Notice.{Notice}
 use Rattle.std.proofs.lemmas.Option.{get_or_from_slice_get, slice_get-get_or, slice_get_within}
@@ -11,33 +11,35 @@ use Rattle.ocf_types.specs.Places.{entry_at, no_entry}
 use Rattle.ocf_types.specs.State.{State}
 use Rattle.executor.specs.Reports.{dropped_in, drop_notice, interrupted_in}
 
--- what is there twice is the same
-some_is : {A : Type 0} (x y : A) → Some x ≡ Some y → x ≡ y
-some_is x y is = cc
-
-flat_more : {A B : Type 0} (f : A → List B) (xs : List A) (i : ℕ) (x : A) → slice_get xs i ≡ Some x → flat_map f (take (i + 1) xs) ≡ flat_map f (take i xs) ++ f x
-flat_more f [] i x e = absurd cc
-flat_more f (y ∷ ys) zero x e = flat_map-cons f y [] ∙ append-nil (f y) ∙ ap f (some_is y x e)
-flat_more f (y ∷ ys) (suc i) x e =
-    let k : suc i + 1 ≡ suc (i + 1) = omega arith in
-    ap (λ n. flat_map f (take n (y ∷ ys))) k ∙ flat_map-cons f y (take (i + 1) ys) ∙ ap (λ t. f y ++ t) (flat_more f ys i x e)
-    ∙ sym (append_assoc (f y) (flat_map f (take i ys)) (f x)) ∙ ap (λ t. t ++ f x) (sym (flat_map-cons f y (take i ys)))
+-- the entry at a place
+entry_there : (s : State) (i : ℕ) → i < length s.resources → entry_at s i ≡ get_or s.resources i (entry_at s i)
+entry_there s i lt =
+    sym (get_or_from_slice_get s.resources i (entry_at s i) (entry_at s i) (slice_get-get_or s.resources i no_entry lt))
 
 -- the notices of one resource more
-pub interrupted_more : (s : State) (at i : ℕ) (out new : List Notice) → i < length s.resources → out ≡ flat_map (interrupted_in at) (take i s.resources) → new ≡ out ++ interrupted_in at (entry_at s i) → new ≡ flat_map (interrupted_in at) (take (i + 1) s.resources)
+pub interrupted_more : (s : State) (at i : ℕ) (out new : List Notice) → i < length s.resources
+    → out ≡ flat_map (interrupted_in at) (take i s.resources) → new ≡ out ++ interrupted_in at (entry_at s i)
+    → new ≡ flat_map (interrupted_in at) (take (i + 1) s.resources)
 interrupted_more s at i out new lt so_far pushed =
-    pushed ∙ ap (λ (t : List Notice). t ++ interrupted_in at (entry_at s i)) so_far ∙ sym (flat_more (interrupted_in at) s.resources i (entry_at s i) (slice_get-get_or s.resources i no_entry lt))
+    pushed ∙ ap (λ (t : List Notice). t ++ interrupted_in at (entry_at s i)) so_far
+    ∙ sym (flat_more (interrupted_in at) s.resources i (entry_at s i) lt (entry_there s i lt))
 
-pub dropped_more : (s : State) (at i : ℕ) (out new : List Notice) → i < length s.resources → out ≡ flat_map (dropped_in at) (take i s.resources) → new ≡ out ++ dropped_in at (entry_at s i) → new ≡ flat_map (dropped_in at) (take (i + 1) s.resources)
+pub dropped_more : (s : State) (at i : ℕ) (out new : List Notice) → i < length s.resources
+    → out ≡ flat_map (dropped_in at) (take i s.resources) → new ≡ out ++ dropped_in at (entry_at s i)
+    → new ≡ flat_map (dropped_in at) (take (i + 1) s.resources)
 dropped_more s at i out new lt so_far pushed =
-    pushed ∙ ap (λ (t : List Notice). t ++ dropped_in at (entry_at s i)) so_far ∙ sym (flat_more (dropped_in at) s.resources i (entry_at s i) (slice_get-get_or s.resources i no_entry lt))
+    pushed ∙ ap (λ (t : List Notice). t ++ dropped_in at (entry_at s i)) so_far
+    ∙ sym (flat_more (dropped_in at) s.resources i (entry_at s i) lt (entry_there s i lt))
 
 -- the notice of one action more
-pub drop_more : (id : List ℕ) (at i : ℕ) (queue : List Op) (o : Op) (old out new : List Notice) (n : Notice) → slice_get queue i ≡ Some o → n ≡ drop_notice id at o → out ≡ old ++ map (drop_notice id at) (take i queue) → new ≡ out ++ n ∷ [] → new ≡ old ++ map (drop_notice id at) (take (i + 1) queue)
+pub drop_more : (id : List ℕ) (at i : ℕ) (queue : List Op) (o : Op) (old out new : List Notice) (n : Notice) → slice_get queue i ≡ Some o
+    → n ≡ drop_notice id at o → out ≡ old ++ map (drop_notice id at) (take i queue) → new ≡ out ++ n ∷ []
+    → new ≡ old ++ map (drop_notice id at) (take (i + 1) queue)
 drop_more id at i queue o old out new n e is so_far pushed =
     pushed
     ∙ ap (λ (t : List Notice). t ++ n ∷ []) so_far
     ∙ append_assoc old (map (drop_notice id at) (take i queue)) (n ∷ [])
     ∙ ap (λ (m : Notice). old ++ (map (drop_notice id at) (take i queue) ++ m ∷ [])) is
-    ∙ ap (λ (m : Notice). old ++ (map (drop_notice id at) (take i queue) ++ m ∷ [])) (ap (drop_notice id at) (sym (get_or_from_slice_get queue i o o e)))
+    ∙ ap (λ (m : Notice). old ++ (map (drop_notice id at) (take i queue) ++ m ∷ []))
+    (ap (drop_notice id at) (sym (get_or_from_slice_get queue i o o e)))
     ∙ ap (λ (t : List Notice). old ++ t) (sym (map_more (drop_notice id at) queue i o (slice_get_within queue i o e)))

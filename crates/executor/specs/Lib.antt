@@ -8,3 +8,5 @@ pub mod TidyCalls
 pub mod Sessions
 pub mod Singles
 pub mod Parts
+pub mod Lives
+pub mod CallLaws

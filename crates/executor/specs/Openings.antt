@@ -99,7 +99,8 @@ pub record IsUnready (from to : ChildrenView) (s : State) (fault : OpenError) : 
   pub memory : fault ≡ why.Memory → to ≡ given_up from
 
 -- The executor was opened: from one view of the disk and these children, and with these notices.
-pub record Opened {D : Type 0} (look : D → View) (old : View) (from : ChildrenView) (now : ℕ) (x : Sight D) (was_running was_queued : List Notice) : Type 0 where
+pub record Opened {D : Type 0} (look : D → View) (old : View) (from : ChildrenView) (now : ℕ) (x : Sight D)
+    (was_running was_queued : List Notice) : Type 0 where
   pub over : IsOver from x
   pub sound : IsSound look x
   pub starts : (look x.disk).honest → Starts old.reads now x.state x.due was_running was_queued

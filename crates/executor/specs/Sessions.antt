@@ -49,7 +49,8 @@ request_deeds s now (asked.Question question) reply = no_deeds
 request_deeds s now (asked.Command command) reply = command_deeds (event_of s now command) reply
 
 -- an open executor takes a request: from one sight of it to another
-pub record TakesRequest {D : Type 0} (look : D → View) (now : ℕ) (request : Request) (old new : Sight D) (reply : Reply) (deeds : Deeds) : Type 0 where
+pub record TakesRequest {D : Type 0} (look : D → View) (now : ℕ) (request : Request) (old new : Sight D) (reply : Reply)
+    (deeds : Deeds) : Type 0 where
   pub serves : ServesOpen look now request old new reply
   pub closes : (new.is_open ≡ false) ↔ (reply ≡ Refused Disk)
   pub does : deeds ≡ request_deeds old.state now request reply
@@ -82,7 +83,8 @@ Takes look i old new reply deeds = TakesWhile old.is_open look i old new reply d
 abbrev pub Session : {D : Type 0} → (D → View) → Sight D → List Input → List Reply → Sight D → Deeds → Type 0
 Session look old [] [] new deeds = (new ≡ old) × (deeds ≡ no_deeds)
 Session {D} look old (i ∷ is) (r ∷ rs) new deeds =
-    (mid : Sight D) × (first : Deeds) × (later : Deeds) × Takes look i old mid r first × Session look mid is rs new later × (deeds ≡ both first later)
+    (mid : Sight D) × (first : Deeds) × (later : Deeds) × Takes look i old mid r first × Session look mid is rs new later
+    × (deeds ≡ both first later)
 Session look old [] (r ∷ rs) new deeds = ⊥
 Session look old (i ∷ is) [] new deeds = ⊥
 

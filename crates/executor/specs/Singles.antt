@@ -1,6 +1,7 @@
 -- One resource by itself: a machine that knows of no other. The numbers of its calls and runs are handed in, each above all
 -- that it knows.
-use Rattle.std.specs.Prelude.{◌≡◌, ◌⊎◌, ℕ, ◌+◌, ◌≤◌, Bool, false, List, [], ◌∷◌, ◌++◌, map, min, length, nat_lt, nat_le, is_some, is_none, Option, Some, None, option_map, option_and_then, option_to_list, Result, Ok, Err, if◌then◌else◌}
+use Rattle.std.specs.Prelude.{◌≡◌, ◌⊎◌, ℕ, ◌+◌, ◌≤◌, Bool, false, List, [], ◌∷◌, ◌++◌, map, min, length, nat_lt, nat_le, is_some, is_none}
+use Rattle.std.specs.Prelude.{Option, Some, None, option_map, option_and_then, option_to_list, Result, Ok, Err, if◌then◌else◌}
 use Rattle.std.specs.Option.{option_map_or}
 use Rattle.ocf_types.specs.Answer.{change_of, first_of, info_of}
 use Rattle.ocf_types.specs.Due.{IsPick, or_else, step_sets}
@@ -18,7 +19,8 @@ use Rattle.ocf_types.specs.declared.event.Step.TheVariants as step
 use Rattle.ocf_types.specs.declared.operation.Running.{Running}
 use Rattle.ocf_types.specs.declared.outcome.StartFault.{StartFault}
 use Rattle.ocf_types.specs.declared.refusal.Refusal.{Refusal}
-use Rattle.ocf_types.specs.declared.refusal.Refusal.TheVariants.{Busy, Exists, NoSuchRecurring, QueueFull, RecurringFull, TooLarge, UnknownResource}
+use Rattle.ocf_types.specs.declared.refusal.Refusal.TheVariants.{Busy, Exists, NoSuchRecurring, QueueFull, RecurringFull, TooLarge}
+use Rattle.ocf_types.specs.declared.refusal.Refusal.TheVariants.{UnknownResource}
 use Rattle.ocf_types.specs.declared.reply.ReplyOf.TheVariants as reply
 use Rattle.ocf_types.specs.declared.reply.TurnEnd.TheVariants.{Done}
 use Rattle.child_keeper.specs.Children.{start_answer}
@@ -94,13 +96,16 @@ holds resource test = option_map_or test resource false
 -- the refusals that a command may meet, each with its test, in the order in which they are tried
 abbrev pub single_tests : Option Resource → Command → ℕ → List (Refusal × Bool)
 single_tests resource (command.Register r) size = (Exists, is_some resource) ∷ (TooLarge, nat_lt event_limit size) ∷ []
-single_tests resource (command.Unregister id) size = (UnknownResource, is_none resource) ∷ (Busy, holds resource (λ r. is_busy r.history)) ∷ []
+single_tests resource (command.Unregister id) size =
+    (UnknownResource, is_none resource) ∷ (Busy, holds resource (λ r. is_busy r.history)) ∷ []
 single_tests resource (command.SetParams id ps) size = (UnknownResource, is_none resource) ∷ (TooLarge, nat_lt event_limit size) ∷ []
-single_tests resource (command.Exec id task timeout) size = (UnknownResource, is_none resource) ∷ (QueueFull, holds resource (λ r. nat_le queue_limit (length r.history.queue))) ∷ []
+single_tests resource (command.Exec id task timeout) size =
+    (UnknownResource, is_none resource) ∷ (QueueFull, holds resource (λ r. nat_le queue_limit (length r.history.queue))) ∷ []
 single_tests resource (command.Recur id interval timeout level) size =
     (UnknownResource, is_none resource) ∷ (Exists, holds resource (λ r. is_some (of_interval interval r.recurring)))
     ∷ (RecurringFull, holds resource (λ r. nat_le recurring_limit (length r.recurring))) ∷ []
-single_tests resource (command.Cancel id interval) size = (UnknownResource, is_none resource) ∷ (NoSuchRecurring, holds resource (λ r. is_none (of_interval interval r.recurring))) ∷ []
+single_tests resource (command.Cancel id interval) size =
+    (UnknownResource, is_none resource) ∷ (NoSuchRecurring, holds resource (λ r. is_none (of_interval interval r.recurring))) ∷ []
 single_tests resource (command.Forget id) size = (UnknownResource, is_none resource) ∷ []
 
 -- the event that a command asks for, or the first refusal
@@ -177,7 +182,8 @@ cut now = min now num_max
 -- the machine takes an input
 abbrev pub SingleTakes : List ℕ → Single → Input → Reply → List Entry → List Event → Type 0
 SingleTakes id x (input.Request now (asked.Command c)) answer entries events = (entries ≡ []) × SingleCommand (cut now) x c answer events
-SingleTakes id x (input.Request now (asked.Question q)) answer entries events = (entries ≡ []) × (events ≡ []) × (answer ≡ single_answer x.resource q)
+SingleTakes id x (input.Request now (asked.Question q)) answer entries events =
+    (entries ≡ []) × (events ≡ []) × (answer ≡ single_answer x.resource q)
 SingleTakes id x (input.Turn now) answer entries events = SingleTurn id (cut now) x answer entries events
 
 -- it takes inputs, one after the other, with their replies

@@ -1,5 +1,5 @@
 -- What an executor does in a tidy.
-use Rattle.std.specs.Prelude.{◌≡◌, ◌≢◌, ◌↔◌, ℕ, Bool, true, false, []}
+use Rattle.std.specs.Prelude.{◌≡◌, ◌≢◌, ◌↔◌, Bool, true, false, []}
 use Rattle.ocf_types.specs.declared.reply.TidyEnd.{TidyEnd}
 use Rattle.ocf_types.specs.declared.reply.TidyEnd.TheVariants.{Done, Closed, EpochSpent, Disk}
 use Rattle.disk_model.specs.Image.{bytes_of}
@@ -26,7 +26,8 @@ pub record Tidies {D : Type 0} (look : D → View) (old new : Sight D) (end : Ti
   -- but for the disk and the journal's place, and for being open, all is as it was
   pub same : new ≡ record old { is_open = new.is_open; disk = new.disk; place = place_behind end old.place old.state }
   -- once done the state stands in the other part as its snapshot, with the next epoch and no record behind it
-  pub snapshot : end ≡ Done → (look new.disk).honest → Stands new.place.tail (opening new.place.epoch old.state) (bytes_of new.place.part (look new.disk).reads)
+  pub snapshot : end ≡ Done → (look new.disk).honest
+      → Stands new.place.tail (opening new.place.epoch old.state) (bytes_of new.place.part (look new.disk).reads)
   -- what a stop leaves since the call's start has room for its boot
   pub roomy : Goes (look old.disk) (look new.disk) Roomy
   -- the epoch is spent just where it is the greatest, and nothing is done then

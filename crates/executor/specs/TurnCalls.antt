@@ -11,7 +11,8 @@ use Rattle.executor.specs.Sights.{Sight}
 
 -- An open executor makes a turn at this moment: from one sight of it to another.
 pub record TakesTurn {D : Type 0} (look : D → View) (now : ℕ) (old new : Sight D) (end : TurnEnd) : Type 0 where
-  pub turns : Turns (look old.disk) (look new.disk) (scene old.state old.due old.place (moment old.state now)) new.state new.due old.children new.children new.told end
+  pub turns : Turns (look old.disk) (look new.disk)
+      (scene old.state old.due old.place (moment old.state now)) new.state new.due old.children new.children new.told end
   -- nothing is done just where the book takes less than three entries a resource
   pub full : (end ≡ BookFull) ↔ (old.children.room < 3 * length old.state.resources)
   pub unchanged : end ≡ BookFull → new ≡ record old { told = [] }

@@ -1,16 +1,27 @@
-//! Laws of sessions, each the contract of a function that does nothing.
-ghost use Rattle.std.specs.Prelude.{ℕ, List};
+//! Laws of sessions and of whole lives, each the contract of a function that does nothing.
+ghost use Rattle.std.specs.Prelude.{◌≢◌, ℕ, List};
 ghost use Rattle.std.specs.List.{AllByRecursion};
-ghost use Rattle.ocf_types.specs.Kinds.{Reply};
+ghost use Rattle.ocf_types.specs.Kinds.{Event, Reply};
 ghost use Rattle.ocf_types.specs.LawfulState.{IsLawfulState};
-ghost use Rattle.ocf_types.specs.State.{State};
+ghost use Rattle.ocf_types.specs.State.{State, after_all, empty};
+ghost use Rattle.ocf_types.specs.declared.reply.Notice.{Notice};
+ghost use Rattle.disk_model.specs.Image.{Image};
+ghost use Rattle.two_parts.specs.declared.damage.Damage.{Damage};
+ghost use Rattle.child_keeper.specs.Children.{ChildrenView};
+ghost use Rattle.exec_journal.specs.Found.{FoundAs};
+ghost use Rattle.exec_journal.specs.Room.{Roomy};
 ghost use Rattle.exec_turn.specs.Lives.{Tends};
+ghost use Rattle.executor.specs.Lives.{GoesOnFrom, IsLife, LifeLeaves, Lived, OpensBehind, Sitting};
+ghost use Rattle.executor.specs.Openings.{NotOpened, Opened};
 ghost use Rattle.executor.specs.Parts.{Apart, AreRising, IsPlain, entries_of_runs, events_of, own_runs, part};
 ghost use Rattle.executor.specs.Sessions.{Deeds, Input, Session};
 ghost use Rattle.executor.specs.Sights.{Sight};
 ghost use Rattle.executor.specs.Singles.{Alone, single_of};
+ghost use Rattle.executor.specs.declared.opening.OpenError.{OpenError};
+ghost use Rattle.executor.specs.declared.opening.OpenError.TheVariants as why;
 
 use disk_model::Disk;
+use exec_journal::laws::{found_once, what_stands};
 
 /// Each resource's part of a session is a run of the machine that has this resource alone, whatever the children answered
 /// and however the others' actions ran between its own: its inputs and all turns with their replies, the entries of its
@@ -19,8 +30,10 @@ use disk_model::Disk;
 /// back; what the others are told does not matter.
 pub fn each_alone<D: Disk>()
     ensures alone { (x z : Sight D) (inputs : List Input) (replies : List Reply) (d : Deeds) (id : List ℕ)
-        → Apart x.state → Session D.view x inputs replies z d → AllByRecursion (λ p. IsPlain p.1) (part id inputs replies) → AreRising x.state.clock inputs
-        → Alone id (single_of x id) (part id inputs replies) (entries_of_runs (own_runs id x.state d.events) d.entries) (events_of id d.events) }
+        → Apart x.state → Session D.view x inputs replies z d → AllByRecursion (λ p. IsPlain p.1) (part id inputs replies)
+        → AreRising x.state.clock inputs
+        → Alone id (single_of x id) (part id inputs replies) (entries_of_runs (own_runs id x.state d.events) d.entries)
+        (events_of id d.events) }
 {}
 
 /// A state is apart that is lawful and whose running actions each have an agent of their own: so is each state of an open
@@ -28,3 +41,24 @@ pub fn each_alone<D: Disk>()
 pub fn tended_apart()
     ensures apart { (s : State) (live : List ℕ) → IsLawfulState s → Tends s live → Apart s }
 {}
+
+/// Behind a whole life, of openings, calls and stops at any moment, every pair that may be left is found as the state after
+/// what stands of each sitting, one behind the other: its boot, and a front part of its events that holds all that a call
+/// had recorded when it returned, and the begin of each start that was asked before the stop. It has room for its boot. So an
+/// opening behind a life gives the state after what stands, with what ran told as interrupted, and is never told of damage or
+/// of a full journal.
+pub fn whole_life<D: Disk>()
+    ensures stands { (life : List (Sitting D)) → IsLife D.view life → (c : Image) → LifeLeaves D.view life c
+        → (zs : List Event) × Lived life zs × FoundAs (after_all empty zs) c }
+    ensures roomy { (life : List (Sitting D)) → IsLife D.view life → (c : Image) → LifeLeaves D.view life c → Roomy c }
+    ensures opened { (life : List (Sitting D)) (old : D) (from : ChildrenView) (now : ℕ) (x : Sight D) (ran queued : List Notice)
+        → IsLife D.view life → GoesOnFrom D.view life old → Opened D.view (D.view old) from now x ran queued → (D.view x.disk).honest
+        → OpensBehind life now x.state ran queued }
+    ensures not_refused { (life : List (Sitting D)) (old new : D) (from to : ChildrenView) (now : ℕ) (fault : OpenError)
+        → IsLife D.view life
+        → GoesOnFrom D.view life old → NotOpened (D.view old) (D.view new) from to now fault → (D.view new).honest
+        → (fault ≢ why.Full) × ((d : Damage) → fault ≢ why.Damaged d) }
+{
+    found_once();
+    what_stands();
+}

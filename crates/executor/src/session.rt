@@ -1,7 +1,7 @@
 //! Sessions: many inputs at once.
-ghost use Rattle.std.specs.Prelude.{◌≡◌, ◌++◌, ◌∷◌, [], IfErr, OnOk, List};
+ghost use Rattle.std.specs.Prelude.{◌≡◌, ◌++◌, IfErr, OnOk, List};
 ghost use Rattle.ocf_types.specs.Kinds.{Reply};
-ghost use Rattle.executor.specs.Sessions.{Deeds, Leads, Sits, Takes};
+ghost use Rattle.executor.specs.Sessions.{Deeds, Sits, Takes};
 ghost use Rattle.executor.specs.Sights.{IsSound, sight_of};
 
 use crate::Executor;
@@ -48,9 +48,12 @@ impl<D: Disk + Drop, C: Children + Drop, A: Allocator + Copy> Executor<D, C, A> 
         requires sound { IsSound D.view (sight_of C.view self.old) }
         ensures sound { IsSound D.view (sight_of C.view self.new) }
         // each input was taken, in order and none left out, with one reply to each
-        ensures sits { OnOk result ((given : List Reply) × (replies.new.items ≡ replies.old.items ++ given) × Sits D.view inputs.items (sight_of C.view self.old) (sight_of C.view self.new) given) }
+        ensures sits { OnOk result
+            ((given : List Reply) × (replies.new.items ≡ replies.old.items ++ given)
+            × Sits D.view inputs.items (sight_of C.view self.old) (sight_of C.view self.new) given) }
         // without memory for the replies nothing was done
-        ensures refused { IfErr result (λ back. (back ≡ inputs) × (sight_of C.view self.new ≡ sight_of C.view self.old) × (replies.new.items ≡ replies.old.items)) }
+        ensures refused { IfErr result
+            (λ back. (back ≡ inputs) × (sight_of C.view self.new ≡ sight_of C.view self.old) × (replies.new.items ≡ replies.old.items)) }
     {
         what_stands();
         let Ok(()) = replies.try_reserve(inputs.len()) else {

@@ -18,7 +18,8 @@ impl<D: Disk + Drop, C: Children + Drop, A: Allocator + Copy> Executor<D, C, A> 
     pub fn turn(&mut self, now: u64) -> TurnEnd
         requires sound { IsSound D.view (sight_of C.view self.old) }
         ensures sound { IsSound D.view (sight_of C.view self.new) }
-        ensures turns { TurnsWhile (sight_of C.view self.old).is_open D.view now (sight_of C.view self.old) (sight_of C.view self.new) result }
+        ensures turns { TurnsWhile (sight_of C.view self.old).is_open D.view now (sight_of C.view self.old)
+            (sight_of C.view self.new) result }
     {
         if !self.open {
             return TurnEnd::Closed;

@@ -4,4 +4,6 @@ use Rattle.executor.specs.Reports.{drop_notice}
 use Rattle.executor.proofs.report.push_dropped.Given as goal
 
 abbrev pub invariant-loop-i : goal.invariant-loop-i
-invariant-loop-i g l = l.notices.items ≡ l.fn.notices.items ++ map (drop_notice (entry_at l.state.state l.place).0 l.at) (take l.i (entry_at l.state.state l.place).1.history.queue)
+invariant-loop-i g l =
+    l.notices.items ≡ l.fn.notices.items
+    ++ map (drop_notice (entry_at l.state.state l.place).0 l.at) (take l.i (entry_at l.state.state l.place).1.history.queue)

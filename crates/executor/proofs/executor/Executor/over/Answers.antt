@@ -1,4 +1,4 @@
-use Rattle.std.proofs.Common.{◌≤◌, inl, inr, refl, sym, ◌∙◌, arith, subst}
+use Rattle.std.proofs.Common.{inl, inr, refl, arith}
 use Rattle.executor.proofs.executor.Executor.over.Goals as goal
 
 pub returns-then-last_run-get-clause-refused : goal.returns-then-last_run-get-clause-refused

@@ -1,6 +1,6 @@
-use Rattle.std.proofs.Common.{rules, arith, ◌≡◌, ◌++◌, ◌∷◌, [], List, ℕ, ◌+◌, ◌≤◌, length, refl, sym, ◌∙◌, ap, subst, append_assoc}
+use Rattle.std.proofs.Common.{rules, arith, ◌≡◌, ◌++◌, ◌∷◌, [], List, length, sym, ◌∙◌, ap, subst, append_assoc}
 use Rattle.std.proofs.lemmas.List.{append-nil, nil_from_length}
-use Rattle.std.specs.Vec.{vec_capacity, vec_len}
+use Rattle.std.specs.Vec.{vec_len}
 use Rattle.std.specs.Vec.Iter.{into_iter_items}
 use Rattle.ocf_types.specs.Kinds.{Reply}
 use Rattle.exec_journal.specs.Journal.{journal_disk}
@@ -13,7 +13,8 @@ use Rattle.executor.proofs.executor.Executor.session.Goals as goal
 pub loop-input-init : goal.loop-input-init
 loop-input-init g c =
     let x = c.args.self.now in
-    let law : WhatStands = record { found = c.what_stands.ensures.found; once = c.what_stands.ensures.once; fresh = c.what_stands.ensures.fresh } in
+    let law : WhatStands =
+    record { found = c.what_stands.ensures.found; once = c.what_stands.ensures.once; fresh = c.what_stands.ensures.fresh } in
     let whole_len : vec_len c.args.inputs ≡ length c.args.inputs.items = search rules in
     let all = c.into_iter-input-iterator.ensures.into_iter_gives.0 in
     record {
@@ -21,7 +22,13 @@ loop-input-init g c =
       count = c.into_iter-input-iterator.ensures.into_iter_gives.1 ∙ whole_len ∙ sym (ap length all);
       room = search rules;
       sound = c.requires.sound;
-      sits = ([], c.try_reserve.ensures.items ∙ sym (append-nil c.args.replies.now.items), sits_start g.D.Disk.view law (sight_of g.C.Children.view x) (g.met.D.Disk.lawful (journal_disk x.journal)) c.requires.sound);
+      sits = (
+        [],
+        c.try_reserve.ensures.items
+            ∙ sym (append-nil c.args.replies.now.items),
+        sits_start g.D.Disk.view law (sight_of g.C.Children.view x)
+            (g.met.D.Disk.lawful (journal_disk x.journal)) c.requires.sound,
+      );
     }
 
 pub take-reply-requires : goal.take-reply-requires
@@ -37,14 +44,15 @@ pub loop-input-preserved : goal.loop-input-preserved
 loop-input-preserved g c =
     let view = g.D.Disk.view in
     let tend = g.C.Children.view in
-    let law : WhatStands = record { found = c.what_stands.ensures.found; once = c.what_stands.ensures.once; fresh = c.what_stands.ensures.fresh } in
     let was = c.loop-input.invariant in
     let before = c.loop-input.self in
     let steps = c.in-Some.ensures.steps in
     let given = was.sits.0 in
     let taken = c.take-reply.ensures.takes in
     record {
-      whole = append_assoc c.loop-input.yielded (c.in-Some.input ∷ []) (into_iter_items c.next.new.self) ∙ ap (λ (l : List Input). c.loop-input.yielded ++ l) (sym steps.0) ∙ was.whole;
+      whole =
+          append_assoc c.loop-input.yielded (c.in-Some.input ∷ []) (into_iter_items c.next.new.self)
+          ∙ ap (λ (l : List Input). c.loop-input.yielded ++ l) (sym steps.0) ∙ was.whole;
       count =
           let one = steps.1 in
           let more = ap length steps.0 in
@@ -59,9 +67,11 @@ loop-input-preserved g c =
       sound = c.take-reply.ensures.sound;
       sits = (
         given ++ c.take-reply.result ∷ [],
-        c.push_reserved.ensures.items ∙ ap (λ (l : List Reply). l ++ c.take-reply.result ∷ []) was.sits.1 ∙ append_assoc c.args.replies.now.items given (c.take-reply.result ∷ []),
-        sits_more view law (sight_of tend c.args.self.now) (sight_of tend before) (sight_of tend c.take-reply.new.self) c.loop-input.yielded given c.in-Some.input c.take-reply.result taken.0
-            (g.met.D.Disk.lawful (journal_disk before.journal)) was.sound was.sits.2 taken.1,
+        c.push_reserved.ensures.items ∙ ap (λ (l : List Reply). l ++ c.take-reply.result ∷ []) was.sits.1
+            ∙ append_assoc c.args.replies.now.items given (c.take-reply.result ∷ []),
+        sits_more view (sight_of tend c.args.self.now) (sight_of tend before)
+            (sight_of tend c.take-reply.new.self) c.loop-input.yielded given c.in-Some.input c.take-reply.result taken.0
+            (g.met.D.Disk.lawful (journal_disk before.journal)) was.sits.2 taken.1,
       );
     }
 
@@ -72,5 +82,9 @@ pub returns-clause-sits : goal.returns-clause-sits
 returns-clause-sits g c =
     let was = c.loop-input.invariant in
     let nothing = nil_from_length (into_iter_items c.loop-input.input-iterator) (sym was.count ∙ c.in-None.ensures.steps.0) in
-    let all = sym (append-nil c.loop-input.yielded) ∙ ap (λ (l : List Input). c.loop-input.yielded ++ l) (sym nothing) ∙ was.whole in
-    (was.sits.0, was.sits.1, subst (λ (l : List Input). Sits g.D.Disk.view l (sight_of g.C.Children.view c.args.self.now) (sight_of g.C.Children.view c.loop-input.self) was.sits.0) all was.sits.2)
+    let all = sym (append-nil c.loop-input.yielded) ∙ ap (λ (l : List Input). c.loop-input.yielded ++ l) (sym nothing) ∙ was.whole in (
+      was.sits.0,
+      was.sits.1,
+      subst (λ (l : List Input). Sits g.D.Disk.view l (sight_of g.C.Children.view c.args.self.now)
+          (sight_of g.C.Children.view c.loop-input.self) was.sits.0) all was.sits.2,
+    )

@@ -13,5 +13,6 @@ invariant-loop-input g l =
       count : into_iter_len l.input-iterator ≡ length (into_iter_items l.input-iterator);
       room : vec_len l.replies + into_iter_len l.input-iterator ≤ vec_capacity l.replies;
       sound : IsSound g.D.Disk.view (sight_of g.C.Children.view l.self);
-      sits : (given : List Reply) × (l.replies.items ≡ l.fn.replies.items ++ given) × Sits g.D.Disk.view l.yielded (sight_of g.C.Children.view l.fn.self) (sight_of g.C.Children.view l.self) given;
+      sits : (given : List Reply) × (l.replies.items ≡ l.fn.replies.items ++ given)
+          × Sits g.D.Disk.view l.yielded (sight_of g.C.Children.view l.fn.self) (sight_of g.C.Children.view l.self) given;
     }

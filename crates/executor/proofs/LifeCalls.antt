@@ -1,0 +1,100 @@
+-- What calls leave, one after the other.
+use Rattle.std.proofs.Common.{◌≡◌, Bool, true, false, List, [], ◌∷◌, refl, sym, ap, subst, ◌∙◌}
+use Rattle.std.proofs.lemmas.Bool.{false≢true}
+use Rattle.disk_model.specs.View.{Lawful, View}
+use Rattle.executor.specs.CallLaws.{both_assoc, both_none}
+use Rattle.executor.specs.Lives.{Abandoned, Calls, Cleared, Does, Exchange, Took, Tidied}
+use Rattle.executor.specs.Sessions.{Deeds, TakesWhile, both, no_deeds}
+use Rattle.executor.specs.Sights.{Sight}
+use Rattle.executor.specs.TidyCalls.{Tidies, TidiesWhile}
+use Rattle.executor.proofs.SessionLemmas.{Onward, leads_open, leads_still, onward, onward_joined}
+
+module _ {D : Type 0} (look : D → View) where
+  -- what a closed executor is asked leaves it closed, over the same disk, and does nothing
+  pub record Closed (x y : Sight D) (d : Deeds) : Type 0 where
+    pub is_closed : y.is_open ≡ false
+    pub disk : y.disk ≡ x.disk
+    pub nothing : d ≡ no_deeds
+
+  stays_closed : (x y : Sight D) (d : Deeds) → x.is_open ≡ false → y ≡ x → d ≡ no_deeds → Closed x y d
+  stays_closed x y d closed same nothing = record {
+    is_closed = ap (λ (z : Sight D). z.is_open) same ∙ closed;
+    disk = ap (λ (z : Sight D). z.disk) same;
+    nothing = nothing;
+  }
+
+  does_nothing : (e : Exchange) (x y : Sight D) (d : Deeds) → x.is_open ≡ false → Does look e x y d → Closed x y d
+  does_nothing (Took i reply) x y d closed does =
+      let none = subst (λ (b : Bool). TakesWhile b look i x y reply d) closed does in
+      stays_closed x y d closed none.1 none.2
+  does_nothing (Tidied end) x y d closed does =
+      let none = subst (λ (b : Bool). TidiesWhile b look x y end) closed does.0 in
+      stays_closed x y d closed none.1 does.1
+  does_nothing Cleared x y d closed does = record {
+    is_closed = ap (λ (z : Sight D). z.is_open) does.0 ∙ closed;
+    disk = ap (λ (z : Sight D). z.disk) does.0;
+    nothing = does.1;
+  }
+  does_nothing Abandoned x y d closed does = record {
+    is_closed = ap (λ (z : Sight D). z.is_open) does.0;
+    disk = ap (λ (z : Sight D). z.disk) does.0;
+    nothing = does.1;
+  }
+
+  pub calls_closed : (x z : Sight D) (es : List Exchange) (d : Deeds) → x.is_open ≡ false → Calls look x es z d → Closed x z d
+  calls_closed x z [] d closed calls = stays_closed x z d closed calls.0 calls.1
+  calls_closed x z (e ∷ es) d closed (mid, first, later, does, rest, is) =
+      let one = does_nothing e x mid first closed does in
+      let others = calls_closed mid z es later one.is_closed rest in
+      record {
+        is_closed = others.is_closed;
+        disk = others.disk ∙ one.disk;
+        nothing = is ∙ (λ k. both (one.nothing k) (others.nothing k));
+      }
+
+  module _ (lawful : (d : D) → (look d).honest → Lawful (look d)) where
+    -- one call more, of an open executor
+    taken_more : (o : Bool) (w x y : Sight D) (e : Exchange) (a d : Deeds) → x.is_open ≡ o → Does look e x y d → Onward look w x a
+        → Onward look w y (both a d)
+    taken_more true w x y (Took i reply) a d is_open does so_far =
+        onward_joined look w x y a d is_open so_far
+        (onward look x y d (leads_open look i x y reply d (leads_still look w x a (lawful x.disk) is_open so_far)
+        (subst (λ (b : Bool). TakesWhile b look i x y reply d) is_open does)))
+    taken_more true w x y (Tidied end) a d is_open does so_far =
+        let tidies : Tidies look x y end = subst (λ (b : Bool). TidiesWhile b look x y end) is_open does.0 in
+        subst (λ (b : Deeds). Onward look w y (both a b)) (sym does.1)
+        (onward_joined look w x y a no_deeds is_open so_far (record { leaves = tidies.leaves; roomy = tidies.roomy; whole = λ _. refl }))
+    taken_more true w x y Cleared a d is_open does so_far =
+        subst (λ (b : Deeds). Onward look w y b) (sym (both_none a) ∙ ap (both a) (sym does.1))
+        (subst (λ (z : Sight D). Onward look w z a) (sym does.0)
+        (record { leaves = so_far.leaves; roomy = so_far.roomy; whole = so_far.whole }))
+    taken_more true w x y Abandoned a d is_open does so_far =
+        subst (λ (b : Deeds). Onward look w y b) (sym (both_none a) ∙ ap (both a) (sym does.1))
+        (subst (λ (z : Sight D). Onward look w z a) (sym does.0)
+        (record { leaves = so_far.leaves; roomy = so_far.roomy; whole = λ bad. absurd (false≢true bad) }))
+    taken_more false w x y (Took i reply) a d closed does so_far =
+        let none = subst (λ (b : Bool). TakesWhile b look i x y reply d) closed does in
+        subst (λ (b : Deeds). Onward look w y b) (sym (both_none a) ∙ ap (both a) (sym none.2))
+        (subst (λ (z : Sight D). Onward look w z a) (sym none.1) so_far)
+    taken_more false w x y (Tidied end) a d closed does so_far =
+        let none = subst (λ (b : Bool). TidiesWhile b look x y end) closed does.0 in
+        subst (λ (b : Deeds). Onward look w y b) (sym (both_none a) ∙ ap (both a) (sym does.1))
+        (subst (λ (z : Sight D). Onward look w z a) (sym none.1) so_far)
+    taken_more false w x y Cleared a d closed does so_far =
+        subst (λ (b : Deeds). Onward look w y b) (sym (both_none a) ∙ ap (both a) (sym does.1))
+        (subst (λ (z : Sight D). Onward look w z a) (sym does.0)
+        (record { leaves = so_far.leaves; roomy = so_far.roomy; whole = so_far.whole }))
+    taken_more false w x y Abandoned a d closed does so_far =
+        subst (λ (b : Deeds). Onward look w y b) (sym (both_none a) ∙ ap (both a) (sym does.1))
+        (subst (λ (z : Sight D). Onward look w z a) (sym does.0)
+        (record { leaves = so_far.leaves; roomy = so_far.roomy; whole = λ bad. absurd (false≢true bad) }))
+
+    -- any calls more
+    pub calls_more : (w x z : Sight D) (es : List Exchange) (a d : Deeds) → Calls look x es z d → Onward look w x a
+        → Onward look w z (both a d)
+    calls_more w x z [] a d calls so_far =
+        subst (λ (y : Sight D). Onward look w y (both a d)) (sym calls.0)
+        (subst (λ (b : Deeds). Onward look w x b) (sym (both_none a) ∙ ap (both a) (sym calls.1)) so_far)
+    calls_more w x z (e ∷ es) a d (mid, first, later, does, rest, is) so_far =
+        subst (λ (b : Deeds). Onward look w z b) (sym (both_assoc a first later) ∙ ap (both a) (sym is))
+        (calls_more w mid z es (both a first) later rest (taken_more x.is_open w x mid e a first refl does so_far))

@@ -1,0 +1,159 @@
+-- What a service leaves, stopped at any moment behind the last return.
+use Rattle.std.proofs.Common.{◌≡◌, inl, inr, ◌≤◌, ℕ, Bool, true, false, List, [], ◌++◌, refl, sym, ap, subst, ◌∙◌, arith}
+use Rattle.std.proofs.Common.{append_assoc}
+use Rattle.std.proofs.lemmas.List.{append-nil}
+use Rattle.ocf_types.specs.Kinds.{Event}
+use Rattle.ocf_types.specs.Laws.{after_all-append}
+use Rattle.ocf_types.specs.State.{State, after_all}
+use Rattle.disk_model.specs.Image.{Image}
+use Rattle.disk_model.specs.View.{Lawful, View}
+use Rattle.exec_journal.specs.Found.{FoundAs}
+use Rattle.exec_journal.specs.Room.{Roomy}
+use Rattle.exec_journal.specs.Rows.{EitherSide}
+use Rattle.executor.specs.Lives.{Serves, Service, Stands}
+use Rattle.executor.specs.Sessions.{Deeds, both, no_deeds}
+use Rattle.executor.proofs.Journaling.{WhatStands}
+use Rattle.executor.proofs.LifeCalls.{calls_closed, calls_more}
+use Rattle.executor.proofs.LifeFronts.{EachBegun, FrontOf, GoesOn, all_begun, begin_among}
+use Rattle.executor.proofs.SessionLemmas.{Onward, leads_start, leads_still, onward}
+
+-- the events of some deeds, those that are pending behind them
+abbrev all_of : Deeds → List Event
+all_of d = d.events ++ d.pending
+
+module _ {D : Type 0} (look : D → View) (law : WhatStands) (lawful : (d : D) → (look d).honest → Lawful (look d)) where
+  module _ (x : Service D) (serves : Serves look x) where
+    opened_leads : Onward look x.opened x.opened no_deeds
+    opened_leads =
+        onward look x.opened x.opened no_deeds
+        (leads_start look law x.opened (lawful x.opened.disk) (serves.opens.sound serves.opens.over.is_open))
+
+    -- what the calls leave that returned
+    returned_leads : Onward look x.opened x.returned x.done
+    returned_leads =
+        calls_more look lawful x.opened x.opened x.returned serves.calls no_deeds x.done serves.returns opened_leads
+
+    -- what all of its calls leave
+    pub whole_leads : Onward look x.opened x.last (both x.done x.under_way)
+    whole_leads =
+        calls_more look lawful x.opened x.returned x.last serves.begun x.done x.under_way serves.goes_on returned_leads
+
+    module _ (honest : (look x.last.disk).honest) (c : Image) (left : (look x.last.disk).since x.stop c) where
+      from_earlier : (t : ℕ) → t ≤ x.stop → (look x.last.disk).since t c
+      from_earlier t le = (lawful x.last.disk honest).earlier x.stop t c le left
+
+      abbrev Base : Type 0
+      Base = (p : List Event) × FrontOf x.opened.state (all_of (both x.done x.under_way)) c p × GoesOn x.done.events p
+
+      -- where the executor was open behind the last return, the pair is found behind some of what was under way
+      base_open : x.returned.is_open ≡ true → Base
+      base_open is_open =
+          let going : Onward look x.returned x.last x.under_way =
+          calls_more look lawful x.returned x.returned x.last serves.begun no_deeds x.under_way serves.goes_on
+          (onward look x.returned x.returned no_deeds
+          (leads_still look x.opened x.returned x.done (lawful x.returned.disk) is_open returned_leads)) in
+          let d = x.done.events in
+          let u = x.under_way in
+          let stands = going.leaves.goes.from_start honest c (from_earlier (look x.returned.disk).clock serves.behind) in
+          let q = stands.0 in
+          let none : x.done.pending ≡ [] = returned_leads.whole is_open in (
+            d ++ q,
+            record {
+              others = stands.1;
+              front =
+                  append_assoc d q stands.1 ∙ ap (λ (l : List Event). d ++ l) stands.2 ∙ sym (append_assoc d u.events u.pending)
+                  ∙ ap (λ (l : List Event). (d ++ u.events) ++ (l ++ u.pending)) (sym none);
+              found =
+                  subst (λ (t : State). FoundAs t c)
+                  (ap (λ (s : State). after_all s q) returned_leads.leaves.state ∙ sym (after_all-append x.opened.state d q)) stands.3;
+            },
+            (q, refl),
+          )
+
+      -- where a disk fault had closed it, nothing was under way: the pair is found behind all that was recorded, or behind
+      -- what the fault left pending too
+      base_closed : x.returned.is_open ≡ false → Base
+      base_closed closed =
+          let none = calls_closed look x.returned x.last serves.begun x.under_way closed serves.goes_on in
+          let was_honest : (look x.returned.disk).honest = subst (λ (y : D). (look y).honest) none.disk honest in
+          let was_left = subst (λ (y : D). (look y).since x.stop c) none.disk left in
+          let still = lawful x.returned.disk was_honest in
+          let now = still.only_now c (still.earlier x.stop (look x.returned.disk).clock c serves.behind was_left) in
+          by (returned_leads.leaves.now was_honest c now)
+        where
+          d : List Event
+          d = x.done.events
+
+          all_is : all_of (both x.done x.under_way) ≡ d ++ x.done.pending
+          all_is =
+              let none = calls_closed look x.returned x.last serves.begun x.under_way closed serves.goes_on in
+              (λ k. (d ++ (none.nothing k).events) ++ (x.done.pending ++ (none.nothing k).pending))
+              ∙ (λ k. append-nil d k ++ append-nil x.done.pending k)
+
+          by : EitherSide x.returned.state x.done.pending c → Base
+          by (inl found) = (
+            d,
+            record {
+              others = x.done.pending;
+              front = sym all_is;
+              found = subst (λ (t : State). FoundAs t c) returned_leads.leaves.state found;
+            },
+            ([], sym (append-nil d)),
+          )
+          by (inr found) = (
+            d ++ x.done.pending,
+            record {
+              others = [];
+              front = append-nil (d ++ x.done.pending) ∙ sym all_is;
+              found =
+                  subst (λ (t : State). FoundAs t c)
+                  (ap (λ (s : State). after_all s x.done.pending) returned_leads.leaves.state
+                  ∙ sym (after_all-append x.opened.state d x.done.pending)) found;
+            },
+            (x.done.pending, refl),
+          )
+
+      base_of : (b : Bool) → x.returned.is_open ≡ b → Base
+      base_of true is_open = base_open is_open
+      base_of false closed = base_closed closed
+
+      -- behind a start that was asked before the stop the pair is found with its begin
+      each_begun : EachBegun x.opened.state (all_of (both x.done x.under_way)) c x.stop (both x.done x.under_way).entries
+      each_begun run clock asked le =
+          let begun = whole_leads.leaves.starts run clock asked in
+          let stands = begun.since honest c (from_earlier clock le) in
+          let q = stands.0 in (
+            begun.first ++ q,
+            record {
+              others = stands.1;
+              front =
+                  append_assoc begun.first q stands.1 ∙ ap (λ (l : List Event). begun.first ++ l) stands.2 ∙ begun.split;
+              found =
+                  subst (λ (t : State). FoundAs t c) (sym (after_all-append x.opened.state begun.first q)) stands.3;
+            },
+            begin_among run begun.first (begun.first ++ q) (q, refl) begun.begins,
+          )
+
+      -- what stands of it
+      pub service_stands : (p : List Event) × Stands x p × FoundAs (after_all x.opened.state p) c
+      service_stands =
+          let base = base_of x.returned.is_open refl in
+          let all = all_begun x.opened.state (all_of (both x.done x.under_way)) c x.stop (both x.done x.under_way).entries each_begun
+          base.0 base.1 in (
+            all.0,
+            record {
+              others = all.1.others;
+              front = all.1.front;
+              later = base.2.0 ++ all.2.0;
+              acknowledged =
+                  all.2.1 ∙ ap (λ (l : List Event). l ++ all.2.0) base.2.1 ∙ append_assoc x.done.events base.2.0 all.2.0;
+              begins = all.3;
+            },
+            all.1.found,
+          )
+
+      -- and what is left has room for its boot
+      pub service_roomy : Roomy c
+      service_roomy =
+          let later = returned_leads.leaves.goes.passed.clock in
+          whole_leads.roomy.from_start honest c (from_earlier (look x.opened.disk).clock (omega (arith, later, serves.behind)))

@@ -1,0 +1,140 @@
+-- Whole lives: an executor is opened, called, and stopped at any moment, again and again.
+use Rattle.std.specs.Prelude.{◌≡◌, ◌⊎◌, ◌≤◌, ℕ, ⊤, List, [], ◌∷◌, ◌++◌, option_to_list}
+use Rattle.ocf_types.specs.Answer.{moment}
+use Rattle.ocf_types.specs.Boot.{boot_event}
+use Rattle.ocf_types.specs.Kinds.{Event, Reply}
+use Rattle.ocf_types.specs.State.{State, after_all, empty}
+use Rattle.ocf_types.specs.declared.reply.Notice.{Notice}
+use Rattle.ocf_types.specs.declared.reply.TidyEnd.{TidyEnd}
+use Rattle.disk_model.specs.Image.{Image}
+use Rattle.disk_model.specs.View.{View}
+use Rattle.child_keeper.specs.Children.{Asked, ChildrenView}
+use Rattle.exec_journal.specs.Found.{IsFreshPair}
+use Rattle.exec_turn.specs.Pieces.{HasBegin}
+use Rattle.executor.specs.Openings.{Opened, OpensDisk, booted}
+use Rattle.executor.specs.Reports.{dropped, interrupted}
+use Rattle.executor.specs.Sessions.{Deeds, Input, Takes, both, no_deeds}
+use Rattle.executor.specs.Sights.{Sight}
+use Rattle.executor.specs.TidyCalls.{TidiesWhile}
+use Rattle.executor.specs.TurnCalls.{abandoned, with_empty_book}
+
+-- what an executor was asked and what it answered: an input with its reply, or a tidy with its end; or it was told to empty
+-- its children's book, or to give up its children
+pub data Exchange : Type 0 where
+  Took : Input → Reply → Exchange
+  Tidied : TidyEnd → Exchange
+  Cleared : Exchange
+  Abandoned : Exchange
+
+-- what a call does, from one sight of the executor to another
+abbrev pub Does : {D : Type 0} → (D → View) → Exchange → Sight D → Sight D → Deeds → Type 0
+Does look (Took i reply) old new deeds = Takes look i old new reply deeds
+Does look (Tidied end) old new deeds = TidiesWhile old.is_open look old new end × (deeds ≡ no_deeds)
+Does look Cleared old new deeds = (new ≡ with_empty_book old) × (deeds ≡ no_deeds)
+Does look Abandoned old new deeds = (new ≡ abandoned old) × (deeds ≡ no_deeds)
+
+-- one call after the other; a session is the calls of its inputs
+abbrev pub Calls : {D : Type 0} → (D → View) → Sight D → List Exchange → Sight D → Deeds → Type 0
+Calls look old [] new deeds = (new ≡ old) × (deeds ≡ no_deeds)
+Calls {D} look old (e ∷ es) new deeds =
+    (mid : Sight D) × (first : Deeds) × (later : Deeds) × Does look e old mid first × Calls look mid es new later
+    × (deeds ≡ both first later)
+
+-- calls alone lead from one sight of an executor to another
+abbrev pub ByCalls : {D : Type 0} → (D → View) → Sight D → Sight D → Type 0
+ByCalls look old new = (es : List Exchange) × (deeds : Deeds) × Calls look old es new deeds
+
+-- An executor's service: the disk that its opening was handed, and when; the executor as it was opened, as the calls that
+-- returned left it, and as those under way would have left it; what they did; and the moment of the disk's clock at which
+-- it was stopped or closed.
+pub record Service (D : Type 0) : Type 0 where
+  pub disk : D
+  pub now : ℕ
+  pub opened : Sight D
+  pub returned : Sight D
+  pub last : Sight D
+  pub done : Deeds
+  pub under_way : Deeds
+  pub stop : ℕ
+
+-- It was opened, calls returned, others were begun, and it was stopped at some moment behind the last return.
+pub record Serves {D : Type 0} (look : D → View) (x : Service D) : Type 0 where
+  pub children : ChildrenView
+  pub was_running : List Notice
+  pub was_queued : List Notice
+  pub opens : Opened look (look x.disk) children x.now x.opened was_running was_queued
+  pub calls : List Exchange
+  pub returns : Calls look x.opened calls x.returned x.done
+  pub begun : List Exchange
+  pub goes_on : Calls look x.returned begun x.last x.under_way
+  pub behind : (look x.returned.disk).clock ≤ x.stop
+
+-- a sitting: an opening that was refused, or in which the stop came, from one disk to another; or a service
+pub data Sitting (D : Type 0) : Type 0 where
+  InOpening : D → D → ℕ → Sitting D
+  InService : Service D → Sitting D
+
+-- the disk that its opening was handed, and the one that it worked on at its end
+abbrev pub first_disk : {D : Type 0} → Sitting D → D
+first_disk (InOpening old new now) = old
+first_disk (InService x) = x.disk
+
+abbrev pub last_disk : {D : Type 0} → Sitting D → D
+last_disk (InOpening old new now) = new
+last_disk (InService x) = x.last.disk
+
+-- what was done in it
+abbrev pub Sat : {D : Type 0} → (D → View) → Sitting D → Type 0
+Sat look (InOpening old new now) = OpensDisk (look old) (look new) now
+Sat look (InService x) = Serves look x
+
+-- what its stop may have left
+abbrev pub StopLeaves : {D : Type 0} → (D → View) → Sitting D → Image → Type 0
+StopLeaves look (InOpening old new now) c = (look new).since (look old).clock c
+StopLeaves look (InService x) c = (look x.last.disk).since x.stop c
+
+-- What a life leaves, the last sitting first: before the first one stands a fresh pair.
+abbrev pub LifeLeaves : {D : Type 0} → (D → View) → List (Sitting D) → Image → Type 0
+LifeLeaves look [] c = IsFreshPair c
+LifeLeaves look (x ∷ older) c = StopLeaves look x c
+
+-- this disk holds nothing but what a life left
+abbrev pub GoesOnFrom : {D : Type 0} → (D → View) → List (Sitting D) → D → Type 0
+GoesOnFrom look older disk = (c : Image) → (look disk).now c → LifeLeaves look older c
+
+-- A life, the last sitting first: each begins with nothing but what the one before left, on a disk that is honest throughout.
+abbrev pub IsLife : {D : Type 0} → (D → View) → List (Sitting D) → Type 0
+IsLife look [] = ⊤
+IsLife look (x ∷ older) =
+    IsLife look older × GoesOnFrom look older (first_disk x) × Sat look x × (look (last_disk x)).honest
+
+-- the boot that an opening at this moment needs, if one is
+abbrev pub boots : State → ℕ → List Event
+boots s now = option_to_list (boot_event s (moment s now))
+
+-- So much of what a service did stands after its stop: a front part of its events that holds all that the returned calls
+-- recorded, and the begin of each start that was asked before the stop.
+pub record Stands {D : Type 0} (x : Service D) (p : List Event) : Type 0 where
+  pub others : List Event
+  pub front : p ++ others ≡ (both x.done x.under_way).events ++ (both x.done x.under_way).pending
+  pub later : List Event
+  pub acknowledged : p ≡ x.done.events ++ later
+  pub begins : (run clock : ℕ) → Asked (both x.done x.under_way).entries run clock → clock ≤ x.stop → HasBegin run p
+
+-- The events of a life that stand: of each sitting its boot, which stands once the opening was done, and so much of what its
+-- calls did.
+abbrev pub Lived : {D : Type 0} → List (Sitting D) → List Event → Type 0
+Lived [] zs = zs ≡ []
+Lived {D} (InOpening old new now ∷ older) zs =
+    (ys : List Event) × Lived older ys × ((zs ≡ ys) ⊎ (zs ≡ ys ++ boots (after_all empty ys) now))
+Lived {D} (InService x ∷ older) zs =
+    (ys : List Event) × (p : List Event) × Lived older ys × Stands x p × (zs ≡ ys ++ (boots (after_all empty ys) x.now ++ p))
+
+-- An opening behind a life gives this state and this report: what stands of the life, after its boot; what ran in it told as
+-- interrupted, what was queued as dropped.
+pub record OpensBehind {D : Type 0} (life : List (Sitting D)) (now : ℕ) (t : State) (was_running was_queued : List Notice) : Type 0 where
+  pub stands : List Event
+  pub lived : Lived life stands
+  pub state : t ≡ booted (after_all empty stands) now
+  pub ran : was_running ≡ interrupted (after_all empty stands) (moment (after_all empty stands) now)
+  pub queued : was_queued ≡ dropped (after_all empty stands) (moment (after_all empty stands) now)
