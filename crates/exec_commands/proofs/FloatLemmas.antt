@@ -16,7 +16,8 @@ use Rattle.exec_commands.specs.declared.reply.LineReply.{LineReply}
 use Rattle.exec_commands.specs.declared.reply.LineReply.TheVariants as line
 
 -- a list has no float where none of its items has one
-items_no_float : {A : Type 0} (say : A → Data) → ((a : A) → has_float (say a) ≡ false) → (xs : List A) → items_have_float (items_of (map say xs)) ≡ false
+items_no_float : {A : Type 0} (say : A → Data) → ((a : A) → has_float (say a) ≡ false) → (xs : List A)
+    → items_have_float (items_of (map say xs)) ≡ false
 items_no_float say none [] = refl
 items_no_float say none (x ∷ xs) = rw (none x) (items_no_float say none xs)
 
@@ -29,7 +30,13 @@ running_no_float id None = refl
 running_no_float id (Some x) = refl
 
 info_no_float : (i : Info) → has_float (info_data i) ≡ false
-info_no_float i = rw (params_no_float i.params, items_no_float natural_data (λ n. refl) i.queued.items, items_no_float recur_data (λ m. refl) i.recurring.items, running_no_float i.id i.running) refl
+info_no_float i =
+    rw (
+      params_no_float i.params,
+      items_no_float natural_data (λ n. refl) i.queued.items,
+      items_no_float recur_data (λ m. refl) i.recurring.items,
+      running_no_float i.id i.running,
+    ) refl
 
 request_no_float : (r : Reply) → has_float (request_data r) ≡ false
 request_no_float (reply.Refused e) = refl

@@ -1,4 +1,3 @@
-pub mod NameLemmas
 pub mod FloatLemmas
 pub mod TextLemmas
 pub mod ParamLemmas

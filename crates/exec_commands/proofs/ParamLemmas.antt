@@ -1,5 +1,6 @@
 -- Parameters in order of their names.
-use Rattle.std.proofs.Common.{◌≡◌, ℕ, zero, suc, ◌+◌, ◌<◌, Bool, true, false, ◌&&◌, List, [], ◌∷◌, length, take, get_or, Option, Some, None, Ok, Err, leb, refl, ap, ◌∙◌, add-one, arith}
+use Rattle.std.proofs.Common.{◌≡◌, ℕ, zero, suc, ◌+◌, ◌<◌, true, false, ◌&&◌, List, [], ◌∷◌, length, take, get_or, Option, Some, None}
+use Rattle.std.proofs.Common.{Ok, Err, leb, refl, ap, ◌∙◌, add-one, arith}
 use Rattle.std.specs.List.{list_all}
 use Rattle.std.specs.Ordering.{nat_cmp, ordering_reverse}
 use Rattle.std.specs.Cmp.Lexicographic.{slice_cmp}
@@ -11,17 +12,19 @@ use Rattle.serde_json.specs.Data.{string, no_members, member, put}
 use Rattle.ocf_types.specs.Names.{is_param_name}
 use Rattle.ocf_types.specs.Values.{is_param_value}
 use Rattle.ocf_types.specs.Params.{ParamList, is_before, is_after, are_params_after, AreParams, last_name}
-use Rattle.ocf_types.specs.Laws.{before_trans, both, less_is}
+use Rattle.ocf_types.specs.Laws.{and_false, before_trans, both, less_is}
 use Rattle.ocf_types.specs.declared.refusal.Refusal.TheVariants.{BadValue}
 use Rattle.exec_commands.specs.Keys.{TextPair, text_pair, texts_seen, are_ascending}
 use Rattle.exec_commands.specs.Values.{are_names, valued_params}
 use Rattle.exec_commands.specs.Objects.{param_members}
 
-after_from : (last : Option (List ℕ)) (ms : List TextPair) (i : ℕ) (d : TextPair) → i < length ms → are_ascending last (texts_seen ms) ≡ true
+after_from : (last : Option (List ℕ)) (ms : List TextPair) (i : ℕ) (d : TextPair) → i < length ms
+    → are_ascending last (texts_seen ms) ≡ true
     → is_after (last_name last (texts_seen (take i ms))) (get_or ms i d).0.now ≡ true
 after_from last [] i d h sorted = absurd (omega arith)
 after_from last (m ∷ ms) zero d h sorted = (both (is_after last m.0.now) (are_ascending (Some m.0.now) (texts_seen ms)) sorted).0
-after_from last (m ∷ ms) (suc i) d h sorted = after_from (Some m.0.now) ms i d (omega arith) (both (is_after last m.0.now) (are_ascending (Some m.0.now) (texts_seen ms)) sorted).1
+after_from last (m ∷ ms) (suc i) d h sorted =
+    after_from (Some m.0.now) ms i d (omega arith) (both (is_after last m.0.now) (are_ascending (Some m.0.now) (texts_seen ms)) sorted).1
 
 -- a member's name comes after those before it
 pub after_at : (ms : List TextPair) (i : ℕ) (d : TextPair) → i < length ms → are_ascending None (texts_seen ms) ≡ true
@@ -34,22 +37,21 @@ names_seen [] = refl
 names_seen (m ∷ ms) = rw (names_seen ms) refl
 
 -- each name is one where all are
-pub name_at : (ms : List TextPair) (i : ℕ) (d : TextPair) → i < length ms → are_names (texts_seen ms) ≡ true → is_param_name (get_or ms i d).0.now ≡ true
+pub name_at : (ms : List TextPair) (i : ℕ) (d : TextPair) → i < length ms → are_names (texts_seen ms) ≡ true
+    → is_param_name (get_or ms i d).0.now ≡ true
 name_at [] i d h all = absurd (omega arith)
 name_at (m ∷ ms) zero d h all = (both (is_param_name m.0.now) (are_names (texts_seen ms)) all).0
 name_at (m ∷ ms) (suc i) d h all = name_at ms i d (omega arith) (both (is_param_name m.0.now) (are_names (texts_seen ms)) all).1
 
-and_false : (b : Bool) → (b && false) ≡ false
-and_false true = refl
-and_false false = refl
-
-no_value : (ms : List TextPair) (i : ℕ) (d : TextPair) → i < length ms → is_param_value (get_or ms i d).1.now ≡ false → list_all (λ p. is_param_value p.1) (texts_seen ms) ≡ false
+no_value : (ms : List TextPair) (i : ℕ) (d : TextPair) → i < length ms → is_param_value (get_or ms i d).1.now ≡ false
+    → list_all (λ p. is_param_value p.1) (texts_seen ms) ≡ false
 no_value [] i d h bad = absurd (omega arith)
 no_value (m ∷ ms) zero d h bad = rw bad refl
 no_value (m ∷ ms) (suc i) d h bad = rw (no_value ms i d (omega arith) bad) (and_false (is_param_value m.1.now))
 
 -- a text that is no value
-pub bad_value : (ms : List TextPair) (i : ℕ) (d : TextPair) → i < length ms → is_param_value (get_or ms i d).1.now ≡ false → valued_params (texts_seen ms) ≡ Err BadValue
+pub bad_value : (ms : List TextPair) (i : ℕ) (d : TextPair) → i < length ms → is_param_value (get_or ms i d).1.now ≡ false
+    → valued_params (texts_seen ms) ≡ Err BadValue
 bad_value ms i d h bad = rw (no_value ms i d h bad, and_false (leb (length (texts_seen ms)) 64)) refl
 
 -- more than 64
@@ -74,24 +76,28 @@ valued ps h =
 greater : (a b : List ℕ) → is_before a b ≡ true → slice_cmp nat_cmp b a ≡ Greater
 greater a b h = nat_list_cmp_total.antisymm b a ∙ ap ordering_reverse (less_is _ h)
 
-first_before : (first : List ℕ) (es : ParamList) (i : ℕ) (e : List ℕ × List ℕ) → i < length es → e ≡ get_or es i e → are_params_after (Some first) es ≡ true → is_before first e.0 ≡ true
+first_before : (first : List ℕ) (es : ParamList) (i : ℕ) (e : List ℕ × List ℕ) → i < length es → e ≡ get_or es i e
+    → are_params_after (Some first) es ≡ true → is_before first e.0 ≡ true
 first_before first [] i e h is sorted = absurd (omega arith)
 first_before first (q ∷ es) i e h is sorted =
     let s = both (is_before first q.0 && is_param_name q.0 && is_param_value q.1) (are_params_after (Some q.0) es) sorted in
     let f = both (is_before first q.0) (is_param_name q.0) (both (is_before first q.0 && is_param_name q.0) (is_param_value q.1) s.0).0 in
     by i h is f.0 (λ j short same. before_trans first q.0 e.0 f.0 (first_before q.0 es j e short same s.1))
   where
-    by : (i : ℕ) → i < length (q ∷ es) → e ≡ get_or (q ∷ es) i e → is_before first q.0 ≡ true → ((j : ℕ) → j < length es → e ≡ get_or es j e → is_before first e.0 ≡ true) → is_before first e.0 ≡ true
+    by : (i : ℕ) → i < length (q ∷ es) → e ≡ get_or (q ∷ es) i e → is_before first q.0 ≡ true
+        → ((j : ℕ) → j < length es → e ≡ get_or es j e → is_before first e.0 ≡ true) → is_before first e.0 ≡ true
     by zero h is here later = ap (λ (x : List ℕ × List ℕ). is_before first x.0) is ∙ here
     by (suc i) h is here later = later i (omega arith) is
 
-put_from : (last : Option (List ℕ)) (es : ParamList) (i : ℕ) (e : List ℕ × List ℕ) → i < length es → e ≡ get_or es i e → are_params_after last es ≡ true
+put_from : (last : Option (List ℕ)) (es : ParamList) (i : ℕ) (e : List ℕ × List ℕ) → i < length es → e ≡ get_or es i e
+    → are_params_after last es ≡ true
     → put e.0 (string e.1) (param_members (take i es)) ≡ param_members (take (suc i) es)
 put_from last [] i e h is sorted = absurd (omega arith)
 put_from last (q ∷ es) zero e h is sorted = ap (λ (x : List ℕ × List ℕ). member x.0 (string x.1) no_members) is
 put_from last (q ∷ es) (suc i) e h is sorted =
     let s = both (is_after last q.0 && is_param_name q.0 && is_param_value q.1) (are_params_after (Some q.0) es) sorted in
-    rw (greater q.0 e.0 (first_before q.0 es i e (omega arith) is s.1)) (ap (member q.0 (string q.1)) (put_from (Some q.0) es i e (omega arith) is s.1))
+    rw (greater q.0 e.0 (first_before q.0 es i e (omega arith) is s.1))
+    (ap (member q.0 (string q.1)) (put_from (Some q.0) es i e (omega arith) is s.1))
 
 -- a parameter that comes after those before it goes last into an object
 pub put_next : (es : ParamList) (i : ℕ) (e : List ℕ × List ℕ) → i < length es → e ≡ get_or es i e → AreParams es

@@ -73,7 +73,8 @@ abbrev pub length_data : List ℕ → Data
 length_data metadata = object_from ((codes "meta", natural_data (length metadata)) ∷ [])
 
 abbrev pub refusal_data : Refusal → Data
-refusal_data refusal = object_from ((codes "error", string (refusal_row refusal).1) ∷ (codes "number", natural_data (refusal_row refusal).0) ∷ [])
+refusal_data refusal =
+    object_from ((codes "error", string (refusal_row refusal).1) ∷ (codes "number", natural_data (refusal_row refusal).0) ∷ [])
 
 abbrev pub done_data : Data
 done_data = object_from ((codes "ok", boolean true) ∷ [])

@@ -5,7 +5,7 @@ ghost use Rattle.std.specs.Str.{IsAscii};
 use ocf_types::{AgentType, ParamName, Provider, RscId};
 use std::str::from_utf8;
 
-#[tactic(auto, using(crate::proofs::NameLemmas::texts))]
+#[tactic(auto, using(ocf_types::specs::NameLaws::texts))]
 fn ascii(bytes: &[u8]) -> &str
     requires { IsAscii bytes.now }
     ensures { result.now ≡ bytes.now }
@@ -17,7 +17,7 @@ fn ascii(bytes: &[u8]) -> &str
 }
 
 /// The text of an id.
-#[tactic(auto, using(crate::proofs::NameLemmas::ids))]
+#[tactic(auto, using(ocf_types::specs::NameLaws::ids))]
 pub fn id_text(id: &RscId) -> &str
     ensures { result.now ≡ id.now }
 {
@@ -25,7 +25,7 @@ pub fn id_text(id: &RscId) -> &str
 }
 
 /// The text of a provider.
-#[tactic(auto, using(crate::proofs::NameLemmas::providers))]
+#[tactic(auto, using(ocf_types::specs::NameLaws::providers))]
 pub fn provider_text(provider: &Provider) -> &str
     ensures { result.now ≡ provider.now }
 {
@@ -33,7 +33,7 @@ pub fn provider_text(provider: &Provider) -> &str
 }
 
 /// The text of an agent's type.
-#[tactic(auto, using(crate::proofs::NameLemmas::agent_types))]
+#[tactic(auto, using(ocf_types::specs::NameLaws::agent_types))]
 pub fn agent_text(agent: &AgentType) -> &str
     ensures { result.now ≡ agent.now }
 {
@@ -41,7 +41,7 @@ pub fn agent_text(agent: &AgentType) -> &str
 }
 
 /// The text of a parameter's name.
-#[tactic(auto, using(crate::proofs::NameLemmas::param_names))]
+#[tactic(auto, using(ocf_types::specs::NameLaws::param_names))]
 pub fn param_text(name: &ParamName) -> &str
     ensures { result.now ≡ name.now }
 {

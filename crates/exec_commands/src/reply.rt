@@ -1,9 +1,10 @@
 //! Replies and notices, written as lines.
-ghost use Rattle.std.specs.Prelude.{◌≡◌, ◌++◌, ◌∷◌, [], false, length, map, IfOk, OnOk};
+ghost use Rattle.std.specs.Prelude.{◌≡◌, ◌++◌, ◌∷◌, [], false, map, IfOk, OnOk};
 ghost use Rattle.serde_json.specs.Data.{string};
 ghost use Rattle.serde_json.specs.View.{view};
 ghost use Rattle.serde_json.specs.Written.{compact_text, has_float};
-ghost use Rattle.exec_commands.specs.Replies.{refusal_data, done_data, accepted_data, list_data, history_data, length_data, request_data, reply_data, reply_line, behind, notice_line};
+ghost use Rattle.exec_commands.specs.Replies.{refusal_data, done_data, accepted_data, list_data, history_data, length_data, request_data};
+ghost use Rattle.exec_commands.specs.Replies.{reply_data, reply_line, behind, notice_line};
 
 use crate::ends::{DrainEnd, drain_word, end_value, fault_value, tidy_word, turn_word};
 use crate::info::info_value;

@@ -4,9 +4,11 @@ use lib.Seq.{take-append-add}
 use Rattle.std.proofs.lemmas.List.{take_min}
 
 -- what is appended is cut where the room ends
-pub appended : (old part new : List ℕ) (n : ℕ) → length old ≤ 131073 → n ≡ min (length part) (131073 - length old) → new ≡ old ++ take n part → new ≡ take 131073 (old ++ part)
+pub appended : (old part new : List ℕ) (n : ℕ) → length old ≤ 131073 → n ≡ min (length part) (131073 - length old)
+    → new ≡ old ++ take n part → new ≡ take 131073 (old ++ part)
 appended old part new n fits is grown =
     let room = 131073 - length old in
     let same : n ≡ min room (length part) = omega (arith, is) in
     let total : length old + room ≡ 131073 = omega (arith, fits) in
-    grown ∙ ap (λ l. old ++ l) (ap (λ k. take k part) same ∙ take_min room part) ∙ sym (take-append-add old part room) ∙ ap (λ k. take k (old ++ part)) total
+    grown ∙ ap (λ l. old ++ l) (ap (λ k. take k part) same ∙ take_min room part) ∙ sym (take-append-add old part room)
+    ∙ ap (λ k. take k (old ++ part)) total

@@ -1,5 +1,8 @@
 -- Lines as reads bring them, piece by piece.
-use Rattle.std.proofs.Common.{◌≡◌, ◌≢◌, ℕ, ◌+◌, ◌<◌, ◌≤◌, Bool, true, false, not, cond, List, [], ◌∷◌, ◌++◌, All, Option, Some, None, Result, Ok, IfSome, length, take, drop, get_or, refl, sym, ap, subst, ◌∙◌, arith, zero-add, append_assoc, append-nil, length-append, length-take-le, get_or-take, take_all, take-take, drop_of_length-le, eq-eqb, ne_eqb, nat_le, if◌then◌else◌, min, true≢false}
+use Rattle.std.proofs.Common.{◌≡◌, ◌≢◌, ℕ, ◌+◌, ◌<◌, ◌≤◌, Bool, true, false, not, cond, List, [], ◌∷◌, ◌++◌, All, Option, Some, None}
+use Rattle.std.proofs.Common.{Result, Ok, IfSome, length, take, drop, get_or, refl, sym, ap, subst, ◌∙◌, arith, zero-add, append_assoc}
+use Rattle.std.proofs.Common.{append-nil, length-append, length-take-le, get_or-take, take_all, take-take, drop_of_length-le, eq-eqb}
+use Rattle.std.proofs.Common.{ne_eqb, nat_le, if◌then◌else◌, min, true≢false}
 use lib.Seq.{take-append_seam, drop-append_seam}
 use Rattle.std.proofs.lemmas.Bool.{leb-true, leb-false, le-leb, lt-leb}
 use Rattle.std.proofs.lemmas.List.{length-take, take-append-le}
@@ -43,12 +46,14 @@ line-ended d z h =
     let joined : d ++ 10 ∷ z ≡ (d ++ 10 ∷ []) ++ z = sym (append_assoc d (10 ∷ []) z) in
     let long : length d + 1 ≡ length (d ++ 10 ∷ []) = omega (arith, length-append d (10 ∷ [])) in (
       ap (λ n. take n (d ++ 10 ∷ z)) place ∙ take-append_seam d (10 ∷ z),
-      ap (λ n. drop (n + 1) (d ++ 10 ∷ z)) place ∙ ap (drop (length d + 1)) joined ∙ ap (λ n. drop n ((d ++ 10 ∷ []) ++ z)) long ∙ drop-append_seam (d ++ 10 ∷ []) z,
+      ap (λ n. drop (n + 1) (d ++ 10 ∷ z)) place ∙ ap (drop (length d + 1)) joined ∙ ap (λ n. drop n ((d ++ 10 ∷ []) ++ z)) long
+          ∙ drop-append_seam (d ++ 10 ∷ []) z,
     )
 
 pub line-unended : (d : List ℕ) → NoNewline d → (first_line d ≡ d) × (after_first_line d ≡ [])
 line-unended d h =
-    let place : position_or_len is_newline d ≡ length d = sym (ap (position_or_len is_newline) (append-nil d)) ∙ place-append d [] h ∙ omega arith in (
+    let place : position_or_len is_newline d ≡ length d = sym (ap (position_or_len is_newline) (append-nil d)) ∙ place-append d [] h
+    ∙ omega arith in (
       ap (λ n. take n d) place ∙ take_all (length d) d (omega arith),
       ap (λ n. drop (n + 1) d) place ∙ drop_of_length-le d (omega arith),
     )
@@ -58,7 +63,8 @@ abbrev pub HasRead : Option (List ℕ) → Option (List ℕ) → List ℕ → Ty
 HasRead a c d = IfSome a (λ xs. (0 < length xs) × (first_line xs ≡ d) × (c ≡ Some (after_first_line xs)))
 
 -- reads without a newline, and then one with the newline
-pub read-ended : (a b c : Option (List ℕ)) (done part : List ℕ) → Consumes a b done → NoNewline done → Consumes b c (part ++ 10 ∷ []) → NoNewline part → HasRead a c (done ++ part)
+pub read-ended : (a b c : Option (List ℕ)) (done part : List ℕ) → Consumes a b done → NoNewline done → Consumes b c (part ++ 10 ∷ [])
+    → NoNewline part → HasRead a c (done ++ part)
 read-ended None b c done part p all q last = tt
 read-ended (Some x) None c done part p all q last = absurd p
 read-ended (Some x) (Some y) None done part p all q last = absurd q
@@ -73,7 +79,8 @@ read-ended (Some x) (Some y) (Some z) done part p all q last =
     )
 
 -- reads without a newline up to the end
-pub read-unended : (a b c : Option (List ℕ)) (done : List ℕ) → Consumes a b done → NoNewline done → IsAtEnd b → Consumes b c [] → 0 < length done → HasRead a c done
+pub read-unended : (a b c : Option (List ℕ)) (done : List ℕ) → Consumes a b done → NoNewline done → IsAtEnd b → Consumes b c []
+    → 0 < length done → HasRead a c done
 read-unended None b c done p all end q some = tt
 read-unended (Some x) None c done p all end q some = absurd p
 read-unended (Some x) (Some y) None done p all end q some = absurd q
@@ -86,7 +93,8 @@ read-unended (Some x) (Some y) (Some z) done p all end q some =
     )
 
 -- nothing was read before the end
-pub read-none : (a b c : Option (List ℕ)) (done : List ℕ) → Consumes a b done → IsAtEnd b → Consumes b c [] → length done ≡ 0 → IfSome a (λ xs. (xs ≡ []) × (c ≡ Some []))
+pub read-none : (a b c : Option (List ℕ)) (done : List ℕ) → Consumes a b done → IsAtEnd b → Consumes b c [] → length done ≡ 0
+    → IfSome a (λ xs. (xs ≡ []) × (c ≡ Some []))
 read-none None b c done p end q none = tt
 read-none (Some x) None c done p end q none = absurd p
 read-none (Some x) (Some y) None done p end q none = absurd q
@@ -94,7 +102,8 @@ read-none (Some x) (Some y) (Some z) [] p end q none = (p ∙ end, ap Some (sym 
 read-none (Some x) (Some y) (Some z) (d ∷ ds) p end q none = absurd (omega arith)
 
 -- what is kept of more is what is kept of all
-pub kept-more : (done part old items : List ℕ) → old ≡ take 131073 done → items ≡ take 131073 (old ++ part) → items ≡ take 131073 (done ++ part)
+pub kept-more : (done part old items : List ℕ) → old ≡ take 131073 done → items ≡ take 131073 (old ++ part)
+    → items ≡ take 131073 (done ++ part)
 kept-more done part old items before after = after ∙ ap (λ l. take 131073 (l ++ part)) before ∙ at (nat_le (length done) 131073) refl
   where
     at : (b : Bool) → nat_le (length done) 131073 ≡ b → take 131073 (take 131073 done ++ part) ≡ take 131073 (done ++ part)
@@ -102,7 +111,8 @@ kept-more done part old items before after = after ∙ ap (λ l. take 131073 (l 
     at false f =
         let lt : 131073 < length done = leb-false _ _ f in
         let long = length-take-le 131073 done (omega (arith, lt)) in
-        take-append-le 131073 (take 131073 done) part (omega (arith, long)) ∙ take-take 131073 131073 done (omega arith) ∙ sym (take-append-le 131073 done part (omega (arith, lt)))
+        take-append-le 131073 (take 131073 done) part (omega (arith, long)) ∙ take-take 131073 131073 done (omega arith)
+        ∙ sym (take-append-le 131073 done part (omega (arith, lt)))
 
 -- what is kept of a line has no newline either
 pub kept-none : (line items : List ℕ) → items ≡ take 131073 line → NoNewline line → NoNewline items
@@ -113,7 +123,8 @@ next_of-some [] some = absurd (omega arith)
 next_of-some (x ∷ xs) some = refl
 
 -- a line of which just what there is room for was kept
-pub kept-whole : (line items : List ℕ) → items ≡ take 131073 line → (length items ≡ 131073 → 131072 < length line) × (length items ≢ 131073 → length line ≤ 131072)
+pub kept-whole : (line items : List ℕ) → items ≡ take 131073 line
+    → (length items ≡ 131073 → 131072 < length line) × (length items ≢ 131073 → length line ≤ 131072)
 kept-whole line items e =
     let long : length items ≡ min 131073 (length line) = ap length e ∙ length-take 131073 line in
     (λ full. omega (arith, full, long), λ more. omega (arith, more, long))
@@ -138,7 +149,8 @@ some_answer Part line some = refl
 some_answer Last line some = refl
 
 -- nothing was kept, and the input ended
-pub answer-none : (piece : Piece) (line items : List ℕ) → items ≡ take 131073 line → piece ≡ Nothing → items ≡ [] → End ≡ answer_at piece line
+pub answer-none : (piece : Piece) (line items : List ℕ) → items ≡ take 131073 line → piece ≡ Nothing → items ≡ []
+    → End ≡ answer_at piece line
 answer-none piece line items kept end none = at line (ap length none ∙ refl) kept ∙ ap (λ p. answer_at p line) (sym end)
   where
     at : (l : List ℕ) → length items ≡ 0 → items ≡ take 131073 l → End ≡ answer_at Nothing l
@@ -152,7 +164,8 @@ answer-full piece line items kept full =
     answer-long line long ∙ sym (some_answer piece line (omega (arith, long)))
 
 -- there is room left, and a line
-pub answer-line : (piece : Piece) (line items : List ℕ) → items ≡ take 131073 line → length items ≢ 131073 → ((piece ≡ Nothing) × (items ≡ []) → ⊥) → Line ≡ answer_at piece line
+pub answer-line : (piece : Piece) (line items : List ℕ) → items ≡ take 131073 line → length items ≢ 131073
+    → ((piece ≡ Nothing) × (items ≡ []) → ⊥) → Line ≡ answer_at piece line
 answer-line Part line items kept more some = answer-fits line ((kept-whole line items kept).1 more)
 answer-line Last line items kept more some = answer-fits line ((kept-whole line items kept).1 more)
 answer-line Nothing [] items kept more some = absurd (some (refl, kept))
@@ -173,7 +186,8 @@ kept-line d items n kept is line =
     let same : items ≡ d = kept ∙ take_all 131073 d (omega (arith, short)) in
     (same, omega (arith, ap length same, short))
 
-whole : (a c : Option (List ℕ)) (d items : List ℕ) (n : Next) → HasRead a c d → NoNewline d → items ≡ take 131073 d → n ≡ line_answer d → Clauses a c items n
+whole : (a c : Option (List ℕ)) (d items : List ℕ) (n : Next) → HasRead a c d → NoNewline d → items ≡ take 131073 d → n ≡ line_answer d
+    → Clauses a c items n
 whole None c d items n read none kept is =
     record { answer = tt; line = tt; rest = tt; without = kept-none d items kept none; fits = λ e. (kept-line d items n kept is e).1 }
 whole (Some xs) c d items n read none kept is =
@@ -186,7 +200,8 @@ whole (Some xs) c d items n read none kept is =
     }
 
 -- the input ended before a line began
-ended : (a c : Option (List ℕ)) (items : List ℕ) (n : Next) → IfSome a (λ xs. (xs ≡ []) × (c ≡ Some [])) → items ≡ [] → n ≡ End → Clauses a c items n
+ended : (a c : Option (List ℕ)) (items : List ℕ) (n : Next) → IfSome a (λ xs. (xs ≡ []) × (c ≡ Some [])) → items ≡ [] → n ≡ End
+    → Clauses a c items n
 ended None c items n read none is =
     record { answer = tt; line = tt; rest = tt; without = subst NoNewline (sym none) (All-nil (λ b. b ≢ 10)); fits = λ e. absurd cc }
 ended (Some xs) c items n read none is =
@@ -199,20 +214,24 @@ ended (Some xs) c items n read none is =
     }
 
 -- reads without a newline, and then one that ended the line
-pub clauses : (E : Type 0) (a b c : Option (List ℕ)) (done part items : List ℕ) (p : Piece) (n : Next) → Consumes a b done → NoNewline done → Reads {E = E} b c part (Ok p) → NoNewline part
+pub clauses : (E : Type 0) (a b c : Option (List ℕ)) (done part items : List ℕ) (p : Piece) (n : Next) → Consumes a b done → NoNewline done
+    → Reads {E = E} b c part (Ok p) → NoNewline part
     → p ≢ Part → items ≡ take 131073 (done ++ part) → n ≡ answer_at p (done ++ part) → Clauses a c items n
 clauses E a b c done part items Part n read none reads none' ends kept is = absurd (ends refl)
 clauses E a b c done part items Last n read none reads none' ends kept is =
-    whole a c (done ++ part) items n (read-ended a b c done part read none reads none') (All-append (λ b. b ≢ 10) done part none none') kept is
+    whole a c (done ++ part) items n (read-ended a b c done part read none reads none')
+    (All-append (λ b. b ≢ 10) done part none none') kept is
 clauses E a b c done part items Nothing n read none reads none' ends kept is =
     let empty = reads.1 in
     let all : done ++ part ≡ done = ap (λ l. done ++ l) empty ∙ append-nil done in
     let last : Consumes b c [] = subst (Consumes b c) empty reads.0 in
     at done read none reads.2 last (kept ∙ ap (take 131073) all) (is ∙ ap (answer_at Nothing) all)
   where
-    at : (d : List ℕ) → Consumes a b d → NoNewline d → IsAtEnd b → Consumes b c [] → items ≡ take 131073 d → n ≡ answer_at Nothing d → Clauses a c items n
+    at : (d : List ℕ) → Consumes a b d → NoNewline d → IsAtEnd b → Consumes b c [] → items ≡ take 131073 d → n ≡ answer_at Nothing d
+        → Clauses a c items n
     at [] read none end last kept is = ended a c items n (read-none a b c [] read end last refl) kept is
-    at (x ∷ xs) read none end last kept is = whole a c (x ∷ xs) items n (read-unended a b c (x ∷ xs) read none end last (omega arith)) none kept is
+    at (x ∷ xs) read none end last kept is =
+        whole a c (x ∷ xs) items n (read-unended a b c (x ∷ xs) read none end last (omega arith)) none kept is
 
 pub ok_is : {E : Type 0} {n : Next} → ◌≡◌ {A = Result Next E} (Ok n) (Ok Line) → n ≡ Line
 ok_is e = cc

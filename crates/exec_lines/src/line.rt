@@ -1,11 +1,12 @@
 //! Lines of input, read in bounded memory.
-ghost use Rattle.std.specs.Prelude.{◌≡◌, ◌≢◌, ◌↔◌, ◌≤◌, ◌+◌, ℕ, List, [], ◌++◌, All, IsTrue, IfSome, IfOk, IfErr, OnOk, OnErr, Some, Ok, length, take};
+ghost use Rattle.std.specs.Prelude.{◌≡◌, ◌≢◌, ◌↔◌, ◌≤◌, ℕ, List, [], ◌++◌, All, IsTrue, IfSome, IfOk, IfErr, OnOk, OnErr, Some, Ok};
+ghost use Rattle.std.specs.Prelude.{length, take};
 ghost use Rattle.std.specs.List.{position_or_len};
 ghost use Rattle.std.specs.IoError.{error_kind};
 ghost use Rattle.std.specs.Io.KnownBytes.{Consumes};
 ghost use Rattle.ocf_types.specs.Limits.{line_limit};
 ghost use Rattle.exec_lines.specs.Buffer.{line_bytes};
-ghost use Rattle.exec_lines.specs.Lines.{is_newline, first_line, after_first_line, line_answer, line_room, next_of};
+ghost use Rattle.exec_lines.specs.Lines.{is_newline, first_line, after_first_line, line_room, next_of};
 ghost use Rattle.exec_lines.specs.Pieces.{answer_at, newline_count, piece_of, Reads};
 
 use crate::buffer::LineBuffer;

@@ -1,5 +1,5 @@
 //! Moments of the system's clock.
-ghost use Rattle.std.specs.Prelude.{◌≡◌, ◌/◌, min};
+ghost use Rattle.std.specs.Prelude.{◌≡◌, min};
 ghost use Rattle.exec_lines.specs.Clock.{millis_of};
 
 use ocf_types::Moment;

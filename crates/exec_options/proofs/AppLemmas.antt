@@ -1,36 +1,35 @@
 -- What adding arguments and subcommands leaves, and what a parse met.
-use Rattle.std.proofs.Common.{◌≡◌, Bool, true, false, ◌||◌, List, Option, Some, None, option_map, refl, ap, ap₂, ◌∙◌, sym}
-use Rattle.clap.specs.Words.{App, Row, Rule, Text, AddsArg, AddsSubcommand, app_of, rule_of, subcommand_rows_of, subcommand_name_of, with_rule, with_subcommand}
+use Rattle.std.proofs.Common.{◌≡◌, Bool, false, ◌||◌, List, Option, Some, None, option_map, refl, ap, ap₂, ◌∙◌, sym}
+use Rattle.std.proofs.Math.Bool.{or-false}
+use Rattle.std.proofs.lemmas.Option.{none-some}
+use Rattle.clap.specs.Words.{App, Row, Rule, Text, AddsArg, AddsSubcommand, app_of, rule_of, subcommand_rows_of, subcommand_name_of}
+use Rattle.clap.specs.Words.{with_rule, with_subcommand}
 use Rattle.clap.specs.declared.builder.command.Command.{Command}
 use Rattle.clap.specs.declared.builder.command.Command.TheViews.{out-Command}
 use Rattle.clap.specs.declared.builder.arg.Arg.{Arg}
 use Rattle.clap.specs.declared.parser.matches.ArgMatches.{ArgMatches}
+use Rattle.ocf_types.specs.Laws.{some_is}
 use Rattle.clap.specs.declared.parser.matches.ArgMatches.TheViews.{out-ArgMatches}
 
-pub app-arg : (old : Command) (a : Arg) (new : Command) (r : Rule) (app : App) → AddsArg old a new → a.global ≡ false → rule_of a ≡ r → app_of old ≡ app → app_of new ≡ with_rule app r
+pub app-arg : (old : Command) (a : Arg) (new : Command) (r : Rule) (app : App) → AddsArg old a new → a.global ≡ false → rule_of a ≡ r
+    → app_of old ≡ app → app_of new ≡ with_rule app r
 app-arg old a new r app h l e f = h.shape l ∙ ap₂ with_rule f e
 
-or_false : (b : Bool) → (b || false) ≡ b
-or_false true = refl
-or_false false = refl
+pub local-arg : (old : Command) (a : Arg) (new : Command) (g : Bool) → AddsArg old a new → a.global ≡ false
+    → (out-Command old).has_globals ≡ g → (out-Command new).has_globals ≡ g
+local-arg old a new g h l f = h.globals ∙ ap₂ (λ x y. x || y) f l ∙ or-false g
 
-pub local-arg : (old : Command) (a : Arg) (new : Command) (g : Bool) → AddsArg old a new → a.global ≡ false → (out-Command old).has_globals ≡ g → (out-Command new).has_globals ≡ g
-local-arg old a new g h l f = h.globals ∙ ap₂ (λ x y. x || y) f l ∙ or_false g
-
-pub app-sub : (old sub new : Command) (app s : App) → AddsSubcommand old sub new → (out-Command sub).has_globals ≡ false → app_of sub ≡ s → app_of old ≡ app → app_of new ≡ with_subcommand app s.top
+pub app-sub : (old sub new : Command) (app s : App) → AddsSubcommand old sub new → (out-Command sub).has_globals ≡ false → app_of sub ≡ s
+    → app_of old ≡ app → app_of new ≡ with_subcommand app s.top
 app-sub old sub new app s h l e f = h.shape l ∙ ap₂ with_subcommand f (ap (λ (a : App). a.top) e)
 
-pub both_parts : {A B : Type 0} (o : Option (A × B)) (a : A) (b : B) → Some a ≡ option_map (λ p. p.0) o → Some b ≡ option_map (λ p. p.1) o → o ≡ Some (a, b)
-both_parts None a b e f = absurd (none_some e)
-  where
-    none_some : {X : Type 0} {x : X} → Some x ≡ None → ⊥
-    none_some e = cc
-both_parts (Some p) a b e f = sym (ap₂ (λ x y. Some (x, y)) (some_is e) (some_is f))
-  where
-    some_is : {X : Type 0} {x y : X} → Some x ≡ Some y → x ≡ y
-    some_is e = cc
+pub both_parts : {A B : Type 0} (o : Option (A × B)) (a : A) (b : B) → Some a ≡ option_map (λ p. p.0) o → Some b ≡ option_map (λ p. p.1) o
+    → o ≡ Some (a, b)
+both_parts None a b e f = absurd (none-some a (sym e))
+both_parts (Some p) a b e f = sym (ap₂ (λ x y. Some (x, y)) (some_is _ _ e) (some_is _ _ f))
 
-first_part : {A X Y : Type 0} (f : A → X) (g : A → Y) (o : Option A) → option_map f o ≡ option_map (λ (p : X × Y). p.0) (option_map (λ a. (f a, g a)) o)
+first_part : {A X Y : Type 0} (f : A → X) (g : A → Y) (o : Option A)
+    → option_map f o ≡ option_map (λ (p : X × Y). p.0) (option_map (λ a. (f a, g a)) o)
 first_part f g None = refl
 first_part f g (Some a) = refl
 

@@ -1,6 +1,7 @@
 -- What a parse of the command line's words met, and words that give no options.
 use Rattle.std.proofs.Common.{◌≡◌, ◌≢◌, ℕ, Bool, true, false, not, is_some, List, Some, option_map, ap, subst, ◌∙◌, sym, codes}
-use Rattle.clap.specs.Words.{Row, Text, app_of, fault_of, first_of, is_simple, is_simple_and_free, subcommand_name_of, subcommand_of, subcommand_rows_of, HasMatchesOf, Kinds}
+use Rattle.clap.specs.Words.{Row, Text, app_of, fault_of, first_of, is_simple, is_simple_and_free, subcommand_name_of, subcommand_of}
+use Rattle.clap.specs.Words.{subcommand_rows_of, HasMatchesOf, Kinds}
 use Rattle.clap.specs.declared.builder.command.Command.{Command}
 use Rattle.clap.specs.declared.parser.matches.ArgMatches.{ArgMatches}
 use Rattle.exec_options.specs.declared.options.Subcommand.{Subcommand}
@@ -10,11 +11,14 @@ use Rattle.exec_options.specs.App.{ocfexec_app}
 use Rattle.exec_options.specs.Faults.{HasFaultKind, IsFault, NamesNoNumber}
 use Rattle.exec_options.specs.Subcommands.{subcommand_word}
 use Rattle.exec_options.specs.Words.{is_true_text, tidy_text, IsChoice, IsTidyAt, Names}
+use Rattle.ocf_types.specs.Laws.{some_is}
 use Rattle.exec_options.proofs.AppLemmas.{both_parts, name_in_rows}
 
 -- the subcommand that a parse met is the one that the words name
-pub met : (command : Command) (words : List Text) (m : ArgMatches) (name : Text) (rows : List Row) → app_of command ≡ ocfexec_app → HasMatchesOf (app_of command) words m
-    → Some name ≡ subcommand_name_of m → Some rows ≡ option_map (λ p. p.1) (subcommand_rows_of m) → subcommand_of ocfexec_app words ≡ Some (name, rows)
+pub met : (command : Command) (words : List Text) (m : ArgMatches) (name : Text) (rows : List Row) → app_of command ≡ ocfexec_app
+    → HasMatchesOf (app_of command) words m
+    → Some name ≡ subcommand_name_of m → Some rows ≡ option_map (λ p. p.1) (subcommand_rows_of m)
+    → subcommand_of ocfexec_app words ≡ Some (name, rows)
 met command words m name rows app matches is_name are_rows =
     let same : subcommand_rows_of m ≡ subcommand_of (app_of command) words = (matches (ap is_simple app)).1 in
     sym (ap (λ a. subcommand_of a words) app) ∙ sym same ∙ both_parts (subcommand_rows_of m) name rows (is_name ∙ name_in_rows m) are_rows
@@ -24,13 +28,11 @@ pub faults : (command : Command) (words : List Text) (P : Kinds → Type 0) → 
     → (is_simple_and_free (app_of command) ≡ true → P (fault_of (app_of command) words)) → P (fault_of ocfexec_app words)
 faults command words P app holds = subst (λ a. P (fault_of a words)) app (holds (ap is_simple_and_free app))
 
-some_is : {X : Type 0} {x y : X} → Some x ≡ Some y → x ≡ y
-some_is e = cc
-
 -- words that name no subcommand give no options
-pub unnamed : (words : List Text) (name : Text) (rows : List Row) → subcommand_of ocfexec_app words ≡ Some (name, rows) → ((s : Subcommand) → name ≢ subcommand_word s)
+pub unnamed : (words : List Text) (name : Text) (rows : List Row) → subcommand_of ocfexec_app words ≡ Some (name, rows)
+    → ((s : Subcommand) → name ≢ subcommand_word s)
     → (s : Subcommand) (found : List Row) → Names words s found → ¬ IsChoice found
-unnamed words name rows named none s found names choice = none s (ap (λ (p : Text × List Row). p.0) (some_is (sym named ∙ names)))
+unnamed words name rows named none s found names choice = none s (ap (λ (p : Text × List Row). p.0) (some_is _ _ (sym named ∙ names)))
 
 not_self : (b : Bool) → b ≡ not b → ⊥
 not_self true e = cc
@@ -38,13 +40,15 @@ not_self false e = cc
 
 -- words with both or none of `--journal` and `--memory` give no options
 pub unchosen : (words : List Text) (name : Text) (rows : List Row) → subcommand_of ocfexec_app words ≡ Some (name, rows)
-    → is_true_text (first_of (codes "memory") rows) ≡ is_some (first_of (codes "journal") rows) → (s : Subcommand) (found : List Row) → Names words s found → ¬ IsChoice found
+    → is_true_text (first_of (codes "memory") rows) ≡ is_some (first_of (codes "journal") rows) → (s : Subcommand) (found : List Row)
+    → Names words s found → ¬ IsChoice found
 unchosen words name rows named both s found names choice =
-    let same : found ≡ rows = ap (λ (p : Text × List Row). p.1) (some_is (sym names ∙ named)) in
+    let same : found ≡ rows = ap (λ (p : Text × List Row). p.1) (some_is _ _ (sym names ∙ named)) in
     not_self _ (sym both ∙ subst IsChoice same choice)
 
 -- words whose `--tidy-at` is no number give no options
-pub unnumbered : (words : List Text) (name : Text) (rows : List Row) (s : Subcommand) → subcommand_of ocfexec_app words ≡ Some (name, rows) → name ≡ subcommand_word s
+pub unnumbered : (words : List Text) (name : Text) (rows : List Row) (s : Subcommand) → subcommand_of ocfexec_app words ≡ Some (name, rows)
+    → name ≡ subcommand_word s
     → IsChoice rows → ((n : ℕ) → ¬ IsTidyAt (tidy_text rows) n) → NamesNoNumber words
 unnumbered words name rows s named is choice none = (s, rows, named ∙ ap (λ t. Some (t, rows)) is, choice, none)
 

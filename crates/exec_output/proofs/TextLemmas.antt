@@ -1,11 +1,10 @@
 -- What is written, one item after the other.
-use Rattle.std.proofs.Common.{◌≡◌, inl, inr, ℕ, zero, suc, ◌+◌, ◌<◌, List, [], ◌∷◌, ◌++◌, Result, Ok, Err, OnOk, Option, length, map, take, get_or, sym, ap, subst, ◌∙◌, append_assoc, arith}
+use Rattle.std.proofs.Common.{◌≡◌, inl, inr, ℕ, ◌+◌, ◌<◌, List, [], Result, Ok, Err, OnOk, Option, length, map, take}
+use Rattle.std.proofs.Common.{get_or, sym, ap, subst, ◌∙◌}
 use Rattle.std.specs.List.{flat_map}
 use Rattle.std.specs.Io.KnownBytes.{Appends}
 use Rattle.std.proofs.KnownBytes.{Appends-trans}
-use Rattle.std.proofs.lemmas.Grind.{flat_map-append}
-use Rattle.std.proofs.lemmas.List.{append-nil, take_more}
-use Rattle.std.proofs.lemmas.List.Concat.{flat_map-cons}
+use Rattle.ocf_types.specs.Laws.{flat_more}
 use Rattle.ocf_types.specs.Answer.{reply_to}
 use Rattle.ocf_types.specs.Kinds.{Reply}
 use Rattle.ocf_types.specs.State.{State}
@@ -16,29 +15,25 @@ use Rattle.exec_commands.specs.declared.reply.LineReply.TheVariants.{Request}
 use Rattle.exec_commands.specs.Replies.{reply_line}
 use Rattle.exec_output.specs.Shown.{answer_line, resource_lines, shown}
 
-flat_more : {A B : Type 0} (f : A → List B) (xs : List A) (i : ℕ) (x : A) → i < length xs → x ≡ get_or xs i x
-    → flat_map f (take (i + 1) xs) ≡ flat_map f (take i xs) ++ f x
-flat_more f xs i x lt is =
-    let more : take (i + 1) xs ≡ take i xs ++ x ∷ [] = take_more xs i x lt ∙ ap (λ y. take i xs ++ y ∷ []) (sym is) in
-    let one : flat_map f (x ∷ []) ≡ f x = flat_map-cons f x [] ∙ append-nil (f x) in
-    ap (flat_map f) more ∙ flat_map-append f (take i xs) (x ∷ []) ∙ ap (λ t. flat_map f (take i xs) ++ t) one
-
 -- one item more
 pub sends_more : {X : Type 0} (f : X → List ℕ) (xs : List X) (i : ℕ) (x : X) (a b c : Option (List ℕ)) → i < length xs → x ≡ get_or xs i x
     → Appends a b (flat_map f (take i xs)) → Appends b c (f x) → Appends a c (flat_map f (take (i + 1) xs))
-sends_more f xs i x a b c lt is so_far sent = subst (λ bs. Appends a c bs) (sym (flat_more f xs i x lt is)) (Appends-trans a b c _ _ so_far sent)
+sends_more f xs i x a b c lt is so_far sent =
+    subst (λ bs. Appends a c bs) (sym (flat_more f xs i x lt is)) (Appends-trans a b c _ _ so_far sent)
 
 abbrev ids_of : Reply → List (List ℕ)
 ids_of (reply.List ids) = ids
 ids_of _ = []
 
 -- the ids of an answer to `list` are those of the state
-ids_are : (s : State) (ids : List (List ℕ)) (given : Reply) → IsReplyOrMemory (reply_to s question.List) given → given ≡ reply.List ids → ids ≡ map (λ e. e.0) s.resources
+ids_are : (s : State) (ids : List (List ℕ)) (given : Reply) → IsReplyOrMemory (reply_to s question.List) given → given ≡ reply.List ids
+    → ids ≡ map (λ e. e.0) s.resources
 ids_are s ids given (inl same) is = ap ids_of (sym is ∙ same)
 ids_are s ids given (inr memory) is = absurd cc
 
 -- the list, and then the lines of its resources
-pub shows : {A E : Type 0} (s : State) (ids : List (List ℕ)) (given : Reply) (r : Result A E) (a b c : Option (List ℕ)) → IsReplyOrMemory (reply_to s question.List) given → given ≡ reply.List ids
+pub shows : {A E : Type 0} (s : State) (ids : List (List ℕ)) (given : Reply) (r : Result A E) (a b c : Option (List ℕ))
+    → IsReplyOrMemory (reply_to s question.List) given → given ≡ reply.List ids
     → Appends a b (reply_line (Request given)) → OnOk r (Appends b c (flat_map (resource_lines s) ids)) → OnOk r (Appends a c (shown s))
 shows s ids given (Ok x) a b c answer is list rest =
     let same = ids_are s ids given answer is in

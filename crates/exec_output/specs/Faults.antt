@@ -1,5 +1,5 @@
--- The faults that end the program: their exit statuses, and the words of their texts.
-use Rattle.std.specs.Prelude.{ℕ, ⊤, List, Result, Ok, Err, codes}
+-- The faults that end the program: their exit statuses, the words of their texts, and what can be done about them.
+use Rattle.std.specs.Prelude.{ℕ, ⊤, List, Option, Some, None, Result, Ok, Err, codes}
 use Rattle.ocf_types.specs.declared.part.Part.{Part}
 use Rattle.ocf_types.specs.declared.part.Part.TheVariants.{A, B}
 use Rattle.two_parts.specs.declared.damage.Cause.{Cause}
@@ -21,6 +21,20 @@ status_of fault.NotOpened = 5
 status_of fault.Disk = 5
 status_of fault.Full = 6
 status_of fault.InputOrOutput = 7
+
+-- what a person can do about it, where there is more to say than its text
+abbrev pub fault_advice : Fault → Option (List ℕ)
+fault_advice fault.Usage = None
+fault_advice fault.Choice = None
+fault_advice fault.TidyAt = None
+fault_advice fault.NotText = None
+fault_advice fault.NotOpened = None
+fault_advice (fault.Damaged damage) = Some (codes "Nothing was changed. Keep both parts, and begin with a new journal.")
+fault_advice fault.Memory = Some (codes "Free memory or raise the limit of the process, and start it again.")
+fault_advice fault.Disk = Some (codes "Check the device of the journal, its free space and its permissions.")
+fault_advice fault.Full = Some (codes "Nothing was changed. See what it holds by show, and begin with a new journal.")
+fault_advice fault.InputOrOutput =
+    Some (codes "Check what standard input and output are connected to. A command without a reply may be recorded.")
 
 -- a journal that was not opened, as the program ends with it
 abbrev pub opening_fault : JournalFault → Fault

@@ -1,7 +1,9 @@
 //! What a journal holds.
-ghost use Rattle.std.specs.Prelude.{◌≡◌, OnOk};
+ghost use Rattle.std.specs.Prelude.{◌≡◌, IsErrOf, OnOk};
 ghost use Rattle.std.specs.Io.KnownBytes.{Appends};
 ghost use Rattle.std.specs.List.{flat_map};
+ghost use Rattle.disk_model.specs.View.{Grew};
+ghost use Rattle.exec_journal.specs.Opening.{Opens};
 ghost use Rattle.exec_output.specs.Faults.{IsRunEnd, opening_fault};
 ghost use Rattle.exec_output.specs.Shown.{ShowsAs, answer_line, resource_lines, shown};
 
@@ -87,6 +89,8 @@ pub fn show<D: Disk + Drop, W: Write>(
     writer: &mut W,
 ) -> (D, Result<(), Fault>)
     ensures shown { (D.view result.0).honest → ShowsAs (D.view disk).reads (W.contents writer.old) (W.contents writer.new) result.1 }
+    ensures opens { Opens (D.view disk) (D.view result.0) }
+    ensures cause { IsErrOf result.1 Fault.Disk → Grew (D.view disk).failures (D.view result.0).failures }
     ensures ends { IsRunEnd result.1 }
 {
     match Journal::open(alloc, disk) {

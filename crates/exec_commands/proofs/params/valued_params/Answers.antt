@@ -20,14 +20,17 @@ no_value Memory text is h = absurd cc
 
 pub unreachable-requires : goal.unreachable-requires
 unreachable-requires c =
-    let named : is_param_name (get_or c.args.members.now c.loop-name.name-index none).0.now ≡ true = name_at c.args.members.now c.loop-name.name-index none (omega arith) c.requires.names in
+    let named : is_param_name (get_or c.args.members.now c.loop-name.name-index none).0.now ≡ true =
+    name_at c.args.members.now c.loop-name.name-index none (omega arith) c.requires.names in
     let other : false ≡ true = c.in-Err.ensures.lawful ∙ ap is_param_name c.as_bytes.ensures.value ∙ named in
     absurd cc
 
 pub returns-in-Err-BadValue-clause-err : goal.returns-in-Err-BadValue-clause-err
 returns-in-Err-BadValue-clause-err c = λ _.
-    let refused = no_value c.in-Err-BadValue.field-0 c.as_bytes-in-loop-name.result.now c.in-Err-BadValue.field-0-is c.in-Err-BadValue.ensures in
-    let bad : is_param_value (get_or c.args.members.now c.loop-name.name-index none).1.now ≡ false = ap is_param_value (sym c.as_bytes-in-loop-name.ensures.value) ∙ refused in
+    let refused =
+    no_value c.in-Err-BadValue.field-0 c.as_bytes-in-loop-name.result.now c.in-Err-BadValue.field-0-is c.in-Err-BadValue.ensures in
+    let bad : is_param_value (get_or c.args.members.now c.loop-name.name-index none).1.now ≡ false = ap is_param_value
+    (sym c.as_bytes-in-loop-name.ensures.value) ∙ refused in
     bad_value c.args.members.now c.loop-name.name-index none (omega arith) bad
 
 pub push-requires-clause-after : goal.push-requires-clause-after
@@ -41,6 +44,7 @@ push-requires-clause-after c =
 pub returns-clause-ok : goal.returns-clause-ok
 returns-clause-ok c =
     let ms = c.args.members.now in
-    let whole : texts_seen ms ≡ c.loop-name.params = ap texts_seen (sym (take_all c.loop-name.name-index ms (omega arith))) ∙ sym c.loop-name.invariant in
+    let whole : texts_seen ms ≡ c.loop-name.params = ap texts_seen (sym (take_all c.loop-name.name-index ms (omega arith)))
+    ∙ sym c.loop-name.invariant in
     let lawful : AreParams c.loop-name.params = subst AreParams c.as_slice.ensures.entries c.as_slice.ensures.lawful in
     ap valued_params whole ∙ valued c.loop-name.params lawful

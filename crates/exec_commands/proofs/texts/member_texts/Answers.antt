@@ -1,4 +1,5 @@
-use Rattle.std.proofs.Common.{◌≡◌, ℕ, true, not, is_ok, List, [], ◌∷◌, ◌++◌, Some, option_map, string_bytes, sym, ap, ◌∙◌, subst, append-nil}
+use Rattle.std.proofs.Common.{◌≡◌, ℕ, true, not, is_ok, List, [], ◌∷◌, ◌++◌, Some, option_map, string_bytes, sym, ap, ◌∙◌, subst}
+use Rattle.std.proofs.Common.{append-nil}
 use Rattle.serde_json.specs.Find.{as_str}
 use Rattle.serde_json.specs.View.{view, members_view}
 use Rattle.serde_json.proofs.Views.{Entry}
@@ -15,15 +16,20 @@ loop-name-preserved c =
     let done = texts_seen c.loop-name.members.items in
     let step : c.loop-name.name-iterator ≡ e ∷ left = c.in-Some.ensures.steps in
     let text : as_str (view c.in-Some.member.now) ≡ Some c.in-Some-as_str.text.now = sym c.in-Some-as_str.ensures in
-    let before : option_map (λ ps. done ++ ps) (member_texts (members_view (e ∷ left))) ≡ member_texts (members_view all) = rw step at c.loop-name.invariant in
-    let next = one_more done (string_bytes c.in-Some.name.now) c.in-Some-as_str.text.now (view c.in-Some.member.now) (members_view left) _ text before in
+    let before : option_map (λ ps. done ++ ps) (member_texts (members_view (e ∷ left))) ≡ member_texts (members_view all) =
+    rw step at c.loop-name.invariant in
+    let next = one_more done (string_bytes c.in-Some.name.now) c.in-Some-as_str.text.now (view c.in-Some.member.now)
+    (members_view left) _ text before in
     let name = c.as_str-in-loop-name.result in
     let text_there = c.in-Some-as_str.text in
     let room : is_ok c.push.result ≡ true = c.is_err.ensures.negation ∙ ap not c.if-is_err.false in
-    let items : c.push.new.self.items ≡ c.loop-name.members.items ++ (name, text_there) ∷ [] = if_taken (is_ok c.push.result) _ _ _ room c.push.ensures.items in
+    let items : c.push.new.self.items ≡ c.loop-name.members.items ++ (name, text_there) ∷ [] = if_taken
+    (is_ok c.push.result) _ _ _ room c.push.ensures.items in
     let pushed : texts_seen c.push.new.self.items ≡ done ++ (string_bytes c.in-Some.name.now, c.in-Some-as_str.text.now) ∷ [] =
-    ap texts_seen items ∙ seen_push c.loop-name.members.items name text_there ∙ ap (λ (n : List ℕ). done ++ (n, text_there.now) ∷ []) c.as_str-in-loop-name.ensures.value in
-    subst (λ (xs : ParamList). option_map (λ ps. xs ++ ps) (member_texts (members_view left)) ≡ member_texts (members_view all)) (sym pushed) next
+    ap texts_seen items ∙ seen_push c.loop-name.members.items name text_there
+    ∙ ap (λ (n : List ℕ). done ++ (n, text_there.now) ∷ []) c.as_str-in-loop-name.ensures.value in
+    subst (λ (xs : ParamList). option_map (λ ps. xs ++ ps) (member_texts (members_view left)) ≡ member_texts (members_view all))
+    (sym pushed) next
 
 pub returns-clause-sorted : goal.returns-clause-sorted
 returns-clause-sorted c =

@@ -8,9 +8,11 @@ returns-in-Some c =
     let bytes = c.args.bytes.now in
     let here : get_or bytes c.in-Some.len 0 ≡ 10 = search rules in
     let within : c.in-Some.len < length bytes = search rules in
-    sym (position_or_len_is is_newline bytes c.in-Some.len 0 (omega (arith, within)) (λ k h. ne_eqb _ 10 (search rules)) (λ _. eq-eqb _ 10 here))
+    sym (position_or_len_is is_newline bytes c.in-Some.len 0 (omega (arith, within)) (λ k h. ne_eqb _ 10 (search rules))
+    (λ _. eq-eqb _ 10 here))
 
 pub returns-in-None : goal.returns-in-None
 returns-in-None c =
     let bytes = c.args.bytes.now in
-    sym (position_or_len_is is_newline bytes (length bytes) 0 (omega arith) (λ k h. ne_eqb _ 10 (search rules)) (λ h. absurd (omega (arith, h))))
+    sym (position_or_len_is is_newline bytes (length bytes) 0 (omega arith) (λ k h. ne_eqb _ 10 (search rules))
+    (λ h. absurd (omega (arith, h))))

@@ -33,8 +33,17 @@ returns-in_default g c =
     let (done, none, kept, read) = c.loop.invariant in
     let (part, none', kept', reads) = c.in_ok-piece.ensures.read in
     let all = kept-more done part _ _ kept kept' in
-    let h = clauses Error _ _ _ done part _ c.in_ok-piece.piece c.answer.result read none reads none' c.in_default.not-Part all (c.answer.ensures (done ++ part) all) in
-    record { answer = h.answer; line = line-ok Error _ _ _ h.line; rest = h.rest; lost = tt; without = h.without; fits = λ e. h.fits (ok_is e); retried = tt }
+    let h = clauses Error _ _ _ done part _ c.in_ok-piece.piece c.answer.result read none reads none' c.in_default.not-Part all
+    (c.answer.ensures (done ++ part) all) in
+    record {
+      answer = h.answer;
+      line = line-ok Error _ _ _ h.line;
+      rest = h.rest;
+      lost = tt;
+      without = h.without;
+      fits = λ e. h.fits (ok_is e);
+      retried = tt;
+    }
 
 pub returns-clause-without : goal.returns-clause-without
 returns-clause-without g c =

@@ -22,11 +22,15 @@ returns-clause-read g c =
     let shown = c.in-Ok.bytes.now in
     let len = c.line_len-len in
     let rested = c.fill_buf.follows.lender-at-none in
-    let filled = subst (FillKeeps _ (g.R.Read.remaining rested) (g.R.BufRead.consumable_len rested)) c.in-Ok.is c.fill_buf.follows.holds-at-none in
+    let filled =
+    subst (FillKeeps _ (g.R.Read.remaining rested) (g.R.BufRead.consumable_len rested)) c.in-Ok.is c.fill_buf.follows.holds-at-none in
     let used = ap (λ n. len.result + n) c.newline_len.ensures in
-    let drops = subst (DropsConsumable (g.R.Read.remaining rested) (g.R.Read.remaining c.consume.new.self) (g.R.BufRead.consumable_len rested)) used c.consume.ensures.bytes in (
+    let drops =
+    subst (DropsConsumable (g.R.Read.remaining rested) (g.R.Read.remaining c.consume.new.self)
+    (g.R.BufRead.consumable_len rested)) used c.consume.ensures.bytes in (
       take len.result shown,
       subst (λ n. NoNewline (take n shown)) (sym len.ensures) (none_before shown),
       c.append.ensures,
-      reads-shown Error _ _ _ _ shown len.result c.piece_with-piece.result len.ensures c.piece_with-piece.ensures c.in-Ok.ensures.front c.in-Ok.ensures.end filled.0 filled.1 drops,
+      reads-shown Error _ _ _ _ shown len.result c.piece_with-piece.result len.ensures c.piece_with-piece.ensures c.in-Ok.ensures.front
+          c.in-Ok.ensures.end filled.0 filled.1 drops,
     )

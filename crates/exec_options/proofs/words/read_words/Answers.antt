@@ -6,12 +6,15 @@ use Rattle.exec_options.proofs.words.read_words.Goals as goal
 pub returns-in-Err-clause-fault : goal.returns-in-Err-clause-fault
 returns-in-Err-clause-fault c =
     let words = map string_bytes c.args.words.now in
-    fault_kind words c.from_clap.result (c.from_clap.ensures _ (faults c.in-Ok.command words (λ k. HasKind k c.in-Err.error) c.in-Ok.ensures c.in-Err.ensures.kinds))
+    fault_kind words c.from_clap.result
+    (c.from_clap.ensures _ (faults c.in-Ok.command words (λ k. HasKind k c.in-Err.error) c.in-Ok.ensures c.in-Err.ensures.kinds))
 
 pub returns-in_default-of-clause-fault : goal.returns-in_default-of-clause-fault
 returns-in_default-of-clause-fault c =
     let words = map string_bytes c.args.words.now in
-    let named = met c.in-Ok.command words c.in-Ok-try_get_matches_from.matches c.in-Some.name.now (rows_of (found_of c.in-Some.matches.now)) c.in-Ok.ensures c.in-Ok-try_get_matches_from.ensures.matches c.in-Some.ensures.name c.in-Some.ensures.rows in (
+    let named = met c.in-Ok.command words c.in-Ok-try_get_matches_from.matches c.in-Some.name.now
+    (rows_of (found_of c.in-Some.matches.now)) c.in-Ok.ensures c.in-Ok-try_get_matches_from.ensures.matches c.in-Some.ensures.name
+    c.in-Some.ensures.rows in (
       faults c.in-Ok.command words (λ k. k ≡ []) c.in-Ok.ensures c.in-Ok-try_get_matches_from.ensures.kinds,
       unnamed words _ _ named c.in_default-of.ensures.none,
     )
@@ -23,7 +26,9 @@ returns-in-Some-tidy_at-clause-parsed c =
 pub returns-in_default-journal_place-clause-fault : goal.returns-in_default-journal_place-clause-fault
 returns-in_default-journal_place-clause-fault c =
     let words = map string_bytes c.args.words.now in
-    let named = met c.in-Ok.command words c.in-Ok-try_get_matches_from.matches c.in-Some.name.now (rows_of (found_of c.in-Some.matches.now)) c.in-Ok.ensures c.in-Ok-try_get_matches_from.ensures.matches c.in-Some.ensures.name c.in-Some.ensures.rows in (
+    let named = met c.in-Ok.command words c.in-Ok-try_get_matches_from.matches c.in-Some.name.now
+    (rows_of (found_of c.in-Some.matches.now)) c.in-Ok.ensures c.in-Ok-try_get_matches_from.ensures.matches c.in-Some.ensures.name
+    c.in-Some.ensures.rows in (
       faults c.in-Ok.command words (λ k. k ≡ []) c.in-Ok.ensures c.in-Ok-try_get_matches_from.ensures.kinds,
       unchosen words _ _ named c.in_default-journal_place.ensures.none,
     )
@@ -31,7 +36,10 @@ returns-in_default-journal_place-clause-fault c =
 pub returns-clause-fault : goal.returns-clause-fault
 returns-clause-fault c =
     let words = map string_bytes c.args.words.now in
-    let named = met c.in-Ok.command words c.in-Ok-try_get_matches_from.matches c.in-Some.name.now (rows_of (found_of c.in-Some.matches.now)) c.in-Ok.ensures c.in-Ok-try_get_matches_from.ensures.matches c.in-Some.ensures.name c.in-Some.ensures.rows in (
+    let named = met c.in-Ok.command words c.in-Ok-try_get_matches_from.matches c.in-Some.name.now
+    (rows_of (found_of c.in-Some.matches.now)) c.in-Ok.ensures c.in-Ok-try_get_matches_from.ensures.matches c.in-Some.ensures.name
+    c.in-Some.ensures.rows in (
       faults c.in-Ok.command words (λ k. k ≡ []) c.in-Ok.ensures c.in-Ok-try_get_matches_from.ensures.kinds,
-      unnumbered words _ _ c.in-Some-of.subcommand named c.in-Some-of.ensures.found c.in-Some-journal_place.ensures.choice c.in-None.ensures.none,
+      unnumbered words _ _ c.in-Some-of.subcommand named c.in-Some-of.ensures.found c.in-Some-journal_place.ensures.choice
+          c.in-None.ensures.none,
     )

@@ -5,4 +5,5 @@ use Rattle.exec_commands.specs.Replies.{notice_line}
 use Rattle.exec_output.proofs.send.send_notices.Given as goal
 
 abbrev pub invariant-loop-notice : goal.invariant-loop-notice
-invariant-loop-notice g l = Appends (g.W.Write.contents l.fn.writer) (g.W.Write.contents l.writer) (flat_map notice_line (take l.notice-index l.notices))
+invariant-loop-notice g l =
+    Appends (g.W.Write.contents l.fn.writer) (g.W.Write.contents l.writer) (flat_map notice_line (take l.notice-index l.notices))

@@ -5,4 +5,5 @@ use Rattle.exec_output.specs.Shown.{resource_lines}
 use Rattle.exec_output.proofs.shown.write_resources.Given as goal
 
 abbrev pub invariant-loop-id : goal.invariant-loop-id
-invariant-loop-id g l = Appends (g.W.Write.contents l.fn.writer) (g.W.Write.contents l.writer) (flat_map (resource_lines l.state.state) (take l.id-index l.ids))
+invariant-loop-id g l =
+    Appends (g.W.Write.contents l.fn.writer) (g.W.Write.contents l.writer) (flat_map (resource_lines l.state.state) (take l.id-index l.ids))

@@ -6,4 +6,5 @@ pub returns : goal.returns
 returns g c =
     let old = c.args.self.now.bytes.items in
     let long : length old ≡ vec_len c.args.self.now.bytes = search rules in
-    appended old c.args.part.now c.extend_from_slice.new.self.items c.min-fitting.result (omega (arith, long, c.args.self.now.fits)) (search rules) (search rules)
+    appended old c.args.part.now c.extend_from_slice.new.self.items c.min-fitting.result (omega (arith, long, c.args.self.now.fits))
+    (search rules) (search rules)
