@@ -22,12 +22,14 @@ done t turns now turn_end.Memory idle e = absurd cc
 done t turns now turn_end.Disk idle e = absurd cc
 
 -- the executor is open then
-pub still_open : (t : Terms) (turns now : ℕ) (end : TurnEnd) (idle is_open : Bool) → (is_open ≡ false ↔ (end ≡ turn_end.Disk)) → end_behind t turns now end idle ≡ None → is_open ≡ true
+pub still_open : (t : Terms) (turns now : ℕ) (end : TurnEnd) (idle is_open : Bool) → (is_open ≡ false ↔ (end ≡ turn_end.Disk))
+    → end_behind t turns now end idle ≡ None → is_open ≡ true
 still_open t turns now end idle true closes e = refl
 still_open t turns now end idle false closes e = let is = sym (done t turns now end idle e) ∙ closes.0 refl in absurd cc
 
 -- a turn that closed the executor ended for the disk, as room was made or in the turn itself
-pub closes : {D C M : Type 0} (look : D → View) (tend : C → ChildrenView) (limits : Limits) (now : ℕ) (p q : Spot (Executor D C M)) (end : TurnEnd)
+pub closes : {D C M : Type 0} (look : D → View) (tend : C → ChildrenView) (limits : Limits) (now : ℕ) (p q : Spot (Executor D C M))
+    (end : TurnEnd)
     → MakesTurn look tend limits now p q end → ((sight_of tend q.executor).is_open ≡ false) ↔ (end ≡ turn_end.Disk)
 closes look tend limits now p q end made = by made.middle.is_open refl
   where
@@ -36,5 +38,6 @@ closes look tend limits now p q end made = by made.middle.is_open refl
     by false closed = let fails = made.fails closed in (λ _. fails.0, λ _. ap (λ x. x.is_open) fails.1 ∙ closed)
 
 -- what was told of its end, of an executor that was asked whether it is idle
-pub told_end : (t : Terms) (turns now : ℕ) (end : TurnEnd) (idle asked : Bool) (told given : Option DrainEnd) → told ≡ end_behind t turns now end asked → asked ≡ idle → told ≡ given → end_behind t turns now end idle ≡ given
+pub told_end : (t : Terms) (turns now : ℕ) (end : TurnEnd) (idle asked : Bool) (told given : Option DrainEnd)
+    → told ≡ end_behind t turns now end asked → asked ≡ idle → told ≡ given → end_behind t turns now end idle ≡ given
 told_end t turns now end idle asked told given is was same = ap (λ b. end_behind t turns now end b) (sym was) ∙ sym is ∙ same

@@ -1,3 +1,4 @@
 pub mod DrainLemmas
 pub mod LineLemmas
 pub mod RunLemmas
+pub mod CallLemmas

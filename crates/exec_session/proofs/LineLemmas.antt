@@ -1,5 +1,6 @@
 -- What is told of the next line, over what a reader had left.
-use Rattle.std.proofs.Common.{◌≡◌, ◌≢◌, ℕ, Bool, true, false, true≢false, List, [], ◌∷◌, Option, Some, None, ◌==◌, IfSome, IfOk, IfErr, Result, Ok, Err, length, refl, sym, ap, subst, ◌∙◌, arith, nat_le, if◌then◌else◌}
+use Rattle.std.proofs.Common.{◌≡◌, ◌≢◌, ℕ, Bool, true, false, true≢false, List, [], ◌∷◌, Option, Some, None, ◌==◌, IfSome, IfOk, IfErr}
+use Rattle.std.proofs.Common.{Result, Ok, Err, length, refl, sym, ap, subst, ◌∙◌, arith, nat_le, if◌then◌else◌}
 use Rattle.std.specs.Io.KnownBytes.{IsAtEnd}
 use Rattle.ocf_types.specs.declared.refusal.Refusal.{Refusal}
 use Rattle.ocf_types.specs.declared.refusal.Refusal.TheVariants.{Memory, Syntax}
@@ -32,7 +33,8 @@ at_end None n is tells = tt
 at_end (Some []) n is tells = refl
 at_end (Some (x ∷ xs)) n is tells = absurd (no_end _ (sym tells ∙ is))
 
-pub passes : (a c : Option (List ℕ)) (n : Next) (line : List ℕ) → n ≡ next.Line → Tells a n → IfSome a (λ xs. line ≡ first_line xs) → line ≡ [] → Leaves a c → PassesLine a c
+pub passes : (a c : Option (List ℕ)) (n : Next) (line : List ℕ) → n ≡ next.Line → Tells a n → IfSome a (λ xs. line ≡ first_line xs)
+    → line ≡ [] → Leaves a c → PassesLine a c
 passes None c n line is tells found none leaves = tt
 passes (Some []) c n line is tells found none leaves = absurd cc
 passes (Some (x ∷ xs)) c n line is tells found none leaves = (omega arith, sym found ∙ none, leaves)
@@ -41,14 +43,17 @@ passes (Some (x ∷ xs)) c n line is tells found none leaves = (omega arith, sym
 pub not_empty : (line seen : List ℕ) (b : Bool) → seen ≡ line → b ≡ (length seen == 0) → b ≡ false → line ≢ []
 not_empty line seen b is told is_false none = true≢false (ap (λ l. length l == 0) (sym none ∙ sym is) ∙ sym told ∙ is_false)
 
-pub read_as : (bytes line : List ℕ) (r : Result Line Refusal) → bytes ≡ line → IfOk r (λ l. line_read bytes ≡ Ok l) → IfErr r (λ e. e ≢ Memory → line_read bytes ≡ Err e) → IsReadAs line r
+pub read_as : (bytes line : List ℕ) (r : Result Line Refusal) → bytes ≡ line → IfOk r (λ l. line_read bytes ≡ Ok l)
+    → IfErr r (λ e. e ≢ Memory → line_read bytes ≡ Err e) → IsReadAs line r
 read_as bytes line (Ok l) is ok err = ap line_read (sym is) ∙ ok
 read_as bytes line (Err e) is ok err = λ more. ap line_read (sym is) ∙ err more
 
-pub reads : {E : Type 0} (a c : Option (List ℕ)) (r : Result Next E) (line : List ℕ) (found : Result Line Refusal) → r ≡ Ok next.Line → IfSome a (λ xs. r ≡ Ok next.Line → line ≡ first_line xs)
+pub reads : {E : Type 0} (a c : Option (List ℕ)) (r : Result Next E) (line : List ℕ) (found : Result Line Refusal) → r ≡ Ok next.Line
+    → IfSome a (λ xs. r ≡ Ok next.Line → line ≡ first_line xs)
     → line ≢ [] → Leaves a c → IsReadAs line found → ReadsLine a c found
 reads None c r line found told is some leaves read = tt
-reads (Some xs) c r line found told is some leaves read = (λ none. some (is told ∙ none), leaves, subst (λ l. IsReadAs l found) (is told) read)
+reads (Some xs) c r line found told is some leaves read =
+    (λ none. some (is told ∙ none), leaves, subst (λ l. IsReadAs l found) (is told) read)
 
 -- a line that is too long is refused
 long_line : (bs : List ℕ) → nat_le (length bs) line_limit ≡ false → line_read bs ≡ Err Syntax

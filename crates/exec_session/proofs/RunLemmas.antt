@@ -16,7 +16,8 @@ on_ok : {A E P : Type 0} (r : Result A E) → is_err r ≡ false → OnOk r P �
 on_ok (Ok x) is_false p = p
 on_ok (Err e) is_false p = absurd (true≢false is_false)
 
-pub ended : {A B E F D C M N : Type 0} (look : D → View) (tend : C → ChildrenView) (source : Source) (limits : Limits) (report : Report N) (p q : Place (Executor D C M)) (written : Option (List ℕ)) (sent : Result A B) (answered : Result E F)
+pub ended : {A B E F D C M N : Type 0} (look : D → View) (tend : C → ChildrenView) (source : Source) (limits : Limits) (report : Report N)
+    (p q : Place (Executor D C M)) (written : Option (List ℕ)) (sent : Result A B) (answered : Result E F)
     → is_err sent ≡ false → is_err answered ≡ false
     → OnOk sent (Appends p.written written (report_text report))
     → OnOk answered (ReachesEnd look tend source limits (record p { written = written }) q)
@@ -28,5 +29,6 @@ ended look tend source limits report p q written sent answered went went' first 
 }
 
 -- the end of the input
-pub at_end : {D C M : Type 0} (look : D → View) (tend : C → ChildrenView) (source : Source) (limits : Limits) (p q : Place (Executor D C M)) (s : Progress) → s ≡ End → Takes look tend source limits p q s → Takes look tend source limits p q End
+pub at_end : {D C M : Type 0} (look : D → View) (tend : C → ChildrenView) (source : Source) (limits : Limits) (p q : Place (Executor D C M))
+    (s : Progress) → s ≡ End → Takes look tend source limits p q s → Takes look tend source limits p q End
 at_end look tend source limits p q s is step = subst (λ x. Takes look tend source limits p q x) is step

@@ -58,14 +58,16 @@ IsClosedReply source (Ok (line.Request request)) reply = reply ≡ refused refus
 IsClosedReply source (Err why) reply = reply ≡ refused refusal.Closed
 
 -- a drain from the moment that the clock shows, whatever that is, for so many milliseconds and turns at most
-abbrev pub DrainsFor : {D C M : Type 0} → (D → View) → (C → ChildrenView) → Bool → ℕ → Limits → Spot (Executor D C M) → Spot (Executor D C M) → LineReply → Type 0
+abbrev pub DrainsFor : {D C M : Type 0} → (D → View) → (C → ChildrenView) → Bool → ℕ → Limits → Spot (Executor D C M)
+    → Spot (Executor D C M) → LineReply → Type 0
 DrainsFor look tend ends_idle limit limits p q reply =
     (now : ℕ) × (end : DrainEnd) × (reply ≡ answer.Drain end)
     × Drains look tend limits (record { ends_idle = ends_idle; until = now + limit; most = limits.most_turns }) now p q end
 
 -- What an open executor does with a request: room is made, and then it is served at the moment that the clock shows,
 -- whatever that is. Where a disk fault closed the executor as room was made, it is refused for that and nothing else is done.
-pub record ServesNow {D C M : Type 0} (look : D → View) (tend : C → ChildrenView) (limits : Limits) (request : Request) (old new : Executor D C M) (reply : LineReply) : Type 0 where
+pub record ServesNow {D C M : Type 0} (look : D → View) (tend : C → ChildrenView) (limits : Limits) (request : Request)
+    (old new : Executor D C M) (reply : LineReply) : Type 0 where
   pub middle : Sight D
   pub now : ℕ
   pub given : Reply
@@ -80,8 +82,10 @@ abbrev pub TidiesNow : {D C M : Type 0} → (D → View) → (C → ChildrenView
 TidiesNow look tend old new reply = (end : TidyEnd) × (reply ≡ answer.Tidy end) × Tidies look (sight_of tend old) (sight_of tend new) end
 
 -- what an open executor answers to a line: from the spot of its start to that at which the reply is written
-abbrev pub IsOpenReply : {D C M : Type 0} → (D → View) → (C → ChildrenView) → Source → Limits → Spot (Executor D C M) → Spot (Executor D C M) → Result Line Refusal → LineReply → Type 0
-IsOpenReply look tend source limits p q (Ok (line.Request request)) reply = ServesNow look tend limits request p.executor q.executor reply × (q.written ≡ p.written)
+abbrev pub IsOpenReply : {D C M : Type 0} → (D → View) → (C → ChildrenView) → Source → Limits → Spot (Executor D C M)
+    → Spot (Executor D C M) → Result Line Refusal → LineReply → Type 0
+IsOpenReply look tend source limits p q (Ok (line.Request request)) reply =
+    ServesNow look tend limits request p.executor q.executor reply × (q.written ≡ p.written)
 IsOpenReply look tend source limits p q (Ok (line.Drain limit)) reply = DrainsFor look tend true limit limits p q reply
 IsOpenReply look tend source limits p q (Ok (line.Watch limit)) reply = DrainsFor look tend false limit limits p q reply
 IsOpenReply look tend source limits p q (Ok line.Tidy) reply = TidiesNow look tend p.executor q.executor reply × (q.written ≡ p.written)
@@ -89,6 +93,7 @@ IsOpenReply look tend source limits p q (Ok (line.Meta provider agent)) reply = 
 IsOpenReply look tend source limits p q (Err why) reply = (reply ≡ refused why) × (q ≡ p)
 
 -- the same while the executor is open or closed
-pub record IsReply {D C M : Type 0} (look : D → View) (tend : C → ChildrenView) (source : Source) (limits : Limits) (p q : Spot (Executor D C M)) (found : Result Line Refusal) (reply : LineReply) : Type 0 where
+pub record IsReply {D C M : Type 0} (look : D → View) (tend : C → ChildrenView) (source : Source) (limits : Limits)
+    (p q : Spot (Executor D C M)) (found : Result Line Refusal) (reply : LineReply) : Type 0 where
   pub while_open : (sight_of tend p.executor).is_open ≡ true → IsOpenReply look tend source limits p q found reply
   pub once_closed : (sight_of tend p.executor).is_open ≡ false → IsClosedReply source found reply × (q ≡ p)

@@ -26,7 +26,8 @@ spot executor written = record { executor = executor; written = written }
 
 -- A turn at this moment: the book is emptied and room is made, then the turn is made, and its notices are written. Where a
 -- disk fault closed the executor as room was made, no turn is made and nothing is written.
-pub record MakesTurn {D C M : Type 0} (look : D → View) (tend : C → ChildrenView) (limits : Limits) (now : ℕ) (p q : Spot (Executor D C M)) (end : TurnEnd) : Type 0 where
+pub record MakesTurn {D C M : Type 0} (look : D → View) (tend : C → ChildrenView) (limits : Limits) (now : ℕ) (p q : Spot (Executor D C M))
+    (end : TurnEnd) : Type 0 where
   pub middle : Sight D
   pub room : MakesRoom look limits (with_empty_book (sight_of tend p.executor)) middle
   pub takes : middle.is_open ≡ true → TakesTurn look now middle (sight_of tend q.executor) end
@@ -37,7 +38,8 @@ pub record MakesTurn {D C M : Type 0} (look : D → View) (tend : C → Children
 -- the clock shows then; none where it goes on
 abbrev pub end_behind : Terms → ℕ → ℕ → TurnEnd → Bool → Option DrainEnd
 end_behind t turns now Done idle =
-    if t.ends_idle && idle then Some Idle else (if nat_le t.until now then Some Limit else (if nat_le t.most turns then Some Turns else None))
+    if t.ends_idle && idle then Some Idle else
+    (if nat_le t.until now then Some Limit else (if nat_le t.most turns then Some Turns else None))
 end_behind t turns now end idle = Some (Turn end)
 
 -- the same, of an executor that is seen as it is behind that turn
@@ -46,14 +48,17 @@ end_at tend t turns now end e = end_behind t turns now end (not (any_busy (sight
 
 -- So many turns were made, none of which ended the drain, each at the moment that the clock showed behind the one before:
 -- the first at the start, and the next one will be at this moment.
-pub data GoesOn {D C M : Type 0} (look : D → View) (tend : C → ChildrenView) (limits : Limits) (t : Terms) (start : ℕ) (p : Spot (Executor D C M)) : ℕ → ℕ → Spot (Executor D C M) → Type 0 where
+pub data GoesOn {D C M : Type 0} (look : D → View) (tend : C → ChildrenView) (limits : Limits) (t : Terms) (start : ℕ)
+    (p : Spot (Executor D C M)) : ℕ → ℕ → Spot (Executor D C M) → Type 0 where
   at_start : GoesOn look tend limits t start p 0 start p
   further : (turns now after : ℕ) (m q : Spot (Executor D C M)) (end : TurnEnd)
-      → GoesOn look tend limits t start p turns now m → MakesTurn look tend limits now m q end → end_at tend t (turns + 1) after end q.executor ≡ None
+      → GoesOn look tend limits t start p turns now m → MakesTurn look tend limits now m q end
+      → end_at tend t (turns + 1) after end q.executor ≡ None
       → GoesOn look tend limits t start p (turns + 1) after q
 
 -- A whole drain from this start: turns that go on, and the one that ends it.
-pub record Drains {D C M : Type 0} (look : D → View) (tend : C → ChildrenView) (limits : Limits) (t : Terms) (start : ℕ) (p q : Spot (Executor D C M)) (end : DrainEnd) : Type 0 where
+pub record Drains {D C M : Type 0} (look : D → View) (tend : C → ChildrenView) (limits : Limits) (t : Terms) (start : ℕ)
+    (p q : Spot (Executor D C M)) (end : DrainEnd) : Type 0 where
   pub turns : ℕ
   pub now : ℕ
   pub after : ℕ

@@ -21,7 +21,8 @@ worthwhile = 2097152
 
 -- a tidy is due: the tail is past the limit, and would fall by what is worthwhile
 abbrev pub is_tidy_due : {D : Type 0} → Limits → Sight D → Bool
-is_tidy_due limits x = nat_lt 0 limits.tidy_at && nat_lt limits.tidy_at x.place.tail && nat_le (tidied_tail x.state + worthwhile) x.place.tail
+is_tidy_due limits x =
+    nat_lt 0 limits.tidy_at && nat_lt limits.tidy_at x.place.tail && nat_le (tidied_tail x.state + worthwhile) x.place.tail
 
 -- Where a tidy is due one is made, and else nothing is done.
 pub record MakesRoom {D : Type 0} (look : D → View) (limits : Limits) (old new : Sight D) : Type 0 where

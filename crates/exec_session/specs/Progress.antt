@@ -43,7 +43,8 @@ abbrev pub place : {E : Type 0} → E → Option (List ℕ) → Option (List ℕ
 place executor left written = record { executor = executor; left = left; written = written }
 
 -- The next line is read, and what the writer holds grows by the notices of a drain, and then by just the reply.
-pub record Answers {D C M : Type 0} (look : D → View) (tend : C → ChildrenView) (source : Source) (limits : Limits) (p q : Place (Executor D C M)) : Type 0 where
+pub record Answers {D C M : Type 0} (look : D → View) (tend : C → ChildrenView) (source : Source) (limits : Limits)
+    (p q : Place (Executor D C M)) : Type 0 where
   pub found : Result Line Refusal
   pub reply : LineReply
   pub noticed : Option (List ℕ)
@@ -56,7 +57,8 @@ abbrev pub Stays : {E : Type 0} → Place E → Place E → Type 0
 Stays p q = (q.executor ≡ p.executor) × (q.written ≡ p.written)
 
 -- what was done with what stands next in the input
-abbrev pub Takes : {D C M : Type 0} → (D → View) → (C → ChildrenView) → Source → Limits → Place (Executor D C M) → Place (Executor D C M) → Progress → Type 0
+abbrev pub Takes : {D C M : Type 0} → (D → View) → (C → ChildrenView) → Source → Limits → Place (Executor D C M) → Place (Executor D C M)
+    → Progress → Type 0
 Takes look tend source limits p q progress.Answered = Answers look tend source limits p q
 Takes look tend source limits p q progress.PassedOver = PassesLine p.left q.left × Stays p q
 Takes look tend source limits p q progress.End = IsAtEnd p.left × Stays p q

@@ -4,7 +4,8 @@ use Rattle.std.specs.Io.KnownBytes.{Appends}
 use Rattle.std.specs.List.{flat_map}
 use Rattle.disk_model.specs.View.{View}
 use Rattle.child_keeper.specs.Children.{ChildrenView, given_up}
-use Rattle.executor.specs.Sights.{sight_of}
+use Rattle.executor.specs.Lives.{ByCalls}
+use Rattle.executor.specs.Sights.{Sight, sight_of}
 use Rattle.executor.specs.declared.executor.Executor.{Executor}
 use Rattle.executor.specs.declared.report.Report.{Report}
 use Rattle.exec_commands.specs.Replies.{notice_line}
@@ -22,34 +23,50 @@ abbrev pub report_text : {M : Type 0} → Report M → List ℕ
 report_text r = flat_map notice_line r.interrupted.items ++ flat_map notice_line r.dropped.items
 
 -- line after line, in their order, none of them left out
-pub data Reaches {D C M : Type 0} (look : D → View) (tend : C → ChildrenView) (source : Source) (limits : Limits) (p : Place (Executor D C M)) : Place (Executor D C M) → Type 0 where
+pub data Reaches {D C M : Type 0} (look : D → View) (tend : C → ChildrenView) (source : Source) (limits : Limits)
+    (p : Place (Executor D C M)) : Place (Executor D C M) → Type 0 where
   here : Reaches look tend source limits p p
-  further : (m q : Place (Executor D C M)) (s : Progress) → Reaches look tend source limits p m → Takes look tend source limits m q s → Reaches look tend source limits p q
+  further : (m q : Place (Executor D C M)) (s : Progress) → Reaches look tend source limits p m → Takes look tend source limits m q s
+      → Reaches look tend source limits p q
 
 -- line after line up to the end of the input
-pub record ReachesEnd {D C M : Type 0} (look : D → View) (tend : C → ChildrenView) (source : Source) (limits : Limits) (p q : Place (Executor D C M)) : Type 0 where
+pub record ReachesEnd {D C M : Type 0} (look : D → View) (tend : C → ChildrenView) (source : Source) (limits : Limits)
+    (p q : Place (Executor D C M)) : Type 0 where
   pub last : Place (Executor D C M)
   pub reached : Reaches look tend source limits p last
   pub end : Takes look tend source limits last q End
 
 -- the report is written first, and then all lines are answered
-pub record Runs {D C M N : Type 0} (look : D → View) (tend : C → ChildrenView) (source : Source) (limits : Limits) (report : Report N) (p q : Place (Executor D C M)) : Type 0 where
+pub record Runs {D C M N : Type 0} (look : D → View) (tend : C → ChildrenView) (source : Source) (limits : Limits) (report : Report N)
+    (p q : Place (Executor D C M)) : Type 0 where
   pub reported : Option (List ℕ)
   pub report_first : Appends p.written reported (report_text report)
   pub lines : ReachesEnd look tend source limits (record p { written = reported }) q
 
 -- how a run ends that leads from one place to another
-abbrev pub EndsAs : {D C M N T : Type 0} → (D → View) → (C → ChildrenView) → Source → Limits → Report N → Place (Executor D C M) → Place (Executor D C M) → Result T Fault → Type 0
+abbrev pub EndsAs : {D C M N T : Type 0} → (D → View) → (C → ChildrenView) → Source → Limits → Report N → Place (Executor D C M)
+    → Place (Executor D C M) → Result T Fault → Type 0
 EndsAs look tend source limits report p q (Ok done) = Runs look tend source limits report p q × ((sight_of tend q.executor).is_open ≡ true)
-EndsAs look tend source limits report p q (Err Disk) = Runs look tend source limits report p q × ((sight_of tend q.executor).is_open ≡ false)
+EndsAs look tend source limits report p q (Err Disk) =
+    Runs look tend source limits report p q × ((sight_of tend q.executor).is_open ≡ false)
 EndsAs look tend source limits report p q (Err Memory) = q ≡ p
 EndsAs look tend source limits report p q (Err InputOrOutput) = ⊤
 EndsAs look tend source limits report p q (Err _) = ⊥
 
 -- A run that begins at this place ended, with what the reader has left then and what the writer holds: at its end all
 -- children are given up, and they and the disk are handed back.
-pub record Ended {D C M N : Type 0} (look : D → View) (tend : C → ChildrenView) (source : Source) (limits : Limits) (report : Report N) (p : Place (Executor D C M)) (left written : Option (List ℕ)) (run : Run D C) : Type 0 where
+pub record Ended {D C M N : Type 0} (look : D → View) (tend : C → ChildrenView) (source : Source) (limits : Limits) (report : Report N)
+    (p : Place (Executor D C M)) (left written : Option (List ℕ)) (run : Run D C) : Type 0 where
   pub last : Executor D C M
   pub ends : EndsAs look tend source limits report p (place last left written) run.ended
   pub disk : run.disk ≡ (sight_of tend last).disk
   pub children : tend run.children ≡ given_up (sight_of tend last).children
+
+-- However a run ends, its executor did nothing but calls, from this sight of it on, and is closed: this disk and these children
+-- are those that it handed back.
+pub record ClosesByCalls {D : Type 0} (look : D → View) (old : Sight D) (disk : D) (children : ChildrenView) : Type 0 where
+  pub last : Sight D
+  pub calls : ByCalls look old last
+  pub is_closed : last.is_open ≡ false
+  pub disk_is : disk ≡ last.disk
+  pub children_are : children ≡ last.children

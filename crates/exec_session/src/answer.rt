@@ -1,7 +1,9 @@
 //! What a line is answered.
 ghost use Rattle.std.specs.Prelude.{◌≡◌, true, IfOk};
+ghost use Rattle.executor.specs.Lives.{ByCalls};
 ghost use Rattle.executor.specs.Sights.{IsSound, sight_of};
-ghost use Rattle.exec_session.specs.Answers.{DrainsFor, IsClosedReply, IsMetaReply, IsOpenReply, IsReply, ServesNow, closed_drain, closed_tidy, refused};
+ghost use Rattle.exec_session.specs.Answers.{DrainsFor, IsClosedReply, IsMetaReply, IsOpenReply, IsReply, ServesNow, closed_drain};
+ghost use Rattle.exec_session.specs.Answers.{closed_tidy, refused};
 ghost use Rattle.exec_session.specs.Drains.{spot};
 ghost use Rattle.exec_session.specs.Limits.{limits_of};
 
@@ -73,6 +75,7 @@ fn drain_reply<W: Write, D: Disk + Drop, C: Children + Drop, K: Clock, M: Metada
     requires open { (sight_of C.view executor.old).is_open ≡ true }
     requires sound { IsSound D.view (sight_of C.view executor.old) }
     ensures sound { IsSound D.view (sight_of C.view executor.new) }
+    ensures calls { ByCalls D.view (sight_of C.view executor.old) (sight_of C.view executor.new) }
     ensures reply { IfOk result (DrainsFor D.view C.view ends_idle limit (limits_of setting.now)
         (spot executor.old (W.contents writer.old)) (spot executor.new (W.contents writer.new))) }
 {
@@ -96,6 +99,7 @@ fn request_reply<D: Disk + Drop, C: Children + Drop, K: Clock, M>(
     requires open { (sight_of C.view executor.old).is_open ≡ true }
     requires sound { IsSound D.view (sight_of C.view executor.old) }
     ensures sound { IsSound D.view (sight_of C.view executor.new) }
+    ensures calls { ByCalls D.view (sight_of C.view executor.old) (sight_of C.view executor.new) }
     ensures serves { ServesNow D.view C.view (limits_of setting.now) request executor.old executor.new result }
 {
     if !make_room(setting, executor) {
@@ -115,6 +119,7 @@ fn open_reply<W: Write, D: Disk + Drop, C: Children + Drop, K: Clock, M: Metadat
     requires open { (sight_of C.view executor.old).is_open ≡ true }
     requires sound { IsSound D.view (sight_of C.view executor.old) }
     ensures sound { IsSound D.view (sight_of C.view executor.new) }
+    ensures calls { ByCalls D.view (sight_of C.view executor.old) (sight_of C.view executor.new) }
     ensures reply { IfOk result (IsOpenReply D.view C.view (M.gives setting.now.metadata.now) (limits_of setting.now)
         (spot executor.old (W.contents writer.old)) (spot executor.new (W.contents writer.new)) line) }
 {
@@ -137,6 +142,7 @@ pub fn reply_to<W: Write, D: Disk + Drop, C: Children + Drop, K: Clock, M: Metad
 ) -> Result<LineReply, Stopped>
     requires sound { IsSound D.view (sight_of C.view executor.old) }
     ensures sound { IsSound D.view (sight_of C.view executor.new) }
+    ensures calls { ByCalls D.view (sight_of C.view executor.old) (sight_of C.view executor.new) }
     ensures reply { IfOk result (IsReply D.view C.view (M.gives setting.now.metadata.now) (limits_of setting.now)
         (spot executor.old (W.contents writer.old)) (spot executor.new (W.contents writer.new)) line) }
 {

@@ -1,5 +1,6 @@
 //! Drains and watches: turns, each with its notices.
-ghost use Rattle.std.specs.Prelude.{◌≡◌, true, not, IfOk, OnOk};
+ghost use Rattle.std.specs.Prelude.{◌≡◌, true, IfOk};
+ghost use Rattle.executor.specs.Lives.{ByCalls};
 ghost use Rattle.executor.specs.Sights.{IsSound, sight_of};
 ghost use Rattle.exec_session.specs.Drains.{Drains, MakesTurn, end_behind, spot};
 ghost use Rattle.exec_session.specs.Limits.{limits_of};
@@ -60,6 +61,7 @@ fn make_turn<W: Write, D: Disk + Drop, C: Children + Drop, K, M>(
     requires open { (sight_of C.view executor.old).is_open ≡ true }
     requires sound { IsSound D.view (sight_of C.view executor.old) }
     ensures sound { IsSound D.view (sight_of C.view executor.new) }
+    ensures calls { ByCalls D.view (sight_of C.view executor.old) (sight_of C.view executor.new) }
     ensures made { IfOk result (λ end. MakesTurn D.view C.view (limits_of setting.now) now
         (spot executor.old (W.contents writer.old)) (spot executor.new (W.contents writer.new)) end) }
 {
@@ -83,6 +85,7 @@ pub fn drain<W: Write, D: Disk + Drop, C: Children + Drop, K: Clock, M: Metadata
     requires open { (sight_of C.view executor.old).is_open ≡ true }
     requires sound { IsSound D.view (sight_of C.view executor.old) }
     ensures sound { IsSound D.view (sight_of C.view executor.new) }
+    ensures calls { ByCalls D.view (sight_of C.view executor.old) (sight_of C.view executor.new) }
     ensures drains { IfOk result (λ end. Drains D.view C.view (limits_of setting.now) terms start
         (spot executor.old (W.contents writer.old)) (spot executor.new (W.contents writer.new)) end) }
 {

@@ -3,6 +3,7 @@
 
 mod answer;
 mod drain;
+pub mod laws;
 mod metadata;
 mod pause;
 mod report;

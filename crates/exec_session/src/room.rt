@@ -1,5 +1,6 @@
 //! Room in the journal, which a run makes by itself.
 ghost use Rattle.std.specs.Prelude.{◌≡◌, true};
+ghost use Rattle.executor.specs.Lives.{ByCalls};
 ghost use Rattle.executor.specs.Sights.{IsSound, sight_of};
 ghost use Rattle.exec_session.specs.Limits.{MakesRoom, is_tidy_due, limits_of};
 
@@ -34,6 +35,7 @@ pub fn make_room<D: Disk + Drop, C: Children + Drop, K, M>(
     requires open { (sight_of C.view executor.old).is_open ≡ true }
     requires sound { IsSound D.view (sight_of C.view executor.old) }
     ensures sound { IsSound D.view (sight_of C.view executor.new) }
+    ensures calls { ByCalls D.view (sight_of C.view executor.old) (sight_of C.view executor.new) }
     ensures makes { MakesRoom D.view (limits_of setting.now) (sight_of C.view executor.old) (sight_of C.view executor.new) }
     ensures value { result ≡ (sight_of C.view executor.new).is_open }
 {

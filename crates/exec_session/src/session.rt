@@ -1,9 +1,10 @@
 //! Command lines answered one by one.
 ghost use Rattle.std.specs.Prelude.{◌≡◌, [], IfOk, OnOk};
+ghost use Rattle.executor.specs.Lives.{ByCalls};
 ghost use Rattle.executor.specs.Sights.{IsSound, sight_of};
 ghost use Rattle.exec_session.specs.Limits.{limits_of};
 ghost use Rattle.exec_session.specs.Progress.{ReadsInput, Takes, place};
-ghost use Rattle.exec_session.specs.Runs.{Ended, EndsAs, ReachesEnd};
+ghost use Rattle.exec_session.specs.Runs.{ClosesByCalls, Ended, EndsAs, ReachesEnd};
 
 use crate::answer::reply_to;
 use crate::metadata::Metadata;
@@ -78,6 +79,7 @@ fn next_reply<R: BufRead, W: Write, D: Disk + Drop, C: Children + Drop, K: Clock
 ) -> Result<Progress, Stopped>
     requires sound { IsSound D.view (sight_of C.view executor.old) }
     ensures sound { IsSound D.view (sight_of C.view executor.new) }
+    ensures calls { ByCalls D.view (sight_of C.view executor.old) (sight_of C.view executor.new) }
     ensures progress { IfOk result (Takes D.view C.view (M.gives setting.now.metadata.now) (limits_of setting.now)
         (place executor.old (R.remaining reader.old) (W.contents writer.old))
         (place executor.new (R.remaining reader.new) (W.contents writer.new))) }
@@ -101,6 +103,7 @@ fn answer_all<R: BufRead, W: Write, D: Disk + Drop, C: Children + Drop, K: Clock
     buffer: &mut LineBuffer,
 ) -> Result<(), Stopped>
     requires sound { IsSound D.view (sight_of C.view executor.old) }
+    ensures calls { ByCalls D.view (sight_of C.view executor.old) (sight_of C.view executor.new) }
     ensures lines { OnOk result (ReachesEnd D.view C.view (M.gives setting.now.metadata.now) (limits_of setting.now)
         (place executor.old (R.remaining reader.old) (W.contents writer.old))
         (place executor.new (R.remaining reader.new) (W.contents writer.new))) }
@@ -123,7 +126,8 @@ fn answer_lines<R: BufRead, W: Write, D: Disk + Drop, C: Children + Drop, K: Clo
     report: &Report,
 ) -> Result<(), Fault>
     requires sound { IsSound D.view (sight_of C.view executor.old) }
-    ensures { EndsAs D.view C.view (M.gives setting.now.metadata.now) (limits_of setting.now) report.now
+    ensures calls { ByCalls D.view (sight_of C.view executor.old) (sight_of C.view executor.new) }
+    ensures ends { EndsAs D.view C.view (M.gives setting.now.metadata.now) (limits_of setting.now) report.now
         (place executor.old (R.remaining reader.old) (W.contents writer.old))
         (place executor.new (R.remaining reader.new) (W.contents writer.new)) result }
 {
@@ -157,6 +161,7 @@ pub fn run_lines<R: BufRead, W: Write, D: Disk + Drop, C: Children + Drop, K: Cl
     ensures ends { Ended D.view C.view (M.gives setting.now.metadata.now) (limits_of setting.now) report.now
         (place executor (R.remaining reader.old) (W.contents writer.old))
         (R.remaining reader.new) (W.contents writer.new) result }
+    ensures calls { ClosesByCalls D.view (sight_of C.view executor) result.disk (C.view result.children) }
     ensures none_lives { (C.view result.children).live ≡ [] }
 {
     let ended = answer_lines(setting, reader, writer, &mut executor, report);

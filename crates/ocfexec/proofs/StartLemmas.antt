@@ -1,5 +1,5 @@
 -- Why a program ends as it does.
-use Rattle.std.proofs.Common.{◌≡◌, inl, inr, ℕ, List, Result, Ok, Err, Option, subst, sym}
+use Rattle.std.proofs.Common.{inl, inr, ℕ, List, Result, Ok, Err, Option, subst, sym}
 use Rattle.disk_model.specs.View.{View}
 use Rattle.child_keeper.specs.Children.{ChildrenView}
 use Rattle.executor.specs.declared.executor.Executor.{Executor}
@@ -20,7 +20,8 @@ use Rattle.exec_session.specs.Runs.{Ended, EndsAs}
 use Rattle.ocfexec.specs.Starts.{EndsFor, IsToldAs}
 
 -- a run does not end by its words
-ends : {D C M N T : Type 0} (look : D → View) (tend : C → ChildrenView) (source : Source) (limits : Limits) (report : Report N) (p q : Place (Executor D C M)) (r : Result T Fault)
+ends : {D C M N T : Type 0} (look : D → View) (tend : C → ChildrenView) (source : Source) (limits : Limits) (report : Report N)
+    (p q : Place (Executor D C M)) (r : Result T Fault)
     → EndsAs look tend source limits report p q r → IsRunEnd r
 ends look tend source limits report p q (Ok done) how = tt
 ends look tend source limits report p q (Err fault.Usage) how = absurd how
@@ -34,12 +35,15 @@ ends look tend source limits report p q (Err fault.Disk) how = tt
 ends look tend source limits report p q (Err fault.Full) how = tt
 ends look tend source limits report p q (Err fault.InputOrOutput) how = tt
 
-pub run_ends : {D C M N : Type 0} (look : D → View) (tend : C → ChildrenView) (source : Source) (limits : Limits) (report : Report N) (p : Place (Executor D C M)) (left written : Option (List ℕ)) (run : Run D C)
+pub run_ends : {D C M N : Type 0} (look : D → View) (tend : C → ChildrenView) (source : Source) (limits : Limits) (report : Report N)
+    (p : Place (Executor D C M)) (left written : Option (List ℕ)) (run : Run D C)
     → Ended look tend source limits report p left written run → IsRunEnd run.ended
-run_ends look tend source limits report p left written run ended = ends look tend source limits report p (place ended.last left written) run.ended ended.ends
+run_ends look tend source limits report p left written run ended =
+    ends look tend source limits report p (place ended.last left written) run.ended ended.ends
 
 -- words that give no options
-pub refused_ends : {T : Type 0} (words : List (List ℕ)) (f : WordsFault) (r : Result T Fault) → IsFault words f → IsToldAs f r → EndsFor words r
+pub refused_ends : {T : Type 0} (words : List (List ℕ)) (f : WordsFault) (r : Result T Fault) → IsFault words f → IsToldAs f r
+    → EndsFor words r
 refused_ends words (words_fault.Help text) (Ok done) is told = inl (text, is)
 refused_ends {T} words (words_fault.Help text) (Err f) is told = subst (λ x. EndsFor {T = T} words (Err x)) (sym told) (inl (text, is))
 refused_ends words (words_fault.Usage text) r is told = subst (λ x. EndsFor words x) (sym told) (text, is)

@@ -1,6 +1,7 @@
 use Rattle.std.proofs.Common.{true≢false, refl, sym, ◌∙◌}
 use Rattle.ocf_types.specs.declared.refusal.Refusal.TheVariants.{Disk}
 use Rattle.ocf_types.specs.declared.reply.ReplyOf.TheVariants.{Refused}
+use Rattle.executor.specs.CallLaws.{by_both, by_command}
 use Rattle.executor.specs.Sights.{sight_of}
 use Rattle.exec_session.proofs.answer.request_reply.Goals as goal
 
@@ -29,3 +30,12 @@ returns-clause-serves g c =
       fails = λ closed. absurd (true≢false (sym is_open ∙ closed));
       closes = c.command.ensures.closes is_open;
     }
+
+pub returns-clause-calls : goal.returns-clause-calls
+returns-clause-calls g c =
+    let tend = g.C.Children.view in
+    let middle = sight_of tend c.make_room.new.executor in
+    let last = sight_of tend c.command.new.self in
+    by_both g.D.Disk.view (sight_of tend c.args.executor.now) middle last c.make_room.ensures.calls
+    (by_command g.D.Disk.view c.get-now.result c.args.request middle last c.command.result c.command.ensures.serves
+    c.command.ensures.closes)

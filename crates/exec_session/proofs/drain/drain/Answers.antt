@@ -1,5 +1,6 @@
-use Rattle.std.proofs.Common.{◌+◌, not, None, Some}
+use Rattle.std.proofs.Common.{◌+◌, not, None, Some, refl}
 use Rattle.ocf_types.specs.Boot.{any_busy}
+use Rattle.executor.specs.CallLaws.{by_both, by_none}
 use Rattle.executor.specs.Sights.{sight_of}
 use Rattle.exec_session.specs.Drains.{at_start, further, spot}
 use Rattle.exec_session.proofs.DrainLemmas.{closes, still_open, told_end}
@@ -10,6 +11,7 @@ loop-turns-init g c = record {
   is_open = c.requires.open;
   sound = c.requires.sound;
   gone_on = at_start;
+  calls = by_none g.D.Disk.view (sight_of g.C.Children.view c.args.executor.now) (sight_of g.C.Children.view c.args.executor.now) refl;
 }
 
 pub returns-in-Some-clause-drains : goal.returns-in-Some-clause-drains
@@ -23,17 +25,41 @@ returns-in-Some-clause-drains g c =
       turn_end = c.in_ok-end.end;
       gone_on = c.loop-turns.invariant.gone_on;
       made = c.in_ok-end.ensures.made;
-      ended = told_end c.args.terms (c.loop-turns.turns + 1) c.get-now.result c.in_ok-end.end idle c.idle.result c.end_behind.result (Some c.in-Some.end) c.end_behind.ensures c.idle.ensures.value c.in-Some.is;
+      ended =
+          told_end c.args.terms (c.loop-turns.turns + 1) c.get-now.result c.in_ok-end.end idle c.idle.result c.end_behind.result
+          (Some c.in-Some.end) c.end_behind.ensures c.idle.ensures.value c.in-Some.is;
     }
 
 pub loop-turns-preserved : goal.loop-turns-preserved
 loop-turns-preserved g c =
+    let tend = g.C.Children.view in
     let idle = not (any_busy (sight_of g.C.Children.view c.make_turn.new.executor).state) in
     let last = spot c.loop-turns.executor (g.W.Write.contents c.loop-turns.writer) in
     let next = spot c.make_turn.new.executor (g.W.Write.contents c.make_turn.new.writer) in
-    let on = told_end c.args.terms (c.loop-turns.turns + 1) c.get-now.result c.in_ok-end.end idle c.idle.result c.end_behind.result None c.end_behind.ensures c.idle.ensures.value c.in_default.is in
+    let on = told_end c.args.terms
+    (c.loop-turns.turns + 1) c.get-now.result c.in_ok-end.end idle c.idle.result c.end_behind.result None c.end_behind.ensures
+    c.idle.ensures.value c.in_default.is in
     record {
-      is_open = still_open c.args.terms (c.loop-turns.turns + 1) c.get-now.result c.in_ok-end.end idle c.make_turn.new.executor.open (closes _ _ _ _ last next c.in_ok-end.end c.in_ok-end.ensures.made) on;
+      is_open =
+          still_open c.args.terms (c.loop-turns.turns + 1) c.get-now.result c.in_ok-end.end idle c.make_turn.new.executor.open
+          (closes _ _ _ _ last next c.in_ok-end.end c.in_ok-end.ensures.made) on;
       sound = c.in_ok-end.ensures.sound;
-      gone_on = further c.loop-turns.turns c.loop-turns.now c.get-now.result last next c.in_ok-end.end c.loop-turns.invariant.gone_on c.in_ok-end.ensures.made on;
+      gone_on =
+          further c.loop-turns.turns c.loop-turns.now c.get-now.result last next c.in_ok-end.end c.loop-turns.invariant.gone_on
+          c.in_ok-end.ensures.made on;
+      calls =
+          by_both g.D.Disk.view (sight_of tend c.args.executor.now) (sight_of tend c.loop-turns.executor)
+          (sight_of tend c.make_turn.new.executor) c.loop-turns.invariant.calls c.make_turn.ensures.calls;
     }
+
+pub returns-in-Some-clause-calls : goal.returns-in-Some-clause-calls
+returns-in-Some-clause-calls g c =
+    let tend = g.C.Children.view in
+    by_both g.D.Disk.view (sight_of tend c.args.executor.now) (sight_of tend c.loop-turns.executor)
+    (sight_of tend c.make_turn.new.executor) c.loop-turns.invariant.calls c.make_turn.ensures.calls
+
+pub returns-in_err-end-clause-calls : goal.returns-in_err-end-clause-calls
+returns-in_err-end-clause-calls g c =
+    let tend = g.C.Children.view in
+    by_both g.D.Disk.view (sight_of tend c.args.executor.now) (sight_of tend c.loop-turns.executor)
+    (sight_of tend c.make_turn.new.executor) c.loop-turns.invariant.calls c.make_turn.ensures.calls

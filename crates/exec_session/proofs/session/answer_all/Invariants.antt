@@ -1,3 +1,4 @@
+use Rattle.executor.specs.Lives.{ByCalls}
 use Rattle.executor.specs.Sights.{IsSound, sight_of}
 use Rattle.exec_session.specs.Limits.{limits_of}
 use Rattle.exec_session.specs.Progress.{place}
@@ -10,4 +11,5 @@ invariant-loop g l = record {
   reached : Reaches g.D.Disk.view g.C.Children.view (g.M.Metadata.gives l.setting.metadata.now) (limits_of l.setting)
       (place l.fn.executor (g.R.Read.remaining l.fn.reader) (g.W.Write.contents l.fn.writer))
       (place l.executor (g.R.Read.remaining l.reader) (g.W.Write.contents l.writer));
+  calls : ByCalls g.D.Disk.view (sight_of g.C.Children.view l.fn.executor) (sight_of g.C.Children.view l.executor);
 }

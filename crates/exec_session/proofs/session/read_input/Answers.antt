@@ -9,4 +9,5 @@ returns-else-is_empty g c =
     reads _ _ (Ok c.in_ok-next_line.field-0) line c.read_command.result (ap Ok c.in-Line.is) c.in_ok-next_line.ensures.line
     (not_empty line c.line.result.now c.is_empty.result c.line.ensures c.is_empty.ensures c.if-is_empty.false)
     c.in_ok-next_line.ensures.rest
-    (read_as c.line-in-Line.result.now line c.read_command.result c.line-in-Line.ensures c.read_command.ensures.ok c.read_command.ensures.refused)
+    (read_as c.line-in-Line.result.now line c.read_command.result c.line-in-Line.ensures c.read_command.ensures.ok
+    c.read_command.ensures.refused)

@@ -1,0 +1,141 @@
+-- What is done with lines is done by calls of the executor.
+use Rattle.std.proofs.Common.{◌≡◌, ℕ, ◌+◌, Bool, true, false, not, refl, sym, ap, subst, ◌∙◌, Result, Ok, Err}
+use Rattle.ocf_types.specs.Boot.{any_busy}
+use Rattle.ocf_types.specs.declared.refusal.Refusal.{Refusal}
+use Rattle.ocf_types.specs.declared.reply.TurnEnd.{TurnEnd}
+use Rattle.disk_model.specs.View.{View}
+use Rattle.child_keeper.specs.Children.{ChildrenView}
+use Rattle.executor.specs.CallLaws.{by_both, by_clear, by_command, by_none, by_tidy, by_turn}
+use Rattle.executor.specs.Lives.{ByCalls}
+use Rattle.executor.specs.Sights.{Sight, sight_of}
+use Rattle.executor.specs.TidyCalls.{TidiesWhile}
+use Rattle.executor.specs.TurnCalls.{TurnsWhile, with_empty_book}
+use Rattle.executor.specs.declared.executor.Executor.{Executor}
+use Rattle.exec_commands.specs.declared.ends.DrainEnd.{DrainEnd}
+use Rattle.exec_commands.specs.declared.line.Line.{Line}
+use Rattle.exec_commands.specs.declared.line.Line.TheVariants as line
+use Rattle.exec_commands.specs.declared.reply.LineReply.{LineReply}
+use Rattle.ocf_types.specs.Kinds.{Request}
+use Rattle.exec_session.specs.Answers.{IsOpenReply, IsReply, ServesNow, Source}
+use Rattle.exec_session.specs.Drains.{Drains, GoesOn, MakesTurn, Spot, at_start, further}
+use Rattle.exec_session.specs.Limits.{Limits, MakesRoom, is_tidy_due}
+use Rattle.exec_session.specs.Progress.{Place, Takes}
+use Rattle.exec_session.specs.Runs.{Reaches, here, further as one_more}
+use Rattle.exec_session.specs.declared.drain.Terms.{Terms}
+use Rattle.exec_session.specs.declared.session.Progress.{Progress}
+use Rattle.exec_session.specs.declared.session.Progress.TheVariants as progress
+use Rattle.exec_session.proofs.DrainLemmas.{closes, still_open}
+
+-- room is made by a call, or by none
+room_by_calls : {D : Type 0} (look : D → View) (limits : Limits) (x y : Sight D) → x.is_open ≡ true → MakesRoom look limits x y
+    → ByCalls look x y
+room_by_calls look limits x y is_open room = by (is_tidy_due limits x) refl
+  where
+    by : (b : Bool) → is_tidy_due limits x ≡ b → ByCalls look x y
+    by true due =
+        let made = room.made due in
+        by_tidy look x y made.0 (subst (λ (o : Bool). TidiesWhile o look x y made.0) (sym is_open) made.1)
+    by false none = by_none look x y (room.none none)
+
+module _ {D C M : Type 0} (look : D → View) (tend : C → ChildrenView) (limits : Limits) where
+  -- the executor goes from one sight to another by calls
+  abbrev Goes : Executor D C M → Executor D C M → Type 0
+  Goes old new = ByCalls look (sight_of tend old) (sight_of tend new)
+
+  -- a request, where room was made first
+  request_by_calls : (request : Request) (old new : Executor D C M) (reply : LineReply) → (sight_of tend old).is_open ≡ true
+      → ServesNow look tend limits request old new reply → Goes old new
+  request_by_calls request old new reply is_open serves =
+      by_both look (sight_of tend old) serves.middle (sight_of tend new)
+      (room_by_calls look limits (sight_of tend old) serves.middle is_open serves.room) (by serves.middle.is_open refl)
+    where
+      by : (b : Bool) → serves.middle.is_open ≡ b → ByCalls look serves.middle (sight_of tend new)
+      by true open_still =
+          by_command look serves.now request serves.middle (sight_of tend new) serves.given (serves.serves open_still) (λ _. serves.closes)
+      by false closed = by_none look serves.middle (sight_of tend new) (serves.fails closed).1
+
+  -- a turn of a drain
+  turn_by_calls : (now : ℕ) (p q : Spot (Executor D C M)) (end : TurnEnd) → (sight_of tend p.executor).is_open ≡ true
+      → MakesTurn look tend limits now p q end → Goes p.executor q.executor
+  turn_by_calls now p q end is_open made =
+      by_both look old cleared last (by_clear look old cleared refl)
+      (by_both look cleared made.middle last (room_by_calls look limits cleared made.middle is_open made.room)
+      (by made.middle.is_open refl))
+    where
+      old : Sight D
+      old = sight_of tend p.executor
+
+      cleared : Sight D
+      cleared = with_empty_book old
+
+      last : Sight D
+      last = sight_of tend q.executor
+
+      by : (b : Bool) → made.middle.is_open ≡ b → ByCalls look made.middle last
+      by true open_still =
+          by_turn look now made.middle last end
+          (subst (λ (o : Bool). TurnsWhile o look now made.middle last end) (sym open_still) (made.takes open_still))
+      by false closed = by_none look made.middle last (made.fails closed).1
+
+  -- turns that go on, each behind an executor that is open still
+  pub turns_by_calls : (t : Terms) (start : ℕ) (p : Spot (Executor D C M)) (turns now : ℕ) (q : Spot (Executor D C M))
+      → (sight_of tend p.executor).is_open ≡ true → GoesOn look tend limits t start p turns now q
+      → Goes p.executor q.executor × ((sight_of tend q.executor).is_open ≡ true)
+  turns_by_calls t start p _ _ _ is_open at_start = (by_none look (sight_of tend p.executor) (sight_of tend p.executor) refl, is_open)
+  turns_by_calls t start p _ _ _ is_open (further n before after m q end gone_on made on) =
+      let so_far = turns_by_calls t start p n before m is_open gone_on in
+      let idle = not (any_busy (sight_of tend q.executor).state) in (
+        by_both look (sight_of tend p.executor) (sight_of tend m.executor) (sight_of tend q.executor) so_far.0
+            (turn_by_calls before m q end so_far.1 made),
+        still_open t (n + 1) after end idle (sight_of tend q.executor).is_open (closes look tend limits before m q end made) on,
+      )
+
+  drain_by_calls : (t : Terms) (start : ℕ) (p q : Spot (Executor D C M)) (end : DrainEnd) → (sight_of tend p.executor).is_open ≡ true
+      → Drains look tend limits t start p q end → Goes p.executor q.executor
+  drain_by_calls t start p q end is_open drains =
+      let so_far = turns_by_calls t start p drains.turns drains.now drains.last is_open drains.gone_on in
+      by_both look (sight_of tend p.executor) (sight_of tend drains.last.executor) (sight_of tend q.executor) so_far.0
+      (turn_by_calls drains.now drains.last q drains.turn_end so_far.1 drains.made)
+
+  -- what an open executor answers to a line
+  open_by_calls : (source : Source) (p q : Spot (Executor D C M)) (found : Result Line Refusal) (reply : LineReply)
+      → (sight_of tend p.executor).is_open ≡ true → IsOpenReply look tend source limits p q found reply → Goes p.executor q.executor
+  open_by_calls source p q (Ok (line.Request request)) reply is_open answered =
+      request_by_calls request p.executor q.executor reply is_open answered.0
+  open_by_calls source p q (Ok (line.Drain limit)) reply is_open (now, end, told, drains) = drain_by_calls _ _ p q end is_open drains
+  open_by_calls source p q (Ok (line.Watch limit)) reply is_open (now, end, told, drains) = drain_by_calls _ _ p q end is_open drains
+  open_by_calls source p q (Ok line.Tidy) reply is_open ((end, told, tidies), same) =
+      by_tidy look (sight_of tend p.executor) (sight_of tend q.executor) end
+      (subst (λ (o : Bool). TidiesWhile o look (sight_of tend p.executor) (sight_of tend q.executor) end) (sym is_open) tidies)
+  open_by_calls source p q (Ok (line.Meta provider agent)) reply is_open answered =
+      by_none look (sight_of tend p.executor) (sight_of tend q.executor)
+      (ap (λ (s : Spot (Executor D C M)). sight_of tend s.executor) answered.1)
+  open_by_calls source p q (Err why) reply is_open answered =
+      by_none look (sight_of tend p.executor) (sight_of tend q.executor)
+      (ap (λ (s : Spot (Executor D C M)). sight_of tend s.executor) answered.1)
+
+  reply_by_calls : (source : Source) (p q : Spot (Executor D C M)) (found : Result Line Refusal) (reply : LineReply)
+      → IsReply look tend source limits p q found reply → Goes p.executor q.executor
+  reply_by_calls source p q found reply is = by (sight_of tend p.executor).is_open refl
+    where
+      by : (b : Bool) → (sight_of tend p.executor).is_open ≡ b → Goes p.executor q.executor
+      by true is_open = open_by_calls source p q found reply is_open (is.while_open is_open)
+      by false closed =
+          by_none look (sight_of tend p.executor) (sight_of tend q.executor)
+          (ap (λ (s : Spot (Executor D C M)). sight_of tend s.executor) (is.once_closed closed).1)
+
+  -- what stands next in the input
+  next_by_calls : (source : Source) (p q : Place (Executor D C M)) (s : Progress) → Takes look tend source limits p q s
+      → Goes p.executor q.executor
+  next_by_calls source p q progress.Answered takes = reply_by_calls source _ _ takes.found takes.reply takes.answered
+  next_by_calls source p q progress.PassedOver takes =
+      by_none look (sight_of tend p.executor) (sight_of tend q.executor) (ap (λ (e : Executor D C M). sight_of tend e) takes.1.0)
+  next_by_calls source p q progress.End takes =
+      by_none look (sight_of tend p.executor) (sight_of tend q.executor) (ap (λ (e : Executor D C M). sight_of tend e) takes.1.0)
+
+  -- line after line
+  pub lines_by_calls : (source : Source) (p q : Place (Executor D C M)) → Reaches look tend source limits p q → Goes p.executor q.executor
+  lines_by_calls source p _ here = by_none look (sight_of tend p.executor) (sight_of tend p.executor) refl
+  lines_by_calls source p _ (one_more m q s reaches takes) =
+      by_both look (sight_of tend p.executor) (sight_of tend m.executor) (sight_of tend q.executor) (lines_by_calls source p m reaches)
+      (next_by_calls source m q s takes)

@@ -1,0 +1,6 @@
+use Rattle.exec_session.proofs.CallLemmas.{lines_by_calls}
+use Rattle.exec_session.proofs.laws.lines_are_calls.Goals as goal
+
+pub returns : goal.returns
+returns g c =
+    λ limits p q reaches. lines_by_calls g.D.Disk.view g.C.Children.view limits (g.M.Metadata.gives c.args.metadata.now) p q reaches
