@@ -7,7 +7,8 @@ use std::alloc::{AllocError, Global};
 
 // Part A of a journal in which r1 was registered, without the closed gate behind the record.
 const REGISTERED: &[u8] =
-    b"\x01OCFJ\x01\0\0\0\0\0\0\0\x01\0\0\0\x1a\0\0\0\0\0\0\0\x01\0\0\0\0\0\0\0\x01\0\0\0\0\0\0\0\0\0\0\x01\0\0\0\x1d\x01\0\0\0\0\0\0\0\0\x02r\x31\x09pacemaker\x05Dummy\0";
+    b"\x01OCFJ\x01\0\0\0\0\0\0\0\x01\0\0\0\x1a\0\0\0\0\0\0\0\x01\0\0\0\0\0\0\0\x01\0\0\0\0\0\0\0\0\0\0\x01\0\0\0\
+    \x1d\x01\0\0\0\0\0\0\0\0\x02r\x31\x09pacemaker\x05Dummy\0";
 
 // The record that the results of r1 were forgotten, one of the shortest there are.
 const FORGOTTEN: [u8; 17] = *b"\x01\0\0\0\x0c\x07\0\0\0\0\0\0\0\0\x02r\x31";

@@ -1,6 +1,4 @@
 //! Slots appended to a disk in memory.
-ghost use Rattle.std.specs.Prelude.{◌≡◌, ◌<◌, ◌≤◌, IfOk, length};
-ghost use Rattle.gated_slots.specs.Frame.{frame_body};
 
 use anyhow::Result;
 use disk_model::MemDisk;

@@ -8,10 +8,14 @@ use std::io::{self, BufReader, ErrorKind, Read};
 
 // A registration, a question, a tidy, a line that is refused in reading, drains and metadata.
 const LINES: &[u8] =
-    b"{\"op\":\"register\",\"id\":\"r1\",\"provider\":\"pacemaker\",\"type\":\"Dummy\"}\n{\"op\":\"list\"}\n{\"op\":\"tidy\"}\n{\"op\":\n{\"op\":\"drain\"}\n{\"op\":\"watch\",\"limit\":9}\n{\"op\":\"meta\",\"provider\":\"p\",\"type\":\"t\"}\n{\"op\":\"register\",\"id\":\"r1\",\"provider\":\"pacemaker\",\"type\":\"Dummy\"}\n";
+    b"{\"op\":\"register\",\"id\":\"r1\",\"provider\":\"pacemaker\",\"type\":\"Dummy\"}\n{\"op\":\"list\"}\n{\"op\":\"tidy\"}\n{\"op\":\n\
+    {\"op\":\"drain\"}\n{\"op\":\"watch\",\"limit\":9}\n{\"op\":\"meta\",\"provider\":\"p\",\"type\":\"t\"}\n\
+    {\"op\":\"register\",\"id\":\"r1\",\"provider\":\"pacemaker\",\"type\":\"Dummy\"}\n";
 
 const REPLIES_WHEN_CLOSED: &[u8] =
-    b"{\"error\":\"disk\",\"number\":16}\n{\"error\":\"closed\",\"number\":17}\n{\"end\":\"closed\"}\n{\"error\":\"closed\",\"number\":17}\n{\"end\":\"closed\"}\n{\"end\":\"closed\"}\n{\"end\":\"missing\"}\n{\"error\":\"closed\",\"number\":17}\n";
+    b"{\"error\":\"disk\",\"number\":16}\n{\"error\":\"closed\",\"number\":17}\n{\"end\":\"closed\"}\n\
+    {\"error\":\"closed\",\"number\":17}\n{\"end\":\"closed\"}\n{\"end\":\"closed\"}\n{\"end\":\"missing\"}\n\
+    {\"error\":\"closed\",\"number\":17}\n";
 
 const REGISTER: &[u8] = b"{\"op\":\"register\",\"id\":\"r1\",\"provider\":\"p\",\"type\":\"t\"}";
 

@@ -115,13 +115,15 @@ pub fn ended_in(
 
 /// Registers r1, starts it, and drains.
 pub const DRAIN: &[u8] =
-    b"{\"op\":\"register\",\"id\":\"r1\",\"provider\":\"p\",\"type\":\"t\"}\n{\"op\":\"exec\",\"id\":\"r1\",\"action\":\"start\"}\n{\"op\":\"drain\"}\n";
+    b"{\"op\":\"register\",\"id\":\"r1\",\"provider\":\"p\",\"type\":\"t\"}\n{\"op\":\"exec\",\"id\":\"r1\",\"action\":\"start\"}\n\
+    {\"op\":\"drain\"}\n";
 
 const RUNS_ON: &[u8] =
     b"{\"ok\":true}\n{\"call\":1,\"key\":\"r1_start_0\",\"ok\":true}\n{\"end\":\"turns\"}\n";
 
-const NOT_RUNNING: &[u8] =
-    b"{\"ok\":true}\n{\"call\":1,\"key\":\"r1_start_0\",\"ok\":true}\n{\"action\":\"start\",\"call\":1,\"code\":7,\"id\":\"r1\",\"interval\":0,\"name\":\"OCF_NOT_RUNNING\",\"outcome\":\"done\",\"run\":1}\n{\"end\":\"idle\"}\n";
+const NOT_RUNNING: &[u8] = b"{\"ok\":true}\n{\"call\":1,\"key\":\"r1_start_0\",\"ok\":true}\n\
+    {\"action\":\"start\",\"call\":1,\"code\":7,\"id\":\"r1\",\"interval\":0,\"name\":\"OCF_NOT_RUNNING\",\"outcome\":\"done\",\"run\":1}\n\
+    {\"end\":\"idle\"}\n";
 
 #[test]
 fn a_drain_makes_as_many_turns_as_it_may(rt: HostRuntime) {

@@ -5,4 +5,5 @@ use Rattle.scenarios.specs.declared.disk.SharedDisk.{SharedDisk}
 
 -- a disk that is never honest, with the counts of this hand
 abbrev pub shared_view : SharedDisk → View
-shared_view d = record { honest = ⊥; reads = record { a = []; b = [] }; now = λ _. ⊥; since = λ _ _. ⊥; clock = d.clock; failures = d.failures }
+shared_view d =
+    record { honest = ⊥; reads = record { a = []; b = [] }; now = λ _. ⊥; since = λ _ _. ⊥; clock = d.clock; failures = d.failures }

@@ -3,7 +3,7 @@ use crate::planned::{Calls, PlannedChildren};
 use anyhow::{Context, Result};
 use child_keeper::{KillFault, Poll, Script, Scripted};
 use ocf_types::StartFault;
-use std::alloc::{AllocError, Global};
+use std::alloc::Global;
 use std::cell::Cell;
 use std::collections::VecDeque;
 use std::mem;

@@ -9,4 +9,7 @@ use Rattle.scenarios.specs.declared.disk.SharedDisk.{SharedDisk}
 pub invariant_of-self : goal.invariant_of-self
 invariant_of-self c =
     let P : Sight SharedDisk → Type 0 = λ x. ∥ IsSound shared_view x ∥₁ in
-    record { sound = subst P (sym c.clear_book.ensures.cleared) (sound_emptied (sight_of planned_view c.args.self.now.executor) c.args.self.now.sound) }
+    record {
+      sound = subst P (sym c.clear_book.ensures.cleared)
+          (sound_emptied (sight_of planned_view c.args.self.now.executor) c.args.self.now.sound);
+    }
