@@ -1,4 +1,4 @@
--- The command line of `ocfexec` as `clap` reads it: `run` and `show`, each with the same six options.
+-- The command line of `ocfexec` as `clap` reads it: `run`, `serve` and `show`, each with the same options.
 use Rattle.std.specs.Prelude.{[], ◌∷◌, Some, true, codes}
 use Rattle.clap.specs.Words.{App, Rule, Text, new_app, new_rule, with_rule, with_subcommand}
 use Rattle.clap.specs.declared.builder.ArgAction.TheVariants.{SetTrue}
@@ -25,14 +25,33 @@ default_path = codes "/usr/sbin:/usr/bin:/sbin:/bin"
 abbrev pub default_tidy_at : Text
 default_tidy_at = codes "6291456"
 
-abbrev pub with_options_app : App → App
-with_options_app a =
+-- an action's timeout where it names none
+abbrev pub default_orphans : Text
+default_orphans = codes "20000"
+
+-- where the journal is, and when it is tidied
+abbrev pub with_journal_app : App → App
+with_journal_app a =
     let a₁ = with_rule a (text_rule (codes "journal")) in
     let a₂ = with_rule a₁ (flag_rule (codes "memory")) in
-    let a₃ = with_rule a₂ (text_rule_or (codes "root") default_root) in
-    let a₄ = with_rule a₃ (text_rule (codes "via")) in
-    let a₅ = with_rule a₄ (text_rule_or (codes "path") default_path) in
-    with_rule a₅ (text_rule_or (codes "tidy-at") default_tidy_at)
+    with_rule a₂ (text_rule_or (codes "tidy-at") default_tidy_at)
+
+-- where the agents are
+abbrev pub with_site_app : App → App
+with_site_app a =
+    let a₁ = with_rule a (text_rule_or (codes "root") default_root) in
+    let a₂ = with_rule a₁ (text_rule (codes "via")) in
+    with_rule a₂ (text_rule_or (codes "path") default_path)
+
+-- what the agents are given, and what is waited for
+abbrev pub with_agent_app : App → App
+with_agent_app a =
+    let a₁ = with_rule a (text_rule (codes "log")) in
+    let a₂ = with_rule a₁ (flag_rule (codes "meta-variables")) in
+    with_rule a₂ (text_rule_or (codes "orphans") default_orphans)
+
+abbrev pub with_options_app : App → App
+with_options_app a = with_agent_app (with_site_app (with_journal_app a))
 
 -- a subcommand is asked for; the version is told by `--version`
 abbrev pub top_app : App
@@ -44,4 +63,5 @@ top_app =
 abbrev pub ocfexec_app : App
 ocfexec_app =
     let with_run = with_subcommand top_app (with_options_app (new_app (codes "run"))).top in
-    with_subcommand with_run (with_options_app (new_app (codes "show"))).top
+    let with_serve = with_subcommand with_run (with_options_app (new_app (codes "serve"))).top in
+    with_subcommand with_serve (with_options_app (new_app (codes "show"))).top

@@ -1,14 +1,15 @@
 -- The faults of words that give no options.
-use Rattle.std.specs.Prelude.{◌≡◌, ◌⊎◌, ℕ, ⊤, List, []}
+use Rattle.std.specs.Prelude.{◌≡◌, ◌⊎◌, ℕ, ⊤, false, List, []}
 use Rattle.clap.specs.Words.{Kinds, Row, Text, IsAmong, fault_of, kind_of}
 use Rattle.clap.specs.declared.error.Error.{Error}
 use Rattle.clap.specs.declared.error.kind.ErrorKind.{ErrorKind}
 use Rattle.clap.specs.declared.error.kind.ErrorKind.TheVariants.{DisplayHelp, DisplayVersion}
 use Rattle.exec_options.specs.declared.options.Subcommand.{Subcommand}
 use Rattle.exec_options.specs.declared.fault.WordsFault.{WordsFault}
-use Rattle.exec_options.specs.declared.fault.WordsFault.TheVariants.{Help, Usage, Choice, TidyAt, Memory}
+use Rattle.exec_options.specs.declared.fault.WordsFault.TheVariants.{Help, Usage, Choice, TidyAt, Root, Orphans, Memory}
 use Rattle.exec_options.specs.App.{ocfexec_app}
-use Rattle.exec_options.specs.Words.{IsChoice, IsTidyAt, Names, tidy_text}
+use Rattle.ocf_types.specs.Limits.{part_limit}
+use Rattle.exec_options.specs.Words.{IsChoice, IsNumberTo, Names, is_absolute, longest_wait, orphans_text, root_text, tidy_text}
 
 -- a text that was asked for, and no mistake
 abbrev pub IsAsked : ErrorKind → Type 0
@@ -20,16 +21,43 @@ HasFaultKind kinds (Help e) = IsAmong (kind_of e) kinds × IsAsked (kind_of e)
 HasFaultKind kinds (Usage e) = IsAmong (kind_of e) kinds × (¬ IsAsked (kind_of e))
 HasFaultKind kinds Choice = ⊥
 HasFaultKind kinds TidyAt = ⊥
+HasFaultKind kinds Root = ⊥
+HasFaultKind kinds Orphans = ⊥
 HasFaultKind kinds Memory = ⊤
 
--- the words name just one of `--journal` and `--memory`, and for `--tidy-at` no number up to a part's limit
-abbrev pub NamesNoNumber : List Text → Type 0
-NamesNoNumber words = (s : Subcommand) × (rows : List Row) × Names words s rows × IsChoice rows × ((n : ℕ) → ¬ IsTidyAt (tidy_text rows) n)
+-- the words name a subcommand and just one of `--journal` and `--memory`, and the other options that they name have this flaw
+pub record Flawed (words : List Text) (flaw : List Row → Type 0) : Type 0 where
+  pub subcommand : Subcommand
+  pub rows : List Row
+  pub named : Names words subcommand rows
+  pub choice : IsChoice rows
+  pub has_flaw : flaw rows
 
--- `clap` refuses the words for this, or takes them and yet they give no options: by their journal, or else by `--tidy-at`
+-- what `--tidy-at` names is no number up to a part's limit
+abbrev pub TidyAtFlaw : List Row → Type 0
+TidyAtFlaw rows = (n : ℕ) → ¬ IsNumberTo part_limit (tidy_text rows) n
+
+-- what `--root` names is no absolute path
+abbrev pub RootFlaw : List Row → Type 0
+RootFlaw rows = is_absolute (root_text rows) ≡ false
+
+-- what `--orphans` names is no number of milliseconds up to a day
+abbrev pub OrphansFlaw : List Row → Type 0
+OrphansFlaw rows = (n : ℕ) → ¬ IsNumberTo longest_wait (orphans_text rows) n
+
+-- the flaw that a fault tells of
+abbrev pub HasFlaw : List Row → WordsFault → Type 0
+HasFlaw rows TidyAt = TidyAtFlaw rows
+HasFlaw rows Root = RootFlaw rows
+HasFlaw rows Orphans = OrphansFlaw rows
+HasFlaw rows _ = ⊥
+
+-- `clap` refuses the words for this, or takes them and yet they give no options: by their journal, or else by another option
 abbrev pub IsFault : List Text → WordsFault → Type 0
 IsFault words Choice = (fault_of ocfexec_app words ≡ []) × ((s : Subcommand) (rows : List Row) → Names words s rows → ¬ IsChoice rows)
-IsFault words TidyAt = (fault_of ocfexec_app words ≡ []) × NamesNoNumber words
+IsFault words TidyAt = (fault_of ocfexec_app words ≡ []) × Flawed words TidyAtFlaw
+IsFault words Root = (fault_of ocfexec_app words ≡ []) × Flawed words RootFlaw
+IsFault words Orphans = (fault_of ocfexec_app words ≡ []) × Flawed words OrphansFlaw
 IsFault words fault = HasFaultKind (fault_of ocfexec_app words) fault
 
 -- the words ask for help or the version

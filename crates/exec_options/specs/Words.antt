@@ -1,5 +1,6 @@
 -- The options that words give.
-use Rattle.std.specs.Prelude.{◌≡◌, ◌≤◌, ℕ, Bool, false, not, List, Option, Some, None, is_some, option_map, unwrap_or, codes, bytes_eq}
+use Rattle.std.specs.Prelude.{◌≡◌, ◌≤◌, ◌==◌, ℕ, Bool, true, false, not, List, [], ◌∷◌, Option, Some, None, is_some, option_map, unwrap_or}
+use Rattle.std.specs.Prelude.{codes, bytes_eq}
 use Rattle.std.specs.Str.Parse.{IsNumeral, digits_value, without_leading_plus}
 use Rattle.clap.specs.Words.{Row, Text, first_of, subcommand_of}
 use Rattle.ocf_types.specs.Limits.{part_limit}
@@ -7,7 +8,7 @@ use Rattle.exec_options.specs.declared.options.Options.{Options}
 use Rattle.exec_options.specs.declared.options.Subcommand.{Subcommand}
 use Rattle.exec_options.specs.declared.options.JournalPlace.{JournalPlace}
 use Rattle.exec_options.specs.declared.options.JournalPlace.TheVariants.{Folder, Memory}
-use Rattle.exec_options.specs.App.{default_path, default_root, default_tidy_at, ocfexec_app}
+use Rattle.exec_options.specs.App.{default_orphans, default_path, default_root, default_tidy_at, ocfexec_app}
 use Rattle.exec_options.specs.Subcommands.{subcommand_word}
 
 -- the folder that is named, or none in memory
@@ -23,22 +24,42 @@ is_true_text None = false
 abbrev pub IsChoice : List Row → Type 0
 IsChoice rows = is_true_text (first_of (codes "memory") rows) ≡ not (is_some (first_of (codes "journal") rows))
 
--- what `--tidy-at` names, or its default
+-- what `--tidy-at`, `--orphans` and `--root` name, or their defaults
 abbrev pub tidy_text : List Row → Text
 tidy_text rows = unwrap_or (first_of (codes "tidy-at") rows) default_tidy_at
 
--- a text of decimal digits, a plus before them or not, is this number, and at most a part's limit
-abbrev pub IsTidyAt : Text → ℕ → Type 0
-IsTidyAt text n = IsNumeral 10 (without_leading_plus text) × (digits_value 10 (without_leading_plus text) ≡ n) × (n ≤ part_limit)
+abbrev pub orphans_text : List Row → Text
+orphans_text rows = unwrap_or (first_of (codes "orphans") rows) default_orphans
+
+abbrev pub root_text : List Row → Text
+root_text rows = unwrap_or (first_of (codes "root") rows) default_root
+
+-- how many milliseconds are waited for at most: a day
+abbrev pub longest_wait : ℕ
+longest_wait = 86400000
+
+-- a text of decimal digits, a plus before them or not, is this number, and at most this limit
+abbrev pub IsNumberTo : ℕ → Text → ℕ → Type 0
+IsNumberTo limit text n =
+    IsNumeral 10 (without_leading_plus text) × (digits_value 10 (without_leading_plus text) ≡ n) × (n ≤ limit)
+
+-- a path that begins at the root folder
+abbrev pub is_absolute : Text → Bool
+is_absolute (b ∷ more) = b == 47
+is_absolute [] = false
 
 -- the options are what a subcommand's rows hold, a default in place of what they lack
 pub record IsReadFrom (rows : List Row) (o : Options) : Type 0 where
   pub journal : folder_of o.journal ≡ first_of (codes "journal") rows
   pub choice : IsChoice rows
-  pub root : o.root.now ≡ unwrap_or (first_of (codes "root") rows) default_root
+  pub tidy_at : IsNumberTo part_limit (tidy_text rows) o.tidy_at
+  pub root : o.root.now ≡ root_text rows
+  pub absolute : is_absolute o.root.now ≡ true
   pub via : option_map (λ s. s.now) o.via ≡ first_of (codes "via") rows
   pub path : o.path.now ≡ unwrap_or (first_of (codes "path") rows) default_path
-  pub tidy_at : IsTidyAt (tidy_text rows) o.tidy_at
+  pub log : option_map (λ s. s.now) o.log ≡ first_of (codes "log") rows
+  pub meta_variables : o.meta_variables ≡ is_true_text (first_of (codes "meta-variables") rows)
+  pub orphans : IsNumberTo longest_wait (orphans_text rows) o.orphans
 
 -- by `clap`'s rules the words name this subcommand, with these rows
 abbrev pub Names : List Text → Subcommand → List Row → Type 0

@@ -2,7 +2,8 @@
 ghost use Rattle.std.specs.Prelude.{◌≡◌, false, IfOk, codes};
 ghost use Rattle.clap.specs.Words.{app_of, rule_of, new_app};
 ghost use Rattle.clap.specs.declared.builder.command.Command.TheViews.{out-Command};
-ghost use Rattle.exec_options.specs.App.{text_rule, text_rule_or, flag_rule, with_options_app, top_app, ocfexec_app};
+ghost use Rattle.exec_options.specs.App.{text_rule, text_rule_or, flag_rule, with_agent_app, with_journal_app, with_options_app, with_site_app};
+ghost use Rattle.exec_options.specs.App.{top_app, ocfexec_app};
 
 use crate::texts;
 use clap::{Arg, ArgAction, Command};
@@ -16,6 +17,10 @@ pub const PATH: &str = "/usr/sbin:/usr/bin:/sbin:/bin";
 
 /// How many bytes the journal holds at most before it is tidied, where nothing is named: three quarters of a part's limit.
 pub const TIDY_AT: &str = "6291456";
+
+/// How many milliseconds are waited for what a killed executor's agents still do, where nothing is named: an action's timeout
+/// where it names none.
+pub const ORPHANS: &str = "20000";
 
 fn text_option<'a>(alloc: Global, id: &'a str, value: &'a str, help: &'a str) -> Arg<'a>
     ensures rule { rule_of result ≡ text_rule id.entry.now }
@@ -47,8 +52,8 @@ fn flag<'a>(alloc: Global, id: &'a str, help: &'a str) -> Arg<'a>
         .help(help)
 }
 
-fn with_options<'a>(alloc: Global, command: Command<'a>) -> Result<Command<'a>, AllocError>
-    ensures app { IfOk result (λ r. app_of r ≡ with_options_app (app_of command.entry)) }
+fn with_journal_options<'a>(alloc: Global, command: Command<'a>) -> Result<Command<'a>, AllocError>
+    ensures app { IfOk result (λ r. app_of r ≡ with_journal_app (app_of command.entry)) }
     ensures local { IfOk result (λ r. (out-Command r).has_globals ≡ (out-Command command.entry).has_globals) }
 {
     let command = command.arg(text_option(
@@ -62,26 +67,6 @@ fn with_options<'a>(alloc: Global, command: Command<'a>) -> Result<Command<'a>, 
         "memory",
         "Keep the journal in memory: it is gone when the program ends",
     ))?;
-    let command = command.arg(text_option_or(
-        alloc,
-        "root",
-        "DIR",
-        ROOT,
-        "The folder of the agents; an agent is the file resource.d/PROVIDER/TYPE in it",
-    ))?;
-    let command = command.arg(text_option(
-        alloc,
-        "via",
-        "PROGRAM",
-        "Start each agent as PROGRAM AGENT ACTION; left out, as AGENT ACTION",
-    ))?;
-    let command = command.arg(text_option_or(
-        alloc,
-        "path",
-        "PATH",
-        PATH,
-        "The PATH in the environment of the agents",
-    ))?;
     command.arg(text_option_or(
         alloc,
         "tidy-at",
@@ -89,6 +74,65 @@ fn with_options<'a>(alloc: Global, command: Command<'a>) -> Result<Command<'a>, 
         TIDY_AT,
         "Tidy the journal once it holds more bytes than this; 0 for never",
     ))
+}
+
+fn with_site_options<'a>(alloc: Global, command: Command<'a>) -> Result<Command<'a>, AllocError>
+    ensures app { IfOk result (λ r. app_of r ≡ with_site_app (app_of command.entry)) }
+    ensures local { IfOk result (λ r. (out-Command r).has_globals ≡ (out-Command command.entry).has_globals) }
+{
+    let command = command.arg(text_option_or(
+        alloc,
+        "root",
+        "DIR",
+        ROOT,
+        "The folder of the agents, an absolute path; an agent is the file resource.d/PROVIDER/TYPE in it",
+    ))?;
+    let command = command.arg(text_option(
+        alloc,
+        "via",
+        "PROGRAM",
+        "Start each agent as PROGRAM AGENT ACTION; left out, as AGENT ACTION",
+    ))?;
+    command.arg(text_option_or(
+        alloc,
+        "path",
+        "PATH",
+        PATH,
+        "The PATH in the environment of the agents",
+    ))
+}
+
+fn with_agent_options<'a>(alloc: Global, command: Command<'a>) -> Result<Command<'a>, AllocError>
+    ensures app { IfOk result (λ r. app_of r ≡ with_agent_app (app_of command.entry)) }
+    ensures local { IfOk result (λ r. (out-Command r).has_globals ≡ (out-Command command.entry).has_globals) }
+{
+    let command = command.arg(text_option(
+        alloc,
+        "log",
+        "FILE",
+        "Append what the agents write to this file; - for standard error; left out, it is dropped",
+    ))?;
+    let command = command.arg(flag(
+        alloc,
+        "meta-variables",
+        "Give the agents OCF_RESKEY_CRM_meta_interval, _timeout and _name, as Pacemaker does",
+    ))?;
+    command.arg(text_option_or(
+        alloc,
+        "orphans",
+        "MS",
+        ORPHANS,
+        "Wait so long for what a killed executor's agents still do, before it is reported; 0: do not wait",
+    ))
+}
+
+fn with_options<'a>(alloc: Global, command: Command<'a>) -> Result<Command<'a>, AllocError>
+    ensures app { IfOk result (λ r. app_of r ≡ with_options_app (app_of command.entry)) }
+    ensures local { IfOk result (λ r. (out-Command r).has_globals ≡ (out-Command command.entry).has_globals) }
+{
+    let command = with_journal_options(alloc, command)?;
+    let command = with_site_options(alloc, command)?;
+    with_agent_options(alloc, command)
 }
 
 fn bare<'a>(alloc: Global, name: &'a str, about: &'a str, more: &'a str) -> Command<'a>
@@ -124,6 +168,18 @@ fn run<'a>(alloc: Global) -> Command<'a>
     )
 }
 
+fn serve<'a>(alloc: Global) -> Command<'a>
+    ensures app { app_of result ≡ new_app (codes "serve") }
+    ensures local { (out-Command result).has_globals ≡ false }
+{
+    bare(
+        alloc,
+        "serve",
+        "Answers commands as run does, and makes turns by itself, while no command is there",
+        texts::SERVE,
+    )
+}
+
 fn show<'a>(alloc: Global) -> Command<'a>
     ensures app { app_of result ≡ new_app (codes "show") }
     ensures local { (out-Command result).has_globals ≡ false }
@@ -141,7 +197,9 @@ pub fn ocfexec<'a>(alloc: Global) -> Result<Command<'a>, AllocError>
     ensures { IfOk result (λ c. app_of c ≡ ocfexec_app) }
 {
     let run = with_options(alloc, run(alloc))?;
+    let serve = with_options(alloc, serve(alloc))?;
     let show = with_options(alloc, show(alloc))?;
     let with_run = top(alloc).subcommand(run)?;
-    with_run.subcommand(show)
+    let with_serve = with_run.subcommand(serve)?;
+    with_serve.subcommand(show)
 }

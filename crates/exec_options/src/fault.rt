@@ -2,6 +2,7 @@
 ghost use Rattle.clap.specs.Words.{HasKind, Kinds};
 ghost use Rattle.exec_options.specs.Faults.{HasFaultKind};
 
+use crate::options::LONGEST_WAIT;
 use clap::error::ErrorKind;
 use ocf_types::PART_LIMIT;
 use thiserror::Error;
@@ -21,6 +22,12 @@ pub enum WordsFault {
     /// They name a text for `--tidy-at` that is no number up to a part's limit.
     #[error("a number from 0 to {} is wanted for --tidy-at", PART_LIMIT)]
     TidyAt,
+    /// They name a text for `--root` that is no absolute path.
+    #[error("an absolute path is wanted for --root")]
+    Root,
+    /// They name a text for `--orphans` that is no number of milliseconds up to a day.
+    #[error("a number from 0 to {} is wanted for --orphans", LONGEST_WAIT)]
+    Orphans,
     /// There was no memory to read them.
     #[error("out of memory")]
     Memory,

@@ -3,11 +3,16 @@ ghost use Rattle.std.specs.Prelude.{◌≡◌, ◌≢◌, IfSome, IfNone};
 ghost use Rattle.exec_options.specs.declared.options.Subcommand.{Subcommand};
 ghost use Rattle.exec_options.specs.Subcommands.{subcommand_word};
 
+/// How long an opening waits at most for what a killed executor's agents still do, in milliseconds: a day.
+pub const LONGEST_WAIT: u64 = 86_400_000;
+
 /// What the program does.
 #[derive(Clone, Copy, Debug, PartialEq, Eq)]
 pub enum Subcommand {
     /// Reads commands and answers each.
     Run,
+    /// The same, and makes turns by itself.
+    Serve,
     /// Prints what the journal holds.
     Show,
 }
@@ -20,6 +25,8 @@ impl Subcommand {
     {
         if name == "run" {
             Some(Subcommand::Run)
+        } else if name == "serve" {
+            Some(Subcommand::Serve)
         } else if name == "show" {
             Some(Subcommand::Show)
         } else {
@@ -42,7 +49,7 @@ pub enum JournalPlace<'a> {
 pub struct Options<'a> {
     pub subcommand: Subcommand,
     pub journal: JournalPlace<'a>,
-    /// The folder of the agents: an agent is the file `resource.d/PROVIDER/TYPE` in it.
+    /// The folder of the agents, an absolute path: an agent is the file `resource.d/PROVIDER/TYPE` in it.
     pub root: &'a str,
     /// The program that each agent is started through, or none.
     pub via: Option<&'a str>,
@@ -50,4 +57,11 @@ pub struct Options<'a> {
     pub path: &'a str,
     /// The journal is tidied once it holds more bytes than this; 0 for never. It is at most a part's limit.
     pub tidy_at: u64,
+    /// The file that what agents write is appended to; `-` is standard error, and none drops it.
+    pub log: Option<&'a str>,
+    /// Whether agents are told of their action in variables, as Pacemaker does it.
+    pub meta_variables: bool,
+    /// How long an opening waits for what a killed executor's agents still do, in milliseconds; 0: it does not. It is a
+    /// day at most.
+    pub orphans: u64,
 }

@@ -3,9 +3,9 @@
 /// The version of the program.
 pub const VERSION: &str = "0.1.0";
 
-/// What stands behind the help of the whole program: the commands that `run` reads, and where all is said.
+/// What stands behind the help of the whole program: the commands that `run` and `serve` read, and where all is said.
 pub const COMMANDS: &str =
-    "Commands that run reads, a JSON object a line, and answers in a line each:
+    "Commands that run and serve read, a JSON object a line, and answer in a line each:
   op          needed keys         other keys      it
   register    id, provider, type  params          adds a resource
   unregister  id                                  removes a resource
@@ -34,9 +34,17 @@ Examples:
   echo '{\"op\":\"list\"}' | ocfexec run --memory
   ocfexec run --journal /var/lib/ocfexec < commands";
 
+/// What stands behind the help of `serve`.
+pub const SERVE: &str = "Give just one of --journal and --memory. The commands: ocfexec --help.
+Results come as lines of their own, which alone have the key outcome; no drain or watch is needed.
+
+Example:
+  ocfexec serve --journal /var/lib/ocfexec";
+
 /// What stands behind the help of `show`.
 pub const SHOW: &str =
-    "Give just one of --journal and --memory. The other options are those of run, and do nothing here.
+    "Give just one of --journal and --memory. A journal that is in use can be shown too, and nothing is changed.
+The other options are those of run, and do nothing here.
 
 Example:
   ocfexec show --journal /var/lib/ocfexec";

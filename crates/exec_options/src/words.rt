@@ -1,13 +1,15 @@
 //! The options that the words give.
-ghost use Rattle.std.specs.Prelude.{◌≡◌, ℕ, [], map, string_bytes, codes, is_some, option_map, IfOk, IfErr, OnOk, IfSome, IfNone};
+ghost use Rattle.std.specs.Prelude.{◌≡◌, ℕ, [], true, map, string_bytes, codes, is_some, option_map, IfOk, IfErr, OnOk, IfSome, IfNone};
 ghost use Rattle.clap.specs.Words.{first_of, rows_of, found_of, fault_of};
 ghost use Rattle.exec_options.specs.App.{ocfexec_app};
-ghost use Rattle.exec_options.specs.Words.{folder_of, is_true_text, tidy_text, IsChoice, IsTidyAt, IsReadFrom, Gives};
-ghost use Rattle.exec_options.specs.Faults.{IsFault};
+ghost use Rattle.ocf_types.specs.Limits.{part_limit};
+ghost use Rattle.exec_options.specs.Words.{folder_of, is_absolute, is_true_text, longest_wait, orphans_text, root_text, tidy_text};
+ghost use Rattle.exec_options.specs.Words.{IsChoice, IsNumberTo, IsReadFrom, Gives};
+ghost use Rattle.exec_options.specs.Faults.{HasFlaw, IsFault, OrphansFlaw, RootFlaw, TidyAtFlaw};
 
-use crate::app::{PATH, ROOT, TIDY_AT, ocfexec};
+use crate::app::{ORPHANS, PATH, ROOT, TIDY_AT, ocfexec};
 use crate::fault::WordsFault;
-use crate::options::{JournalPlace, Options, Subcommand};
+use crate::options::{JournalPlace, LONGEST_WAIT, Options, Subcommand};
 use clap::ArgMatches;
 use ocf_types::PART_LIMIT;
 use std::alloc::Global;
@@ -18,10 +20,10 @@ fn text_of<'a>(matches: &ArgMatches<'a>, id: &str) -> Option<&'a str>
     matches.get_str(id)
 }
 
-fn is_in_memory(matches: &ArgMatches<'_>) -> bool
-    ensures { result ≡ is_true_text (first_of (codes "memory") (rows_of (found_of matches.now))) }
+fn is_set(matches: &ArgMatches<'_>, id: &str) -> bool
+    ensures { result ≡ is_true_text (first_of id.now (rows_of (found_of matches.now))) }
 {
-    match text_of(matches, "memory") {
+    match text_of(matches, id) {
         Some(text) => text == "true",
         None => false,
     }
@@ -33,51 +35,91 @@ fn journal_place<'a>(matches: &ArgMatches<'a>) -> Option<JournalPlace<'a>>
     ensures none { IfNone result (is_true_text (first_of (codes "memory") (rows_of (found_of matches.now)))
         ≡ is_some (first_of (codes "journal") (rows_of (found_of matches.now)))) }
 {
-    match (text_of(matches, "journal"), is_in_memory(matches)) {
+    match (text_of(matches, "journal"), is_set(matches, "memory")) {
         (Some(folder), false) => Some(JournalPlace::Folder(folder)),
         (None, true) => Some(JournalPlace::Memory),
         _ => None,
     }
 }
 
-// The number that a text of `--tidy-at` is.
-fn number_of(text: &str) -> Option<u64>
-    ensures number { IfSome result (IsTidyAt text.now) }
-    ensures none { IfNone result ((n : ℕ) → ¬ IsTidyAt text.now n) }
+// The number up to a limit that a text is.
+fn number_to(limit: u64, text: &str) -> Option<u64>
+    ensures number { IfSome result (IsNumberTo limit text.now) }
+    ensures none { IfNone result ((n : ℕ) → ¬ IsNumberTo limit text.now n) }
 {
     match text.parse::<u64>() {
-        Ok(bytes) if bytes <= PART_LIMIT => Some(bytes),
+        Ok(number) if number <= limit => Some(number),
         _ => None,
     }
 }
 
-fn tidy_at(matches: &ArgMatches<'_>) -> Option<u64>
-    ensures number { IfSome result (IsTidyAt (tidy_text (rows_of (found_of matches.now)))) }
-    ensures none { IfNone result ((n : ℕ) → ¬ IsTidyAt (tidy_text (rows_of (found_of matches.now))) n) }
+fn tidy_at(matches: &ArgMatches<'_>) -> Result<u64, WordsFault>
+    ensures number { IfOk result (IsNumberTo part_limit (tidy_text (rows_of (found_of matches.now)))) }
+    ensures fault { IfErr result (λ f. (f ≡ WordsFault.TidyAt) × TidyAtFlaw (rows_of (found_of matches.now))) }
 {
-    number_of(text_of(matches, "tidy-at").unwrap_or(TIDY_AT))
+    match number_to(PART_LIMIT, text_of(matches, "tidy-at").unwrap_or(TIDY_AT)) {
+        Some(bytes) => Ok(bytes),
+        None => Err(WordsFault::TidyAt),
+    }
 }
 
+fn orphans(matches: &ArgMatches<'_>) -> Result<u64, WordsFault>
+    ensures number { IfOk result (IsNumberTo longest_wait (orphans_text (rows_of (found_of matches.now)))) }
+    ensures fault { IfErr result (λ f. (f ≡ WordsFault.Orphans) × OrphansFlaw (rows_of (found_of matches.now))) }
+{
+    match number_to(LONGEST_WAIT, text_of(matches, "orphans").unwrap_or(ORPHANS)) {
+        Some(millis) => Ok(millis),
+        None => Err(WordsFault::Orphans),
+    }
+}
+
+// Whether a path begins at the root folder.
+fn is_absolute(path: &str) -> bool
+    ensures { result ≡ is_absolute path.now }
+{
+    match path.as_bytes().first() {
+        Some(byte) => *byte == b'/',
+        None => false,
+    }
+}
+
+fn root<'a>(matches: &ArgMatches<'a>) -> Result<&'a str, WordsFault>
+    ensures path { IfOk result (λ p. (p.now ≡ root_text (rows_of (found_of matches.now))) × (is_absolute p.now ≡ true)) }
+    ensures fault { IfErr result (λ f. (f ≡ WordsFault.Root) × RootFlaw (rows_of (found_of matches.now))) }
+{
+    let path = text_of(matches, "root").unwrap_or(ROOT);
+    if is_absolute(path) {
+        Ok(path)
+    } else {
+        Err(WordsFault::Root)
+    }
+}
+
+// The options that a subcommand's words give beside the place of its journal.
 fn options_of<'a>(
     subcommand: Subcommand,
     journal: JournalPlace<'a>,
-    tidy_at: u64,
     matches: &ArgMatches<'a>,
-) -> Options<'a>
+) -> Result<Options<'a>, WordsFault>
     requires place { folder_of journal ≡ first_of (codes "journal") (rows_of (found_of matches.now)) }
     requires choice { IsChoice (rows_of (found_of matches.now)) }
-    requires tidy_at { IsTidyAt (tidy_text (rows_of (found_of matches.now))) tidy_at }
-    ensures subcommand { result.subcommand ≡ subcommand }
-    ensures read { IsReadFrom (rows_of (found_of matches.now)) result }
+    ensures read { IfOk result (λ o. (o.subcommand ≡ subcommand) × IsReadFrom (rows_of (found_of matches.now)) o) }
+    ensures fault { IfErr result (HasFlaw (rows_of (found_of matches.now))) }
 {
-    Options {
+    let tidy_at = tidy_at(matches)?;
+    let root = root(matches)?;
+    let orphans = orphans(matches)?;
+    Ok(Options {
         subcommand,
         journal,
-        root: text_of(matches, "root").unwrap_or(ROOT),
+        tidy_at,
+        root,
         via: text_of(matches, "via"),
         path: text_of(matches, "path").unwrap_or(PATH),
-        tidy_at,
-    }
+        log: text_of(matches, "log"),
+        meta_variables: is_set(matches, "meta-variables"),
+        orphans,
+    })
 }
 
 /// The options that these words give, the program's name first. Each fault says why they give none.
@@ -102,8 +144,5 @@ pub fn read_words<'a>(alloc: Global, words: &'a [String]) -> Result<Options<'a>,
     let Some(journal) = journal_place(matches) else {
         return Err(WordsFault::Choice);
     };
-    match tidy_at(matches) {
-        Some(tidy_at) => Ok(options_of(subcommand, journal, tidy_at, matches)),
-        None => Err(WordsFault::TidyAt),
-    }
+    options_of(subcommand, journal, matches)
 }
