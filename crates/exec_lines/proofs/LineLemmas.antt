@@ -15,7 +15,7 @@ use Rattle.exec_lines.specs.declared.line.Next.TheVariants.{Line, TooLong, End}
 use Rattle.exec_lines.specs.Lines.{is_newline, first_line, after_first_line, line_answer, next_of}
 use Rattle.exec_lines.specs.declared.line.Piece.{Piece}
 use Rattle.exec_lines.specs.declared.line.Piece.TheVariants.{Part, Last, Nothing}
-use Rattle.exec_lines.specs.Pieces.{Reads, answer_at}
+use Rattle.exec_lines.specs.Pieces.{IsNext, Reads, answer_at}
 
 abbrev pub NoNewline : List ℕ → Type 0
 NoNewline = All (λ b. b ≢ 10)
@@ -241,3 +241,22 @@ pub line-ok : (E : Type 0) (a : Option (List ℕ)) (items : List ℕ) (n : Next)
     → IfSome a (λ xs. ◌≡◌ {A = Result Next E} (Ok n) (Ok Line) → items ≡ first_line xs)
 line-ok E None items n h = tt
 line-ok E (Some xs) items n h = λ e. h (ok_is e)
+
+pub some_line_is : {E : Type 0} {n : Next} → ◌≡◌ {A = Result (Option Next) E} (Ok (Some n)) (Ok (Some Line)) → n ≡ Line
+some_line_is e = cc
+
+-- the clauses of a line that was read, in the words of what stands next
+pub next-of : (a c : Option (List ℕ)) (items : List ℕ) (n : Next) → Clauses a c items n → IsNext a n items c
+next-of None c items n h = tt
+next-of (Some xs) c items n h = (h.answer, h.line, h.rest)
+
+answered-fits : (piece : Piece) (items : List ℕ) → answer_at piece items ≡ Line → length items ≤ 131072
+answered-fits Nothing [] e = absurd cc
+answered-fits Nothing (x ∷ xs) e = is_line (x ∷ xs) (sym e)
+answered-fits Part items e = is_line items (sym e)
+answered-fits Last items e = is_line items (sym e)
+
+-- a line that is not too long, whatever was read before
+pub kept-fits : (piece : Piece) (items : List ℕ) (n : Next) → length items ≤ 131073
+    → ((line : List ℕ) → items ≡ take 131073 line → n ≡ answer_at piece line) → n ≡ Line → length items ≤ 131072
+kept-fits piece items n held answers is = answered-fits piece items (sym (answers items (sym (take_all 131073 items held))) ∙ is)

@@ -1,11 +1,11 @@
 -- What one read of a line brings.
-use Rattle.std.specs.Prelude.{ℕ, ◌≡◌, ◌==◌, List, [], ◌∷◌, ◌++◌, Option, Result, Ok, Err, nat_lt, if◌then◌else◌}
+use Rattle.std.specs.Prelude.{ℕ, ◌≡◌, ◌≢◌, ◌==◌, ⊤, List, [], ◌∷◌, ◌++◌, All, Option, Some, None, Result, Ok, Err, nat_lt, take, if◌then◌else◌}
 use Rattle.std.specs.Io.KnownBytes.{Consumes, IsAtEnd}
 use Rattle.exec_lines.specs.declared.line.Next.{Next}
-use Rattle.exec_lines.specs.declared.line.Next.TheVariants.{End}
+use Rattle.exec_lines.specs.declared.line.Next.TheVariants.{End, Line}
 use Rattle.exec_lines.specs.declared.line.Piece.{Piece}
 use Rattle.exec_lines.specs.declared.line.Piece.TheVariants.{Part, Last, Nothing}
-use Rattle.exec_lines.specs.Lines.{line_answer}
+use Rattle.exec_lines.specs.Lines.{after_first_line, first_line, line_answer, line_room, next_of}
 
 abbrev pub newline_count : Piece → ℕ
 newline_count Part = 0
@@ -29,3 +29,15 @@ Reads old new part (Ok Nothing) = Consumes old new part × (part ≡ []) × IsAt
 Reads old new part (Ok Part) = Consumes old new part
 Reads old new part (Ok Last) = Consumes old new (part ++ 10 ∷ [])
 Reads old new part (Err e) = Consumes old new part
+
+-- Of what was left as a line began some was read, no newline among it, and its front is kept.
+pub record IsMidLine (left : Option (List ℕ)) (kept : List ℕ) (now : Option (List ℕ)) : Type 0 where
+  pub part : List ℕ
+  pub unended : All (λ b. b ≢ 10) part
+  pub front : kept ≡ take line_room part
+  pub read : Consumes left now part
+
+-- what stands next in what was left, the line where it is one, and what is left behind it
+abbrev pub IsNext : Option (List ℕ) → Next → List ℕ → Option (List ℕ) → Type 0
+IsNext None next line now = ⊤
+IsNext (Some xs) next line now = (next ≡ next_of xs) × (next ≡ Line → line ≡ first_line xs) × (now ≡ Some (after_first_line xs))

@@ -1,12 +1,19 @@
-//! Lines of input, replies, and the moment that the system's clock shows.
+//! Lines of input, replies, the two ends that they come from and go to, and the clock of a run.
 #![tactic(auto)]
 
 mod buffer;
+mod ends;
 mod line;
 mod moment;
+mod patient;
+mod poll;
 mod reply;
+mod run_clock;
 
 pub use buffer::LineBuffer;
-pub use line::{Next, next_line};
+pub use ends::{Input, Output};
+pub use line::{Next, gather_line, next_line};
 pub use moment::{moment_now, moment_of};
+pub use patient::Patient;
 pub use reply::write_flushed;
+pub use run_clock::RunClock;

@@ -1,5 +1,5 @@
 //! Lines of input, read in bounded memory.
-ghost use Rattle.std.specs.Prelude.{◌≡◌, ◌≢◌, ◌↔◌, ◌≤◌, ℕ, List, [], ◌++◌, All, IsTrue, IfSome, IfOk, IfErr, OnOk, OnErr, Some, Ok};
+ghost use Rattle.std.specs.Prelude.{◌≡◌, ◌≢◌, ◌↔◌, ◌≤◌, ℕ, List, [], ◌++◌, All, IsTrue, IfSome, IfOk, IfErr, OnOk, OnErr, Option, Some, Ok, MatchOption};
 ghost use Rattle.std.specs.Prelude.{length, take};
 ghost use Rattle.std.specs.List.{position_or_len};
 ghost use Rattle.std.specs.IoError.{error_kind};
@@ -7,7 +7,7 @@ ghost use Rattle.std.specs.Io.KnownBytes.{Consumes};
 ghost use Rattle.ocf_types.specs.Limits.{line_limit};
 ghost use Rattle.exec_lines.specs.Buffer.{line_bytes};
 ghost use Rattle.exec_lines.specs.Lines.{is_newline, first_line, after_first_line, line_room, next_of};
-ghost use Rattle.exec_lines.specs.Pieces.{answer_at, newline_count, piece_of, Reads};
+ghost use Rattle.exec_lines.specs.Pieces.{answer_at, newline_count, piece_of, IsMidLine, IsNext, Reads};
 
 use crate::buffer::LineBuffer;
 use ocf_types::NUM_MAX;
@@ -118,6 +118,27 @@ fn answer<A: Allocator>(buffer: &LineBuffer<A>, piece: Piece) -> Next
         Next::TooLong
     } else {
         Next::Line
+    }
+}
+
+/// Reads once, and goes on with a line in the buffer, which a line that was answered is cleared from before. It gives what
+/// stands next in the input once that line is whole; none while it goes on. An interrupted read brings nothing. After an error
+/// what was read of the line is still there.
+pub fn gather_line<R: BufRead, A: Allocator>(
+    reader: &mut R,
+    buffer: &mut LineBuffer<A>,
+) -> io::Result<Option<Next>>
+    // Where it is known what the reader had left as the line began.
+    ensures gathers { (left : Option (List ℕ)) → IsMidLine left (line_bytes buffer.old) (R.remaining reader.old)
+        → IfOk result (λ next. MatchOption next (IsMidLine left (line_bytes buffer.new) (R.remaining reader.new))
+        (λ n. IsNext left n (line_bytes buffer.new) (R.remaining reader.new))) }
+    // At any reader.
+    ensures fits { result ≡ Ok (Some Next.Line) → length (line_bytes buffer.new) ≤ line_limit }
+{
+    let piece = take_piece(reader, buffer)?;
+    match piece {
+        Piece::Part => Ok(None),
+        _ => Ok(Some(answer(buffer, piece))),
     }
 }
 

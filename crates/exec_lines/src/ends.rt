@@ -1,0 +1,38 @@
+//! The two ends of a run: what commands are read from, and what replies are written to.
+ghost use Rattle.std.specs.Prelude.{◌≡◌};
+
+use std::alloc::Allocator;
+use std::io::{BufRead, Write};
+
+/// Input of which it can be asked whether something is there.
+pub trait Input: BufRead {
+    /// Waits for at most so many milliseconds until a read would not wait, and says whether it would not. The end of the
+    /// input and a fault are there, too: a read tells them. Nothing is read.
+    fn is_ready(&mut self, millis: u32) -> bool
+        ensures same { Self.remaining self.new ≡ Self.remaining self.old };
+}
+
+/// Output whose reader may be gone.
+pub trait Output: Write {
+    /// Whether what is written may still reach somebody.
+    fn is_heard(&self) -> bool;
+}
+
+/// All is there at once.
+impl Input for &[u8] {
+    fn is_ready(&mut self, _millis: u32) -> bool {
+        true
+    }
+}
+
+impl<A: Allocator> Output for Vec<u8, A> {
+    fn is_heard(&self) -> bool {
+        true
+    }
+}
+
+impl Output for &mut [u8] {
+    fn is_heard(&self) -> bool {
+        true
+    }
+}
