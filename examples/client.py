@@ -2,13 +2,15 @@
 """Keeps one resource running through ocfexec: starts it, monitors it, starts it anew where a monitor fails, and stops it on
 SIGTERM. An executor that ends is started again: with --journal it goes on where it was, and first tells what was interrupted.
 
-    client.py --interval 10000 ocfexec run --journal /var/lib/ocfexec
-    client.py --type Dummy --param state=/tmp/dummy ocfexec run --memory
+    client.py --interval 10000 ocfexec serve --journal /var/lib/ocfexec
+    client.py --type Dummy --param state=/tmp/dummy ocfexec serve --memory
 
 A reader may be slow (--slow): the executor waits where the pipe is full, and no line is lost.
 """
 import argparse
 import json
+import os
+import select
 import signal
 import subprocess
 import sys
@@ -24,45 +26,55 @@ class Ended(Exception):
 
 
 class Executor:
-    """One run of ocfexec, asked a line at a time."""
+    """One run of ocfexec that serves: commands are lines to it, replies and results are lines from it."""
 
     def __init__(self, words, slow):
         # a session of its own, so that a terminal's interrupt reaches the client alone
         self.process = subprocess.Popen(words, stdin=subprocess.PIPE, stdout=subprocess.PIPE, start_new_session=True)
         self.slow = slow
+        self.read = b""  # what was read and is no whole line yet
         self.results = {}  # the last result of each call
 
-    def ask(self, **command):
-        """The reply to a command. Notices that come before it are printed, and kept in `results`."""
+    def line(self, seconds=None):
+        """The next line, waited for so long at most; None where none came."""
+        while b"\n" not in self.read:
+            if not select.select([self.process.stdout], [], [], seconds)[0]:
+                return None
+            part = os.read(self.process.stdout.fileno(), 65536)
+            if not part:  # the end, perhaps amid a line
+                raise Ended(self.process.wait())
+            self.read += part
+        line, self.read = self.read.split(b"\n", 1)
+        time.sleep(self.slow)
+        return json.loads(line)
+
+    def hears(self, seconds=None):
+        """The next reply, waited for so long at most; a result is printed and kept, and gives None, as nothing does."""
+        line = self.line(seconds)
+        if line is None or "outcome" not in line:
+            return line
+        print(json.dumps(line, separators=(",", ":")), flush=True)
+        self.results[line["call"]] = line
+        return None
+
+    def ask(self, *words, **command):
+        """The reply to a command that may be refused with one of these words alone."""
         try:
             self.process.stdin.write(json.dumps(command).encode() + b"\n")
             self.process.stdin.flush()
         except OSError:
             raise Ended(self.process.wait()) from None
-        while True:
-            line = self.process.stdout.readline()
-            if not line.endswith(b"\n"):  # nothing, or a line that was cut off
-                raise Ended(self.process.wait())
-            time.sleep(self.slow)
-            reply = json.loads(line)
-            if "outcome" not in reply:
-                return reply
-            print(line.decode(), end="", flush=True)
-            self.results[reply["call"]] = reply
-
-    def accepted(self, *words, **command):
-        """The reply to a command that may be refused, or end, with one of these words alone."""
-        reply = self.ask(**command)
-        word = reply.get("error", reply.get("end"))
-        if word and word not in words:
-            sys.exit(f"{command}: {word}")
+        while (reply := self.hears()) is None:
+            pass
+        if reply.get("error") not in (None, *words):
+            sys.exit(f"{command}: {reply['error']}")
         return reply
 
     def code_of(self, resource, action):
         """Runs an action to its end, and gives its exit code."""
-        call = self.accepted(op="exec", id=resource, action=action)["call"]
+        call = self.ask(op="exec", id=resource, action=action)["call"]
         while call not in self.results:
-            self.accepted("idle", "limit", op="drain")
+            self.hears()
         return self.results.pop(call)["code"]
 
 
@@ -77,17 +89,16 @@ def bring_up(executor, name, code):
 def keep(executor, options, stopping):
     """Brings the resource up, watches it until it is to stop, and stops it."""
     name, params = options.id, dict(pair.split("=", 1) for pair in options.param)
-    executor.accepted("exists", op="register", id=name, provider=options.provider, type=options.type, params=params)
-    executor.accepted(op="params", id=name, params=params)
-    executor.accepted("exists", op="recur", id=name, interval=options.interval)
+    executor.ask("exists", op="register", id=name, provider=options.provider, type=options.type, params=params)
+    executor.ask(op="params", id=name, params=params)
+    executor.ask("exists", op="recur", id=name, interval=options.interval)
     code = executor.code_of(name, "monitor")
     while not stopping:
         bring_up(executor, name, code)
         executor.results.clear()  # what is older says nothing of the resource any more
-        # no other command is read in a watch, so its limit is also the longest wait for a stop
-        executor.accepted("limit", op="watch", limit=500)
+        executor.hears(0.5)
         code = next((result["code"] for result in executor.results.values()), 0)
-    executor.accepted("no-such-recurring", op="cancel", id=name, interval=options.interval)
+    executor.ask("no-such-recurring", op="cancel", id=name, interval=options.interval)
     return executor.code_of(name, "stop")
 
 

@@ -39,7 +39,7 @@ has() {
 }
 
 # The client of the shell
-"$top/examples/client.sh" pacemaker Dummy "state=$here/shell" "$program" run --memory --via "$agents" > "$here/out" 2> "$here/err"
+"$top/examples/client.sh" pacemaker Dummy "state=$here/shell" "$program" serve --memory --via "$agents" > "$here/out" 2> "$here/err"
 status=$?
 [ $status -eq 0 ] || differs "client.sh, status" 0 "$status, $(cat "$here/err")"
 wanted='start done 0
@@ -52,7 +52,7 @@ has 3 'monitor done 0' || differs "client.sh" "three monitors at least" "$(cat "
 # The client in Python: its resource runs and is monitored
 mkdir "$here/journal"
 "$top/examples/client.py" --provider pacemaker --param "state=$here/python" --interval 100 --slow 0.02 \
-    "$program" run --journal "$here/journal" --via "$agents" > "$here/out" 2> "$here/err" &
+    "$program" serve --journal "$here/journal" --via "$agents" > "$here/out" 2> "$here/err" &
 client=$!
 waits "a start" has 1 'start done 0'
 waits "two monitors" has 2 'monitor done 0'

@@ -2,6 +2,7 @@
 use crate::runs::{DRAIN, ended, ended_in, writes};
 use child_keeper::Poll;
 use disk_model::MemDisk;
+use exec_lines::Patient;
 use exec_output::{Fault, show};
 use std::alloc::Global;
 use std::io::{self, BufReader, ErrorKind, Read};
@@ -63,7 +64,7 @@ fn a_show_on_a_disk_that_fails_writes_nothing(rt: HostRuntime) {
     assert!(rt; written.is_empty());
 }
 
-// Gives these bytes, each read after an interrupted one, and then fails.
+// Gives these bytes, each read after one that was interrupted or would have to wait, and then fails.
 #[derive(Drop)]
 struct Stumbling {
     left: &'static [u8],
@@ -74,7 +75,11 @@ impl Read for Stumbling {
     fn read(&mut self, buf: &mut [u8]) -> io::Result<usize> {
         self.stumbles = !self.stumbles;
         if self.stumbles {
-            return Err(io::Error::from(ErrorKind::Interrupted));
+            let kind = match self.left.len() % 2 {
+                0 => ErrorKind::Interrupted,
+                _ => ErrorKind::WouldBlock,
+            };
+            return Err(io::Error::from(kind));
         }
         if self.left.is_empty() {
             return Err(io::Error::from(ErrorKind::BrokenPipe));
@@ -89,7 +94,7 @@ fn unread(alloc: Global) -> Option<Result<(), Fault>> {
         left: b"{\"op\":\"list\"}\n{\"op\":\"list\"}",
         stumbles: false,
     };
-    let mut reader = BufReader::with_capacity(alloc, 5, input).ok()?;
+    let mut reader = BufReader::with_capacity(alloc, 5, Patient::new(input, 0)).ok()?;
     let mut writer = Vec::new(alloc);
     let disk = MemDisk::new(alloc);
     let ended = ended(alloc, disk, &[], &mut reader, &mut writer)?;
@@ -97,7 +102,7 @@ fn unread(alloc: Global) -> Option<Result<(), Fault>> {
 }
 
 #[test]
-fn interrupted_reads_are_made_again_and_one_that_fails_ends_the_run(rt: HostRuntime) {
+fn reads_that_bring_nothing_are_made_again_and_one_that_fails_ends_the_run(rt: HostRuntime) {
     assert_eq!(rt; unread(rt.alloc()), Some(Err(Fault::InputOrOutput)));
 }
 

@@ -3,14 +3,16 @@ ghost use Rattle.std.specs.Prelude.{⊤};
 
 use child_keeper::{Poll, Script, Scripted};
 use disk_model::MemDisk;
+use exec_commands::NoticeForm;
+use exec_lines::{Input, Output};
 use exec_output::Fault;
-use exec_session::{Metadata, Setting, run_lines};
+use exec_session::{Metadata, Setting, Way, run_lines};
 use executor::Executor;
 use ocf_env::{Site, Text};
 use ocf_types::{AgentType, MetaFault, Provider, StartFault};
 use std::alloc::Global;
 use std::collections::VecDeque;
-use std::io::{self, BufRead, Write};
+use std::io;
 use std::rt::Clock;
 use std::time::Duration;
 
@@ -63,8 +65,20 @@ pub fn nowhere(alloc: Global) -> Site {
 }
 
 /// How a run ends over a journal that is opened at moment 5,000. Its drains make at most three turns.
-pub fn ended<R: BufRead, W: Write>(
+pub fn ended<R: Input, W: Output>(
     alloc: Global,
+    disk: MemDisk,
+    polls: &[Poll],
+    reader: &mut R,
+    writer: &mut W,
+) -> Option<Result<(), Fault>> {
+    ended_in_way(alloc, Way::Run, disk, polls, reader, writer)
+}
+
+// The same of a run that goes this way.
+fn ended_in_way<R: Input, W: Output>(
+    alloc: Global,
+    way: Way,
     disk: MemDisk,
     polls: &[Poll],
     reader: &mut R,
@@ -75,6 +89,8 @@ pub fn ended<R: BufRead, W: Write>(
         alloc,
         clock: &Standing,
         metadata: &NoMetadata,
+        way,
+        form: NoticeForm::Short,
         most_turns: 3,
         tidy_at: 0,
     };
@@ -135,4 +151,42 @@ fn a_drain_makes_as_many_turns_as_it_may(rt: HostRuntime) {
         let ended = writes(alloc, MemDisk::new(alloc), polls, DRAIN, wanted);
         assert_eq!(rt; ended, Some(Ok(())));
     }
+}
+
+// What a run that serves writes over these lines, all of which are there at once.
+fn served(alloc: Global, polls: &[Poll], lines: &[u8], wanted: &[u8]) -> bool {
+    let mut reader = lines;
+    let mut writer = Vec::new(alloc);
+    let disk = MemDisk::new(alloc);
+    let ended = ended_in_way(alloc, Way::Serve, disk, polls, &mut reader, &mut writer);
+    ended == Some(Ok(())) && writer.as_slice() == wanted
+}
+
+#[test]
+fn a_run_that_serves_answers_as_a_run_does(rt: HostRuntime) {
+    let alloc = rt.alloc();
+    for (polls, wanted) in [
+        ([].as_slice(), RUNS_ON),
+        (&[Poll::Running, Poll::Exited(7)], NOT_RUNNING),
+    ] {
+        assert!(rt; served(alloc, polls, DRAIN, wanted));
+    }
+}
+
+// A start, then lines that are passed over up to twice 64 in all, and a question: the second turn before it tells how the start
+// ended.
+const BEHIND_A_TURN: &[u8] =
+    b"{\"op\":\"register\",\"id\":\"r1\",\"provider\":\"p\",\"type\":\"t\"}\n{\"op\":\"exec\",\"id\":\"r1\",\"action\":\"start\"}\n\
+    \n\n\n\n\n\n\n\n\n\n\n\n\n\n\n\n\n\n\n\n\n\n\n\n\n\n\n\n\n\n\n\n\n\n\n\n\n\n\n\n\n\n\
+    \n\n\n\n\n\n\n\n\n\n\n\n\n\n\n\n\n\n\n\n\n\n\n\n\n\n\n\n\n\n\n\n\n\n\n\n\n\n\n\n\n\n\
+    \n\n\n\n\n\n\n\n\n\n\n\n\n\n\n\n\n\n\n\n\n\n\n\n\n\n\n\n\n\n\n\n\n\n\n\n\n\n\n\n\n\n\
+    {\"op\":\"list\"}\n";
+
+const TOLD_BETWEEN: &[u8] = b"{\"ok\":true}\n{\"call\":1,\"key\":\"r1_start_0\",\"ok\":true}\n\
+    {\"action\":\"start\",\"call\":1,\"code\":7,\"id\":\"r1\",\"interval\":0,\"name\":\"OCF_NOT_RUNNING\",\"outcome\":\"done\",\"run\":1}\n\
+    {\"ok\":true,\"resources\":[\"r1\"]}\n";
+
+#[test]
+fn a_run_that_serves_makes_turns_between_lines(rt: HostRuntime) {
+    assert!(rt; served(rt.alloc(), &[Poll::Exited(7)], BEHIND_A_TURN, TOLD_BETWEEN));
 }

@@ -9,7 +9,7 @@ use Rattle.ocf_types.specs.declared.operation.Running.{Running}
 use Rattle.ocf_types.specs.declared.reply.Notice.{Notice}
 use Rattle.ocf_types.specs.declared.reply.ReplyOf.TheVariants as reply
 use Rattle.exec_commands.specs.Objects.{natural_data, param_members}
-use Rattle.exec_commands.specs.Replies.{recur_data, running_data, info_data, ended_data, notice_data, request_data, reply_data, fault_data}
+use Rattle.exec_commands.specs.Replies.{recur_data, running_data, info_data, ended_data, notice_data, timed_notice_data, request_data, reply_data, fault_data}
 use Rattle.ocf_types.specs.declared.outcome.MetaFault.{MetaFault}
 use Rattle.ocf_types.specs.declared.outcome.MetaFault.TheVariants as fault
 use Rattle.exec_commands.specs.declared.reply.LineReply.{LineReply}
@@ -63,3 +63,6 @@ reply_has_no_float (line.Meta (Err f)) = fault_no_float f
 
 pub notice_has_no_float : (n : Notice) → has_float (notice_data n) ≡ false
 notice_has_no_float n = refl
+
+pub timed_has_no_float : (n : Notice) → has_float (timed_notice_data n) ≡ false
+timed_has_no_float n = refl

@@ -26,6 +26,8 @@ use Rattle.exec_commands.specs.declared.ends.DrainEnd.{DrainEnd}
 use Rattle.exec_commands.specs.declared.ends.DrainEnd.TheVariants as drain
 use Rattle.ocf_types.specs.declared.outcome.MetaFault.{MetaFault}
 use Rattle.ocf_types.specs.declared.outcome.MetaFault.TheVariants as fault
+use Rattle.exec_commands.specs.declared.notice.NoticeForm.{NoticeForm}
+use Rattle.exec_commands.specs.declared.notice.NoticeForm.TheVariants as notice_form
 use Rattle.exec_commands.specs.declared.reply.LineReply.{LineReply}
 use Rattle.exec_commands.specs.declared.reply.LineReply.TheVariants as line
 
@@ -124,6 +126,20 @@ notice_data n = object_from (
     ∷ (codes "interval", natural_data n.result.interval) ∷ (codes "name", string (name_read (outcome_code n.result.outcome)))
     ∷ (codes "outcome", string (outcome_word n.result.outcome)) ∷ (codes "run", natural_data n.result.run) ∷ [])
 
+-- the same with when it began and ended
+abbrev pub timed_notice_data : Notice → Data
+timed_notice_data n = object_from (
+    (codes "action", string (action_word n.result.action)) ∷ (codes "at", natural_data n.result.at)
+    ∷ (codes "call", natural_data n.result.call) ∷ (codes "code", natural_data (outcome_code n.result.outcome))
+    ∷ (codes "id", string n.id) ∷ (codes "interval", natural_data n.result.interval)
+    ∷ (codes "name", string (name_read (outcome_code n.result.outcome))) ∷ (codes "outcome", string (outcome_word n.result.outcome))
+    ∷ (codes "run", natural_data n.result.run) ∷ (codes "since", natural_data n.result.since) ∷ [])
+
+-- a notice in this form
+abbrev pub formed_data : NoticeForm → Notice → Data
+formed_data notice_form.Short n = notice_data n
+formed_data notice_form.Timed n = timed_notice_data n
+
 -- the reply to a request, and to a line
 abbrev pub request_data : Reply → Data
 request_data (reply.Refused refusal) = refusal_data refusal
@@ -150,5 +166,5 @@ behind _ = []
 abbrev pub reply_line : LineReply → List ℕ
 reply_line reply = compact_text (reply_data reply) ++ 10 ∷ behind reply
 
-abbrev pub notice_line : Notice → List ℕ
-notice_line notice = compact_text (notice_data notice) ++ 10 ∷ []
+abbrev pub formed_line : NoticeForm → Notice → List ℕ
+formed_line form notice = compact_text (formed_data form notice) ++ 10 ∷ []

@@ -7,6 +7,7 @@ mod info;
 mod keys;
 mod line;
 mod names;
+mod notice;
 mod operation;
 mod params;
 mod read;
@@ -17,5 +18,6 @@ mod values;
 
 pub use ends::{DrainEnd, tidy_word, turn_word};
 pub use line::Line;
+pub use notice::{NoticeForm, write_notice};
 pub use read::read_command;
-pub use reply::{LineReply, write_notice, write_reply};
+pub use reply::{LineReply, write_reply};

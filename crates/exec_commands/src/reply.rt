@@ -1,16 +1,16 @@
-//! Replies and notices, written as lines.
+//! Replies, written as lines.
 ghost use Rattle.std.specs.Prelude.{◌≡◌, ◌++◌, ◌∷◌, [], false, map, IfOk, OnOk};
 ghost use Rattle.serde_json.specs.Data.{string};
 ghost use Rattle.serde_json.specs.View.{view};
 ghost use Rattle.serde_json.specs.Written.{compact_text, has_float};
 ghost use Rattle.exec_commands.specs.Replies.{refusal_data, done_data, accepted_data, list_data, history_data, length_data, request_data};
-ghost use Rattle.exec_commands.specs.Replies.{reply_data, reply_line, behind, notice_line};
+ghost use Rattle.exec_commands.specs.Replies.{reply_data, reply_line, behind};
 
 use crate::ends::{DrainEnd, drain_word, end_value, fault_value, tidy_word, turn_word};
 use crate::info::info_value;
 use crate::names::id_text;
-use crate::results::{ended_values, notice_value};
-use ocf_types::{CallId, Ended, MetaFault, Notice, OpKey, Refusal, Reply, RscId, TidyEnd};
+use crate::results::ended_values;
+use ocf_types::{CallId, Ended, MetaFault, OpKey, Refusal, Reply, RscId, TidyEnd};
 use serde_json::{Value, json};
 use std::alloc::{AllocError, Global};
 
@@ -105,7 +105,8 @@ fn reply_value(alloc: Global, reply: &LineReply) -> Result<Value, AllocError>
     }
 }
 
-fn write_line(alloc: Global, value: &Value) -> Result<Vec<u8>, AllocError>
+/// The compact text of a JSON value, and a newline.
+pub fn write_line(alloc: Global, value: &Value) -> Result<Vec<u8>, AllocError>
     requires { has_float (view value.now) ≡ false }
     ensures { IfOk result (λ b. b.items ≡ compact_text (view value.now) ++ 10 ∷ []) }
 {
@@ -135,13 +136,4 @@ pub fn write_reply(alloc: Global, reply: &LineReply) -> Result<Vec<u8>, AllocErr
     let mut bytes = write_line(alloc, &value)?;
     push_behind(&mut bytes, reply)?;
     Ok(bytes)
-}
-
-/// The line of a notice: the compact text of its JSON value, keys ascending by their bytes, and a newline.
-#[tactic(auto, using(crate::proofs::FloatLemmas::notice_has_no_float))]
-pub fn write_notice(alloc: Global, notice: &Notice) -> Result<Vec<u8>, AllocError>
-    ensures line { IfOk result (λ b. b.items ≡ notice_line notice.now) }
-{
-    let value = notice_value(alloc, notice)?;
-    write_line(alloc, &value)
 }

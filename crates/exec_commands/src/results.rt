@@ -1,17 +1,17 @@
-//! Results, as they stand in histories and notices.
+//! Results, as they stand in histories.
 ghost use Rattle.std.specs.Prelude.{◌≡◌, map, IfOk};
 ghost use Rattle.ocf_codes.specs.ExitCodes.{name_read};
 ghost use Rattle.ocf_codes.specs.OutcomeCodes.{outcome_code};
 ghost use Rattle.serde_json.specs.View.{view};
-ghost use Rattle.exec_commands.specs.Replies.{ended_data, notice_data};
+ghost use Rattle.exec_commands.specs.Replies.{ended_data};
 
-use crate::names::id_text;
 use ocf_codes::{code_of, name, read_code};
-use ocf_types::{Ended, Notice, Outcome};
+use ocf_types::{Ended, Outcome};
 use serde_json::{Value, json};
 use std::alloc::{AllocError, Global};
 
-fn code_name(outcome: Outcome) -> &'static str
+/// The name of an outcome's exit code.
+pub fn code_name(outcome: Outcome) -> &'static str
     ensures { result.now ≡ name_read (outcome_code outcome) }
 {
     name(read_code(code_of(outcome)))
@@ -44,23 +44,4 @@ pub fn ended_values(alloc: Global, results: &[Ended]) -> Result<Vec<Value>, Allo
         values.push(ended_value(alloc, *ended)?)?;
     }
     Ok(values)
-}
-
-/// A result as it is noticed.
-pub fn notice_value(alloc: Global, notice: &Notice) -> Result<Value, AllocError>
-    ensures { IfOk result (λ v. view v ≡ notice_data notice.now) }
-{
-    let ended = notice.result;
-    let action = ended.action.word();
-    let call = ended.call.get();
-    let code = code_of(ended.outcome);
-    let id = id_text(&notice.id);
-    let interval = ended.interval;
-    let name = code_name(ended.outcome);
-    let outcome = ended.outcome.word();
-    let run = ended.run;
-    json!(in alloc; {
-        "action": action, "call": call, "code": code, "id": id, "interval": interval,
-        "name": name, "outcome": outcome, "run": run
-    })
 }

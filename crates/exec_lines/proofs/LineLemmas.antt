@@ -236,12 +236,6 @@ clauses E a b c done part items Nothing n read none reads none' ends kept is =
 pub ok_is : {E : Type 0} {n : Next} → ◌≡◌ {A = Result Next E} (Ok n) (Ok Line) → n ≡ Line
 ok_is e = cc
 
--- the line of an answer, in the words of a result
-pub line-ok : (E : Type 0) (a : Option (List ℕ)) (items : List ℕ) (n : Next) → IfSome a (λ xs. n ≡ Line → items ≡ first_line xs)
-    → IfSome a (λ xs. ◌≡◌ {A = Result Next E} (Ok n) (Ok Line) → items ≡ first_line xs)
-line-ok E None items n h = tt
-line-ok E (Some xs) items n h = λ e. h (ok_is e)
-
 pub some_line_is : {E : Type 0} {n : Next} → ◌≡◌ {A = Result (Option Next) E} (Ok (Some n)) (Ok (Some Line)) → n ≡ Line
 some_line_is e = cc
 

@@ -42,7 +42,8 @@ impl<A: Allocator> LineBuffer<A> {
         self.bytes.len() == ROOM
     }
 
-    pub(crate) fn clear(&mut self)
+    /// Empties the buffer: the next line begins.
+    pub fn clear(&mut self)
         ensures { line_bytes self.new ≡ [] }
     {
         self.bytes.clear();

@@ -150,11 +150,7 @@ pub fn next_line<R: BufRead, A: Allocator>(
     buffer: &mut LineBuffer<A>,
 ) -> io::Result<Next>
     // Where it is known what the reader has left.
-    ensures answer { IfSome (R.remaining reader.old) (λ xs. IfOk result (λ next. next ≡ next_of xs)) }
-    ensures line { IfSome (R.remaining reader.old)
-        (λ xs. result ≡ Ok Next.Line → line_bytes buffer.new ≡ first_line xs) }
-    ensures rest { IfSome (R.remaining reader.old)
-        (λ xs. OnOk result (R.remaining reader.new ≡ Some (after_first_line xs))) }
+    ensures next { IfOk result (λ n. IsNext (R.remaining reader.old) n (line_bytes buffer.new) (R.remaining reader.new)) }
     ensures lost { OnErr result ((bs : List ℕ) × All (λ b. b ≢ 10) bs
         × Consumes (R.remaining reader.old) (R.remaining reader.new) bs) }
 

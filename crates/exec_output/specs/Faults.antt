@@ -14,6 +14,8 @@ abbrev pub status_of : Fault → ℕ
 status_of fault.Usage = 2
 status_of fault.Choice = 2
 status_of fault.TidyAt = 2
+status_of fault.Root = 2
+status_of fault.Orphans = 2
 status_of fault.NotText = 2
 status_of (fault.Damaged damage) = 3
 status_of fault.Memory = 4
@@ -27,6 +29,8 @@ abbrev pub fault_advice : Fault → Option (List ℕ)
 fault_advice fault.Usage = None
 fault_advice fault.Choice = None
 fault_advice fault.TidyAt = None
+fault_advice fault.Root = None
+fault_advice fault.Orphans = None
 fault_advice fault.NotText = None
 fault_advice fault.NotOpened = None
 fault_advice (fault.Damaged damage) = Some (codes "Nothing was changed. Keep both parts, and begin with a new journal.")
@@ -65,6 +69,8 @@ IsRunEnd (Ok done) = ⊤
 IsRunEnd (Err fault.Usage) = ⊥
 IsRunEnd (Err fault.Choice) = ⊥
 IsRunEnd (Err fault.TidyAt) = ⊥
+IsRunEnd (Err fault.Root) = ⊥
+IsRunEnd (Err fault.Orphans) = ⊥
 IsRunEnd (Err fault.NotText) = ⊥
 IsRunEnd (Err fault.NotOpened) = ⊥
 IsRunEnd (Err _) = ⊤

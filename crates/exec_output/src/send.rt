@@ -2,9 +2,9 @@
 ghost use Rattle.std.specs.Prelude.{OnOk};
 ghost use Rattle.std.specs.Io.KnownBytes.{Appends};
 ghost use Rattle.std.specs.List.{flat_map};
-ghost use Rattle.exec_commands.specs.Replies.{notice_line, reply_line};
+ghost use Rattle.exec_commands.specs.Replies.{formed_line, reply_line};
 
-use exec_commands::{LineReply, write_notice, write_reply};
+use exec_commands::{LineReply, NoticeForm, write_notice, write_reply};
 use exec_lines::write_flushed;
 use ocf_types::Notice;
 use std::alloc::{AllocError, Global};
@@ -35,24 +35,30 @@ pub fn send_reply<W: Write>(alloc: Global, writer: &mut W, reply: &LineReply) ->
     Ok(())
 }
 
-fn send_notice<W: Write>(alloc: Global, writer: &mut W, notice: &Notice) -> Result<(), Stopped>
-    ensures { OnOk result (Appends (W.contents writer.old) (W.contents writer.new) (notice_line notice.now)) }
+fn send_notice<W: Write>(
+    alloc: Global,
+    writer: &mut W,
+    form: NoticeForm,
+    notice: &Notice,
+) -> Result<(), Stopped>
+    ensures { OnOk result (Appends (W.contents writer.old) (W.contents writer.new) (formed_line form notice.now)) }
 {
-    let bytes = write_notice(alloc, notice)?;
+    let bytes = write_notice(alloc, form, notice)?;
     write_flushed(writer, bytes.as_slice())?;
     Ok(())
 }
 
-/// Writes notices, a line each, and flushes each line.
+/// Writes notices in this form, a line each, and flushes each line.
 pub fn send_notices<W: Write>(
     alloc: Global,
     writer: &mut W,
+    form: NoticeForm,
     notices: &[Notice],
 ) -> Result<(), Stopped>
-    ensures { OnOk result (Appends (W.contents writer.old) (W.contents writer.new) (flat_map notice_line notices.now)) }
+    ensures { OnOk result (Appends (W.contents writer.old) (W.contents writer.new) (flat_map (formed_line form) notices.now)) }
 {
     for notice in notices {
-        send_notice(alloc, writer, notice)?;
+        send_notice(alloc, writer, form, notice)?;
     }
     Ok(())
 }

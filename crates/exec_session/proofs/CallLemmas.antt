@@ -1,5 +1,5 @@
 -- What is done with lines is done by calls of the executor.
-use Rattle.std.proofs.Common.{◌≡◌, ℕ, ◌+◌, Bool, true, false, not, refl, sym, ap, subst, ◌∙◌, Result, Ok, Err}
+use Rattle.std.proofs.Common.{◌≡◌, ℕ, ◌+◌, Bool, true, false, not, refl, sym, ap, subst, Result, Ok, Err}
 use Rattle.ocf_types.specs.Boot.{any_busy}
 use Rattle.ocf_types.specs.declared.refusal.Refusal.{Refusal}
 use Rattle.ocf_types.specs.declared.reply.TurnEnd.{TurnEnd}
@@ -20,10 +20,10 @@ use Rattle.exec_session.specs.Answers.{IsOpenReply, IsReply, ServesNow, Source}
 use Rattle.exec_session.specs.Drains.{Drains, GoesOn, MakesTurn, Spot, at_start, further}
 use Rattle.exec_session.specs.Limits.{Limits, MakesRoom, is_tidy_due}
 use Rattle.exec_session.specs.Progress.{Place, Takes}
-use Rattle.exec_session.specs.Runs.{Reaches, here, further as one_more}
+use Rattle.exec_session.specs.Runs.{Reaches, closed_line, here, line as one_line, turn as one_turn}
 use Rattle.exec_session.specs.declared.drain.Terms.{Terms}
-use Rattle.exec_session.specs.declared.session.Progress.{Progress}
-use Rattle.exec_session.specs.declared.session.Progress.TheVariants as progress
+use Rattle.exec_session.specs.declared.lines.Progress.{Progress}
+use Rattle.exec_session.specs.declared.lines.Progress.TheVariants as progress
 use Rattle.exec_session.proofs.DrainLemmas.{closes, still_open}
 
 -- room is made by a call, or by none
@@ -133,9 +133,16 @@ module _ {D C M : Type 0} (look : D → View) (tend : C → ChildrenView) (limit
   next_by_calls source p q progress.End takes =
       by_none look (sight_of tend p.executor) (sight_of tend q.executor) (ap (λ (e : Executor D C M). sight_of tend e) takes.1.0)
 
-  -- line after line
-  pub lines_by_calls : (source : Source) (p q : Place (Executor D C M)) → Reaches look tend source limits p q → Goes p.executor q.executor
-  lines_by_calls source p _ here = by_none look (sight_of tend p.executor) (sight_of tend p.executor) refl
-  lines_by_calls source p _ (one_more m q s reaches takes) =
-      by_both look (sight_of tend p.executor) (sight_of tend m.executor) (sight_of tend q.executor) (lines_by_calls source p m reaches)
+  -- line after line, and turns between them
+  pub lines_by_calls : (source : Source) (p : Place (Executor D C M)) (n : ℕ) (q : Place (Executor D C M)) → Reaches look tend source limits p n q
+      → Goes p.executor q.executor
+  lines_by_calls source p _ _ here = by_none look (sight_of tend p.executor) (sight_of tend p.executor) refl
+  lines_by_calls source p _ _ (one_line n m q s reaches may takes) =
+      by_both look (sight_of tend p.executor) (sight_of tend m.executor) (sight_of tend q.executor) (lines_by_calls source p n m reaches)
       (next_by_calls source m q s takes)
+  lines_by_calls source p _ _ (closed_line n m q s reaches closed takes) =
+      by_both look (sight_of tend p.executor) (sight_of tend m.executor) (sight_of tend q.executor) (lines_by_calls source p n m reaches)
+      (next_by_calls source m q s takes)
+  lines_by_calls source p _ _ (one_turn n now m q end reaches may is_open made left) =
+      by_both look (sight_of tend p.executor) (sight_of tend m.executor) (sight_of tend q.executor) (lines_by_calls source p n m reaches)
+      (turn_by_calls now _ _ end is_open made)

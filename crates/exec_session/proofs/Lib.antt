@@ -1,4 +1,5 @@
 pub mod DrainLemmas
 pub mod LineLemmas
 pub mod RunLemmas
+pub mod ServeLemmas
 pub mod CallLemmas

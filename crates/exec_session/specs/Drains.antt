@@ -10,7 +10,7 @@ use Rattle.child_keeper.specs.Children.{ChildrenView}
 use Rattle.executor.specs.Sights.{Sight, sight_of}
 use Rattle.executor.specs.TurnCalls.{TakesTurn, with_empty_book}
 use Rattle.executor.specs.declared.executor.Executor.{Executor}
-use Rattle.exec_commands.specs.Replies.{notice_line}
+use Rattle.exec_commands.specs.Replies.{formed_line}
 use Rattle.exec_commands.specs.declared.ends.DrainEnd.{DrainEnd}
 use Rattle.exec_commands.specs.declared.ends.DrainEnd.TheVariants.{Idle, Limit, Turns, Turn}
 use Rattle.exec_session.specs.Limits.{Limits, MakesRoom}
@@ -31,7 +31,7 @@ pub record MakesTurn {D C M : Type 0} (look : D → View) (tend : C → Children
   pub middle : Sight D
   pub room : MakesRoom look limits (with_empty_book (sight_of tend p.executor)) middle
   pub takes : middle.is_open ≡ true → TakesTurn look now middle (sight_of tend q.executor) end
-  pub written : middle.is_open ≡ true → Appends p.written q.written (flat_map notice_line (sight_of tend q.executor).told)
+  pub written : middle.is_open ≡ true → Appends p.written q.written (flat_map (formed_line limits.form) (sight_of tend q.executor).told)
   pub fails : middle.is_open ≡ false → (end ≡ Disk) × (sight_of tend q.executor ≡ middle) × (q.written ≡ p.written)
 
 -- how a drain ends behind its turn of this number, which ended so and left the executor idle or not, at the moment that

@@ -3,3 +3,4 @@ pub mod Drains
 pub mod Limits
 pub mod Progress
 pub mod Runs
+pub mod Serving

@@ -5,15 +5,21 @@ use Rattle.disk_model.specs.View.{View}
 use Rattle.exec_journal.specs.Tidying.{tidied_tail}
 use Rattle.executor.specs.Sights.{Sight}
 use Rattle.executor.specs.TidyCalls.{Tidies}
+use Rattle.exec_commands.specs.declared.notice.NoticeForm.{NoticeForm}
 use Rattle.exec_session.specs.declared.setting.Setting.{Setting}
+use Rattle.exec_session.specs.declared.setting.Way.{Way}
 
--- how many turns a drain makes at most, and past which offset of its journal's tail a run tidies by itself; 0: past none
+-- how a run goes, what its notices tell, how many turns a drain makes at most, and past which offset of its journal's tail it
+-- tidies by itself; 0: past none
 pub record Limits : Type 0 where
+  pub way : Way
+  pub form : NoticeForm
   pub most_turns : ℕ
   pub tidy_at : ℕ
 
 abbrev pub limits_of : {K M : Type 0} → Setting K M → Limits
-limits_of setting = record { most_turns = setting.most_turns; tidy_at = setting.tidy_at }
+limits_of setting =
+    record { way = setting.way; form = setting.form; most_turns = setting.most_turns; tidy_at = setting.tidy_at }
 
 -- how many bytes a tidy has to gain at least: a quarter of a part
 abbrev pub worthwhile : ℕ

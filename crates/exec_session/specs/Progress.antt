@@ -9,10 +9,10 @@ use Rattle.exec_lines.specs.Lines.{first_line, after_first_line}
 use Rattle.exec_commands.specs.Replies.{reply_line}
 use Rattle.exec_commands.specs.declared.line.Line.{Line}
 use Rattle.exec_commands.specs.declared.reply.LineReply.{LineReply}
-use Rattle.exec_session.specs.declared.session.Input.{Input}
-use Rattle.exec_session.specs.declared.session.Input.TheVariants as input
-use Rattle.exec_session.specs.declared.session.Progress.{Progress}
-use Rattle.exec_session.specs.declared.session.Progress.TheVariants as progress
+use Rattle.exec_session.specs.declared.lines.Found.{Found}
+use Rattle.exec_session.specs.declared.lines.Found.TheVariants as found
+use Rattle.exec_session.specs.declared.lines.Progress.{Progress}
+use Rattle.exec_session.specs.declared.lines.Progress.TheVariants as progress
 use Rattle.exec_session.specs.Answers.{Source, IsReadAs, IsReply}
 use Rattle.exec_session.specs.Drains.{spot}
 use Rattle.exec_session.specs.Limits.{Limits}
@@ -28,10 +28,10 @@ ReadsLine None new found = ⊤
 ReadsLine (Some xs) new found = (first_line xs ≢ []) × (new ≡ Some (after_first_line xs)) × IsReadAs (first_line xs) found
 
 -- what stands next in the input, from what a reader has left to what it has left then
-abbrev pub ReadsInput : Option (List ℕ) → Option (List ℕ) → Input → Type 0
-ReadsInput old new input.End = IsAtEnd old
-ReadsInput old new input.Empty = PassesLine old new
-ReadsInput old new (input.Line found) = ReadsLine old new found
+abbrev pub ReadsInput : Option (List ℕ) → Option (List ℕ) → Found → Type 0
+ReadsInput old new found.End = IsAtEnd old
+ReadsInput old new found.Empty = PassesLine old new
+ReadsInput old new (found.Line line) = ReadsLine old new line
 
 -- where a run is: its executor, what the reader has left, and what the writer holds
 pub record Place (E : Type 0) : Type 0 where

@@ -1,5 +1,5 @@
 -- Whole runs.
-use Rattle.std.specs.Prelude.{◌≡◌, ℕ, ⊤, List, ◌++◌, Option, true, false, Result, Ok, Err}
+use Rattle.std.specs.Prelude.{◌≡◌, ℕ, ◌+◌, ◌<◌, ⊤, List, ◌++◌, Option, true, false, Result, Ok, Err}
 use Rattle.std.specs.Io.KnownBytes.{Appends}
 use Rattle.std.specs.List.{flat_map}
 use Rattle.disk_model.specs.View.{View}
@@ -8,39 +8,74 @@ use Rattle.executor.specs.Lives.{ByCalls}
 use Rattle.executor.specs.Sights.{Sight, sight_of}
 use Rattle.executor.specs.declared.executor.Executor.{Executor}
 use Rattle.executor.specs.declared.report.Report.{Report}
-use Rattle.exec_commands.specs.Replies.{notice_line}
+use Rattle.ocf_types.specs.declared.reply.TurnEnd.{TurnEnd}
+use Rattle.exec_commands.specs.Replies.{formed_line}
+use Rattle.exec_commands.specs.declared.notice.NoticeForm.{NoticeForm}
+use Rattle.exec_lines.specs.Pieces.{IsMidLine}
 use Rattle.exec_output.specs.declared.fault.Fault.{Fault}
 use Rattle.exec_output.specs.declared.fault.Fault.TheVariants.{Disk, Memory, InputOrOutput}
-use Rattle.exec_session.specs.declared.session.Progress.{Progress}
-use Rattle.exec_session.specs.declared.session.Progress.TheVariants.{End}
-use Rattle.exec_session.specs.declared.session.Run.{Run}
+use Rattle.exec_session.specs.declared.lines.Progress.{Progress}
+use Rattle.exec_session.specs.declared.lines.Progress.TheVariants.{End}
+use Rattle.exec_session.specs.declared.session.Run.{Run as RunResult}
+use Rattle.exec_session.specs.declared.setting.Way.{Way}
+use Rattle.exec_session.specs.declared.setting.Way.TheVariants.{Run, Serve}
 use Rattle.exec_session.specs.Answers.{Source}
+use Rattle.exec_session.specs.Drains.{MakesTurn, spot}
 use Rattle.exec_session.specs.Limits.{Limits}
 use Rattle.exec_session.specs.Progress.{Place, Takes, place}
 
 -- what the opening's report is written as
-abbrev pub report_text : {M : Type 0} → Report M → List ℕ
-report_text r = flat_map notice_line r.interrupted.items ++ flat_map notice_line r.dropped.items
+abbrev pub report_text : {M : Type 0} → NoticeForm → Report M → List ℕ
+report_text form r = flat_map (formed_line form) r.interrupted.items ++ flat_map (formed_line form) r.dropped.items
 
--- line after line, in their order, none of them left out
+-- how many lines an open executor answers at most between two turns of a run that serves
+abbrev pub lines_a_turn : ℕ
+lines_a_turn = 64
+
+-- a run may take a line behind so many since its last turn
+abbrev pub MayTake : Way → ℕ → Type 0
+MayTake Run n = ⊤
+MayTake Serve n = n < lines_a_turn
+
+-- a run makes turns by itself
+abbrev pub MakesTurns : Way → Type 0
+MakesTurns Run = ⊥
+MakesTurns Serve = ⊤
+
+-- Line after line, in their order, none of them left out; a run that serves makes turns between them, while its executor is
+-- open. The number is how many lines an open executor answered since the last turn.
 pub data Reaches {D C M : Type 0} (look : D → View) (tend : C → ChildrenView) (source : Source) (limits : Limits)
-    (p : Place (Executor D C M)) : Place (Executor D C M) → Type 0 where
-  here : Reaches look tend source limits p p
-  further : (m q : Place (Executor D C M)) (s : Progress) → Reaches look tend source limits p m → Takes look tend source limits m q s
-      → Reaches look tend source limits p q
+    (p : Place (Executor D C M)) : ℕ → Place (Executor D C M) → Type 0 where
+  here : Reaches look tend source limits p 0 p
+  line : (n : ℕ) (m q : Place (Executor D C M)) (s : Progress) → Reaches look tend source limits p n m → MayTake limits.way n
+      → Takes look tend source limits m q s → Reaches look tend source limits p (n + 1) q
+  closed_line : (n : ℕ) (m q : Place (Executor D C M)) (s : Progress) → Reaches look tend source limits p n m
+      → (sight_of tend m.executor).is_open ≡ false → Takes look tend source limits m q s → Reaches look tend source limits p 0 q
+  turn : (n now : ℕ) (m q : Place (Executor D C M)) (end : TurnEnd) → Reaches look tend source limits p n m → MakesTurns limits.way
+      → (sight_of tend m.executor).is_open ≡ true
+      → MakesTurn look tend limits now (spot m.executor m.written) (spot q.executor q.written) end → q.left ≡ m.left
+      → Reaches look tend source limits p 0 q
 
--- line after line up to the end of the input
+-- so up to the end of the input
 pub record ReachesEnd {D C M : Type 0} (look : D → View) (tend : C → ChildrenView) (source : Source) (limits : Limits)
     (p q : Place (Executor D C M)) : Type 0 where
+  pub count : ℕ
   pub last : Place (Executor D C M)
-  pub reached : Reaches look tend source limits p last
+  pub reached : Reaches look tend source limits p count last
   pub end : Takes look tend source limits last q End
+
+-- A run has come from a place to where the front of the next line stands in its buffer.
+pub record HasCome {D C M : Type 0} (look : D → View) (tend : C → ChildrenView) (source : Source) (limits : Limits)
+    (p : Place (Executor D C M)) (count : ℕ) (executor : Executor D C M) (kept : List ℕ) (now written : Option (List ℕ)) : Type 0 where
+  pub left : Option (List ℕ)
+  pub mid : IsMidLine left kept now
+  pub reached : Reaches look tend source limits p count (place executor left written)
 
 -- the report is written first, and then all lines are answered
 pub record Runs {D C M N : Type 0} (look : D → View) (tend : C → ChildrenView) (source : Source) (limits : Limits) (report : Report N)
     (p q : Place (Executor D C M)) : Type 0 where
   pub reported : Option (List ℕ)
-  pub report_first : Appends p.written reported (report_text report)
+  pub report_first : Appends p.written reported (report_text limits.form report)
   pub lines : ReachesEnd look tend source limits (record p { written = reported }) q
 
 -- how a run ends that leads from one place to another
@@ -56,7 +91,7 @@ EndsAs look tend source limits report p q (Err _) = ⊥
 -- A run that begins at this place ended, with what the reader has left then and what the writer holds: at its end all
 -- children are given up, and they and the disk are handed back.
 pub record Ended {D C M N : Type 0} (look : D → View) (tend : C → ChildrenView) (source : Source) (limits : Limits) (report : Report N)
-    (p : Place (Executor D C M)) (left written : Option (List ℕ)) (run : Run D C) : Type 0 where
+    (p : Place (Executor D C M)) (left written : Option (List ℕ)) (run : RunResult D C) : Type 0 where
   pub last : Executor D C M
   pub ends : EndsAs look tend source limits report p (place last left written) run.ended
   pub disk : run.disk ≡ (sight_of tend last).disk

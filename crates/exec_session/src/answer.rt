@@ -14,11 +14,10 @@ use crate::setting::Setting;
 use child_keeper::Children;
 use disk_model::Disk;
 use exec_commands::{DrainEnd, Line, LineReply};
-use exec_lines::moment_now;
+use exec_lines::{Output, moment_now};
 use exec_output::Stopped;
 use executor::Executor;
 use ocf_types::{AgentType, Provider, Refusal, Reply, Request, TidyEnd, TurnEnd};
-use std::io::Write;
 use std::rt::Clock;
 
 fn refused(refusal: Refusal) -> LineReply
@@ -65,7 +64,7 @@ fn closed_reply<K: Clock, M: Metadata>(
 }
 
 // Drains from now on, for so many milliseconds at most.
-fn drain_reply<W: Write, D: Disk + Drop, C: Children + Drop, K: Clock, M: Metadata>(
+fn drain_reply<W: Output, D: Disk + Drop, C: Children + Drop, K: Clock, M: Metadata>(
     setting: &Setting<K, M>,
     writer: &mut W,
     executor: &mut Executor<D, C>,
@@ -110,7 +109,7 @@ fn request_reply<D: Disk + Drop, C: Children + Drop, K: Clock, M>(
 }
 
 // What a line is answered. What is written before the reply are a drain's notices.
-fn open_reply<W: Write, D: Disk + Drop, C: Children + Drop, K: Clock, M: Metadata>(
+fn open_reply<W: Output, D: Disk + Drop, C: Children + Drop, K: Clock, M: Metadata>(
     setting: &Setting<K, M>,
     writer: &mut W,
     executor: &mut Executor<D, C>,
@@ -134,7 +133,7 @@ fn open_reply<W: Write, D: Disk + Drop, C: Children + Drop, K: Clock, M: Metadat
 }
 
 /// What a line is answered. What is written before the reply are a drain's notices.
-pub fn reply_to<W: Write, D: Disk + Drop, C: Children + Drop, K: Clock, M: Metadata>(
+pub fn reply_to<W: Output, D: Disk + Drop, C: Children + Drop, K: Clock, M: Metadata>(
     setting: &Setting<K, M>,
     writer: &mut W,
     executor: &mut Executor<D, C>,

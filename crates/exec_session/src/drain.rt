@@ -2,21 +2,20 @@
 ghost use Rattle.std.specs.Prelude.{◌≡◌, true, IfOk};
 ghost use Rattle.executor.specs.Lives.{ByCalls};
 ghost use Rattle.executor.specs.Sights.{IsSound, sight_of};
-ghost use Rattle.exec_session.specs.Drains.{Drains, MakesTurn, end_behind, spot};
+ghost use Rattle.exec_session.specs.Drains.{Drains, end_behind, spot};
 ghost use Rattle.exec_session.specs.Limits.{limits_of};
 
 use crate::metadata::Metadata;
-use crate::pause::Pause;
-use crate::room::make_room;
+use crate::pause::{Pause, rest};
 use crate::setting::Setting;
+use crate::turn::make_turn;
 use child_keeper::Children;
 use disk_model::Disk;
 use exec_commands::DrainEnd;
-use exec_lines::moment_now;
-use exec_output::{Stopped, send_notices};
+use exec_lines::{Output, moment_now};
+use exec_output::Stopped;
 use executor::Executor;
 use ocf_types::{NUM_MAX, TurnEnd};
-use std::io::Write;
 use std::rt::Clock;
 
 /// What a drain is held to.
@@ -51,31 +50,9 @@ impl Terms {
     }
 }
 
-// Makes room and then a turn at this moment, and writes its notices. Where the disk fails as room is made there is no turn.
-fn make_turn<W: Write, D: Disk + Drop, C: Children + Drop, K, M>(
-    setting: &Setting<K, M>,
-    writer: &mut W,
-    executor: &mut Executor<D, C>,
-    now: u64,
-) -> Result<TurnEnd, Stopped>
-    requires open { (sight_of C.view executor.old).is_open ≡ true }
-    requires sound { IsSound D.view (sight_of C.view executor.old) }
-    ensures sound { IsSound D.view (sight_of C.view executor.new) }
-    ensures calls { ByCalls D.view (sight_of C.view executor.old) (sight_of C.view executor.new) }
-    ensures made { IfOk result (λ end. MakesTurn D.view C.view (limits_of setting.now) now
-        (spot executor.old (W.contents writer.old)) (spot executor.new (W.contents writer.new)) end) }
-{
-    executor.clear_book();
-    if !make_room(setting, executor) {
-        return Ok(TurnEnd::Disk);
-    }
-    let end = executor.turn(now);
-    send_notices(setting.alloc, writer, executor.notices())?;
-    Ok(end)
-}
-
 /// Makes turns up to the end of a drain that begins at this moment. Between two turns in which nothing happened it pauses.
-pub fn drain<W: Write, D: Disk + Drop, C: Children + Drop, K: Clock, M: Metadata>(
+/// It stops where nobody can read any more what it writes.
+pub fn drain<W: Output, D: Disk + Drop, C: Children + Drop, K: Clock, M: Metadata>(
     setting: &Setting<K, M>,
     writer: &mut W,
     executor: &mut Executor<D, C>,
@@ -94,7 +71,10 @@ pub fn drain<W: Write, D: Disk + Drop, C: Children + Drop, K: Clock, M: Metadata
     for turns in 0..NUM_MAX {
         pause.before_turn(setting.clock);
         let end = make_turn(setting, writer, executor, now)?;
-        pause.after_turn(setting.clock, executor);
+        rest(setting.clock, pause.behind_turn(setting.clock, executor));
+        if !writer.is_heard() {
+            return Err(Stopped);
+        }
         now = moment_now(setting.clock).get();
         if let Some(end) = terms.end_behind(turns + 1, now, end, executor.idle()) {
             return Ok(end);

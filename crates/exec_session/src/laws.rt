@@ -14,10 +14,11 @@ use child_keeper::Children;
 use disk_model::Disk;
 use std::alloc::Global;
 
-/// Whatever lines were answered, the executor went on by calls alone: so the law of whole lives speaks of each run, stopped
+/// Whatever lines were answered, and whatever turns a run that serves made between them, the executor went on by calls alone: so the law of whole lives speaks of each run, stopped
 /// behind any of its replies.
 pub fn lines_are_calls<D: Disk, C: Children, M: Metadata>(metadata: &M)
-    ensures { (limits : Limits) (p q : Place (Executor D C Global)) → Reaches D.view C.view (M.gives metadata.now) limits p q
+    ensures { (limits : Limits) (n : ℕ) (p q : Place (Executor D C Global))
+        → Reaches D.view C.view (M.gives metadata.now) limits p n q
         → ByCalls D.view (sight_of C.view p.executor) (sight_of C.view q.executor) }
 {}
 

@@ -1,4 +1,6 @@
-//! The pause between two turns of a drain.
+//! The pause between two turns.
+ghost use Rattle.std.specs.Prelude.{◌≤◌};
+
 use child_keeper::{Answer, Children, Entry};
 use disk_model::Disk;
 use executor::Executor;
@@ -6,14 +8,16 @@ use std::rt::Clock;
 use std::thread::sleep;
 use std::time::{Duration, Instant};
 
-// The first pause that is not nothing, in microseconds.
+// The shortest pause that is not nothing, in microseconds.
 const SHORTEST: u64 = 20;
+
+// Which part a pause is of the time since something happened: so an end is noticed late by a quarter of its action's length.
+const GROWTH: u64 = 4;
 
 // The longest pause while something is queued or runs, in microseconds, where a turn takes little.
 const LONG: u64 = 1_000;
 
-// How many times as long as a turn a pause may be: so a drain that waits costs a fiftieth of a core, up to the longest
-// pause.
+// How many times as long as a turn a pause may be: so a wait costs a fiftieth of a core, up to the longest pause.
 const SHARE: u64 = 50;
 
 // The longest pause while something is queued or runs, in microseconds.
@@ -22,13 +26,14 @@ const LONGEST: u64 = 5_000;
 // The longest pause of a watch while nothing is, in microseconds.
 const LONGEST_IDLE: u64 = 10_000;
 
-/// How long a drain pauses before its next turn. It is nothing at first, and doubles while nothing happens, up to a
-/// millisecond or to fifty times what a turn takes.
+/// How long a run pauses before its next turn: not behind a turn in which something happened, and then a quarter of the time
+/// since, up to a millisecond or to fifty times what a turn takes.
 #[derive(Drop)]
 pub struct Pause {
-    micros: u64,
     // When the turn began that was made last, where the clock showed it.
     began: Option<Instant>,
+    // When the turn began behind which nothing happened.
+    quiet: Option<Instant>,
 }
 
 // Whether nothing ended or began in a turn with these entries: each child that was asked still runs, and none was started.
@@ -38,9 +43,9 @@ fn is_quiet(book: &[Entry]) -> bool {
 }
 
 // How long it is since then, in microseconds; nothing where the clock fails.
-fn micros_since(clock: &impl Clock, began: Option<Instant>) -> u64 {
-    match began.map(|began| began.elapsed(clock)) {
-        Some(Ok(took)) => took.as_micros().min(u128::from(LONGEST)) as u64,
+fn micros_since(clock: &impl Clock, then: Option<Instant>) -> u64 {
+    match then.map(|then| then.elapsed(clock)) {
+        Some(Ok(passed)) => u64::try_from(passed.as_micros()).unwrap_or(u64::MAX),
         _ => 0,
     }
 }
@@ -49,8 +54,8 @@ impl Pause {
     /// No pause yet.
     pub fn new() -> Pause {
         Pause {
-            micros: 0,
             began: None,
+            quiet: None,
         }
     }
 
@@ -60,7 +65,9 @@ impl Pause {
     }
 
     // The longest pause behind the turn that was made, in microseconds.
-    fn longest(&self, clock: &impl Clock, idle: bool) -> u64 {
+    fn longest(&self, clock: &impl Clock, idle: bool) -> u64
+        ensures { SHORTEST ≤ result }
+    {
         if idle {
             return LONGEST_IDLE;
         }
@@ -69,20 +76,24 @@ impl Pause {
             .clamp(LONG, LONGEST)
     }
 
-    /// Pauses after a turn, if nothing ended or began in it.
-    pub fn after_turn<D: Disk + Drop, C: Children + Drop>(
+    /// How long to pause behind the turn that was made, in microseconds.
+    pub fn behind_turn<D: Disk + Drop, C: Children + Drop>(
         &mut self,
         clock: &impl Clock,
         executor: &Executor<D, C>,
-    ) {
-        if !is_quiet(executor.book()) {
-            self.micros = 0;
-            return;
+    ) -> u64 {
+        if self.quiet.is_none() || !is_quiet(executor.book()) {
+            self.quiet = self.began;
+            return 0;
         }
         let longest = self.longest(clock, executor.idle());
-        if self.micros > 0 {
-            sleep(clock, Duration::from_micros(self.micros));
-        }
-        self.micros = self.micros.saturating_mul(2).max(SHORTEST).min(longest);
+        (micros_since(clock, self.quiet) / GROWTH).clamp(SHORTEST, longest)
+    }
+}
+
+/// Pauses for so many microseconds.
+pub fn rest(clock: &impl Clock, micros: u64) {
+    if micros > 0 {
+        sleep(clock, Duration::from_micros(micros));
     }
 }

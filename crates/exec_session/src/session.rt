@@ -1,44 +1,24 @@
 //! Command lines answered one by one.
 ghost use Rattle.std.specs.Prelude.{◌≡◌, [], IfOk, OnOk};
+ghost use Rattle.exec_lines.specs.Buffer.{line_bytes};
 ghost use Rattle.executor.specs.Lives.{ByCalls};
 ghost use Rattle.executor.specs.Sights.{IsSound, sight_of};
 ghost use Rattle.exec_session.specs.Limits.{limits_of};
-ghost use Rattle.exec_session.specs.Progress.{ReadsInput, Takes, place};
+ghost use Rattle.exec_session.specs.Progress.{Takes, place};
 ghost use Rattle.exec_session.specs.Runs.{ClosesByCalls, Ended, EndsAs, ReachesEnd};
 
-use crate::answer::reply_to;
+use crate::lines::{Progress, answer_found, found_in};
 use crate::metadata::Metadata;
 use crate::report::send_report;
-use crate::setting::Setting;
+use crate::serve::serve_all;
+use crate::setting::{Setting, Way};
 use child_keeper::Children;
 use disk_model::Disk;
-use exec_commands::{Line, read_command};
-use exec_lines::{LineBuffer, Next, next_line};
-use exec_output::{Fault, Stopped, send_reply};
+use exec_lines::{Input, LineBuffer, Output, next_line};
+use exec_output::{Fault, Stopped};
 use executor::{Executor, Report};
-use ocf_types::{NUM_MAX, Refusal};
-use std::alloc::Global;
-use std::io::{BufRead, Write};
+use ocf_types::NUM_MAX;
 use std::rt::Clock;
-
-// What stands next in the input.
-#[derive(Drop)]
-enum Input {
-    // A line of no bytes.
-    Empty,
-    // A line, read.
-    Line(Result<Line, Refusal>),
-    // Nothing.
-    End,
-}
-
-// What was done with what stands next in the input.
-#[derive(Clone, Copy, Debug, PartialEq, Eq)]
-enum Progress {
-    Answered,
-    PassedOver,
-    End,
-}
 
 /// How a run ended, and what it hands back.
 #[derive(Drop)]
@@ -49,28 +29,8 @@ pub struct Run<D: Drop, C: Drop> {
     pub children: C,
 }
 
-// Reads the next line.
-fn read_input<R: BufRead>(
-    alloc: Global,
-    reader: &mut R,
-    buffer: &mut LineBuffer,
-) -> Result<Input, Stopped>
-    ensures { IfOk result (λ i. ReadsInput (R.remaining reader.old) (R.remaining reader.new) i) }
-{
-    match next_line(reader, buffer)? {
-        Next::End => Ok(Input::End),
-        Next::TooLong => Ok(Input::Line(Err(Refusal::Syntax))),
-        Next::Line => {
-            if buffer.line().is_empty() {
-                return Ok(Input::Empty);
-            }
-            Ok(Input::Line(read_command(alloc, buffer.line())))
-        }
-    }
-}
-
-// Answers the next line. One of no bytes is passed over.
-fn next_reply<R: BufRead, W: Write, D: Disk + Drop, C: Children + Drop, K: Clock, M: Metadata>(
+// Reads and answers the next line. One of no bytes is passed over.
+fn next_reply<R: Input, W: Output, D: Disk + Drop, C: Children + Drop, K: Clock, M: Metadata>(
     setting: &Setting<K, M>,
     reader: &mut R,
     writer: &mut W,
@@ -84,18 +44,13 @@ fn next_reply<R: BufRead, W: Write, D: Disk + Drop, C: Children + Drop, K: Clock
         (place executor.old (R.remaining reader.old) (W.contents writer.old))
         (place executor.new (R.remaining reader.new) (W.contents writer.new))) }
 {
-    let line = match read_input(setting.alloc, reader, buffer)? {
-        Input::End => return Ok(Progress::End),
-        Input::Empty => return Ok(Progress::PassedOver),
-        Input::Line(line) => line,
-    };
-    let reply = reply_to(setting, writer, executor, line)?;
-    send_reply(setting.alloc, writer, &reply)?;
-    Ok(Progress::Answered)
+    let next = next_line(reader, buffer)?;
+    let found = found_in(setting.alloc, buffer, next);
+    answer_found(setting, writer, executor, found)
 }
 
 // Answers line after line, up to the end of the input.
-fn answer_all<R: BufRead, W: Write, D: Disk + Drop, C: Children + Drop, K: Clock, M: Metadata>(
+fn answer_all<R: Input, W: Output, D: Disk + Drop, C: Children + Drop, K: Clock, M: Metadata>(
     setting: &Setting<K, M>,
     reader: &mut R,
     writer: &mut W,
@@ -103,6 +58,7 @@ fn answer_all<R: BufRead, W: Write, D: Disk + Drop, C: Children + Drop, K: Clock
     buffer: &mut LineBuffer,
 ) -> Result<(), Stopped>
     requires sound { IsSound D.view (sight_of C.view executor.old) }
+    requires way { setting.now.way ≡ Way.Run }
     ensures calls { ByCalls D.view (sight_of C.view executor.old) (sight_of C.view executor.new) }
     ensures lines { OnOk result (ReachesEnd D.view C.view (M.gives setting.now.metadata.now) (limits_of setting.now)
         (place executor.old (R.remaining reader.old) (W.contents writer.old))
@@ -117,8 +73,29 @@ fn answer_all<R: BufRead, W: Write, D: Disk + Drop, C: Children + Drop, K: Clock
     Err(Stopped)
 }
 
+// Answers the lines of the input, up to its end, in the way that is set. The buffer is empty.
+fn answer_in_way<R: Input, W: Output, D: Disk + Drop, C: Children + Drop, K: Clock, M: Metadata>(
+    setting: &Setting<K, M>,
+    reader: &mut R,
+    writer: &mut W,
+    executor: &mut Executor<D, C>,
+    buffer: &mut LineBuffer,
+) -> Result<(), Stopped>
+    requires sound { IsSound D.view (sight_of C.view executor.old) }
+    requires empty { line_bytes buffer.old ≡ [] }
+    ensures calls { ByCalls D.view (sight_of C.view executor.old) (sight_of C.view executor.new) }
+    ensures lines { OnOk result (ReachesEnd D.view C.view (M.gives setting.now.metadata.now) (limits_of setting.now)
+        (place executor.old (R.remaining reader.old) (W.contents writer.old))
+        (place executor.new (R.remaining reader.new) (W.contents writer.new))) }
+{
+    match setting.way {
+        Way::Run => answer_all(setting, reader, writer, executor, buffer),
+        Way::Serve => serve_all(setting, reader, writer, executor, buffer),
+    }
+}
+
 // Writes the report, and then answers all lines.
-fn answer_lines<R: BufRead, W: Write, D: Disk + Drop, C: Children + Drop, K: Clock, M: Metadata>(
+fn answer_lines<R: Input, W: Output, D: Disk + Drop, C: Children + Drop, K: Clock, M: Metadata>(
     setting: &Setting<K, M>,
     reader: &mut R,
     writer: &mut W,
@@ -134,10 +111,10 @@ fn answer_lines<R: BufRead, W: Write, D: Disk + Drop, C: Children + Drop, K: Clo
     let Ok(mut buffer) = LineBuffer::new(setting.alloc) else {
         return Err(Fault::Memory);
     };
-    if send_report(setting.alloc, writer, report).is_err() {
+    if send_report(setting.alloc, writer, setting.form, report).is_err() {
         return Err(Fault::InputOrOutput);
     }
-    if answer_all(setting, reader, writer, executor, &mut buffer).is_err() {
+    if answer_in_way(setting, reader, writer, executor, &mut buffer).is_err() {
         return Err(Fault::InputOrOutput);
     }
     if executor.is_open() {
@@ -147,10 +124,11 @@ fn answer_lines<R: BufRead, W: Write, D: Disk + Drop, C: Children + Drop, K: Clo
     }
 }
 
-/// Writes what the opening reports, and then answers each line of the input, up to its end. Each reply is flushed before
-/// the next line is read, and a turn's notices before the next turn. Where the disk failed the end of the input is a
-/// fault, and input or output that fails is another. In any case all children are given up then, and the executor closed.
-pub fn run_lines<R: BufRead, W: Write, D: Disk + Drop, C: Children + Drop, K: Clock, M: Metadata>(
+/// Writes what the opening reports, and then answers each line of the input, up to its end; a run that serves makes turns by
+/// itself, too. Each reply is flushed before the next line is answered, and a turn's notices before the next turn. Where the
+/// disk failed the end of the input is a fault, and input or output that fails is another. In any case all children are given
+/// up then, and the executor closed.
+pub fn run_lines<R: Input, W: Output, D: Disk + Drop, C: Children + Drop, K: Clock, M: Metadata>(
     setting: &Setting<K, M>,
     reader: &mut R,
     writer: &mut W,

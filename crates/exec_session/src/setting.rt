@@ -1,13 +1,26 @@
 //! What a run stands on beside its executor, its input and its output.
+use exec_commands::NoticeForm;
 use std::alloc::Global;
+
+/// How a run goes.
+#[derive(Clone, Copy, Debug, PartialEq, Eq)]
+pub enum Way {
+    /// It answers lines; turns are made in drains and watches alone.
+    Run,
+    /// It makes turns by itself, too: one behind at most 64 lines, and others while no line is there.
+    Serve,
+}
 
 /// What a run is given beside its executor, its input and its output.
 #[derive(Drop)]
 pub struct Setting<'a, K, M> {
     pub alloc: Global,
-    /// It shows the moments, and drains pause by it.
+    /// It shows the moments, and pauses go by it.
     pub clock: &'a K,
     pub metadata: &'a M,
+    pub way: Way,
+    /// What a notice tells.
+    pub form: NoticeForm,
     /// How many turns a drain makes at most. It makes one in any case.
     pub most_turns: u64,
     /// Past this offset of the journal's tail, in bytes, a run tidies by itself where that gains a quarter of a part; 0 for

@@ -36,6 +36,8 @@ IsToldAs (words_fault.Help text) (Err f) = f ≡ fault.InputOrOutput
 IsToldAs (words_fault.Usage text) ended = ended ≡ Err fault.Usage
 IsToldAs words_fault.Choice ended = ended ≡ Err fault.Choice
 IsToldAs words_fault.TidyAt ended = ended ≡ Err fault.TidyAt
+IsToldAs words_fault.Root ended = ended ≡ Err fault.Root
+IsToldAs words_fault.Orphans ended = ended ≡ Err fault.Orphans
 IsToldAs words_fault.Memory ended = ended ≡ Err fault.Memory
 
 -- the words ask to run or to show a journal
@@ -56,6 +58,8 @@ EndsFor words (Ok done) = AsksForText words ⊎ AsksForJournal words
 EndsFor words (Err fault.Usage) = IsMisused words
 EndsFor words (Err fault.Choice) = IsFault words words_fault.Choice
 EndsFor words (Err fault.TidyAt) = IsFault words words_fault.TidyAt
+EndsFor words (Err fault.Root) = IsFault words words_fault.Root
+EndsFor words (Err fault.Orphans) = IsFault words words_fault.Orphans
 EndsFor words (Err fault.NotText) = ⊥
 EndsFor words (Err fault.Memory) = ⊤
 EndsFor words (Err fault.NotOpened) = IsInFolder words

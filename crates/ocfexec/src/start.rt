@@ -6,10 +6,11 @@ ghost use Rattle.ocfexec.specs.Starts.{EndsFor, IsNotOpened, IsToldAs, opening_f
 use crate::agents::{Agents, BOOK_ROOM, site_of};
 use child_keeper::Processes;
 use disk_model::Disk;
-use exec_lines::moment_now;
+use exec_commands::NoticeForm;
+use exec_lines::{Patient, RunClock, moment_now};
 use exec_options::{JournalPlace, Options, Subcommand, WordsFault, read_words};
 use exec_output::{Fault, show};
-use exec_session::{Setting, run_lines};
+use exec_session::{Setting, Way, run_lines};
 use executor::{Executor, OpenError};
 use file_disk::{FileDisk, OpenFault, RamDisk};
 use std::env;
@@ -52,6 +53,8 @@ fn refuse(rt: &HostRuntime, fault: &WordsFault) -> Result<(), Fault>
         }
         WordsFault::Choice => Err(Fault::Choice),
         WordsFault::TidyAt => Err(Fault::TidyAt),
+        WordsFault::Root => Err(Fault::Root),
+        WordsFault::Orphans => Err(Fault::Orphans),
         WordsFault::Memory => Err(Fault::Memory),
     }
 }
@@ -106,7 +109,8 @@ fn run_on<D: Disk + Drop>(rt: &HostRuntime, options: Options, disk: D) -> Result
     ensures { IsRunEnd result }
 {
     match options.subcommand {
-        Subcommand::Run => run_agents(rt, options, disk),
+        Subcommand::Run => run_agents(rt, options, disk, Way::Run),
+        Subcommand::Serve => run_agents(rt, options, disk, Way::Serve),
         Subcommand::Show => show(rt.alloc(), disk, &mut io::writer(rt)).1,
     }
 }
@@ -125,13 +129,27 @@ fn opening_fault(why: OpenError) -> Fault
     }
 }
 
+// What a notice tells: a client that is served need not ask when an action began and ended.
+fn form_of(way: Way) -> NoticeForm {
+    match way {
+        Way::Run => NoticeForm::Short,
+        Way::Serve => NoticeForm::Timed,
+    }
+}
+
 // Opens the executor and answers the lines of standard input.
 #[tactic(auto, using(crate::proofs::StartLemmas::run_ends))]
-fn run_agents<D: Disk + Drop>(rt: &HostRuntime, options: Options, disk: D) -> Result<(), Fault>
+fn run_agents<D: Disk + Drop>(
+    rt: &HostRuntime,
+    options: Options,
+    disk: D,
+    way: Way,
+) -> Result<(), Fault>
     ensures { IsRunEnd result }
 {
     let alloc = rt.alloc();
-    let Ok(mut reader) = BufReader::with_capacity(alloc, READ_SIZE, rt.reader()) else {
+    let input = Patient::new(rt.reader(), libc::STDIN_FILENO);
+    let Ok(mut reader) = BufReader::with_capacity(alloc, READ_SIZE, input) else {
         return Err(Fault::Memory);
     };
     let Ok(children) = Processes::new(rt, alloc, BOOK_ROOM) else {
@@ -142,21 +160,18 @@ fn run_agents<D: Disk + Drop>(rt: &HostRuntime, options: Options, disk: D) -> Re
     };
     match Executor::open(alloc, disk, children, site, moment_now(rt).get()) {
         Ok((executor, report)) => {
+            let clock = RunClock::new(rt, executor.clock());
             let setting = Setting {
                 alloc,
-                clock: rt,
+                clock: &clock,
                 metadata: &Agents { rt, site: asked },
+                way,
+                form: form_of(way),
                 most_turns: MOST_TURNS,
                 tidy_at: options.tidy_at,
             };
-            run_lines(
-                &setting,
-                &mut reader,
-                &mut io::writer(rt),
-                executor,
-                &report,
-            )
-            .ended
+            let mut writer = Patient::new(io::writer(rt), libc::STDOUT_FILENO);
+            run_lines(&setting, &mut reader, &mut writer, executor, &report).ended
         }
         Err(fault) => Err(opening_fault(fault.why)),
     }

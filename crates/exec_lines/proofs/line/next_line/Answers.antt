@@ -2,7 +2,7 @@ use Rattle.std.proofs.Common.{◌≢◌, ◌++◌}
 use Rattle.std.proofs.lemmas.List.Elements.{All-append}
 use Rattle.std.proofs.KnownBytes.{Consumes-trans}
 use Rattle.std.specs.declared.io.Error.{Error}
-use Rattle.exec_lines.proofs.LineLemmas.{clauses, kept-more, kept-none, line-ok, ok_is}
+use Rattle.exec_lines.proofs.LineLemmas.{clauses, kept-more, kept-none, next-of, ok_is}
 use Rattle.exec_lines.proofs.PieceLemmas.{at_part, on_err}
 use Rattle.exec_lines.proofs.line.next_line.Goals as goal
 
@@ -36,9 +36,7 @@ returns-in_default g c =
     let h = clauses Error _ _ _ done part _ c.in_ok-piece.piece c.answer.result read none reads none' c.in_default.not-Part all
     (c.answer.ensures (done ++ part) all) in
     record {
-      answer = h.answer;
-      line = line-ok Error _ _ _ h.line;
-      rest = h.rest;
+      next = next-of _ _ _ c.answer.result h;
       lost = tt;
       without = h.without;
       fits = λ e. h.fits (ok_is e);

@@ -1,8 +1,8 @@
-use Rattle.exec_commands.specs.Replies.{notice_line}
+use Rattle.exec_commands.specs.Replies.{formed_line}
 use Rattle.exec_output.proofs.TextLemmas.{sends_more}
 use Rattle.exec_output.proofs.send.send_notices.Goals as goal
 
 pub loop-notice-preserved : goal.loop-notice-preserved
 loop-notice-preserved g c =
-    sends_more notice_line c.args.notices.now c.loop-notice.notice-index c.notice-item.result _ _ _ c.loop-notice-test.true c.notice-item.is
+    sends_more (formed_line c.args.form) c.args.notices.now c.loop-notice.notice-index c.notice-item.result _ _ _ c.loop-notice-test.true c.notice-item.is
     c.loop-notice.invariant c.in_ok-send_notice.ensures

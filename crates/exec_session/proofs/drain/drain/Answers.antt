@@ -63,3 +63,9 @@ returns-in_err-end-clause-calls g c =
     let tend = g.C.Children.view in
     by_both g.D.Disk.view (sight_of tend c.args.executor.now) (sight_of tend c.loop-turns.executor)
     (sight_of tend c.make_turn.new.executor) c.loop-turns.invariant.calls c.make_turn.ensures.calls
+
+pub returns-then-not-is_heard-clause-calls : goal.returns-then-not-is_heard-clause-calls
+returns-then-not-is_heard-clause-calls g c =
+    let tend = g.C.Children.view in
+    by_both g.D.Disk.view (sight_of tend c.args.executor.now) (sight_of tend c.loop-turns.executor)
+    (sight_of tend c.make_turn.new.executor) c.loop-turns.invariant.calls c.make_turn.ensures.calls

@@ -1,16 +1,17 @@
-use Rattle.std.proofs.Common.{◌≡◌, refl, rules}
+use Rattle.std.proofs.Common.{◌≡◌, ◌+◌, refl, rules}
 use Rattle.executor.specs.CallLaws.{by_both, by_none}
 use Rattle.executor.specs.Sights.{sight_of}
 use Rattle.exec_session.specs.Progress.{place}
-use Rattle.exec_session.specs.Runs.{further, here}
-use Rattle.exec_session.specs.declared.session.Progress.TheVariants.{End}
-use Rattle.exec_session.proofs.RunLemmas.{at_end}
+use Rattle.exec_session.specs.Runs.{here, line}
+use Rattle.exec_session.specs.declared.lines.Progress.TheVariants.{End}
+use Rattle.exec_session.proofs.RunLemmas.{at_end, may_run}
 use Rattle.exec_session.proofs.session.answer_all.Goals as goal
 
 pub loop-init : goal.loop-init
 loop-init g c = record {
   sound = c.requires.sound;
-  reached = here;
+  way = c.requires.way;
+  reached = (0, here);
   calls = by_none g.D.Disk.view (sight_of g.C.Children.view c.args.executor.now) (sight_of g.C.Children.view c.args.executor.now) refl;
 }
 
@@ -20,8 +21,9 @@ returns-then-eq-clause-lines g c =
     let last = place c.loop.executor (g.R.Read.remaining c.loop.reader) (g.W.Write.contents c.loop.writer) in
     let end = place c.next_reply.new.executor (g.R.Read.remaining c.next_reply.new.reader) (g.W.Write.contents c.next_reply.new.writer) in
     record {
+      count = c.loop.invariant.reached.0;
       last = last;
-      reached = c.loop.invariant.reached;
+      reached = c.loop.invariant.reached.1;
       end = at_end _ _ _ _ last end c.in_ok-progress.progress is c.in_ok-progress.ensures.progress;
     }
 
@@ -38,7 +40,12 @@ loop-preserved g c =
     let next = place c.next_reply.new.executor (g.R.Read.remaining c.next_reply.new.reader) (g.W.Write.contents c.next_reply.new.writer) in
     record {
       sound = c.in_ok-progress.ensures.sound;
-      reached = further last next c.in_ok-progress.progress c.loop.invariant.reached c.in_ok-progress.ensures.progress;
+      way = c.loop.invariant.way;
+      reached = (
+        c.loop.invariant.reached.0 + 1,
+        line c.loop.invariant.reached.0 last next c.in_ok-progress.progress c.loop.invariant.reached.1
+            (may_run c.args.setting.now.way c.loop.invariant.reached.0 c.loop.invariant.way) c.in_ok-progress.ensures.progress,
+      );
       calls =
           by_both g.D.Disk.view (sight_of tend c.args.executor.now) (sight_of tend c.loop.executor)
           (sight_of tend c.next_reply.new.executor)

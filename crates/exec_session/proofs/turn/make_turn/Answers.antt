@@ -5,9 +5,9 @@ use Rattle.ocf_types.specs.declared.reply.Notice.{Notice}
 use Rattle.executor.specs.CallLaws.{by_both, by_clear, by_turn}
 use Rattle.executor.specs.Sights.{Sight, sight_of}
 use Rattle.executor.specs.TurnCalls.{TurnsWhile}
-use Rattle.exec_commands.specs.Replies.{notice_line}
+use Rattle.exec_commands.specs.Replies.{formed_line}
 use Rattle.exec_session.specs.Limits.{MakesRoom, limits_of}
-use Rattle.exec_session.proofs.drain.make_turn.Goals as goal
+use Rattle.exec_session.proofs.turn.make_turn.Goals as goal
 
 pub returns-then-not-make_room-clause-made : goal.returns-then-not-make_room-clause-made
 returns-then-not-make_room-clause-made g c =
@@ -35,7 +35,7 @@ returns-clause-made g c =
       takes = λ _. subst (λ b. TurnsWhile b g.D.Disk.view c.args.now middle last c.turn-end.result) is_open c.turn-end.ensures.turns;
       written =
           λ _. subst (λ (told : List Notice). Appends (g.W.Write.contents c.args.writer.now) (g.W.Write.contents c.send_notices.new.writer)
-          (flat_map notice_line told)) c.notices.ensures.value c.in_ok-send_notices.ensures;
+          (flat_map (formed_line c.args.setting.now.form) told)) c.notices.ensures.value c.in_ok-send_notices.ensures;
       fails = λ closed. absurd (true≢false (sym is_open ∙ closed));
     }
 

@@ -1,0 +1,173 @@
+//! Serving: lines are answered while agents run, and turns are made by the run itself.
+ghost use Rattle.std.specs.Prelude.{◌≡◌, ◌⊎◌, ◌≤◌, ℕ, List, [], Option, None, true, false, IfOk, OnOk, MatchOption, if◌then◌else◌};
+ghost use Rattle.exec_lines.specs.Buffer.{line_bytes};
+ghost use Rattle.exec_lines.specs.Pieces.{IsMidLine};
+ghost use Rattle.executor.specs.Lives.{ByCalls};
+ghost use Rattle.executor.specs.Sights.{IsSound, sight_of};
+ghost use Rattle.executor.specs.declared.executor.Executor.{Executor};
+ghost use Rattle.exec_session.specs.Drains.{spot};
+ghost use Rattle.exec_session.specs.Limits.{limits_of};
+ghost use Rattle.exec_session.specs.Progress.{Place, place};
+ghost use Rattle.exec_session.specs.Runs.{ReachesEnd};
+ghost use Rattle.exec_session.specs.Serving.{ComesOrEnds, GoesOnWith, HasComeFrom, TurnsAlone};
+
+use crate::lines::{Progress, answer_found, found_in};
+use crate::metadata::Metadata;
+use crate::pause::{Pause, rest};
+use crate::setting::{Setting, Way};
+use crate::turn::make_turn;
+use child_keeper::Children;
+use disk_model::Disk;
+use exec_lines::{Input, LineBuffer, Output, gather_line, moment_now};
+use exec_output::Stopped;
+use executor::Executor;
+use ocf_types::NUM_MAX;
+use std::alloc::Global;
+use std::rt::Clock;
+
+// How many reads are made at most between two turns, and so how many lines are answered.
+const READS_A_TURN: u32 = 64;
+
+// The longest wait while nothing is queued or runs, in milliseconds.
+const LONGEST_IDLE: u32 = 1_000;
+
+// Goes on with the line in the buffer by one read, and answers it once it is whole; none while it is not.
+fn take_read<R: Input, W: Output, D: Disk + Drop, C: Children + Drop, K: Clock, M: Metadata>(
+    setting: &Setting<K, M>,
+    reader: &mut R,
+    writer: &mut W,
+    executor: &mut Executor<D, C>,
+    buffer: &mut LineBuffer,
+) -> Result<Option<Progress>, Stopped>
+    requires sound { IsSound D.view (sight_of C.view executor.old) }
+    ensures sound { IsSound D.view (sight_of C.view executor.new) }
+    ensures calls { ByCalls D.view (sight_of C.view executor.old) (sight_of C.view executor.new) }
+    ensures takes { (left : Option (List ℕ)) → IsMidLine left (line_bytes buffer.old) (R.remaining reader.old)
+        → IfOk result (GoesOnWith D.view C.view (M.gives setting.now.metadata.now) (limits_of setting.now)
+        (place executor.old left (W.contents writer.old)) (line_bytes buffer.new)
+        (place executor.new (R.remaining reader.new) (W.contents writer.new))) }
+{
+    let Some(next) = gather_line(reader, buffer)? else {
+        return Ok(None);
+    };
+    let found = found_in(setting.alloc, buffer, next);
+    buffer.clear();
+    Ok(Some(answer_found(setting, writer, executor, found)?))
+}
+
+// Answers the lines that are there, and tells whether the input ended.
+fn answer_waiting<R: Input, W: Output, D: Disk + Drop, C: Children + Drop, K: Clock, M: Metadata>(
+    setting: &Setting<K, M>,
+    reader: &mut R,
+    writer: &mut W,
+    executor: &mut Executor<D, C>,
+    buffer: &mut LineBuffer,
+) -> Result<bool, Stopped>
+    requires sound { IsSound D.view (sight_of C.view executor.old) }
+    requires way { setting.now.way ≡ Way.Serve }
+    ensures sound { IsSound D.view (sight_of C.view executor.new) }
+    ensures calls { ByCalls D.view (sight_of C.view executor.old) (sight_of C.view executor.new) }
+    ensures lines { (p : Place (Executor D C Global))
+        → HasComeFrom D.view C.view (M.gives setting.now.metadata.now) (limits_of setting.now) p 0
+        (line_bytes buffer.old) (place executor.old (R.remaining reader.old) (W.contents writer.old))
+        → IfOk result (ComesOrEnds D.view C.view (M.gives setting.now.metadata.now) (limits_of setting.now) p 64
+        (line_bytes buffer.new) (place executor.new (R.remaining reader.new) (W.contents writer.new))) }
+{
+    for _reads in 0..READS_A_TURN {
+        if !reader.is_ready(0) {
+            return Ok(false);
+        }
+        let taken = take_read(setting, reader, writer, executor, buffer)?;
+        if taken == Some(Progress::End) {
+            return Ok(true);
+        }
+    }
+    Ok(false)
+}
+
+// Makes a turn, where the executor is open.
+fn make_own_turn<W: Output, D: Disk + Drop, C: Children + Drop, K: Clock, M>(
+    setting: &Setting<K, M>,
+    writer: &mut W,
+    executor: &mut Executor<D, C>,
+    pause: &mut Pause,
+) -> Result<(), Stopped>
+    requires sound { IsSound D.view (sight_of C.view executor.old) }
+    ensures sound { IsSound D.view (sight_of C.view executor.new) }
+    ensures calls { ByCalls D.view (sight_of C.view executor.old) (sight_of C.view executor.new) }
+    ensures turns { OnOk result (TurnsAlone D.view C.view (limits_of setting.now)
+        (spot executor.old (W.contents writer.old)) (spot executor.new (W.contents writer.new))) }
+{
+    if !executor.is_open() {
+        return Ok(());
+    }
+    pause.before_turn(setting.clock);
+    let now = moment_now(setting.clock).get();
+    make_turn(setting, writer, executor, now)?;
+    Ok(())
+}
+
+// How long may be waited for a line behind a turn, in microseconds: not at all behind one in which something happened.
+fn wait_micros<D: Disk + Drop, C: Children + Drop, K: Clock, M>(
+    setting: &Setting<K, M>,
+    executor: &Executor<D, C>,
+    pause: &mut Pause,
+) -> u64 {
+    let micros = pause.behind_turn(setting.clock, executor);
+    if micros == 0 || !executor.idle() {
+        return micros;
+    }
+    1_000 * u64::from(LONGEST_IDLE)
+}
+
+// Waits until a line is there, something may have ended, or a monitor is due. It stops where nobody reads what is written.
+fn wait<R: Input, W: Output, D: Disk + Drop, C: Children + Drop, K: Clock, M>(
+    setting: &Setting<K, M>,
+    reader: &mut R,
+    writer: &W,
+    executor: &Executor<D, C>,
+    pause: &mut Pause,
+) -> Result<(), Stopped>
+    ensures same { R.remaining reader.new ≡ R.remaining reader.old }
+{
+    let micros = wait_micros(setting, executor, pause);
+    if micros < 1_000 {
+        rest(setting.clock, micros);
+    } else {
+        reader.is_ready((micros / 1_000).min(u64::from(LONGEST_IDLE)) as u32);
+    }
+    if writer.is_heard() {
+        Ok(())
+    } else {
+        Err(Stopped)
+    }
+}
+
+/// Answers the lines of the input up to its end, each once it is whole, and makes a turn behind at most 64 of them; while no
+/// line is there it makes turns, too, and waits between them as long as nothing happens. Behind a disk fault it goes on
+/// without turns.
+pub fn serve_all<R: Input, W: Output, D: Disk + Drop, C: Children + Drop, K: Clock, M: Metadata>(
+    setting: &Setting<K, M>,
+    reader: &mut R,
+    writer: &mut W,
+    executor: &mut Executor<D, C>,
+    buffer: &mut LineBuffer,
+) -> Result<(), Stopped>
+    requires sound { IsSound D.view (sight_of C.view executor.old) }
+    requires way { setting.now.way ≡ Way.Serve }
+    requires empty { line_bytes buffer.old ≡ [] }
+    ensures calls { ByCalls D.view (sight_of C.view executor.old) (sight_of C.view executor.new) }
+    ensures lines { OnOk result (ReachesEnd D.view C.view (M.gives setting.now.metadata.now) (limits_of setting.now)
+        (place executor.old (R.remaining reader.old) (W.contents writer.old))
+        (place executor.new (R.remaining reader.new) (W.contents writer.new))) }
+{
+    let mut pause = Pause::new();
+    for _ in 0..NUM_MAX {
+        if answer_waiting(setting, reader, writer, executor, buffer)? {
+            return Ok(());
+        }
+        make_own_turn(setting, writer, executor, &mut pause)?;
+        wait(setting, reader, writer, executor, &mut pause)?;
+    }
+    Err(Stopped)
+}
