@@ -20,10 +20,10 @@ use std::rt::Files;
 /// The files `part-a` and `part-b` of one folder, into which only this value writes.
 ///
 /// It is honest as long as each length and all bytes that the files answered are those that they held when they were
-/// opened, changed by the writes since. Each device call is one call of the system, gone on with where it is cut short
-/// or interrupted. After the first that failed none is made any more, and each is answered a fault: a system may
-/// answer the next sync after one that failed as a success, with nothing on the device. A length is refused where one of
-/// the paths leads to another file by now, or to none: so an opening and a tidy are, which ask for lengths.
+/// opened, changed by the writes since. A read, a write and a sync are one call of the system each, gone on with where it
+/// is cut short or interrupted. A length looks at both files, and fails where the path of one leads to another file by now,
+/// or to none: openings and tidies ask for lengths. After the first call that failed none is made any more, and each is
+/// answered a fault: a system may answer the next sync after one that failed as a success, with nothing on the device.
 #[derive(Drop)]
 pub struct FileDisk<R: Files<File = File> + Copy, A: Allocator + Copy = Global> {
     rt: R,
@@ -79,7 +79,7 @@ impl<R: Files<File = File> + Copy, A: Allocator + Copy> FileDisk<R, A> {
         }
     }
 
-    // The length of a part, where both files are still those of their paths.
+    // The length of a part. Both files have to be those of their paths still.
     fn measure(&self, part: Part) -> Result<u64, FileError>
         ensures { IfOk result (λ n. n ≤ PART_LIMIT) }
     {
