@@ -46,12 +46,10 @@ $check_device" "$(cat "$here/held_err")"
 
 # Shows a journal, as a user who may only read it where this is root. Sets $status. Use: shown DIR
 shown() {
+    local as=()
+    if [ "$(id -u)" -eq 0 ]; then as=(setpriv --reuid=65534 --regid=65534 --clear-groups); fi
     status=0
-    if [ "$(id -u)" -eq 0 ]; then
-        setpriv --reuid=65534 --regid=65534 --clear-groups "$program" show --journal "$1" > out 2> err || status=$?
-    else
-        "$program" show --journal "$1" > out 2> err || status=$?
-    fi
+    "${as[@]}" "$here/viewer" show --journal "$1" > out 2> err || status=$?
 }
 
 # What a folder has, with lengths, modes and moments of change. Use: inside DIR
@@ -140,6 +138,7 @@ same "the renamed folder" '{"ok":true,"resources":["r1"]}' "$(cat out)"
 
 # What is shown of a folder that may only be read, and of one without files: nothing is made and nothing changes
 chmod 711 "$here"
+cp "$program" viewer
 cp -r made fixed && chmod 444 fixed/part-a fixed/part-b && chmod 555 fixed
 mkdir bare && chmod 555 bare
 before=$(inside fixed && inside bare)
@@ -154,14 +153,18 @@ chmod 755 fixed bare
 same "show of a folder that is not there" "5 ocfexec: disk
 nowhere: No such file or directory (os error 2)" "$? $(cat err)"
 
-# A journal is shown while its executor is busy: registrations among parameters and tidies, for a second and more
+# A journal is shown while its executor is busy with registrations, parameters and tidies: what is listed is a prefix of
+# what was registered, and no shorter than what was listed before
 mkdir busy
-for number in $(seq 200); do
+number=0
+while [ ! -e enough ] && [ "$number" -lt 256 ]; do
+    number=$((number + 1))
     printf '{"op":"register","id":"r%d","provider":"pacemaker","type":"Dummy"}\n' "$number"
     for value in 1 2 3 4; do
-        printf '{"op":"params","id":"r%d","params":{"p":"%0500d"}}\n{"op":"tidy"}\n' "$number" "$value"
+        printf '{"op":"params","id":"r%d","params":{"p":"%0100d"}}\n' "$number" "$value"
     done
-    sleep 0.005
+    printf '{"op":"tidy"}\n'
+    sleep 0.01
 done | "$program" run --journal busy > busy_replies 2> busy_err &
 pid=$!
 until [ -s busy_replies ]; do
@@ -181,10 +184,11 @@ for _ in $(seq 50); do
 done
 kill -0 "$pid" || differs "the busy executor" "one that runs" "none"
 [ "$last" -gt 1 ] || differs "a busy journal, resources" "more than one" "$last"
+: > enough
 wait "$pid"
-same "the busy executor, status" 0 $?
-same "the busy executor, accepted" "1000 800" "$(grep -c '^{"ok":true}$' busy_replies) $(grep -c '^{"end":"done"}$' busy_replies)"
-echo "50 shows of a busy journal: $last of 200 resources in the last one"
+same "the busy executor, status" "0 " "$? $(cat busy_err)"
+same "the busy executor, refusals" "" "$(grep -v -x -e '{"ok":true}' -e '{"end":"done"}' busy_replies)"
+echo "50 shows of a busy journal: $last resources in the last one, $(grep -c end busy_replies) tidies"
 
 # Standard streams that are closed: nothing of what is meant for them lands in a part
 printf '%s\n' "$register" > line
@@ -224,17 +228,17 @@ if command -v fallocate > found && $apart mount -t tmpfs -o size=1m none "$here/
     printf '{"op":"tidy"}\n{"op":"list"}\n' >> lines
     cat > fills <<'FILLS'
 mount -t tmpfs -o size=24m none device && mkdir device/reserved device/other
-for part in device/reserved/part-a device/reserved/part-b; do
-    fallocate --keep-size --length 8388608 "$part"
-done
+"$1" run --journal device/reserved < /dev/null
 "$1" run --journal device/other < /dev/null
+fallocate --keep-size --length 8388608 device/reserved/part-a
+fallocate --keep-size --length 8388608 device/reserved/part-b
 cat /dev/zero > device/filler 2> filler
 "$1" run --journal device/reserved < lines > out 2> err
 echo "$? $(stat -c %s device/reserved/part-a)" > status
 "$1" run --journal device/other < lines > other_out 2> other_err
 FILLS
     $apart sh fills "$program"
-    same "reserved room, status and part A" "0 4632374" "$(cat status)"
+    same "reserved room, status and part A" "0 4616041" "$(cat status)"
     same "reserved room, standard error" "" "$(cat err)"
     same "reserved room, accepted" 300 "$(grep -c '^{"ok":true}$' out)"
     same "reserved room, last replies" '{"end":"done"}
