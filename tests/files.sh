@@ -1,7 +1,7 @@
 #!/usr/bin/env bash
 # Journals in files: what is made, what is refused and how it is told, what is shown of a journal that is in use, files that
-# are replaced, a device that is full, room that was reserved, and how dear the opening of a full part is. Wanted on a quiet machine: under 0.5 seconds and 64 MiB of memory. It fails at ten times that time, so
-# that a busy machine does not.
+# are replaced, a device that is full, room that was reserved, and how dear the opening of a full part is. Wanted on a quiet
+# machine: under 0.5 seconds and 64 MiB of memory. It fails at ten times that time, so that a busy machine does not.
 # Use: files.sh PROGRAM
 set -u
 . "$(dirname "$0")/common.sh" "$@"
