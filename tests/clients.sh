@@ -67,9 +67,11 @@ waits "another executor" has_another "$first"
 monitors=$(outcomes "$here/out" | grep -c -x 'monitor done 0')
 waits "monitors after a kill" has $((monitors + 3)) 'monitor done 0'
 same "client.py, standard error" "client: the executor ended with status -9" "$(cat "$here/err")"
-# while it runs, no other program opens its journal
+# while it runs, no other program opens its journal, and anyone may look at it
+"$program" run --journal "$here/journal" < /dev/null > /dev/null 2>&1
+same "run of a journal in use, status" 5 $?
 "$program" show --journal "$here/journal" > /dev/null 2>&1
-same "show of a journal in use, status" 5 $?
+same "show of a journal in use, status" 0 $?
 # it stops its resource and ends
 kill -TERM "$client"
 wait "$client"

@@ -1,11 +1,12 @@
 #!/usr/bin/env bash
-# Journals in files: what is made, what is refused and how it is told, a device that is full, and how dear the opening of
-# a full part is. Wanted on a quiet machine: under 0.5 seconds and 64 MiB of memory. It fails at ten times that time, so
-# that a busy machine does not.
+# Journals in files: what is made, what is refused and how it is told, what is shown of a journal that is in use, files that
+# are replaced, a device that is full, room that was reserved, and how dear the opening of a full part is. Wanted on a quiet
+# machine: under 0.5 seconds and 64 MiB of memory. It fails at ten times that time, so that a busy machine does not.
 # Use: files.sh PROGRAM
 set -u
 . "$(dirname "$0")/common.sh" "$@"
 register='{"op":"register","id":"r1","provider":"pacemaker","type":"Dummy"}'
+check_device="Check the device of the journal, its free space and its permissions."
 
 # A journal in which r1 is registered. Use: journal DIR
 journal() {
@@ -16,7 +17,7 @@ journal() {
 
 # Opens a journal of r1 and keeps its executor running, from its first reply on. Use: hold DIR
 hold() {
-    feed "$here/held" run --journal "$1"
+    feed "$here/held" run --journal "$1" 2> "$here/held_err"
     printf '{"op":"list"}\n' >&3
     until [ -s "$here/held" ] || ! kill -0 "$pid" 2> "$here/gone"; do
         sleep 0.01
@@ -29,6 +30,31 @@ let_go() {
     wait "$pid"
     same "$1, status" 0 $?
     same "$1, reply" '{"ok":true,"resources":["r1"]}' "$(cat "$here/held")"
+}
+
+# Has that executor tidy, which fails since a part's file is no longer that of its path. Use: loses NAME LINE
+loses() {
+    printf '{"op":"tidy"}\n' >&3
+    exec 3>&-
+    wait "$pid"
+    same "$1, status" 5 $?
+    same "$1, reply" '{"ok":true,"resources":["r1"]} {"end":"disk"}' "$(tr '\n' ' ' < "$here/held" | sed 's/ $//')"
+    same "$1, standard error" "ocfexec: disk
+$2
+$check_device" "$(cat "$here/held_err")"
+}
+
+# Shows a journal, as a user who may only read it where this is root. Sets $status. Use: shown DIR
+shown() {
+    local as=()
+    if [ "$(id -u)" -eq 0 ]; then as=(setpriv --reuid=65534 --regid=65534 --clear-groups); fi
+    status=0
+    "${as[@]}" "$here/viewer" show --journal "$1" > out 2> err || status=$?
+}
+
+# What a folder has, with lengths, modes and moments of change. Use: inside DIR
+inside() {
+    find "$1" -printf '%p %s %m %T@ %C@\n' | sort
 }
 
 cd "$here" || exit 1
@@ -48,6 +74,10 @@ diff -r made shown || differs "show" "the same bytes" "others"
 mkdir both && : > both/part-a && : > both/part-b
 run both '{"op":"list"}'
 same "two empty files" '{"ok":true,"resources":[]}' "$(cat out)"
+mkdir half && : > half/part-b
+run half '{"op":"list"}'
+same "one empty file" '{"ok":true,"resources":[]}' "$(cat out)"
+same "both files" "half/part-a half/part-b" "$(echo half/*)"
 
 # What can't be opened
 refused nowhere 5 "ocfexec: disk" "nowhere: No such file or directory"
@@ -63,6 +93,21 @@ refused linked 5 "ocfexec: disk" "linked/part-a: not a plain file"
 mkdir dangling && ln -s ../made/none dangling/part-b
 refused dangling 5 "ocfexec: disk" "dangling/part-b: not a plain file"
 [ ! -e made/none ] || differs "a link to nothing" "no file" "made/none"
+
+# A part whose file is gone is refused while the other one holds a journal, and nothing is made
+journal lost
+cp -r lost lost_a && rm lost/part-b
+before=$(inside lost)
+refused lost 5 "ocfexec: disk" "lost/part-b: gone, while part-a holds a journal"
+"$program" show --journal lost > out 2> err
+same "show of a lost part" "5 ocfexec: disk
+lost/part-b: gone, while part-a holds a journal" "$? $(cat err)"
+same "a lost part" "$before" "$(inside lost)"
+run lost_a '{"op":"tidy"}'
+rm lost_a/part-a
+refused lost_a 5 "ocfexec: disk" "lost_a/part-a: gone, while part-b holds a journal"
+same "a lost part A" lost_a/part-b "$(echo lost_a/*)"
+
 if [ "$(id -u)" -ne 0 ]; then
     journal unreadable
     chmod 200 unreadable/part-a
@@ -71,10 +116,79 @@ fi
 
 # One executor at a time
 hold made
-refused made 5 "ocfexec: disk" "made/part-a: in use by another executor"
+refused made 5 "ocfexec: disk" "made: in use by another executor"
+ln made/part-a linked_a && mkdir other && mv linked_a other/part-a && : > other/part-b
+refused other 5 "ocfexec: disk" "other/part-a: in use by another executor"
 let_go "the executor that has the journal"
 run made '{"op":"list"}'
 same "the journal after it" '{"ok":true,"resources":["r1"]}' "$(cat out)"
+
+# Files that are replaced under an executor: no other one opens them, and the next tidy fails
+journal replaced
+hold replaced
+cp replaced/part-a copy && mv copy replaced/part-a
+refused replaced 5 "ocfexec: disk" "replaced: in use by another executor"
+loses "a replaced part" "replaced/part-a: replaced while in use"
+journal renamed
+hold renamed
+mv renamed away
+loses "a renamed folder" "renamed/part-a: No such file or directory (os error 2)"
+run away '{"op":"list"}'
+same "the renamed folder" '{"ok":true,"resources":["r1"]}' "$(cat out)"
+
+# What is shown of a folder that may only be read, and of one without files: nothing is made and nothing changes
+chmod 711 "$here"
+cp "$program" viewer
+cp -r made fixed && chmod 444 fixed/part-a fixed/part-b && chmod 555 fixed
+mkdir bare && chmod 555 bare
+before=$(inside fixed && inside bare)
+shown fixed
+same "a folder to read, status" 0 "$status"
+same "a folder to read" '{"ok":true,"resources":["r1"]}' "$(head -n 1 out)"
+shown bare
+same "a folder without files" '0 {"ok":true,"resources":[]}' "$status $(cat out)"
+same "both folders" "$before" "$(inside fixed && inside bare)"
+chmod 755 fixed bare
+"$program" show --journal nowhere > out 2> err
+same "show of a folder that is not there" "5 ocfexec: disk
+nowhere: No such file or directory (os error 2)" "$? $(cat err)"
+
+# A journal is shown while its executor is busy with registrations, parameters and tidies: what is listed is a prefix of
+# what was registered, and no shorter than what was listed before
+mkdir busy
+number=0
+while [ ! -e enough ] && [ "$number" -lt 256 ]; do
+    number=$((number + 1))
+    printf '{"op":"register","id":"r%d","provider":"pacemaker","type":"Dummy"}\n' "$number"
+    for value in 1 2 3 4; do
+        printf '{"op":"params","id":"r%d","params":{"p":"%0100d"}}\n' "$number" "$value"
+    done
+    printf '{"op":"tidy"}\n'
+    sleep 0.01
+done | "$program" run --journal busy > busy_replies 2> busy_err &
+pid=$!
+until [ -s busy_replies ]; do
+    sleep 0.01
+done
+last=0
+for _ in $(seq 50); do
+    "$program" show --journal busy > out 2> err
+    same "a busy journal, status" 0 $?
+    same "a busy journal, standard error" "" "$(cat err)"
+    count=$(head -n 1 out | grep -o '"r[0-9]*"' | wc -l)
+    ids=$(seq "$count" | sed 's/.*/"r&"/' | paste -s -d ,)
+    same "a busy journal, shown" "{\"ok\":true,\"resources\":[$ids]}" "$(head -n 1 out)"
+    same "a busy journal, lines" $((1 + 2 * count)) "$(wc -l < out)"
+    [ "$last" -le "$count" ] || differs "a busy journal, resources" "$last at least" "$count"
+    last=$count
+done
+kill -0 "$pid" || differs "the busy executor" "one that runs" "none"
+[ "$last" -gt 1 ] || differs "a busy journal, resources" "more than one" "$last"
+: > enough
+wait "$pid"
+same "the busy executor, status" "0 " "$? $(cat busy_err)"
+same "the busy executor, refusals" "" "$(grep -v -x -e '{"ok":true}' -e '{"end":"done"}' busy_replies)"
+echo "50 shows of a busy journal: $last resources in the last one, $(grep -c end busy_replies) tidies"
 
 # Standard streams that are closed: nothing of what is meant for them lands in a part
 printf '%s\n' "$register" > line
@@ -93,7 +207,8 @@ printf '%s\n' "$large" "$large" "$large" "$large" "$large" '{"op":"list"}' '{"op
 (trap '' XFSZ && ulimit -f 64 && exec "$program" run --journal full) < lines > out 2> err
 same "a full device, status" 5 $?
 same "a full device, standard error" "ocfexec: disk
-Check the device of the journal, its free space and its permissions." "$(cat err)"
+full/part-a: File too large (os error 27)
+$check_device" "$(cat err)"
 same "a full device, last replies" '{"error":"disk","number":16}
 {"error":"closed","number":17}
 {"end":"closed"}
@@ -103,6 +218,37 @@ same "a full device, last replies" '{"error":"disk","number":16}
 same "a full device, accepted" 4 "$(grep -c '^{"ok":true}$' out)"
 run full '{"op":"list"}'
 same "opened again" '{"ok":true,"resources":["r1"]}' "$(cat out)"
+
+# Room that was reserved before the device filled: 300 commands and a tidy, and without it no command at all
+if [ "$(id -u)" -eq 0 ]; then apart="unshare --mount"; else apart="unshare --user --map-root-user --mount"; fi
+if command -v fallocate > found && $apart mount -t tmpfs -o size=1m none "$here/other" 2> err; then
+    mkdir device
+    printf '%s\n' "$register" > lines
+    yes "$large" | head -n 299 >> lines
+    printf '{"op":"tidy"}\n{"op":"list"}\n' >> lines
+    cat > fills <<'FILLS'
+mount -t tmpfs -o size=24m none device && mkdir device/reserved device/other
+"$1" run --journal device/reserved < /dev/null
+"$1" run --journal device/other < /dev/null
+fallocate --keep-size --length 8388608 device/reserved/part-a
+fallocate --keep-size --length 8388608 device/reserved/part-b
+cat /dev/zero > device/filler 2> filler
+"$1" run --journal device/reserved < lines > out 2> err
+echo "$? $(stat -c %s device/reserved/part-a)" > status
+"$1" run --journal device/other < lines > other_out 2> other_err
+FILLS
+    $apart sh fills "$program"
+    same "reserved room, status and part A" "0 4616041" "$(cat status)"
+    same "reserved room, standard error" "" "$(cat err)"
+    same "reserved room, accepted" 300 "$(grep -c '^{"ok":true}$' out)"
+    same "reserved room, last replies" '{"end":"done"}
+{"ok":true,"resources":["r1"]}' "$(tail -n 2 out)"
+    same "no room" "ocfexec: disk
+device/other/part-a: No space left on device (os error 28)
+$check_device" "$(cat other_err)"
+else
+    echo "files.sh: reserved room is not tried: $(cat err)"
+fi
 
 # A full part: 541 replacements of all parameters, and no tidy
 journal much

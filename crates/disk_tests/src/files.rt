@@ -2,7 +2,7 @@
 use crate::parts::FIRST;
 use crate::steps::{Reached, register};
 use disk_model::Disk;
-use file_disk::{FileDisk, OpenFault};
+use file_disk::{FileDisk, OpenFault, TellsError, read_parts};
 use ocf_types::{PART_LIMIT, Part, Refusal};
 use std::fs::{self, File};
 use std::test::Fail;
@@ -28,7 +28,7 @@ fn files_in_use_and_what_is_no_plain_file_are_refused(rt: HostRuntime) -> Result
     fs::create_dir(&rt, "used")?;
     let disk = FileDisk::open(&rt, rt.alloc(), "used")?;
     let again = FileDisk::open(&rt, rt.alloc(), "used");
-    assert!(rt; matches!(again, Err(OpenFault::Locked(Part::A))));
+    assert!(rt; matches!(again, Err(OpenFault::InUse)));
     drop(disk);
     fs::remove_file(&rt, "used/part-b")?;
     fs::create_dir(&rt, "used/part-b")?;
@@ -41,12 +41,41 @@ fn files_in_use_and_what_is_no_plain_file_are_refused(rt: HostRuntime) -> Result
 #[test]
 fn a_file_ends_at_the_limit_and_a_fault_ends_all_calls(rt: HostRuntime) -> Result<(), Fail> {
     fs::create_dir(&rt, "long")?;
+    File::create(&rt, "long/part-a")?;
     File::create(&rt, "long/part-b")?.set_len(PART_LIMIT + 1)?;
     let mut disk = FileDisk::open(&rt, rt.alloc(), "long")?;
     assert!(rt; disk.len(Part::B) == Ok(PART_LIMIT));
+    assert!(rt; disk.first_error().is_none());
     assert!(rt; disk.read_at(Part::A, 0, &mut [0]).is_err());
+    assert!(rt; matches!(disk.first_error(), Some(met) if met.part == Part::A));
     assert!(rt; disk.len(Part::B).is_err());
     assert!(rt; disk.clock() == 3 && disk.failures() == 2);
     fs::remove_dir_all(&rt, "long")?;
+    Ok(())
+}
+
+#[test]
+fn a_look_reads_files_in_use_and_makes_none(rt: HostRuntime) -> Result<(), Fail> {
+    fs::create_dir(&rt, "seen")?;
+    assert!(rt; read_parts(&rt, rt.alloc(), "seen")?.len(Part::A) == Ok(0));
+    assert!(rt; !fs::exists(&rt, "seen/part-a")?);
+    assert!(rt; registered(&rt, "seen") == Some(Reached::Acknowledged));
+    let held = FileDisk::open(&rt, rt.alloc(), "seen")?;
+    assert!(rt; read_parts(&rt, rt.alloc(), "seen")?.len(Part::A) == Ok(FIRST.len() as u64));
+    drop(held);
+    fs::remove_file(&rt, "seen/part-b")?;
+    assert!(rt;
+        matches!(
+            read_parts(&rt, rt.alloc(), "seen"),
+            Err(OpenFault::Gone(Part::B))
+        )
+    );
+    assert!(rt;
+        matches!(
+            FileDisk::open(&rt, rt.alloc(), "seen"),
+            Err(OpenFault::Gone(Part::B))
+        )
+    );
+    fs::remove_dir_all(&rt, "seen")?;
     Ok(())
 }

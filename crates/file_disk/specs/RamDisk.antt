@@ -1,5 +1,5 @@
 -- What contracts see of a disk in memory.
-use Rattle.std.specs.Prelude.{◌≡◌, ◌⊎◌, ℕ, ◌<◌, ◌≤◌, []}
+use Rattle.std.specs.Prelude.{◌≡◌, ◌⊎◌, ℕ, ◌<◌, ◌≤◌}
 use Rattle.disk_model.specs.Image.{Image}
 use Rattle.disk_model.specs.Runs.{AllSynced}
 use Rattle.disk_model.specs.View.{LAST, View}
@@ -15,9 +15,9 @@ module _ {M : Type 0} where
   abbrev pub IsStopped : RamDisk M → Type 0
   IsStopped d = (0 < (view_of d).failures) ⊎ (LAST ≤ (view_of d).clock)
 
-  -- a disk that was just made: both parts are empty, all is synced, a stop at any moment leaves them, and no call was made
-  pub record IsFresh (d : RamDisk M) : Type 0 where
-    pub reads : (view_of d).reads ≡ record { a = []; b = [] }
+  -- a disk that was just made: it reads as this pair, all is synced, a stop at any moment leaves it, and no call was made
+  pub record IsFresh (pair : Image) (d : RamDisk M) : Type 0 where
+    pub reads : (view_of d).reads ≡ pair
     pub synced : AllSynced (view_of d)
     pub since : (t : ℕ) (c : Image) → (view_of d).since t c → c ≡ (view_of d).reads
     pub clock : (view_of d).clock ≡ 0

@@ -1,68 +1,125 @@
 //! Two files as a disk.
-ghost use Rattle.std.specs.Prelude.{◌≡◌, ◌+◌, ◌≤◌, IfOk, IsErr, OnErr, OnOk, [], drop, length, take};
+ghost use Rattle.std.specs.Prelude.{◌≡◌, ◌+◌, ◌≤◌, IfOk, IsErr, OnErr, OnOk, Some, [], drop, is_some, length, take, true};
 ghost use Rattle.disk_model.specs.Image.{Written, bytes_of};
 ghost use Rattle.disk_model.specs.View.{Called, Rests, Synced, Tears};
 
 use crate::call::Call;
+use crate::entry::{entry_of, refuse_loss};
+use crate::error::{FileError, TellsError};
 use crate::fault::OpenFault;
+use crate::folder::open_folder;
 use crate::log::Log;
-use crate::open::{contents, open_folder, open_part};
+use crate::part_file::PartFile;
 use disk_model::{Disk, DiskFault};
 use ocf_types::{PART_LIMIT, Part};
-use std::alloc::Allocator;
+use std::alloc::{Allocator, Global};
 use std::fs::File;
 use std::os::unix::fs::FileExt;
 use std::rt::Files;
 
-/// The files `part-a` and `part-b` of one folder, of which only this value writes.
+/// The files `part-a` and `part-b` of one folder, into which only this value writes.
 ///
 /// It is honest as long as each length and all bytes that the files answered are those that they held when they were
-/// opened, changed by the writes since. Each device call is one call of the system, gone on with where it is cut short
-/// or interrupted. After the first that failed none is made any more, and each is answered a fault: a system may
-/// answer the next sync after one that failed as a success, with nothing on the device.
+/// opened, changed by the writes since. A read, a write and a sync are one call of the system each, gone on with where it
+/// is cut short or interrupted. A length looks at both files, and fails where the path of one leads to another file by now,
+/// or to none: openings and tidies ask for lengths. After the first call that failed none is made any more, and each is
+/// answered a fault: a system may answer the next sync after one that failed as a success, with nothing on the device.
 #[derive(Drop)]
-pub struct FileDisk {
-    a: File,
-    b: File,
+pub struct FileDisk<R: Files<File = File> + Copy, A: Allocator + Copy = Global> {
+    rt: R,
+    // locked as long as it is open
+    _folder: File,
+    a: PartFile<A>,
+    b: PartFile<A>,
+    first_error: Option<FileError>,
     log: Log,
 }
 
-impl FileDisk {
-    ghost use Rattle.file_disk.specs.FileDisk.{IsFresh};
+impl<R: Files<File = File> + Copy, A: Allocator + Copy> FileDisk<R, A> {
+    ghost use Rattle.file_disk.specs.FileDisk.{IsFresh, Notes, first_part};
+    ghost use Rattle.file_disk.specs.Record.{IsFault};
 
-    /// Opens both files of a folder, and makes those that are missing, for their owner alone. Both are locked for as
-    /// long as this value lives, so that a second opening is answered `Locked`. Both and the folder are synced, and then
-    /// both are read whole.
+    /// Opens both files of a folder, and makes those that are missing, for their owner alone. It is refused as `Gone` where
+    /// one is missing while the other is not empty; nothing is made then. The folder and both files are locked for as long as
+    /// this value lives, so that a second opening is answered `InUse`. All are synced, and then both files are read whole.
     ///
     /// The path is that of a folder, by way of links or not. A failed opening may leave empty files.
-    pub fn open<R: Files<File = File>, A: Allocator + Copy>(
-        rt: &R,
-        alloc: A,
-        dir: &str,
-    ) -> Result<FileDisk, OpenFault>
+    pub fn open(rt: &R, alloc: A, dir: &str) -> Result<FileDisk<R, A>, OpenFault>
         ensures fresh { IfOk result IsFresh }
         ensures no_name { dir.now ≡ [] → IsErr result }
     {
-        let folder = open_folder(rt, alloc, dir).map_err(OpenFault::folder)?;
-        let a = open_part(rt, alloc, dir, Part::A)?;
-        let b = open_part(rt, alloc, dir, Part::B)?;
+        let folder = open_folder(rt, alloc, dir)?;
+        let a = entry_of(rt, alloc, dir, Part::A)?;
+        let b = entry_of(rt, alloc, dir, Part::B)?;
+        refuse_loss(a, b)?;
+        let a = PartFile::open(rt, alloc, dir, Part::A)?;
+        let b = PartFile::open(rt, alloc, dir, Part::B)?;
         folder.sync_all().map_err(OpenFault::folder)?;
-        let a_bytes = contents(alloc, &a).map_err(|error| OpenFault::file(Part::A, error))?;
-        let b_bytes = contents(alloc, &b).map_err(|error| OpenFault::file(Part::B, error))?;
+        let a_bytes = a
+            .contents(alloc)
+            .map_err(|error| OpenFault::file(Part::A, error))?;
+        let b_bytes = b
+            .contents(alloc)
+            .map_err(|error| OpenFault::file(Part::B, error))?;
         let log = Log::new(&a_bytes, &b_bytes);
-        Ok(FileDisk { a, b, log })
+        Ok(FileDisk {
+            rt: *rt,
+            _folder: folder,
+            a,
+            b,
+            first_error: None,
+            log,
+        })
     }
 
     fn file(&self, part: Part) -> &File {
         match part {
-            Part::A => &self.a,
-            Part::B => &self.b,
+            Part::A => &self.a.file,
+            Part::B => &self.b.file,
         }
+    }
+
+    // The length of a part. Both files have to be those of their paths still.
+    fn measure(&self, part: Part) -> Result<u64, FileError>
+        ensures { IfOk result (λ n. n ≤ PART_LIMIT) }
+    {
+        let a = self.a.size(&self.rt).map_err(|error| FileError {
+            part: Part::A,
+            error,
+        })?;
+        let b = self.b.size(&self.rt).map_err(|error| FileError {
+            part: Part::B,
+            error,
+        })?;
+        match part {
+            Part::A => Ok(a),
+            Part::B => Ok(b),
+        }
+    }
+
+    // A call of the system failed.
+    fn fail(&mut self, call: &Call, bytes: &[u8], error: FileError) -> DiskFault
+        requires { IsFault call.now }
+        ensures noted { Notes call.now bytes.now self.old self.new }
+        ensures told { first_part self.new ≡ Some error.part }
+    {
+        self.first_error = Some(error);
+        self.log.fail(call, bytes)
     }
 }
 
-impl Disk for FileDisk {
-    ghost use Rattle.file_disk.specs.FileDisk.{IsStopped, Notes, view_of};
+impl<R: Files<File = File> + Copy, A: Allocator + Copy> TellsError for FileDisk<R, A> {
+    ghost use Rattle.file_disk.specs.FileDisk.{first_error};
+
+    fn first_error(&self) -> Option<FileError>
+        ensures { result ≡ first_error self.now }
+    {
+        self.first_error
+    }
+}
+
+impl<R: Files<File = File> + Copy, A: Allocator + Copy> Disk for FileDisk<R, A> {
+    ghost use Rattle.file_disk.specs.FileDisk.{IsStopped, Notes, Tells, view_of};
     ghost use Rattle.file_disk.specs.PastLaws.{past_lawful};
 
     ghost view = { view_of };
@@ -78,19 +135,19 @@ impl Disk for FileDisk {
         ensures noted { IfOk result (λ n. Notes (Call.Measured part n) [] self.old self.new) }
         ensures failed { (IsStopped self.old → ⊥) → OnErr result (Notes Call.Failed [] self.old self.new) }
         ensures stopped { IsStopped self.old → IsErr result × Notes Call.Refused [] self.old self.new }
+        ensures tells { Tells (λ p. is_some p ≡ true) self.old self.new result }
         ensures stays { (view_of self.old).honest → IfOk result (λ n. n ≡ length (bytes_of part (view_of self.old).reads))
             → (view_of self.new).honest }
     {
         if !self.log.goes_on() {
             return Err(self.log.fail(&Call::Refused, &[]));
         }
-        match self.file(part).metadata() {
-            Ok(metadata) => {
-                let size = metadata.len().min(PART_LIMIT);
+        match self.measure(part) {
+            Ok(size) => {
                 self.log.pass(&Call::Measured(part, size), &[]);
                 Ok(size)
             }
-            Err(_) => Err(self.log.fail(&Call::Failed, &[])),
+            Err(error) => Err(self.fail(&Call::Failed, &[], error)),
         }
     }
 
@@ -104,6 +161,7 @@ impl Disk for FileDisk {
         ensures noted { OnOk result (Notes (Call.Read part at) buf.new self.old self.new) }
         ensures failed { (IsStopped self.old → ⊥) → OnErr result (Notes Call.Failed [] self.old self.new) }
         ensures stopped { IsStopped self.old → IsErr result × Notes Call.Refused [] self.old self.new }
+        ensures tells { Tells (λ p. p ≡ Some part) self.old self.new result }
         ensures stays { (view_of self.old).honest
             → OnOk result (buf.new ≡ take (length buf.old) (drop at (bytes_of part (view_of self.old).reads)))
             → (view_of self.new).honest }
@@ -116,7 +174,7 @@ impl Disk for FileDisk {
                 self.log.pass(&Call::Read(part, at), buf);
                 Ok(())
             }
-            Err(_) => Err(self.log.fail(&Call::Failed, &[])),
+            Err(error) => Err(self.fail(&Call::Failed, &[], FileError { part, error })),
         }
     }
 
@@ -130,6 +188,7 @@ impl Disk for FileDisk {
         ensures noted { OnOk result (Notes (Call.Wrote part at) bytes.now self.old self.new) }
         ensures tried { (IsStopped self.old → ⊥) → OnErr result (Notes (Call.Tried part at) bytes.now self.old self.new) }
         ensures stopped { IsStopped self.old → IsErr result × Notes Call.Refused [] self.old self.new }
+        ensures tells { Tells (λ p. p ≡ Some part) self.old self.new result }
         ensures stays { (view_of self.old).honest → (view_of self.new).honest }
     {
         if !self.log.goes_on() {
@@ -140,7 +199,7 @@ impl Disk for FileDisk {
                 self.log.pass(&Call::Wrote(part, at), bytes);
                 Ok(())
             }
-            Err(_) => Err(self.log.fail(&Call::Tried(part, at), bytes)),
+            Err(error) => Err(self.fail(&Call::Tried(part, at), bytes, FileError { part, error })),
         }
     }
 
@@ -152,6 +211,7 @@ impl Disk for FileDisk {
         ensures noted { OnOk result (Notes (Call.Synced part) [] self.old self.new) }
         ensures failed { (IsStopped self.old → ⊥) → OnErr result (Notes Call.Failed [] self.old self.new) }
         ensures stopped { IsStopped self.old → IsErr result × Notes Call.Refused [] self.old self.new }
+        ensures tells { Tells (λ p. p ≡ Some part) self.old self.new result }
         ensures stays { (view_of self.old).honest → (view_of self.new).honest }
     {
         if !self.log.goes_on() {
@@ -162,7 +222,7 @@ impl Disk for FileDisk {
                 self.log.pass(&Call::Synced(part), &[]);
                 Ok(())
             }
-            Err(_) => Err(self.log.fail(&Call::Failed, &[])),
+            Err(error) => Err(self.fail(&Call::Failed, &[], FileError { part, error })),
         }
     }
 

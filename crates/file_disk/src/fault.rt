@@ -20,9 +20,18 @@ pub enum OpenFault {
     /// A folder, a symbolic link or a device has the name of the part's file.
     #[error("not a plain file")]
     NotPlain(Part),
-    /// The part's file is open as a journal already.
+    /// The part's file is open as a journal's already.
     #[error("in use by another executor")]
     Locked(Part),
+    /// The folder is open as a journal's already.
+    #[error("in use by another executor")]
+    InUse,
+    /// The part's file is gone, while the other one is not empty: no stop leaves that.
+    #[error("gone, while {} holds a journal", other_name(*.0))]
+    Gone(Part),
+    /// The journal was tidied each time that it was read.
+    #[error("changes faster than it can be read")]
+    Changing,
     /// A growth was refused.
     #[error("memory")]
     Memory,
@@ -41,6 +50,14 @@ pub(crate) fn file_name(part: Part) -> &'static str {
     match part {
         Part::A => "part-a",
         Part::B => "part-b",
+    }
+}
+
+// The name of the other part's file.
+fn other_name(part: Part) -> &'static str {
+    match part {
+        Part::A => file_name(Part::B),
+        Part::B => file_name(Part::A),
     }
 }
 
@@ -70,10 +87,13 @@ impl OpenFault {
     // The name of the file that it speaks of.
     fn name(&self) -> Option<&'static str> {
         match self {
-            OpenFault::File(part, _) | OpenFault::NotPlain(part) | OpenFault::Locked(part) => {
-                Some(file_name(*part))
+            OpenFault::File(part, _)
+            | OpenFault::NotPlain(part)
+            | OpenFault::Locked(part)
+            | OpenFault::Gone(part) => Some(file_name(*part)),
+            OpenFault::Folder(_) | OpenFault::InUse | OpenFault::Changing | OpenFault::Memory => {
+                None
             }
-            OpenFault::Folder(_) | OpenFault::Memory => None,
         }
     }
 

@@ -9,12 +9,18 @@
 
 mod call;
 mod disk;
+mod entry;
+mod error;
 mod fault;
+mod folder;
 mod log;
-mod open;
+mod look;
+mod part_file;
 mod ram;
 mod record;
 
 pub use disk::FileDisk;
+pub use error::{FileError, TellsError};
 pub use fault::{Located, OpenFault};
+pub use look::read_parts;
 pub use ram::RamDisk;

@@ -1,5 +1,5 @@
 //! Two parts in memory as a disk.
-ghost use Rattle.std.specs.Prelude.{◌≡◌, ◌+◌, ◌≤◌, ◌↔◌, IfOk, IsErr, OnErr, OnOk, drop, length, take};
+ghost use Rattle.std.specs.Prelude.{◌≡◌, ◌+◌, ◌≤◌, ◌↔◌, IfOk, IsErr, None, OnErr, OnOk, [], drop, length, take};
 ghost use Rattle.disk_model.specs.Image.{Written, bytes_of};
 ghost use Rattle.disk_model.specs.Parts.{image_of};
 ghost use Rattle.disk_model.specs.View.{Called, Rests, Synced, Tears};
@@ -7,6 +7,7 @@ ghost use Rattle.file_disk.specs.Past.{honest_of, reads_of};
 ghost use Rattle.file_disk.specs.PastLaws.{honest_prop};
 
 use crate::call::Call;
+use crate::error::{FileError, TellsError};
 use crate::log::Log;
 use disk_model::{Disk, DiskFault, Parts};
 use ocf_types::{PART_LIMIT, Part};
@@ -30,13 +31,35 @@ impl<A: Allocator + Copy> RamDisk<A> {
 
     /// A disk with two empty parts. It takes no memory.
     pub fn new(alloc: A) -> RamDisk<A>
-        ensures fresh { IsFresh result }
+        ensures fresh { IsFresh (record { a = []; b = [] }) result }
         ensures honest { (view_of result).honest }
     {
         RamDisk {
             parts: Parts::new(alloc),
             log: Log::new(&[], &[]),
         }
+    }
+
+    /// A disk with these bytes, all of them synced. Bytes past the limit of a part are no part of it. It takes no memory.
+    pub fn from_parts(mut a: Vec<u8, A>, mut b: Vec<u8, A>) -> RamDisk<A>
+        ensures fresh { IsFresh (record { a = take PART_LIMIT a.items; b = take PART_LIMIT b.items }) result }
+        ensures honest { (view_of result).honest }
+    {
+        a.truncate(PART_LIMIT as usize);
+        b.truncate(PART_LIMIT as usize);
+        let log = Log::new(&a, &b);
+        RamDisk {
+            parts: Parts { a, b },
+            log,
+        }
+    }
+}
+
+impl<A: Allocator + Copy> TellsError for RamDisk<A> {
+    fn first_error(&self) -> Option<FileError>
+        ensures { result ≡ None }
+    {
+        None
     }
 }
 

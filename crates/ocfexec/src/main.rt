@@ -21,7 +21,7 @@ fn main(rt: HostRuntime) -> ExitCode {
 
 // Says on standard error what ended the program, and what can be done about it in a line behind.
 fn tell(rt: &HostRuntime, fault: Fault) {
-    if matches!(fault, Fault::Usage | Fault::NotOpened) {
+    if matches!(fault, Fault::Usage | Fault::NotOpened | Fault::Disk) {
         // it was told where it happened
         return;
     }

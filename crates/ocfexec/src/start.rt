@@ -1,5 +1,5 @@
 //! From the words to a run.
-ghost use Rattle.std.specs.Prelude.{◌≡◌, map, string_bytes};
+ghost use Rattle.std.specs.Prelude.{◌≡◌, IfOk, map, string_bytes};
 ghost use Rattle.exec_output.specs.Faults.{IsRunEnd};
 ghost use Rattle.ocfexec.specs.Starts.{EndsFor, IsNotOpened, IsToldAs, opening_fault};
 
@@ -12,13 +12,16 @@ use exec_options::{JournalPlace, Options, Subcommand, WordsFault, read_words};
 use exec_output::{Fault, show};
 use exec_session::{Setting, Way, run_lines};
 use executor::{Executor, OpenError};
-use file_disk::{FileDisk, OpenFault, RamDisk};
+use file_disk::{FileDisk, OpenFault, RamDisk, TellsError, read_parts};
 use std::env;
 use std::io::{self, BufReader, ErrorKind};
 use std::thread::sleep;
 use std::time::Duration;
 
 const READ_SIZE: usize = 65_536;
+
+// How often the files of a journal that reads as damaged are read, before that is told.
+const LOOKS: usize = 4;
 
 // How many turns a drain makes at most.
 const MOST_TURNS: u64 = 100_000_000;
@@ -59,23 +62,23 @@ fn refuse(rt: &HostRuntime, fault: &WordsFault) -> Result<(), Fault>
     }
 }
 
-// The files of this folder. An agent that was being started when its executor was killed holds the lock up to its own first
-// instruction: so a lock is waited for, for a fifth of a second.
-fn open_files(rt: &HostRuntime, folder: &str) -> Result<FileDisk, OpenFault> {
+// The files of this folder. An agent that was being started when its executor was killed holds the locks up to its own
+// first instruction: so a lock is waited for, for a fifth of a second.
+fn open_files(rt: &HostRuntime, folder: &str) -> Result<FileDisk<HostRuntime>, OpenFault> {
     for _ in 0..10 {
         match FileDisk::open(rt, rt.alloc(), folder) {
-            Err(OpenFault::Locked(_)) => sleep(rt, Duration::from_millis(20)),
+            Err(OpenFault::InUse | OpenFault::Locked(_)) => sleep(rt, Duration::from_millis(20)),
             opened => return opened,
         }
     }
     FileDisk::open(rt, rt.alloc(), folder)
 }
 
-// The journal in the files of this folder. Why they are not opened is told here, behind the line of the fault.
-fn opened(rt: &HostRuntime, folder: &str) -> Result<FileDisk, Fault>
+// The disk of a journal in this folder. Why there is none is told here, behind the line of the fault.
+fn found<D: Drop>(rt: &HostRuntime, folder: &str, disk: Result<D, OpenFault>) -> Result<D, Fault>
     ensures { IsNotOpened result }
 {
-    match open_files(rt, folder) {
+    match disk {
         Ok(disk) => Ok(disk),
         Err(OpenFault::Memory) => Err(Fault::Memory),
         Err(why) => {
@@ -84,6 +87,32 @@ fn opened(rt: &HostRuntime, folder: &str) -> Result<FileDisk, Fault>
             Err(Fault::NotOpened)
         }
     }
+}
+
+// Says that the journal's device failed, and what it answered.
+fn tell_device<D: TellsError>(rt: &HostRuntime, options: Options, disk: &D) {
+    let _ = rt.eprintln(format_args!("ocfexec: {}", Fault::Disk));
+    if let (JournalPlace::Folder(folder), Some(met)) = (options.journal, disk.first_error()) {
+        let _ = rt.eprintln(format_args!("{}", met.located(folder)));
+    }
+    if let Some(advice) = Fault::Disk.advice() {
+        let _ = rt.eprintln(advice);
+    }
+}
+
+// How it ended on this disk. A fault of the device is told here, since the disk knows more of it than the fault says.
+fn told<D: TellsError>(
+    rt: &HostRuntime,
+    options: Options,
+    disk: &D,
+    ended: Result<(), Fault>,
+) -> Result<(), Fault>
+    ensures { result ≡ ended }
+{
+    if let Err(Fault::Disk) = ended {
+        tell_device(rt, options, disk);
+    }
+    ended
 }
 
 // Does what these words ask for, the program's name first.
@@ -95,23 +124,71 @@ fn run(rt: &HostRuntime, words: &[String]) -> Result<(), Fault>
         Ok(options) => options,
         Err(fault) => return refuse(rt, &fault),
     };
-    match options.journal {
-        JournalPlace::Folder(folder) => match opened(rt, folder) {
-            Ok(disk) => run_on(rt, options, disk),
-            Err(fault) => Err(fault),
-        },
-        JournalPlace::Memory => run_on(rt, options, RamDisk::new(rt.alloc())),
+    let ended = match options.journal {
+        JournalPlace::Folder(folder) => run_in(rt, options, folder),
+        JournalPlace::Memory => Ok(run_on(rt, options, RamDisk::new(rt.alloc()))),
+    };
+    match ended {
+        Ok(ended) => ended,
+        Err(fault) => Err(fault),
     }
 }
 
+// Does what the options ask for with the journal in this folder, or says why there is none.
+fn run_in(rt: &HostRuntime, options: Options, folder: &str) -> Result<Result<(), Fault>, Fault>
+    ensures ends { IfOk result IsRunEnd }
+    ensures not_opened { IsNotOpened result }
+{
+    match options.subcommand {
+        Subcommand::Run => {
+            let disk = found(rt, folder, open_files(rt, folder))?;
+            Ok(run_agents(rt, options, disk))
+        }
+        Subcommand::Show => show_files(rt, options, folder),
+    }
+}
+
+// Shows the journal in this folder, which another program may be writing. Damage is told where it is found each time that
+// the files are read.
+fn show_files(rt: &HostRuntime, options: Options, folder: &str) -> Result<Result<(), Fault>, Fault>
+    ensures ends { IfOk result IsRunEnd }
+    ensures not_opened { IsNotOpened result }
+{
+    for _ in 1..LOOKS {
+        let disk = found(rt, folder, read_parts(rt, rt.alloc(), folder))?;
+        let ended = show_on(rt, options, disk);
+        if !matches!(ended, Err(Fault::Damaged(_))) {
+            return Ok(ended);
+        }
+    }
+    let disk = found(rt, folder, read_parts(rt, rt.alloc(), folder))?;
+    Ok(show_on(rt, options, disk))
+}
+
+// Shows the journal on this disk.
+fn show_on<D: Disk + TellsError + Drop>(
+    rt: &HostRuntime,
+    options: Options,
+    disk: D,
+) -> Result<(), Fault>
+    ensures { IsRunEnd result }
+{
+    let (disk, ended) = show(rt.alloc(), disk, &mut io::writer(rt));
+    told(rt, options, &disk, ended)
+}
+
 // Does what the options ask for with a journal on this disk.
-fn run_on<D: Disk + Drop>(rt: &HostRuntime, options: Options, disk: D) -> Result<(), Fault>
+fn run_on<D: Disk + TellsError + Drop>(
+    rt: &HostRuntime,
+    options: Options,
+    disk: D,
+) -> Result<(), Fault>
     ensures { IsRunEnd result }
 {
     match options.subcommand {
         Subcommand::Run => run_agents(rt, options, disk, Way::Run),
         Subcommand::Serve => run_agents(rt, options, disk, Way::Serve),
-        Subcommand::Show => show(rt.alloc(), disk, &mut io::writer(rt)).1,
+        Subcommand::Show => show_on(rt, options, disk),
     }
 }
 
@@ -139,7 +216,7 @@ fn form_of(way: Way) -> NoticeForm {
 
 // Opens the executor and answers the lines of standard input.
 #[tactic(auto, using(crate::proofs::StartLemmas::run_ends))]
-fn run_agents<D: Disk + Drop>(
+fn run_agents<D: Disk + TellsError + Drop>(
     rt: &HostRuntime,
     options: Options,
     disk: D,
@@ -171,8 +248,9 @@ fn run_agents<D: Disk + Drop>(
                 tidy_at: options.tidy_at,
             };
             let mut writer = Patient::new(io::writer(rt), libc::STDOUT_FILENO);
-            run_lines(&setting, &mut reader, &mut writer, executor, &report).ended
+            let run = run_lines(&setting, &mut reader, &mut writer, executor, &report);
+            told(rt, options, &run.disk, run.ended)
         }
-        Err(fault) => Err(opening_fault(fault.why)),
+        Err(fault) => told(rt, options, &fault.disk, Err(opening_fault(fault.why))),
     }
 }

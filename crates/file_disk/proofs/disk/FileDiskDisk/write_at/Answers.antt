@@ -3,4 +3,4 @@ use Rattle.file_disk.specs.RecordLaws.{called_refused}
 use Rattle.file_disk.proofs.disk.FileDiskDisk.write_at.Goals as goal
 
 pub returns-then-not-goes_on-clause-called : goal.returns-then-not-goes_on-clause-called
-returns-then-not-goes_on-clause-called c = called_refused _ [] _ _ c.fail.ensures
+returns-then-not-goes_on-clause-called g c = called_refused _ [] _ _ c.fail.ensures

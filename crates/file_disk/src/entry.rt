@@ -1,0 +1,60 @@
+// What a folder has under the names of both parts.
+ghost use Rattle.std.specs.Prelude.{◌≡◌, IfErr};
+ghost use Rattle.file_disk.specs.Entries.{loss_of};
+ghost use Rattle.file_disk.specs.Faults.{IsOfPart};
+
+use crate::fault::{OpenFault, file_name};
+use ocf_types::Part;
+use std::alloc::Allocator;
+use std::fs;
+use std::io::ErrorKind;
+use std::rt::Files;
+
+/// What has the name of a part's file.
+#[derive(Clone, Copy, Debug, PartialEq, Eq)]
+pub enum Entry {
+    Missing,
+    Empty,
+    Filled,
+}
+
+impl Entry {
+    /// A file of this length.
+    pub fn of_file(size: u64) -> Entry {
+        if size == 0 {
+            Entry::Empty
+        } else {
+            Entry::Filled
+        }
+    }
+}
+
+/// What has the name of a part's file in the folder. A folder, a link or a device is a fault.
+pub fn entry_of<R: Files, A: Allocator>(
+    rt: &R,
+    alloc: A,
+    dir: &str,
+    part: Part,
+) -> Result<Entry, OpenFault>
+    ensures { IfErr result (IsOfPart part) }
+{
+    let path = format!(in alloc; "{dir}/{}", file_name(part))?;
+    match fs::symlink_metadata(rt, path.as_str()) {
+        Ok(found) if found.is_file() => Ok(Entry::of_file(found.len())),
+        Ok(_) => Err(OpenFault::NotPlain(part)),
+        Err(error) if error.kind() == ErrorKind::NotFound => Ok(Entry::Missing),
+        Err(error) => Err(OpenFault::file(part, error)),
+    }
+}
+
+/// Refuses a pair of which one is missing beside one that is filled. Both files are made before either is written, so no
+/// stop leaves that.
+pub fn refuse_loss(a: Entry, b: Entry) -> Result<(), OpenFault>
+    ensures { result ≡ loss_of a b }
+{
+    match (a, b) {
+        (Entry::Missing, Entry::Filled) => Err(OpenFault::Gone(Part::A)),
+        (Entry::Filled, Entry::Missing) => Err(OpenFault::Gone(Part::B)),
+        _ => Ok(()),
+    }
+}

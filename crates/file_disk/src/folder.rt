@@ -1,0 +1,49 @@
+// The folder of a journal.
+ghost use Rattle.std.specs.Prelude.{◌≡◌, [], IsErr};
+
+use crate::fault::OpenFault;
+use crate::part_file::above_streams;
+use std::alloc::Allocator;
+use std::fs::{self, File, TryLockError};
+use std::io::{self, ErrorKind};
+use std::rt::Files;
+
+// The path of a folder. The dot behind it refuses what is no folder.
+fn folder_path<A: Allocator>(alloc: A, dir: &str) -> Result<String<A>, OpenFault>
+    ensures { dir.now ≡ [] → IsErr result }
+{
+    if dir.is_empty() {
+        let error = io::Error::new(ErrorKind::InvalidInput, "the folder has no name");
+        return Err(OpenFault::Folder(error));
+    }
+    Ok(format!(in alloc; "{dir}/.")?)
+}
+
+/// Refuses a folder that is not there.
+pub fn find_folder<R: Files, A: Allocator>(rt: &R, alloc: A, dir: &str) -> Result<(), OpenFault>
+    ensures { dir.now ≡ [] → IsErr result }
+{
+    let path = folder_path(alloc, dir)?;
+    match fs::metadata(rt, path.as_str()) {
+        Ok(_) => Ok(()),
+        Err(error) => Err(OpenFault::folder(error)),
+    }
+}
+
+/// Opens a folder, so that its entries can be synced, and locks it for as long as it is open.
+pub fn open_folder<R: Files<File = File>, A: Allocator>(
+    rt: &R,
+    alloc: A,
+    dir: &str,
+) -> Result<File, OpenFault>
+    ensures { dir.now ≡ [] → IsErr result }
+{
+    let path = folder_path(alloc, dir)?;
+    let folder = File::open(rt, path.as_str()).map_err(OpenFault::folder)?;
+    let folder = above_streams(folder).map_err(OpenFault::folder)?;
+    match folder.try_lock() {
+        Ok(()) => Ok(folder),
+        Err(TryLockError::WouldBlock) => Err(OpenFault::InUse),
+        Err(TryLockError::Error(error)) => Err(OpenFault::folder(error)),
+    }
+}

@@ -1,0 +1,146 @@
+//! What a journal's files hold, for reading alone, whoever may be writing them.
+ghost use Rattle.std.specs.Prelude.{◌≡◌, ◌≤◌, [], IfErr, IfOk, IfSome, IsErr, length};
+ghost use Rattle.file_disk.specs.Faults.{IsOfPart};
+ghost use Rattle.file_disk.specs.RamDisk.{IsFresh, view_of};
+
+use crate::entry::{Entry, entry_of, refuse_loss};
+use crate::fault::{OpenFault, file_name};
+use crate::folder::find_folder;
+use crate::ram::RamDisk;
+use ocf_types::{PART_LIMIT, Part};
+use std::alloc::{Allocator, Global};
+use std::fs::File;
+use std::io::{self, ErrorKind};
+use std::os::unix::fs::FileExt;
+use std::rt::Files;
+
+// How often the files are read at most, where a tidy comes between.
+const TRIES: usize = 100;
+
+// How many bytes are read at once.
+const PIECE: usize = 65_536;
+
+// As many bytes as begin a part: its gate, magic, version, epoch and the length of its snapshot.
+const HEAD: usize = 18;
+
+// What was read of a part's file, from its first byte on up to its end.
+#[derive(Drop)]
+struct Sight<A: Allocator = Global> {
+    file: Option<File>,
+    bytes: Vec<u8, A>,
+}
+
+// Fills the buffer from this offset of the file on, and answers how far, which is less only at the file's end.
+fn fill(file: &File, at: u64, buf: &mut [u8]) -> io::Result<usize>
+    ensures { IfOk result (λ count. count ≤ length buf.new) }
+{
+    let mut filled = 0;
+    for _ in 0..u64::MAX {
+        if filled >= buf.len() {
+            break;
+        }
+        match file.read_at(&mut buf[filled..], at.wrapping_add(filled as u64)) {
+            Ok(0) => break,
+            Ok(count) => filled += count,
+            Err(error) if error.kind() == ErrorKind::Interrupted => {}
+            Err(error) => return Err(error),
+        }
+    }
+    Ok(filled)
+}
+
+// The bytes of a file, piece by piece up to its end, or to a part's. A record is whole before its gate is opened, and so
+// is the file behind it. So it is read front to back: behind a gate that reads open stands a body that reads whole.
+fn read_whole<A: Allocator>(alloc: A, file: &File) -> io::Result<Vec<u8, A>> {
+    let mut bytes = Vec::new(alloc);
+    let mut piece = [0; PIECE];
+    for number in 0..PART_LIMIT / PIECE as u64 {
+        let count = fill(file, number * PIECE as u64, &mut piece)?;
+        bytes.extend_from_slice(&piece[..count])?;
+        if count < PIECE {
+            break;
+        }
+    }
+    Ok(bytes)
+}
+
+impl<A: Allocator + Copy> Sight<A> {
+    // Reads a part's file, where there is one.
+    fn of<R: Files<File = File>>(
+        rt: &R,
+        alloc: A,
+        dir: &str,
+        part: Part,
+    ) -> Result<Sight<A>, OpenFault>
+        ensures { IfErr result (IsOfPart part) }
+    {
+        if entry_of(rt, alloc, dir, part)? == Entry::Missing {
+            let bytes = Vec::new(alloc);
+            return Ok(Sight { file: None, bytes });
+        }
+        let path = format!(in alloc; "{dir}/{}", file_name(part))?;
+        let file = File::open(rt, path.as_str()).map_err(|error| OpenFault::file(part, error))?;
+        let bytes = read_whole(alloc, &file).map_err(|error| OpenFault::file(part, error))?;
+        Ok(Sight {
+            file: Some(file),
+            bytes,
+        })
+    }
+
+    // Whether the file begins as it did when it was read: then no tidy has made the part anew meanwhile.
+    fn stands(&self) -> io::Result<bool> {
+        let Some(file) = &self.file else {
+            return Ok(true);
+        };
+        let mut head = [0; HEAD];
+        let count = fill(file, 0, &mut head)?;
+        Ok(head[..count] == self.bytes[..self.bytes.len().min(HEAD)])
+    }
+
+    fn entry(&self) -> Entry {
+        match &self.file {
+            Some(_) => Entry::of_file(self.bytes.len() as u64),
+            None => Entry::Missing,
+        }
+    }
+}
+
+// Both parts as a stop might have left them, or `None` where a tidy came between.
+fn look<R: Files<File = File>, A: Allocator + Copy>(
+    rt: &R,
+    alloc: A,
+    dir: &str,
+) -> Result<Option<RamDisk<A>>, OpenFault>
+    ensures { IfOk result (λ found. IfSome found (λ d. IsFresh (view_of d).reads d × (view_of d).honest)) }
+{
+    let a = Sight::of(rt, alloc, dir, Part::A)?;
+    let b = Sight::of(rt, alloc, dir, Part::B)?;
+    let a_stands = a.stands().map_err(|error| OpenFault::file(Part::A, error))?;
+    let b_stands = b.stands().map_err(|error| OpenFault::file(Part::B, error))?;
+    if !(a_stands && b_stands) {
+        return Ok(None);
+    }
+    refuse_loss(a.entry(), b.entry())?;
+    Ok(Some(RamDisk::from_parts(a.bytes, b.bytes)))
+}
+
+/// Both parts of a folder's files as a disk in memory, whoever may be writing the files. They are opened for reading alone:
+/// nothing is made, written or locked. A missing file is an empty part; it is refused as `Gone` beside one that is not
+/// empty, and where tidies come between again and again as `Changing`.
+pub fn read_parts<R: Files<File = File>, A: Allocator + Copy>(
+    rt: &R,
+    alloc: A,
+    dir: &str,
+) -> Result<RamDisk<A>, OpenFault>
+    ensures fresh { IfOk result (λ d. IsFresh (view_of d).reads d) }
+    ensures honest { IfOk result (λ d. (view_of d).honest) }
+    ensures no_name { dir.now ≡ [] → IsErr result }
+{
+    find_folder(rt, alloc, dir)?;
+    for _ in 0..TRIES {
+        if let Some(disk) = look(rt, alloc, dir)? {
+            return Ok(disk);
+        }
+    }
+    Err(OpenFault::Changing)
+}

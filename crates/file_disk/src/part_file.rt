@@ -1,0 +1,101 @@
+// A part's file, with the name under which it was opened.
+ghost use Rattle.std.specs.Prelude.{◌≡◌, ◌≤◌, IfErr, IfOk, length};
+ghost use Rattle.file_disk.specs.Faults.{IsOfPart};
+
+use crate::fault::{OpenFault, file_name};
+use ocf_types::{PART_LIMIT, Part};
+use std::alloc::{Allocator, Global};
+use std::fs::{self, File, OpenOptions, TryLockError};
+use std::io::{self, ErrorKind};
+use std::os::fd::AsRawFd;
+use std::os::unix::fs::{FileExt, MetadataExt, OpenOptionsExt};
+use std::rt::Files;
+
+// The permissions of a new file: its owner alone reads and writes it.
+const OWNER_ONLY: u32 = 0o600;
+
+/// The open file of a part, and its path.
+#[derive(Drop)]
+pub struct PartFile<A: Allocator = Global> {
+    pub file: File,
+    path: String<A>,
+}
+
+// The file of this path, which is made where nothing is there; `None` where a folder, a link or a device is.
+fn open_file<R: Files<File = File>>(rt: &R, path: &str) -> io::Result<Option<File>> {
+    let mut options = OpenOptions::new();
+    options.read(true).write(true).mode(OWNER_ONLY);
+    match options.create_new(true).open(rt, path) {
+        Ok(file) => return Ok(Some(file)),
+        Err(error) if error.kind() == ErrorKind::AlreadyExists => {}
+        Err(error) => return Err(error),
+    }
+    if !fs::symlink_metadata(rt, path)?.is_file() {
+        return Ok(None);
+    }
+    Ok(Some(options.create_new(false).open(rt, path)?))
+}
+
+/// The file under a descriptor of its own: what is meant for a standard stream that was closed must not land in it.
+pub fn above_streams(file: File) -> io::Result<File> {
+    if file.as_raw_fd() <= libc::STDERR_FILENO {
+        file.try_clone()
+    } else {
+        Ok(file)
+    }
+}
+
+// Advises the system to read the file anew from the device: after a sync that failed in an earlier process, it may
+// still have in memory what the device does not hold.
+fn forget_cached(file: &File) -> io::Result<()> {
+    match libc::posix_fadvise(file.as_raw_fd(), 0, 0, libc::POSIX_FADV_DONTNEED) {
+        0 => Ok(()),
+        code => Err(io::Error::from_raw_os_error(code)),
+    }
+}
+
+impl<A: Allocator + Copy> PartFile<A> {
+    /// Opens the file of a part, makes it where nothing is there, and locks it for as long as it is open.
+    pub fn open<R: Files<File = File>>(
+        rt: &R,
+        alloc: A,
+        dir: &str,
+        part: Part,
+    ) -> Result<PartFile<A>, OpenFault>
+        ensures { IfErr result (IsOfPart part) }
+    {
+        let path = format!(in alloc; "{dir}/{}", file_name(part))?;
+        let opened = open_file(rt, path.as_str()).map_err(|error| OpenFault::file(part, error))?;
+        let file = opened.ok_or(OpenFault::NotPlain(part))?;
+        let file = above_streams(file).map_err(|error| OpenFault::file(part, error))?;
+        match file.try_lock() {
+            Ok(()) => Ok(PartFile { file, path }),
+            Err(TryLockError::WouldBlock) => Err(OpenFault::Locked(part)),
+            Err(TryLockError::Error(error)) => Err(OpenFault::file(part, error)),
+        }
+    }
+
+    /// What the device holds of the file, after a sync. Bytes past the limit of a part are no part of it.
+    pub fn contents(&self, alloc: A) -> io::Result<Vec<u8, A>>
+        ensures { IfOk result (λ bytes. length bytes.items ≤ PART_LIMIT) }
+    {
+        self.file.sync_all()?;
+        forget_cached(&self.file)?;
+        let size = self.file.metadata()?.len().min(PART_LIMIT);
+        let mut bytes = vec![in alloc; 0; size as usize]?;
+        self.file.read_exact_at(&mut bytes, 0)?;
+        Ok(bytes)
+    }
+
+    /// How long the file is, as far as a part goes. It is an error where its path leads to another file by now, or to none.
+    pub fn size<R: Files>(&self, rt: &R) -> io::Result<u64>
+        ensures { IfOk result (λ n. n ≤ PART_LIMIT) }
+    {
+        let open = self.file.metadata()?;
+        let named = fs::symlink_metadata(rt, self.path.as_str())?;
+        if (open.dev(), open.ino()) != (named.dev(), named.ino()) {
+            return Err(io::Error::new(ErrorKind::Other, "replaced while in use"));
+        }
+        Ok(open.len().min(PART_LIMIT))
+    }
+}
