@@ -6,6 +6,6 @@ mod pieces;
 mod read;
 mod signal;
 
-pub use orphan::is_orphan;
-pub use read::{head_of, pids};
+pub use orphan::{calls, is_orphan};
+pub use read::{pids, read_head};
 pub use signal::is_ignored;

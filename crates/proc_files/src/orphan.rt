@@ -26,9 +26,8 @@ fn before_call<'a>(cmdline: &'a [u8], agent_file: &[u8], action: &[u8]) -> Optio
     before_word(before_word(cmdline, action)?, agent_file)
 }
 
-// Whether a command line ends with the agent's file and, behind it, the action.
-#[tactic(auto, using(crate::proofs::OrphanLemmas::calls, crate::proofs::OrphanLemmas::before_calls, crate::proofs::OrphanLemmas::none_calls))]
-fn calls(cmdline: &[u8], agent_file: &[u8], action: &[u8]) -> bool
+/// Whether a command line ends with the agent's file and, behind it, the action: the bytes of `/proc/PID/cmdline`.
+pub fn calls(cmdline: &[u8], agent_file: &[u8], action: &[u8]) -> bool
     ensures { IsTrue result ↔ Calls cmdline.now agent_file.now action.now }
 {
     match before_call(cmdline, agent_file, action) {

@@ -19,7 +19,6 @@ pub fn before<'a>(text: &'a [u8], last: &[u8]) -> Option<&'a [u8]>
 }
 
 /// Whether a text is pieces with this byte behind each; an empty one is none.
-#[tactic(auto, using(crate::proofs::PieceLemmas::no_piece, crate::proofs::PieceLemmas::one_piece))]
 pub fn is_pieces(text: &[u8], end: u8) -> bool
     ensures { IsTrue result ↔ IsPieces end text.now }
 {

@@ -1,39 +1,29 @@
 //! Reading the files of processes.
-ghost use Rattle.std.specs.Prelude.{◌≤◌, IfOk, vec_len};
+ghost use Rattle.std.specs.Prelude.{◌≡◌, ◌≤◌, IfOk, length};
 
-use std::alloc::{AllocError, Allocator};
+use std::alloc::{Alloc, AllocError};
 use std::fs::{self, File};
 use std::io::{self, Read};
 use std::rt::Files;
 
-/// The first bytes of a file, at most so many.
-pub fn head_of<R: Files, A: Allocator>(
-    files: &R,
-    alloc: A,
-    path: &str,
-    limit: usize,
-) -> io::Result<Vec<u8, A>>
-    ensures { IfOk result (λ bytes. vec_len bytes ≤ limit) }
+/// Reads the first bytes of a file, as many as there is room for; how many they are.
+pub fn read_head<R: Files>(files: &R, path: &str, room: &mut [u8]) -> io::Result<usize>
+    ensures room { length room.new ≡ length room.old }
+    ensures within { IfOk result (λ n. n ≤ length room.old) }
 {
-    let mut head = vec![in alloc; 0; limit]?;
     let mut file = File::open(files, path)?;
-    let mut length = 0;
-    while length < limit {
-        let read = file.read(&mut head[length..])?;
-        if read == 0 {
-            break;
+    let mut read = 0;
+    while read < room.len() {
+        match file.read(&mut room[read..])? {
+            0 => break,
+            more => read += more,
         }
-        length += read;
     }
-    head.truncate(length);
-    Ok(head)
+    Ok(read)
 }
 
 /// The numbers of the processes that a folder such as `/proc` lists.
-pub fn pids<R: Files + std::alloc::Alloc + Clone + Drop>(
-    rt: &R,
-    path: &str,
-) -> io::Result<Vec<u32, R::A>> {
+pub fn pids<R: Files + Alloc + Clone + Drop>(rt: &R, path: &str) -> io::Result<Vec<u32, R::A>> {
     let mut found = Vec::new(rt.alloc());
     for entry in fs::read_dir(rt, path)? {
         if let Ok(pid) = entry?.file_name().parse() {
