@@ -61,11 +61,13 @@ fn closed_reply<K: Clock, M: Metadata>(
     ensures { IsClosedReply (M.gives setting.now.metadata.now) line.now result }
 {
     match line {
-        Ok(Line::Meta {
-            provider,
-            agent,
-            limit,
-        }) => meta_reply(setting, provider, agent, *limit),
+        Ok(
+            Line::Meta {
+                provider,
+                agent,
+                limit,
+            },
+        ) => meta_reply(setting, provider, agent, *limit),
         Ok(Line::Drain(_) | Line::Watch(_)) => closed_drain(),
         Ok(Line::Tidy) => closed_tidy(),
         Ok(Line::Request(_)) | Err(_) => refused(Refusal::Closed),
@@ -136,11 +138,13 @@ fn open_reply<W: Write, D: Disk + Drop, C: Children + Drop, K: Clock, M: Metadat
         Ok(Line::Drain(limit)) => drain_reply(setting, writer, executor, true, limit),
         Ok(Line::Watch(limit)) => drain_reply(setting, writer, executor, false, limit),
         Ok(Line::Tidy) => Ok(LineReply::Tidy(executor.tidy())),
-        Ok(Line::Meta {
-            provider,
-            agent,
-            limit,
-        }) => Ok(meta_reply(setting, &provider, &agent, limit)),
+        Ok(
+            Line::Meta {
+                provider,
+                agent,
+                limit,
+            },
+        ) => Ok(meta_reply(setting, &provider, &agent, limit)),
         Err(refusal) => Ok(refused(refusal)),
     }
 }

@@ -4,6 +4,8 @@ ghost use Rattle.exec_output.specs.Faults.{IsRunEnd};
 ghost use Rattle.ocfexec.specs.Starts.{EndsFor, IsNotOpened, IsToldAs, opening_fault};
 
 use crate::agents::{Agents, BOOK_ROOM, site_of};
+use crate::orphans::wait_for_orphans;
+use crate::signals::children_ignored;
 use child_keeper::Processes;
 use disk_model::Disk;
 use exec_lines::moment_now;
@@ -18,6 +20,9 @@ use std::thread::sleep;
 use std::time::Duration;
 
 const READ_SIZE: usize = 65_536;
+
+// How long what is left of interrupted actions is waited for, in milliseconds.
+const ORPHANS: u64 = 20_000;
 
 // How many turns a drain makes at most.
 const MOST_TURNS: u64 = 100_000_000;
@@ -92,6 +97,9 @@ fn run(rt: &HostRuntime, words: &[String]) -> Result<(), Fault>
         Ok(options) => options,
         Err(fault) => return refuse(rt, &fault),
     };
+    if matches!(options.subcommand, Subcommand::Run) && children_ignored(rt) {
+        return Err(Fault::ChildrenIgnored);
+    }
     match options.journal {
         JournalPlace::Folder(folder) => match opened(rt, folder) {
             Ok(disk) => run_on(rt, options, disk),
@@ -142,6 +150,7 @@ fn run_agents<D: Disk + Drop>(rt: &HostRuntime, options: Options, disk: D) -> Re
     };
     match Executor::open(alloc, disk, children, site, moment_now(rt).get()) {
         Ok((executor, report)) => {
+            wait_for_orphans(rt, &asked, &executor, ORPHANS);
             let setting = Setting {
                 alloc,
                 clock: rt,
