@@ -1,7 +1,8 @@
 #!/bin/sh
 # Kills `PROGRAM run` with signal 9 while its agents run, and opens its journal again at once. Wanted: the report comes only
 # when what is left of the interrupted actions is gone, also where the executor that waited for that was killed in its turn;
-# `--orphans` says how long at most, what still lives then is named, and 0 does not wait. A client that stops what was
+# `--orphans` says how long at most, what still lives then is named, and 0 does not wait; an agent that is started so that it
+# dies with its executor is not waited for. A client that stops what was
 # interrupted, probes it and starts it again, through many kills at random moments, never finds it up behind a stop that
 # succeeded, and never twice.
 # Use: orphans.sh PROGRAM [ROUNDS [SEED]]
@@ -26,7 +27,7 @@ esac
 AGENT
 
 cat > "$here/orphans.py" <<'PYTHON'
-import json, os, random, subprocess, sys, time
+import json, os, random, shutil, subprocess, sys, time
 
 program, here, rounds = sys.argv[1], sys.argv[2], int(sys.argv[3])
 begun, up, log = here + "/begun", here + "/up", here + "/log"
@@ -51,8 +52,8 @@ def does(action):
     return line("exec", id="r1", action=action, timeout=10000) + line("drain")
 
 
-def opened(journal, *words):
-    command = [program, "run", "--journal", journal, "--root", here + "/root", "--via", "sh", *words]
+def opened(journal, *words, via="sh"):
+    command = [program, "run", "--journal", journal, "--root", here + "/root", "--via", via, *words]
     return subprocess.Popen(command, stdin=subprocess.PIPE, stdout=subprocess.PIPE, stderr=subprocess.PIPE, text=True)
 
 
@@ -66,14 +67,14 @@ def killed(running):
     running.communicate()
 
 
-def fresh(name):
+def fresh(name, via="sh"):
     # a journal whose executor was killed amid a start of three seconds
     for place in [begun, log] + [up + "/" + left for left in os.listdir(up)]:
         if os.path.exists(place):
             os.remove(place)
     journal = here + "/" + name
     os.mkdir(journal)
-    running = opened(journal)
+    running = opened(journal, via=via)
     give(running, register(3) + does("start"))
     while not os.path.exists(begun):
         time.sleep(0.005)
@@ -128,6 +129,21 @@ def is_named(milliseconds):
         wanted(text.read().split("\0")[1:3] == [here + "/root/resource.d/test/Slow", "start"], "the pid of the old start")
 
 
+def dies_along():
+    # an agent that is killed with its executor: the report comes at once, and nothing is brought up
+    if not shutil.which("setpriv"):
+        return
+    with open(here + "/along", "w") as script:
+        script.write('#!/bin/sh\nexec setpriv --pdeathsig KILL sh "$@"\n')
+    os.chmod(here + "/along", 0o755)
+    journal, since = fresh("alone", via=here + "/along")
+    second = opened(journal)
+    wanted(told(second) == "interrupted" and time.monotonic() - since < 1.5, "a report at once")
+    wanted(second.communicate()[1] == "", "nothing on standard error")
+    time.sleep(3)
+    wanted(not os.path.exists(log), "an agent that ended with its executor")
+
+
 def never_twice():
     journal = here + "/journal"
     os.mkdir(journal)
@@ -160,6 +176,7 @@ is_awaited()
 is_named(0)
 is_named(700)
 time.sleep(3)
+dies_along()
 never_twice()
 PYTHON
 
