@@ -33,7 +33,8 @@ pub none_calls : (cmdline file action : List ℕ) → ((front : List ℕ) → cm
 none_calls cmdline file action none (words, same) = none (joined 0 words) (same ∙ split_words words file action)
 
 -- no front of what stands before the last word is one of the whole
-pub no_call : (cmdline rest file action : List ℕ) → cmdline ≡ (rest ++ action) ++ 0 ∷ [] → ((front : List ℕ) → rest ≢ (front ++ file) ++ 0 ∷ [])
+pub no_call : (cmdline rest file action : List ℕ) → cmdline ≡ (rest ++ action) ++ 0 ∷ []
+    → ((front : List ℕ) → rest ≢ (front ++ file) ++ 0 ∷ [])
     → (front : List ℕ) → cmdline ≢ (((front ++ file) ++ 0 ∷ []) ++ action) ++ 0 ∷ []
 no_call cmdline rest file action is none front same =
     none front (append_cancel_right rest ((front ++ file) ++ 0 ∷ []) action

@@ -1,5 +1,6 @@
 -- Texts that are pieces with a byte behind each.
-use Rattle.std.proofs.Common.{◌≡◌, ◌≢◌, ◌⊎◌, ◌∙◌, inl, inr, ℕ, ◌<◌, List, [], ◌∷◌, ◌++◌, length, take, drop, refl, ap, sym, append_assoc, subst, arith}
+use Rattle.std.proofs.Common.{◌≡◌, ◌≢◌, ◌⊎◌, ◌∙◌, inl, inr, ℕ, ◌<◌, List, [], ◌∷◌, ◌++◌, length, take, drop}
+use Rattle.std.proofs.Common.{refl, ap, sym, append_assoc, subst, arith}
 use Rattle.std.specs.Prelude.{Option, Some, None, MatchOption, IfSome, IfNone, Bool, true, ◌==◌, ◌↔◌, IsTrue}
 use Rattle.std.proofs.lemmas.Bool.{false≢true, ne_eqb}
 use Rattle.std.proofs.lemmas.List.{take-append-drop, length-append}
@@ -26,10 +27,12 @@ no_piece end text none (pieces, is) = elim (pieces_end end pieces) [
 -- pieces, and pieces behind them
 pub joined_append : (end : ℕ) (ps qs : List (List ℕ)) → joined end (ps ++ qs) ≡ joined end ps ++ joined end qs
 joined_append end [] qs = refl
-joined_append end (p ∷ ps) qs = ap (λ l. p ++ end ∷ l) (joined_append end ps qs) ∙ sym (append_assoc p (end ∷ joined end ps) (joined end qs))
+joined_append end (p ∷ ps) qs =
+    ap (λ l. p ++ end ∷ l) (joined_append end ps qs) ∙ sym (append_assoc p (end ∷ joined end ps) (joined end qs))
 
 -- what stands at a place, where pieces end
-pub behind_at : (end : ℕ) (P : List ℕ → Type 0) (text : List ℕ) (at : ℕ) → IsPieces end (take at text) → P (drop at text) → Behind end P text
+pub behind_at : (end : ℕ) (P : List ℕ → Type 0) (text : List ℕ) (at : ℕ) → IsPieces end (take at text) → P (drop at text)
+    → Behind end P text
 behind_at end P text at (pieces, is) has =
     (pieces, drop at text, sym (take-append-drop at text) ∙ ap (λ l. l ++ drop at text) is, has)
 
@@ -64,7 +67,10 @@ no_length x xs e = false≢true (sym (e ∙ ne_eqb (length (x ∷ xs)) 0 (λ z. 
 pub is_empty_pieces : (end : ℕ) (text : List ℕ) (r : Bool) → r ≡ (length text == 0) → ((front : List ℕ) → text ≢ front ++ end ∷ [])
     → IsTrue r ↔ IsPieces end text
 is_empty_pieces end [] r is none = (λ _. ([], refl), λ _. is)
-is_empty_pieces end (x ∷ xs) r is none = (λ yes. absurd (no_length x xs (sym yes ∙ is)), λ pieces. absurd (let never = no_piece end (x ∷ xs) none pieces in cc))
+is_empty_pieces end (x ∷ xs) r is none = (
+  λ yes. absurd (no_length x xs (sym yes ∙ is)),
+  λ pieces. absurd (let never = no_piece end (x ∷ xs) none pieces in cc),
+)
 
 pub when_none : {X : Type 0} (A B : Type 0) (r : Option X) → (A → B) → IfNone r A → IfNone r B
 when_none A B None f h = f h

@@ -11,7 +11,8 @@ use Rattle.std.proofs.Math.Seq.{take-append_seam}
 use Rattle.proc_files.specs.Signals.{BeginsWithBit, IsMaskLine}
 
 -- the digits of such a line are the first sixteen behind its key
-pub line_digits : (text value : List ℕ) (mask : ℕ) → text ≡ codes "SigIgn:\t" ++ value → (line : IsMaskLine text mask) → take 16 value ≡ line.digits
+pub line_digits : (text value : List ℕ) (mask : ℕ) → text ≡ codes "SigIgn:\t" ++ value → (line : IsMaskLine text mask)
+    → take 16 value ≡ line.digits
 line_digits text value mask is line =
     let same : value ≡ line.digits ++ 10 ∷ line.rest =
     append_cancel_left (codes "SigIgn:\t") value (line.digits ++ 10 ∷ line.rest) (sym is ∙ line.is) in
@@ -29,7 +30,8 @@ pub no_mask : (text value front : List ℕ) → text ≡ codes "SigIgn:\t" ++ va
     → (IsNumeral 16 front → 2 ^ 64 ≤ digits_value 16 front) → (mask : ℕ) → IsMaskLine text mask → ⊥
 no_mask text value front is cut big mask line =
     let same : front ≡ line.digits = cut ∙ line_digits text value mask is line in
-    let large : 2 ^ 64 ≤ digits_value 16 line.digits = subst (λ d. 2 ^ 64 ≤ digits_value 16 d) same (big (subst (IsNumeral 16) (sym same) line.numeral)) in
+    let large : 2 ^ 64 ≤ digits_value 16 line.digits =
+    subst (λ d. 2 ^ 64 ≤ digits_value 16 d) same (big (subst (IsNumeral 16) (sym same) line.numeral)) in
     omega (arith, large, line.value, line.fits)
 
 pub no_line : (signal : ℕ) → BeginsWithBit signal [] → ⊥

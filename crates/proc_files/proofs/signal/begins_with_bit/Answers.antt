@@ -8,7 +8,8 @@ pub returns-in-Some : goal.returns-in-Some
 returns-in-Some c = (
   λ yes. (c.in-Some.mask, c.in-Some.ensures.some, c.has_bit.ensures.0 yes),
   λ begins. c.has_bit.ensures.1
-      (subst (λ mask. HasBit mask c.args.signal) (same_mask c.args.text.now begins.0 c.in-Some.mask begins.1 c.in-Some.ensures.some) begins.2),
+      (subst (λ mask. HasBit mask c.args.signal)
+      (same_mask c.args.text.now begins.0 c.in-Some.mask begins.1 c.in-Some.ensures.some) begins.2),
 )
 
 pub returns-in-None : goal.returns-in-None

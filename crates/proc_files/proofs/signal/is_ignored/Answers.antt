@@ -6,7 +6,8 @@ use Rattle.proc_files.specs.Signals.{BeginsWithBit}
 use Rattle.proc_files.proofs.PieceLemmas.{behind_at, behind_none}
 use Rattle.proc_files.proofs.SignalLemmas.{no_line}
 use Rattle.proc_files.proofs.signal.is_ignored.Goals as goal
-use Rattle.proc_files.proofs.signal.is_ignored.Goals.{else-is_pieces-via-then-is_pieces+else-begins_with_bit, else-is_pieces-via-else-is_pieces}
+use Rattle.proc_files.proofs.signal.is_ignored.Goals.{else-is_pieces-via-then-is_pieces+else-begins_with_bit}
+use Rattle.proc_files.proofs.signal.is_ignored.Goals.{else-is_pieces-via-else-is_pieces}
 
 pub returns-then-begins_with_bit : goal.returns-then-begins_with_bit
 returns-then-begins_with_bit c = (
