@@ -113,10 +113,33 @@ metadata() {
     } > "$here/wanted"
     play
     replied 'metadata'
+    limited
     echo '{"op":"meta","provider":"test","type":"None"}' > "$here/lines"
     echo '{"end":"missing"}' > "$here/wanted"
     "$program" run --memory --root "$here/root" < "$here/lines" > "$here/out"
     replied 'metadata of no agent'
+}
+
+# Metadata of an agent that does not end, of one that ends and leaves its output to another, and of one that closes its output
+# and goes on: each ends at its limit, and the agent is killed.
+limited() {
+    local began took
+    echo 'echo $$ >> "$HERE/pids"; exec sleep 20' | sed "s,\$HERE,$here," > "$agents/Hangs"
+    echo 'echo half; sleep 20 & echo $! > "$HERE/leaver"; exit 0' | sed "s,\$HERE,$here," > "$agents/Leaves"
+    echo 'echo $$ >> "$HERE/pids"; echo all; exec sleep 20 > /dev/null' | sed "s,\$HERE,$here," > "$agents/Closes"
+    for agent in Hangs Leaves Closes; do
+        printf '{"op":"meta","provider":"test","type":"%s","limit":300}\n' "$agent"
+    done > "$here/lines"
+    printf '{"end":"limit"}\n%.0s' 1 2 3 > "$here/wanted"
+    began=$(date +%s%N)
+    play
+    took=$((($(date +%s%N) - began) / 1000000))
+    replied 'metadata that do not end'
+    { [ "$took" -ge 900 ] && [ "$took" -lt 3000 ]; } || differs 'three limits of 300 milliseconds' 'under 3000' "$took"
+    for n in $(cat "$here/pids"); do
+        ! kill -0 "$n" 2> /dev/null || differs 'an agent past its limit' 'killed' "pid $n"
+    done
+    kill "$(cat "$here/leaver")" 2> /dev/null || differs 'what an agent past its limit has started' 'alive' 'gone'
 }
 
 # A start and metadata through a program that writes what it is given.
@@ -220,6 +243,19 @@ SHOWN
     is_wanted 'what an agent inherits' "$here/shown"
 }
 
+# A program that was started with SIGCHLD ignored says so, and makes no journal.
+unseen() {
+    local status=0
+    mkdir "$here/unseen"
+    python3 -c 'import os, signal, sys
+signal.signal(signal.SIGCHLD, signal.SIG_IGN)
+os.execv(sys.argv[1], sys.argv[1:])' "$program" run --journal "$here/unseen" < /dev/null > "$here/out" 2> "$here/err" || status=$?
+    same 'the status where SIGCHLD is ignored' 8 "$status"
+    same 'the line where SIGCHLD is ignored' 'ocfexec: SIGCHLD is ignored' "$(head -n 1 "$here/err")"
+    same 'the advice where SIGCHLD is ignored' 2 "$(wc -l < "$here/err")"
+    same 'a journal where SIGCHLD is ignored' '' "$(ls "$here/unseen")"
+}
+
 # 256 agents at once, which are killed at their timeout; then one that lasts, so that the killed ones are waited for.
 crowd() {
     printf 'exec sleep 60\n' > "$agents/Sleeps"
@@ -265,5 +301,6 @@ through
 refused
 stubborn
 inherited
+unseen
 crowd
 finish

@@ -1,5 +1,5 @@
 // The children that live, each under its run.
-ghost use Rattle.std.specs.Prelude.{◌≡◌, ◌↔◌, ◌+◌, ◌<◌, ◌≤◌, ◌==◌, ◌++◌, [], ◌∷◌, ℕ, Contains, IfNone, IfOk, IfSome, IsTrue, OnSome};
+ghost use Rattle.std.specs.Prelude.{◌≡◌, ◌↔◌, ◌+◌, ◌<◌, ◌≤◌, ◌==◌, ◌++◌, [], ◌∷◌, Contains, IfNone, IfOk, IfSome, IsTrue, OnSome};
 ghost use Rattle.std.specs.Prelude.{Some, length, slice_get, vec_len};
 ghost use Rattle.std.specs.List.{position_from};
 ghost use Rattle.std.specs.Vec.{vec_capacity};
@@ -7,10 +7,12 @@ ghost use Rattle.child_keeper.specs.Agents.{others_of, runs_of};
 ghost use Rattle.child_keeper.specs.Children.{live_limit, without_run};
 
 use crate::live::LIVE_LIMIT;
+use crate::patience::{Pauses, still_runs};
 use ocf_types::RunId;
 use std::alloc::{AllocError, Allocator};
 use std::io;
 use std::process::{Child, ExitStatus, OpenProcess};
+use std::rt::Clock;
 
 /// A child and its run.
 #[derive(Drop)]
@@ -31,6 +33,12 @@ fn first_of<P: OpenProcess + Drop>(agents: &[Agent<P>], run: RunId) -> Option<us
     ensures { result ≡ position_from (λ a. a.run == run) 0 agents.now }
 {
     agents.iter().position(|agent| agent.run.get() == run.get())
+}
+
+fn kill_each<P: OpenProcess + Drop>(agents: &mut [Agent<P>]) {
+    for agent in agents {
+        let _ = agent.child.kill();
+    }
 }
 
 impl<P: OpenProcess + Drop, A: Allocator> Agents<P, A> {
@@ -93,14 +101,38 @@ impl<P: OpenProcess + Drop, A: Allocator> Agents<P, A> {
         agent.child
     }
 
-    /// The child that was started last, which is no more among them. None: there is none.
-    pub fn pop(&mut self) -> Option<Child<P>>
+    /// The child that was started last, with its run; it is no more among them. None: there is none.
+    pub fn pop(&mut self) -> Option<Agent<P>>
         ensures fewer { OnSome result (vec_len self.new.agents + 1 ≡ vec_len self.old.agents) }
         ensures none { IfNone result (runs_of self.new.agents.items ≡ []) }
-        ensures last { IfSome result (λ child. (run : ℕ)
-            × (self.old.agents.items ≡ self.new.agents.items ++ record { run = run; child = child } ∷ [])) }
+        ensures last { IfSome result (λ agent. self.old.agents.items ≡ self.new.agents.items ++ agent ∷ []) }
     {
-        Some(self.agents.pop()?.child)
+        self.agents.pop()
+    }
+
+    /// Kills each child.
+    pub fn kill(&mut self)
+        ensures stay { vec_len self.new.agents ≡ vec_len self.old.agents }
+    {
+        kill_each(self.agents.as_mut_slice());
+    }
+
+    // Lets go of each child that has ended.
+    fn sweep(&mut self)
+        ensures fewer { vec_len self.new.agents ≤ vec_len self.old.agents }
+    {
+        self.agents.retain_mut(|agent| still_runs(&mut agent.child));
+    }
+
+    /// Waits for killed children together, and lets go of each that has ended.
+    pub fn await_ends(&mut self, clock: &impl Clock)
+        ensures fewer { vec_len self.new.agents ≤ vec_len self.old.agents }
+    {
+        let mut pauses = Pauses::after_kill();
+        self.sweep();
+        while !self.agents.is_empty() && pauses.pause(clock) {
+            self.sweep();
+        }
     }
 
     /// Whether the child of a run is among them.

@@ -6,11 +6,15 @@ ghost use Rattle.ocf_types.specs.declared.outcome.MetaFault.TheVariants.{Failed}
 use crate::Poll;
 use crate::command::command_of;
 use crate::ends::{end_of, start_fault};
+use crate::patience::{Deadline, Pauses, outlives};
+use crate::tell::tell_alive;
+use crate::waited::Waited;
 use ocf_env::{Site, launch_meta};
 use ocf_types::{AgentType, METADATA_LIMIT, MetaFault, Provider};
 use std::alloc::{AllocError, Allocator};
-use std::io::{ErrorKind, Read};
+use std::io::{Eprint, ErrorKind, Read};
 use std::process::{Child, Command, OpenProcess, Processes, Stdio};
+use std::rt::Clock;
 
 // How many bytes are read at once.
 const CHUNK: usize = 4_096;
@@ -24,6 +28,8 @@ enum Heard {
     Cut,
     // A read failed.
     Fault,
+    // It did not come to its end in time.
+    Late,
 }
 
 // Keeps a chunk where it fits as a whole, and whether it does.
@@ -35,8 +41,13 @@ fn keep<A: Allocator>(kept: &mut Vec<u8, A>, chunk: &[u8]) -> bool
     chunk.len() <= METADATA_LIMIT - kept.len() && kept.extend_from_slice(chunk).is_ok()
 }
 
-// Reads a stream to its end, and keeps what fits.
-fn hear<S: Read, A: Allocator>(stream: &mut S, kept: &mut Vec<u8, A>) -> Heard
+// Reads a stream to its end, and keeps what fits; up to a deadline.
+fn hear<S: Read + Waited, A: Allocator>(
+    clock: &impl Clock,
+    deadline: Deadline,
+    stream: &mut S,
+    kept: &mut Vec<u8, A>,
+) -> Heard
     requires { vec_len kept.old ≤ metadata_limit }
     ensures limit { vec_len kept.new ≤ metadata_limit }
     ensures whole { result ≡ Heard.Whole → IfSome (S.remaining stream.old) (λ bytes. kept.new.items ≡ kept.old.items ++ bytes) }
@@ -44,6 +55,13 @@ fn hear<S: Read, A: Allocator>(stream: &mut S, kept: &mut Vec<u8, A>) -> Heard
     let mut heard = Heard::Whole;
     let mut chunk = [0u8; CHUNK];
     for _ in 0..u64::MAX {
+        let left = deadline.left(clock);
+        if left == 0 {
+            return Heard::Late;
+        }
+        if !stream.is_ready(left) {
+            continue;
+        }
         match stream.read(&mut chunk) {
             Ok(0) => return heard,
             Ok(length) => {
@@ -58,34 +76,72 @@ fn hear<S: Read, A: Allocator>(stream: &mut S, kept: &mut Vec<u8, A>) -> Heard
     Heard::Fault
 }
 
-// Reads what a child writes. One that cannot be read is killed.
-fn hear_child<P: OpenProcess, A: Allocator>(child: &mut Child<P>, kept: &mut Vec<u8, A>) -> Heard
+// Reads what a child writes, up to a deadline.
+fn hear_child<P: OpenProcess, A: Allocator>(
+    clock: &impl Clock,
+    deadline: Deadline,
+    child: &mut Child<P>,
+    kept: &mut Vec<u8, A>,
+) -> Heard
+where
+    P::Stdout: Waited,
     requires { vec_len kept.old ≤ metadata_limit }
     ensures limit { vec_len kept.new ≤ metadata_limit }
     ensures whole { result ≡ Heard.Whole → IsSomeAnd child.old.stdout (λ stdout.
         IfSome (P.Stdout.remaining stdout) (λ bytes. kept.new.items ≡ kept.old.items ++ bytes)) }
 {
-    let heard = match &mut child.stdout {
-        Some(stdout) => hear(stdout, kept),
+    match &mut child.stdout {
+        Some(stdout) => hear(clock, deadline, stdout, kept),
         None => Heard::Fault,
-    };
-    if let Heard::Fault = heard {
-        let _ = child.kill();
     }
-    heard
 }
 
-// Waits for a child: its exit code, 1 where a signal ended it.
-fn code_of<P: OpenProcess>(child: &mut Child<P>) -> Result<u8, MetaFault>
-    ensures { IfErr result (λ fault. fault ≡ MetaFault.Read) }
+// Waits for a child up to a deadline: its exit code, 1 where a signal ended it.
+fn code_within<P: OpenProcess>(
+    clock: &impl Clock,
+    deadline: Deadline,
+    child: &mut Child<P>,
+) -> Result<u8, MetaFault>
+    ensures { IfErr result (λ fault. fault ≢ Failed 0) }
 {
-    match child.wait() {
-        Ok(status) => match end_of(status) {
+    if outlives(clock, child, Pauses::within(deadline.left(clock))) {
+        return Err(MetaFault::Limit);
+    }
+    match child.try_wait() {
+        Ok(Some(status)) => match end_of(status) {
             Poll::Exited(code) => Ok(code),
             _ => Ok(1),
         },
-        Err(_) => Err(MetaFault::Read),
+        _ => Err(MetaFault::Read),
     }
+}
+
+// Kills a child that is waited for no more. One that lives on is told.
+fn give_up<R: Clock + Eprint, P: OpenProcess>(rt: &R, child: &mut Child<P>) {
+    let _ = child.kill();
+    if outlives(rt, child, Pauses::after_kill()) {
+        tell_alive(rt, child, "meta-data", "was killed");
+    }
+}
+
+// The exit code of a child that was heard so, or why it has none; then it was killed.
+fn code_of<R: Clock + Eprint, P: OpenProcess>(
+    rt: &R,
+    deadline: Deadline,
+    child: &mut Child<P>,
+    heard: Heard,
+) -> Result<u8, MetaFault>
+    ensures { IfErr result (λ fault. fault ≢ Failed 0) }
+{
+    let code = match heard {
+        Heard::Whole | Heard::Cut => code_within(rt, deadline, child),
+        Heard::Fault => Err(MetaFault::Read),
+        Heard::Late => Err(MetaFault::Limit),
+    };
+    if code.is_err() {
+        give_up(rt, child);
+    }
+    code
 }
 
 // The command that asks an agent for its metadata, with a pipe to write them to.
@@ -105,15 +161,24 @@ fn meta_command<A: Allocator + Copy, S: Allocator>(
 /// API 1.1, meta-data.
 ///
 /// The agent runs as one that is started, but that its output is read. The call returns when the agent has ended and
-/// nobody else holds its output. Errors come in this order: room for the metadata or the command is refused; the agent is
-/// not started; its output or its end cannot be read, and then it was killed; it did not end with 0; it wrote too much.
-pub fn run_meta<R: Processes, A: Allocator + Copy, S: Allocator>(
+/// nobody else holds its output, or after so many milliseconds. Errors come in this order: room for the metadata or the
+/// command is refused; the agent is not started; its output or its end cannot be read, or is not there in time, and then
+/// it was killed; it did not end with 0; it wrote too much.
+pub fn run_meta<
+    P: OpenProcess,
+    R: Processes<Started = P> + Clock + Eprint,
+    A: Allocator + Copy,
+    S: Allocator,
+>(
     rt: &R,
     alloc: A,
     site: &Site<S>,
     provider: &Provider,
     agent: &AgentType,
+    limit: u32,
 ) -> Result<Vec<u8, A>, MetaFault>
+where
+    P::Stdout: Waited,
     ensures length { IfOk result (λ metadata. vec_len metadata ≤ metadata_limit) }
     ensures failed { IfErr result (λ fault. fault ≢ Failed 0) }
 {
@@ -123,16 +188,16 @@ pub fn run_meta<R: Processes, A: Allocator + Copy, S: Allocator>(
     let Ok(mut command) = meta_command(alloc, site, provider, agent) else {
         return Err(MetaFault::Memory);
     };
+    let deadline = Deadline::after(rt, limit);
     let mut child = match command.spawn(rt) {
         Ok(child) => child,
         Err(error) => return Err(MetaFault::NotStarted(start_fault(&error))),
     };
-    let heard = hear_child(&mut child, &mut metadata);
-    let code = code_of(&mut child)?;
+    let heard = hear_child(rt, deadline, &mut child, &mut metadata);
+    let code = code_of(rt, deadline, &mut child, heard)?;
     match (heard, code) {
-        (Heard::Fault, _) => Err(MetaFault::Read),
         (_, 1..) => Err(MetaFault::Failed(code)),
-        (Heard::Cut, 0) => Err(MetaFault::TooLong),
         (Heard::Whole, 0) => Ok(metadata),
+        (_, 0) => Err(MetaFault::TooLong),
     }
 }

@@ -8,22 +8,27 @@ use crate::book::Book;
 use crate::command::command_of;
 use crate::dying::Dying;
 use crate::ends::{poll_of, start_fault};
+use crate::patience::{Pauses, outlives};
+use crate::tell::tell_alive;
 use crate::{Answer, Children, Entry, KillFault, Poll};
 use disk_model::Disk;
 use exec_journal::Journal;
 use ocf_env::{Invocation, Launch};
 use ocf_types::{RunId, StartFault};
 use std::alloc::{AllocError, Allocator, Global};
+use std::io::Eprint;
 use std::process;
 use std::process::{Child, OpenProcess};
+use std::rt::Clock;
 
 /// Agents as processes of the system. Each runs in the root folder with just the variables of its launch, and reads
 /// nothing and writes nowhere; it has no descriptor but 0, 1 and 2, blocks no signal and is ended by SIGPIPE, and has the
 /// umask of this process. OCF Resource Agent API 1.1, actions.
 ///
-/// A killed child is the agent alone, not what it started. It is waited for when the book is emptied or another is
-/// started, without blocking: until then it is a zombie. A start takes the memory of its command from the allocator, and
-/// is refused as [`StartFault::Other`] where there is none.
+/// A killed child is the agent alone, not what it started. Its end is waited for, a tenth of a second at most: one that
+/// outlives that is named on standard error, and is asked for again whenever the book is emptied or another is started,
+/// without blocking. A start takes the memory of its command from the allocator, and is refused as [`StartFault::Other`]
+/// where there is none.
 #[derive(Drop)]
 pub struct Processes<R: process::Processes + Drop, A: Allocator + Copy = Global> {
     rt: R,
@@ -34,7 +39,7 @@ pub struct Processes<R: process::Processes + Drop, A: Allocator + Copy = Global>
     last_run: u64,
 }
 
-impl<R: process::Processes + Drop, A: Allocator + Copy> Processes<R, A> {
+impl<R: process::Processes + Clock + Eprint + Drop, A: Allocator + Copy> Processes<R, A> {
     ghost use Rattle.child_keeper.specs.Processes.{processes_of};
 
     /// No children yet, with a book of so many entries. The room for the book and for all that may live is made here. It
@@ -52,16 +57,36 @@ impl<R: process::Processes + Drop, A: Allocator + Copy> Processes<R, A> {
         })
     }
 
-    // Kills a child and gives it up, whatever the system answers.
+    // Kills a child and gives it up, whatever the system answers. One that lives on is told.
     fn strike(&mut self, run: RunId) -> Result<(), KillFault>
         requires lives { Contains (processes_of self.old).live run }
         ensures gone { processes_of self.new ≡ record (processes_of self.old) { live = without_run run (processes_of self.old).live } }
     {
         let mut child = self.live.take(run);
-        let killed = child.kill();
-        self.dying.add(child);
-        killed.map_err(|_| KillFault)
+        let (killed, pauses) = match child.kill() {
+            Ok(()) => (Ok(()), Pauses::after_kill()),
+            Err(_) => (Err(KillFault), Pauses::none()),
+        };
+        if outlives(&self.rt, &mut child, pauses) {
+            tell_killed(&self.rt, run, &child, killed);
+            self.dying.add(child);
+        }
+        killed
     }
+}
+
+// Says on standard error that a child lives on that should not.
+fn tell_killed<P: OpenProcess>(
+    out: &impl Eprint,
+    run: RunId,
+    child: &Child<P>,
+    killed: Result<(), KillFault>,
+) {
+    let done = match killed {
+        Ok(()) => "was killed",
+        Err(KillFault) => "could not be killed",
+    };
+    tell_alive(out, child, format_args!("run {}", run.get()), done);
 }
 
 // Starts the program of an invocation.
@@ -76,17 +101,24 @@ fn spawn<R: process::Processes, A: Allocator + Copy, L: Allocator>(
     command.spawn(rt).map_err(|error| start_fault(&error))
 }
 
-// Kills all children and gives them up.
-fn strike_all<P: OpenProcess + Drop, A: Allocator>(live: &mut Agents<P, A>, dying: &mut Dying<P, A>)
+// Kills all children, waits for them together, and gives them up. Those that live on are told.
+fn strike_all<R: Clock + Eprint, P: OpenProcess + Drop, A: Allocator>(
+    rt: &R,
+    live: &mut Agents<P, A>,
+    dying: &mut Dying<P, A>,
+)
     ensures none { runs_of live.new.agents.items ≡ [] }
 {
-    while let Some(mut child) = live.pop() {
-        let _ = child.kill();
-        dying.add(child);
+    live.kill();
+    live.await_ends(rt);
+    while let Some(agent) = live.pop() {
+        tell_killed(rt, agent.run, &agent.child, Ok(()));
+        dying.add(agent.child);
     }
 }
 
-impl<R: process::Processes + Drop, A: Allocator + Copy> Children for Processes<R, A> {
+impl<R: process::Processes + Clock + Eprint + Drop, A: Allocator + Copy> Children
+    for Processes<R, A> {
     ghost use Rattle.child_keeper.specs.Processes.{processes_of};
 
     ghost view = { processes_of };
@@ -142,7 +174,7 @@ impl<R: process::Processes + Drop, A: Allocator + Copy> Children for Processes<R
     }
 
     fn give_up_all(&mut self) {
-        strike_all(&mut self.live, &mut self.dying);
+        strike_all(&self.rt, &mut self.live, &mut self.dying);
         self.dying.sweep();
     }
 

@@ -1,19 +1,48 @@
 // What children of the system ask of the system, over one that starts nothing and counts.
 use crate::runs::nowhere;
-use child_keeper::{Children, Processes, run_meta};
+use child_keeper::{Children, Processes, Waited, run_meta};
 use disk_model::MemDisk;
 use exec_commands::{Line, read_command};
 use executor::{Executor, Input, InputOf};
 use ocf_types::{AgentType, MetaFault, Provider, Request};
 use std::alloc::{Allocator, Global};
 use std::cell::Cell;
-use std::io::{self, ErrorKind, Read, Sink};
+use std::fmt::Display;
+use std::io::{self, Eprint, ErrorKind, Read, Sink};
 use std::os::unix::process::ExitStatusExt;
 use std::process::{self, Child, Command, ExitStatus, OpenProcess, Stdio};
+use std::rt::Clock;
+use std::time::Duration;
 
-// A system whose processes run until they are killed, and end at the second question after that.
+// What a process does.
+#[derive(Clone, Copy)]
+enum Course {
+    // It runs until it is killed, and ends at the second question after that.
+    Mortal,
+    // It runs on, whatever is done to it.
+    Immortal,
+}
+
+// What comes behind the bytes that a process writes.
+#[derive(Clone, Copy)]
+enum Behind {
+    // Its output breaks off.
+    Fault,
+    // Its output is at its end.
+    End,
+    // Nothing.
+    Silence,
+}
+
+// A system of processes, and a clock that goes on while it is waited for.
 #[derive(Drop)]
 struct FakeSystem {
+    course: Course,
+    behind: Behind,
+    // in microseconds
+    clock: Cell<u64>,
+    // how many lines were written to standard error
+    told: Cell<u32>,
     // how many starts were asked with no pipe
     starts: Cell<u32>,
     // how often a process was asked whether it has ended
@@ -23,8 +52,12 @@ struct FakeSystem {
 }
 
 impl FakeSystem {
-    fn new() -> FakeSystem {
+    fn new(course: Course, behind: Behind) -> FakeSystem {
         FakeSystem {
+            course,
+            behind,
+            clock: Cell::new(0),
+            told: Cell::new(0),
             starts: Cell::new(0),
             asks: Cell::new(0),
             kills: Cell::new(0),
@@ -46,18 +79,55 @@ fn count(cell: &Cell<u32>) {
     cell.set(cell.get().wrapping_add(1));
 }
 
-// What a process writes: these bytes, and then it cannot be read.
+impl Clock for FakeSystem {
+    fn monotonic(&self) -> io::Result<Duration> {
+        Ok(Duration::from_micros(self.clock.get()))
+    }
+
+    fn since_1970(&self) -> io::Result<Duration> {
+        Ok(Duration::from_secs(6))
+    }
+
+    fn sleep(&self, duration: Duration) {
+        let micros = u64::try_from(duration.as_micros()).unwrap_or(u64::MAX);
+        self.clock.set(self.clock.get().wrapping_add(micros));
+    }
+}
+
+impl Eprint for FakeSystem {
+    fn eprint<D: Display + Drop>(&self, _value: D) -> io::Result<()> {
+        Ok(())
+    }
+
+    fn eprintln<D: Display + Drop>(&self, _value: D) -> io::Result<()> {
+        count(&self.told);
+        Ok(())
+    }
+}
+
+// What a process writes.
 #[derive(Drop)]
-struct Output {
+struct Output<'a> {
+    system: &'a FakeSystem,
     left: &'static [u8],
 }
 
-impl Read for Output {
+impl<'a> Read for Output<'a> {
     fn read(&mut self, buf: &mut [u8]) -> io::Result<usize> {
-        if self.left.is_empty() {
-            return Err(io::Error::from(ErrorKind::BrokenPipe));
+        match (self.left.is_empty(), self.system.behind) {
+            (true, Behind::Fault | Behind::Silence) => Err(io::Error::from(ErrorKind::BrokenPipe)),
+            _ => self.left.read(buf),
         }
-        self.left.read(buf)
+    }
+}
+
+impl<'a> Waited for Output<'a> {
+    fn is_ready(&self, millis: u32) -> bool {
+        if let (true, Behind::Silence) = (self.left.is_empty(), self.system.behind) {
+            self.system.sleep(Duration::from_millis(u64::from(millis)));
+            return false;
+        }
+        true
     }
 }
 
@@ -70,9 +140,9 @@ struct FakeProcess<'a> {
 impl<'a> OpenProcess for FakeProcess<'a> {
     type Stdin = Sink;
 
-    type Stdout = Output;
+    type Stdout = Output<'a>;
 
-    type Stderr = Output;
+    type Stderr = Output<'a>;
 
     fn id(&self) -> u32 {
         1
@@ -88,7 +158,8 @@ impl<'a> OpenProcess for FakeProcess<'a> {
         if self.asked_dying {
             return Ok(Some(ExitStatus::from_raw(9)));
         }
-        self.asked_dying = self.system.kills.get() > 0;
+        self.asked_dying = matches!(self.system.course, Course::Mortal)
+            && self.system.kills.get() > 0;
         Ok(None)
     }
 
@@ -119,7 +190,10 @@ impl<'a> process::Processes for &'a FakeSystem {
             system,
             asked_dying: false,
         };
-        let output = Output { left: b"<a/>\n" };
+        let output = Output {
+            system,
+            left: b"<a/>\n",
+        };
         let output = stdout.makes_pipe().then_some(output);
         Ok(Child::from_parts(process, None, output, None))
     }
@@ -132,65 +206,135 @@ fn request(alloc: Global, line: &str) -> Option<Request> {
     }
 }
 
-// A start of r1 with a timeout of a second, and turns before and behind it.
-fn inputs(alloc: Global) -> Option<Vec<Input>> {
-    let lines = [
-        "{\"op\":\"register\",\"id\":\"r1\",\"provider\":\"pacemaker\",\"type\":\"Dummy\"}",
-        "{\"op\":\"exec\",\"id\":\"r1\",\"action\":\"start\",\"timeout\":1000}",
-    ];
+// Starts of so many resources with a timeout of a second, and turns before and behind it.
+fn inputs(alloc: Global, resources: u32) -> Option<Vec<Input>> {
     let mut inputs = Vec::new(alloc);
-    for line in lines {
-        let request = request(alloc, line)?;
-        inputs.push(InputOf::Request { now: 0, request }).ok()?;
-    }
-    for now in [0, 1, 1_001] {
-        inputs.push(InputOf::Turn { now }).ok()?;
+    for n in 0..resources {
+        let lines = [
+            format!(in alloc;
+                "{{\"op\":\"register\",\"id\":\"r{n}\",\"provider\":\"pacemaker\",\"type\":\"Dummy\"}}"
+            ).ok()?,
+            format!(in alloc;
+                "{{\"op\":\"exec\",\"id\":\"r{n}\",\"action\":\"start\",\"timeout\":1000}}"
+            ).ok()?,
+        ];
+        for line in &lines {
+            let request = request(alloc, line.as_str())?;
+            inputs.push(InputOf::Request { now: 0, request }).ok()?;
+        }
     }
     Some(inputs)
 }
 
-// The children after an executor has taken these inputs over them.
-fn played<'a>(alloc: Global, system: &'a FakeSystem) -> Option<Processes<&'a FakeSystem>> {
-    let children = Processes::new(system, alloc, 8).ok()?;
-    let disk = MemDisk::new(alloc);
-    match Executor::open(alloc, disk, children, nowhere(alloc), 0) {
+// An executor over children of this system in which so many starts run.
+fn started<'a>(
+    alloc: Global,
+    system: &'a FakeSystem,
+    resources: u32,
+) -> Option<Executor<MemDisk, Processes<&'a FakeSystem>>> {
+    let children = Processes::new(system, alloc, 16).ok()?;
+    match Executor::open(alloc, MemDisk::new(alloc), children, nowhere(alloc), 0) {
         Ok((mut executor, _)) => {
-            executor.session(inputs(alloc)?, &mut Vec::new(alloc)).ok()?;
-            Some(executor.close().1)
+            executor
+                .session(inputs(alloc, resources)?, &mut Vec::new(alloc))
+                .ok()?;
+            executor.turn(0);
+            Some(executor)
         }
         Err(_) => None,
     }
 }
 
-// What is asked of the system by a start, two polls and a kill, and then at each emptying of the book.
-fn asked(alloc: Global) -> Option<[[u32; 4]; 4]> {
-    let system = FakeSystem::new();
-    let mut children = played(alloc, &system)?;
+// What is asked of the system by a start, two polls and a kill, and then at each emptying of the book; how many lines are
+// told then, and how long it took.
+fn asked(alloc: Global, course: Course) -> Option<([[u32; 4]; 4], u32, u64)> {
+    let system = FakeSystem::new(course, Behind::Fault);
+    let mut executor = started(alloc, &system, 1)?;
+    executor.turn(1);
+    executor.turn(1_001);
+    let mut children = executor.close().1;
     let mut counts = [system.counts(); 4];
     for count in &mut counts[1..] {
         children.clear_book();
         *count = system.counts();
     }
-    Some(counts)
+    Some((counts, system.told.get(), system.clock.get()))
 }
 
 #[test]
 fn a_killed_child_is_asked_for_until_it_has_ended(rt: HostRuntime) {
-    let counts = [[1, 2, 1, 0], [1, 3, 1, 0], [1, 4, 1, 0], [1, 4, 1, 0]];
-    assert_eq!(rt; asked(rt.alloc()), Some(counts));
+    let counts = [[1, 4, 1, 0]; 4];
+    assert_eq!(rt; asked(rt.alloc(), Course::Mortal), Some((counts, 0, 20)));
 }
 
-// How the metadata of an agent are read whose output breaks off, and what is asked of the system.
-fn metadata(alloc: Global) -> Option<(Result<usize, MetaFault>, [u32; 4])> {
-    let system = FakeSystem::new();
+#[test]
+fn a_child_that_outlives_its_kill_is_told_once_after_a_tenth_of_a_second(rt: HostRuntime) {
+    let counts = [[1, 30, 1, 0], [1, 31, 1, 0], [1, 32, 1, 0], [1, 33, 1, 0]];
+    let wanted = Some((counts, 1, 100_000));
+    assert_eq!(rt; asked(rt.alloc(), Course::Immortal), wanted);
+}
+
+// How many kills are asked of the system, and how many lines are told, when so many children are given up; how long it took.
+fn given_up(alloc: Global, resources: u32) -> Option<(u32, u32, u64)> {
+    let system = FakeSystem::new(Course::Immortal, Behind::Fault);
+    let mut executor = started(alloc, &system, resources)?;
+    executor.abandon();
+    Some((system.kills.get(), system.told.get(), system.clock.get()))
+}
+
+#[test]
+fn children_that_are_given_up_are_waited_for_together(rt: HostRuntime) {
+    assert_eq!(rt; given_up(rt.alloc(), 3), Some((3, 3, 100_000)));
+}
+
+// How the metadata of an agent are read that is given a second; what is asked of the system, how many lines are told, and how
+// long it took.
+fn metadata(
+    alloc: Global,
+    course: Course,
+    behind: Behind,
+) -> Option<(Result<usize, MetaFault>, [u32; 4], u32, u64)> {
+    let system = FakeSystem::new(course, behind);
     let provider = Provider::new(b"pacemaker").ok()?;
     let agent = AgentType::new(b"Dummy").ok()?;
-    let read = run_meta(&&system, alloc, &nowhere(alloc), &provider, &agent);
-    Some((read.map(|bytes| bytes.len()), system.counts()))
+    let read = run_meta(&&system, alloc, &nowhere(alloc), &provider, &agent, 1_000);
+    let length = read.map(|bytes| bytes.len());
+    Some((
+        length,
+        system.counts(),
+        system.told.get(),
+        system.clock.get(),
+    ))
 }
 
 #[test]
 fn an_agent_whose_metadata_break_off_is_killed_and_waited_for(rt: HostRuntime) {
-    let wanted = (Err(MetaFault::Read), [0, 0, 1, 1]);
-    assert_eq!(rt; metadata(rt.alloc()), Some(wanted));
+    let wanted = (Err(MetaFault::Read), [0, 2, 1, 0], 0, 20);
+    let read = metadata(rt.alloc(), Course::Mortal, Behind::Fault);
+    assert_eq!(rt; read, Some(wanted));
+}
+
+#[test]
+fn an_agent_whose_metadata_do_not_end_is_killed_at_its_limit(rt: HostRuntime) {
+    for (course, told, took) in [
+        (Course::Mortal, 0, 1_000_020),
+        (Course::Immortal, 1, 1_100_000),
+    ] {
+        let read = metadata(rt.alloc(), course, Behind::Silence);
+        let (length, counts, lines, micros) = read.unwrap_or((Ok(0), [0; 4], 0, 0));
+        assert_eq!(rt; length, Err(MetaFault::Limit));
+        assert_eq!(rt; counts[2], 1);
+        assert_eq!(rt; lines, told);
+        assert_eq!(rt; micros, took);
+    }
+}
+
+#[test]
+fn an_agent_that_does_not_end_behind_its_metadata_is_killed_at_its_limit(rt: HostRuntime) {
+    let read = metadata(rt.alloc(), Course::Mortal, Behind::End);
+    let (length, counts, lines, micros) = read.unwrap_or((Ok(0), [0; 4], 0, 0));
+    assert_eq!(rt; length, Err(MetaFault::Limit));
+    assert_eq!(rt; counts[2], 1);
+    assert_eq!(rt; lines, 0);
+    assert_eq!(rt; micros, 1_000_020);
 }

@@ -33,13 +33,14 @@ impl Clock for Standing {
 struct NoMetadata;
 
 impl Metadata for NoMetadata {
-    ghost gives = { λ source provider agent given. ⊤ };
+    ghost gives = { λ source provider agent limit given. ⊤ };
 
     fn metadata(
         &self,
         _alloc: Global,
         _provider: &Provider,
         _agent: &AgentType,
+        _limit: u32,
     ) -> Result<Vec<u8>, MetaFault> {
         Err(MetaFault::NotStarted(StartFault::Missing))
     }

@@ -52,6 +52,7 @@ fault_no_float (fault.NotStarted why) = refl
 fault_no_float fault.Read = refl
 fault_no_float (fault.Failed c) = refl
 fault_no_float fault.TooLong = refl
+fault_no_float fault.Limit = refl
 fault_no_float fault.Memory = refl
 
 pub reply_has_no_float : (r : LineReply) → has_float (reply_data r) ≡ false

@@ -16,7 +16,8 @@ use Rattle.ocf_types.specs.declared.command.RequestOf.TheVariants as request
 use Rattle.ocf_types.specs.declared.refusal.Refusal.{Refusal}
 use Rattle.ocf_types.specs.declared.refusal.Refusal.TheVariants.{UnknownOp}
 use Rattle.exec_commands.specs.Keys.{given, typed, text_at, number_at, number_or, params_at, params_if_there}
-use Rattle.exec_commands.specs.Values.{named, params_of, level_of, task_named, millis_of, default_limit, limit_of}
+use Rattle.exec_commands.specs.Values.{named, params_of, level_of, task_named, millis_of, limit_of}
+use Rattle.exec_commands.specs.Values.{default_limit, default_meta_limit}
 use Rattle.exec_commands.specs.declared.line.Line.{Line}
 use Rattle.exec_commands.specs.declared.line.Line.TheVariants as line
 use Rattle.exec_commands.specs.declared.operation.Operation.{Operation}
@@ -72,11 +73,14 @@ drain_in d = given (number_or default_limit (codes "limit") d) (λ limit. given 
 abbrev pub watch_in : Data → Result Line Refusal
 watch_in d = given (number_at (codes "limit") d) (λ limit. given (millis_of limit) (λ limit. Ok (line.Watch limit)))
 
+-- a question for metadata that names no limit has 30,000 milliseconds
 abbrev pub meta_in : Data → Result Line Refusal
 meta_in d =
     given (text_at (codes "provider") d) (λ provider. given (text_at (codes "type") d) (λ agent.
+    given (number_or default_meta_limit (codes "limit") d) (λ limit.
     given (named is_provider provider) (λ provider. given (named is_agent_type agent) (λ agent.
-    Ok (line.Meta provider agent)))))
+    given (limit_of limit) (λ limit.
+    Ok (line.Meta provider agent limit)))))))
 
 -- a command, and a question, as a line
 abbrev pub commanded : Result Command Refusal → Result Line Refusal

@@ -68,6 +68,7 @@ fault_data (fault.NotStarted why) = end_data (start_word why)
 fault_data fault.Read = end_data (codes "read")
 fault_data (fault.Failed code) = object_from ((codes "code", natural_data code) ∷ (codes "end", string (codes "failed")) ∷ [])
 fault_data fault.TooLong = end_data (codes "too-long")
+fault_data fault.Limit = end_data (codes "limit")
 fault_data fault.Memory = end_data (codes "memory")
 
 -- how many bytes of metadata follow

@@ -48,9 +48,13 @@ task_named word n = valued (option_and_then (λ a. option_and_then (task_of a) (
 abbrev pub millis_of : ℕ → Result ℕ Refusal
 millis_of n = if nat_le 1 n && nat_lt n (2 ^ 32) then Ok n else Err BadValue
 
--- how long a drain takes at most, in milliseconds: where it names no limit, and the longest that it may name, a day
+-- how long a drain, and an agent that is asked for its metadata, takes at most where the line names no limit, in
+-- milliseconds; and the longest that it may name, a day
 abbrev pub default_limit : ℕ
 default_limit = 60000
+
+abbrev pub default_meta_limit : ℕ
+default_meta_limit = 30000
 
 abbrev pub longest_limit : ℕ
 longest_limit = 86400000

@@ -91,6 +91,7 @@ pub fn fault_value(alloc: Global, fault: MetaFault) -> Result<Value, AllocError>
         MetaFault::Read => end_value(alloc, "read"),
         MetaFault::Failed(code) => failed_value(alloc, code),
         MetaFault::TooLong => end_value(alloc, "too-long"),
+        MetaFault::Limit => end_value(alloc, "limit"),
         MetaFault::Memory => end_value(alloc, "memory"),
     }
 }

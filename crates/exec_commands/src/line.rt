@@ -12,9 +12,11 @@ pub enum Line {
     Watch(u32),
     /// The whole state, written as the snapshot of the journal's other part.
     Tidy,
-    /// The metadata of an agent. OCF Resource Agent API 1.1, meta-data.
+    /// The metadata of an agent, which is given this many milliseconds at most: from 0 to 86,400,000. OCF Resource Agent
+    /// API 1.1, meta-data.
     Meta {
         provider: Provider,
         agent: AgentType,
+        limit: u32,
     },
 }

@@ -32,9 +32,15 @@ fn meta_in(line: &Value) -> Result<Line, Refusal>
 {
     let provider_text = text_at(line, "provider")?;
     let agent_text = text_at(line, "type")?;
+    let number = number_or(line, "limit", 30_000)?;
     let provider = provider(provider_text)?;
     let agent = agent_type(agent_text)?;
-    Ok(Line::Meta { provider, agent })
+    let limit = limit(number)?;
+    Ok(Line::Meta {
+        provider,
+        agent,
+        limit,
+    })
 }
 
 fn commanded(found: Result<Command, Refusal>) -> Result<Line, Refusal>

@@ -71,7 +71,7 @@ pub fn millis(number: u64) -> Result<Millis, Refusal>
     }
 }
 
-/// The limit of a drain, in milliseconds.
+/// The limit of a drain, or of an agent that is asked for its metadata, in milliseconds.
 pub fn limit(number: u64) -> Result<u32, Refusal>
     ensures { result ≡ limit_of number }
 {

@@ -43,12 +43,9 @@ with_site_app a =
     let a₂ = with_rule a₁ (text_rule (codes "via")) in
     with_rule a₂ (text_rule_or (codes "path") default_path)
 
--- what the agents are given, and what is waited for
+-- how long is waited for what a killed executor's agents still do
 abbrev pub with_agent_app : App → App
-with_agent_app a =
-    let a₁ = with_rule a (text_rule (codes "log")) in
-    let a₂ = with_rule a₁ (flag_rule (codes "meta-variables")) in
-    with_rule a₂ (text_rule_or (codes "orphans") default_orphans)
+with_agent_app a = with_rule a (text_rule_or (codes "orphans") default_orphans)
 
 abbrev pub with_options_app : App → App
 with_options_app a = with_agent_app (with_site_app (with_journal_app a))

@@ -106,17 +106,6 @@ fn with_agent_options<'a>(alloc: Global, command: Command<'a>) -> Result<Command
     ensures app { IfOk result (λ r. app_of r ≡ with_agent_app (app_of command.entry)) }
     ensures local { IfOk result (λ r. (out-Command r).has_globals ≡ (out-Command command.entry).has_globals) }
 {
-    let command = command.arg(text_option(
-        alloc,
-        "log",
-        "FILE",
-        "Append what the agents write to this file; - for standard error; left out, it is dropped",
-    ))?;
-    let command = command.arg(flag(
-        alloc,
-        "meta-variables",
-        "Give the agents OCF_RESKEY_CRM_meta_interval, _timeout and _name, as Pacemaker does",
-    ))?;
     command.arg(text_option_or(
         alloc,
         "orphans",

@@ -57,10 +57,6 @@ pub struct Options<'a> {
     pub path: &'a str,
     /// The journal is tidied once it holds more bytes than this; 0 for never. It is at most a part's limit.
     pub tidy_at: u64,
-    /// The file that what agents write is appended to; `-` is standard error, and none drops it.
-    pub log: Option<&'a str>,
-    /// Whether agents are told of their action in variables, as Pacemaker does it.
-    pub meta_variables: bool,
     /// How long an opening waits for what a killed executor's agents still do, in milliseconds; 0: it does not. It is a
     /// day at most.
     pub orphans: u64,

@@ -19,7 +19,7 @@ pub const COMMANDS: &str =
   history     id                                  tells a resource's last results
   drain                           limit           makes turns until nothing is queued or running
   watch       limit                               makes turns, so that recurring monitors run, until its limit
-  meta        provider, type                      gives an agent's metadata
+  meta        provider, type      limit           gives an agent's metadata
   tidy                                            writes the whole state as the journal's snapshot
 
 Example:

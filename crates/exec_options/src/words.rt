@@ -116,8 +116,6 @@ fn options_of<'a>(
         root,
         via: text_of(matches, "via"),
         path: text_of(matches, "path").unwrap_or(PATH),
-        log: text_of(matches, "log"),
-        meta_variables: is_set(matches, "meta-variables"),
         orphans,
     })
 }

@@ -23,6 +23,7 @@ status_of fault.NotOpened = 5
 status_of fault.Disk = 5
 status_of fault.Full = 6
 status_of fault.InputOrOutput = 7
+status_of fault.ChildrenIgnored = 8
 
 -- what a person can do about it, where there is more to say than its text
 abbrev pub fault_advice : Fault → Option (List ℕ)
@@ -39,6 +40,8 @@ fault_advice fault.Disk = Some (codes "Check the device of the journal, its free
 fault_advice fault.Full = Some (codes "Nothing was changed. See what it holds by show, and begin with a new journal.")
 fault_advice fault.InputOrOutput =
     Some (codes "Check what standard input and output are connected to. A command without a reply may be recorded.")
+fault_advice fault.ChildrenIgnored =
+    Some (codes "Nothing was changed. Start it with SIGCHLD at its default: no end of an agent would be seen.")
 
 -- a journal that was not opened, as the program ends with it
 abbrev pub opening_fault : JournalFault → Fault

@@ -107,7 +107,7 @@ module _ {D C M : Type 0} (look : D → View) (tend : C → ChildrenView) (limit
   open_by_calls source p q (Ok line.Tidy) reply is_open ((end, told, tidies), same) =
       by_tidy look (sight_of tend p.executor) (sight_of tend q.executor) end
       (subst (λ (o : Bool). TidiesWhile o look (sight_of tend p.executor) (sight_of tend q.executor) end) (sym is_open) tidies)
-  open_by_calls source p q (Ok (line.Meta provider agent)) reply is_open answered =
+  open_by_calls source p q (Ok (line.Meta provider agent limit)) reply is_open answered =
       by_none look (sight_of tend p.executor) (sight_of tend q.executor)
       (ap (λ (s : Spot (Executor D C M)). sight_of tend s.executor) answered.1)
   open_by_calls source p q (Err why) reply is_open answered =

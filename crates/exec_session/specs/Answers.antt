@@ -30,9 +30,10 @@ abbrev pub IsReadAs : List ℕ → Result Line Refusal → Type 0
 IsReadAs bytes (Ok found) = line_read bytes ≡ Ok found
 IsReadAs bytes (Err why) = why ≢ refusal.Memory → line_read bytes ≡ Err why
 
--- a source of metadata: what it may answer for the agent of a provider and a type, its metadata or why it has none
+-- a source of metadata: what it may answer for the agent of a provider and a type that is given so many milliseconds, its
+-- metadata or why it has none
 abbrev pub Source : Type 1
-Source = List ℕ → List ℕ → Result (Vec ℕ) MetaFault → Type 0
+Source = List ℕ → List ℕ → ℕ → Result (Vec ℕ) MetaFault → Type 0
 
 abbrev pub refused : Refusal → LineReply
 refused why = answer.Request (Refused why)
@@ -44,13 +45,14 @@ abbrev pub closed_tidy : LineReply
 closed_tidy = answer.Tidy tidy_end.Closed
 
 -- the metadata that were asked for, or why there are none
-abbrev pub IsMetaReply : Source → List ℕ → List ℕ → LineReply → Type 0
-IsMetaReply source provider agent reply = (given : Result (Vec ℕ) MetaFault) × source provider agent given × (reply ≡ answer.Meta given)
+abbrev pub IsMetaReply : Source → List ℕ → List ℕ → ℕ → LineReply → Type 0
+IsMetaReply source provider agent limit reply =
+    (given : Result (Vec ℕ) MetaFault) × source provider agent limit given × (reply ≡ answer.Meta given)
 
 -- what a closed executor answers: the metadata that were asked for, to a drain, a watch and a tidy that it is closed, and
 -- else 17, also to a line that was refused
 abbrev pub IsClosedReply : Source → Result Line Refusal → LineReply → Type 0
-IsClosedReply source (Ok (line.Meta provider agent)) reply = IsMetaReply source provider agent reply
+IsClosedReply source (Ok (line.Meta provider agent limit)) reply = IsMetaReply source provider agent limit reply
 IsClosedReply source (Ok (line.Drain limit)) reply = reply ≡ closed_drain
 IsClosedReply source (Ok (line.Watch limit)) reply = reply ≡ closed_drain
 IsClosedReply source (Ok line.Tidy) reply = reply ≡ closed_tidy
@@ -89,7 +91,8 @@ IsOpenReply look tend source limits p q (Ok (line.Request request)) reply =
 IsOpenReply look tend source limits p q (Ok (line.Drain limit)) reply = DrainsFor look tend true limit limits p q reply
 IsOpenReply look tend source limits p q (Ok (line.Watch limit)) reply = DrainsFor look tend false limit limits p q reply
 IsOpenReply look tend source limits p q (Ok line.Tidy) reply = TidiesNow look tend p.executor q.executor reply × (q.written ≡ p.written)
-IsOpenReply look tend source limits p q (Ok (line.Meta provider agent)) reply = IsMetaReply source provider agent reply × (q ≡ p)
+IsOpenReply look tend source limits p q (Ok (line.Meta provider agent limit)) reply =
+    IsMetaReply source provider agent limit reply × (q ≡ p)
 IsOpenReply look tend source limits p q (Err why) reply = (reply ≡ refused why) × (q ≡ p)
 
 -- the same while the executor is open or closed

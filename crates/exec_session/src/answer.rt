@@ -30,10 +30,14 @@ fn meta_reply<K: Clock, M: Metadata>(
     setting: &Setting<K, M>,
     provider: &Provider,
     agent: &AgentType,
+    limit: u32,
 ) -> LineReply
-    ensures { IsMetaReply (M.gives setting.now.metadata.now) provider.now agent.now result }
+    ensures { IsMetaReply (M.gives setting.now.metadata.now) provider.now agent.now limit result }
 {
-    LineReply::Meta(setting.metadata.metadata(setting.alloc, provider, agent))
+    let given = setting
+        .metadata
+        .metadata(setting.alloc, provider, agent, limit);
+    LineReply::Meta(given)
 }
 
 fn closed_drain() -> LineReply
@@ -56,7 +60,13 @@ fn closed_reply<K: Clock, M: Metadata>(
     ensures { IsClosedReply (M.gives setting.now.metadata.now) line.now result }
 {
     match line {
-        Ok(Line::Meta { provider, agent }) => meta_reply(setting, provider, agent),
+        Ok(
+            Line::Meta {
+                provider,
+                agent,
+                limit,
+            },
+        ) => meta_reply(setting, provider, agent, *limit),
         Ok(Line::Drain(_) | Line::Watch(_)) => closed_drain(),
         Ok(Line::Tidy) => closed_tidy(),
         Ok(Line::Request(_)) | Err(_) => refused(Refusal::Closed),
@@ -127,7 +137,13 @@ fn open_reply<W: Output, D: Disk + Drop, C: Children + Drop, K: Clock, M: Metada
         Ok(Line::Drain(limit)) => drain_reply(setting, writer, executor, true, limit),
         Ok(Line::Watch(limit)) => drain_reply(setting, writer, executor, false, limit),
         Ok(Line::Tidy) => Ok(LineReply::Tidy(executor.tidy())),
-        Ok(Line::Meta { provider, agent }) => Ok(meta_reply(setting, &provider, &agent)),
+        Ok(
+            Line::Meta {
+                provider,
+                agent,
+                limit,
+            },
+        ) => Ok(meta_reply(setting, &provider, &agent, limit)),
         Err(refusal) => Ok(refused(refusal)),
     }
 }

@@ -8,15 +8,16 @@ use std::alloc::Global;
 
 /// Where agents' metadata come from. OCF Resource Agent API 1.1, meta-data.
 pub trait Metadata {
-    /// What may be answered for the agent of a provider and a type.
-    ghost gives: { Self → List ℕ → List ℕ → Result (Vec ℕ) MetaFault → Type 0 };
+    /// What may be answered for the agent of a provider and a type that is given so many milliseconds.
+    ghost gives: { Self → List ℕ → List ℕ → ℕ → Result (Vec ℕ) MetaFault → Type 0 };
 
-    /// The metadata of an agent, or why it has none.
+    /// The metadata of an agent, which is given so many milliseconds, or why it has none.
     fn metadata(
         &self,
         alloc: Global,
         provider: &Provider,
         agent: &AgentType,
+        limit: u32,
     ) -> Result<Vec<u8>, MetaFault>
-        ensures given { gives self.now provider.now agent.now result };
+        ensures given { gives self.now provider.now agent.now limit result };
 }

@@ -9,7 +9,7 @@ mod site;
 mod text;
 mod variables;
 
-pub use invocation::Invocation;
+pub use invocation::{Invocation, agent_file};
 pub use key::op_key;
 pub use launches::{Instance, Launch, LaunchOf, launch, launch_meta};
 pub use site::Site;

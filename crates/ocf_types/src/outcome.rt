@@ -24,6 +24,8 @@ pub enum MetaFault {
     Failed(u8),
     /// It wrote more than is passed on.
     TooLong,
+    /// It, or what it left behind with its output, took longer than it was given.
+    Limit,
     /// A growth was refused.
     Memory,
 }

@@ -34,6 +34,7 @@ ends look tend source limits report p q (Err fault.Memory) how = tt
 ends look tend source limits report p q (Err fault.Disk) how = tt
 ends look tend source limits report p q (Err fault.Full) how = tt
 ends look tend source limits report p q (Err fault.InputOrOutput) how = tt
+ends look tend source limits report p q (Err fault.ChildrenIgnored) how = absurd how
 
 pub run_ends : {D C M N : Type 0} (look : D → View) (tend : C → ChildrenView) (source : Source) (limits : Limits) (report : Report N)
     (p : Place (Executor D C M)) (left written : Option (List ℕ)) (run : Run D C)
@@ -64,3 +65,4 @@ journal_ends words o (Err fault.Memory) gives ends = tt
 journal_ends words o (Err fault.Disk) gives ends = (o, gives)
 journal_ends words o (Err fault.Full) gives ends = (o, gives)
 journal_ends words o (Err fault.InputOrOutput) gives ends = inr (o, gives)
+journal_ends words o (Err fault.ChildrenIgnored) gives ends = (o, gives)

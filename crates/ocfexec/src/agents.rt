@@ -40,14 +40,15 @@ pub struct Agents<'a> {
 }
 
 impl Metadata for Agents<'_> {
-    ghost gives = { λ source provider agent given. IfOk given (λ bytes. length bytes.items ≤ metadata_limit) };
+    ghost gives = { λ source provider agent limit given. IfOk given (λ bytes. length bytes.items ≤ metadata_limit) };
 
     fn metadata(
         &self,
         alloc: Global,
         provider: &Provider,
         agent: &AgentType,
+        limit: u32,
     ) -> Result<Vec<u8>, MetaFault> {
-        run_meta(self.rt, alloc, &self.site, provider, agent)
+        run_meta(self.rt, alloc, &self.site, provider, agent, limit)
     }
 }

@@ -6,6 +6,9 @@ ghost use Rattle.std.specs.Process.{exit_status};
 ghost use Rattle.ocfexec.specs.Starts.{status_of_end};
 
 mod agents;
+mod interrupted;
+mod orphans;
+mod signals;
 mod start;
 
 use exec_output::Fault;

@@ -4,6 +4,8 @@ ghost use Rattle.exec_output.specs.Faults.{IsRunEnd};
 ghost use Rattle.ocfexec.specs.Starts.{EndsFor, IsNotOpened, IsToldAs, opening_fault};
 
 use crate::agents::{Agents, BOOK_ROOM, site_of};
+use crate::orphans::wait_for_orphans;
+use crate::signals::children_ignored;
 use child_keeper::Processes;
 use disk_model::Disk;
 use exec_commands::NoticeForm;
@@ -124,6 +126,9 @@ fn run(rt: &HostRuntime, words: &[String]) -> Result<(), Fault>
         Ok(options) => options,
         Err(fault) => return refuse(rt, &fault),
     };
+    if options.subcommand != Subcommand::Show && children_ignored(rt) {
+        return Err(Fault::ChildrenIgnored);
+    }
     let ended = match options.journal {
         JournalPlace::Folder(folder) => run_in(rt, options, folder),
         JournalPlace::Memory => Ok(run_on(rt, options, RamDisk::new(rt.alloc()))),
@@ -140,11 +145,11 @@ fn run_in(rt: &HostRuntime, options: Options, folder: &str) -> Result<Result<(),
     ensures not_opened { IsNotOpened result }
 {
     match options.subcommand {
-        Subcommand::Run => {
-            let disk = found(rt, folder, open_files(rt, folder))?;
-            Ok(run_agents(rt, options, disk))
-        }
         Subcommand::Show => show_files(rt, options, folder),
+        Subcommand::Run | Subcommand::Serve => {
+            let disk = found(rt, folder, open_files(rt, folder))?;
+            Ok(run_on(rt, options, disk))
+        }
     }
 }
 
@@ -237,6 +242,7 @@ fn run_agents<D: Disk + TellsError + Drop>(
     };
     match Executor::open(alloc, disk, children, site, moment_now(rt).get()) {
         Ok((executor, report)) => {
+            wait_for_orphans(rt, &asked, &executor, options.orphans);
             let clock = RunClock::new(rt, executor.clock());
             let setting = Setting {
                 alloc,

@@ -1,0 +1,59 @@
+-- Command lines by their last words, and environments.
+use Rattle.std.proofs.Common.{◌≡◌, ◌≢◌, ◌∙◌, ℕ, List, [], ◌∷◌, ◌++◌, ap, sym, append_assoc}
+use Rattle.std.specs.Prelude.{codes}
+use Rattle.std.proofs.lemmas.List.{append_cancel_left, append_cancel_right}
+use Rattle.proc_files.specs.Orphans.{BeginsWithInstance, Calls}
+use Rattle.proc_files.specs.Pieces.{IsPieces, joined}
+use Rattle.proc_files.proofs.PieceLemmas.{joined_append}
+
+-- the text of words, by its last two
+split_words : (before : List (List ℕ)) (file action : List ℕ)
+    → joined 0 (before ++ file ∷ action ∷ []) ≡ ((((joined 0 before ++ file) ++ 0 ∷ []) ++ action) ++ 0 ∷ [])
+split_words before file action = joined_append 0 before (file ∷ action ∷ []) ∙ sym (simp append_assoc)
+
+-- what stands before the last two words is pieces
+pub calls : (cmdline front file action : List ℕ) → cmdline ≡ (((front ++ file) ++ 0 ∷ []) ++ action) ++ 0 ∷ [] → IsPieces 0 front
+    → Calls cmdline file action
+calls cmdline front file action is (words, same) =
+    (words, is ∙ ap (λ f. (((f ++ file) ++ 0 ∷ []) ++ action) ++ 0 ∷ []) same ∙ sym (split_words words file action))
+
+pub before_calls : (cmdline front file action : List ℕ) → cmdline ≡ (((front ++ file) ++ 0 ∷ []) ++ action) ++ 0 ∷ []
+    → Calls cmdline file action → IsPieces 0 front
+before_calls cmdline front file action is (words, same) =
+    let both = sym is ∙ same ∙ split_words words file action in (
+      words,
+      append_cancel_right front (joined 0 words) file
+          (append_cancel_right (front ++ file) (joined 0 words ++ file) (0 ∷ [])
+          (append_cancel_right ((front ++ file) ++ 0 ∷ []) ((joined 0 words ++ file) ++ 0 ∷ []) action
+          (append_cancel_right (((front ++ file) ++ 0 ∷ []) ++ action) (((joined 0 words ++ file) ++ 0 ∷ []) ++ action) (0 ∷ []) both))),
+    )
+
+pub none_calls : (cmdline file action : List ℕ) → ((front : List ℕ) → cmdline ≢ (((front ++ file) ++ 0 ∷ []) ++ action) ++ 0 ∷ [])
+    → Calls cmdline file action → ⊥
+none_calls cmdline file action none (words, same) = none (joined 0 words) (same ∙ split_words words file action)
+
+-- no front of what stands before the last word is one of the whole
+pub no_call : (cmdline rest file action : List ℕ) → cmdline ≡ (rest ++ action) ++ 0 ∷ []
+    → ((front : List ℕ) → rest ≢ (front ++ file) ++ 0 ∷ [])
+    → (front : List ℕ) → cmdline ≢ (((front ++ file) ++ 0 ∷ []) ++ action) ++ 0 ∷ []
+no_call cmdline rest file action is none front same =
+    none front (append_cancel_right rest ((front ++ file) ++ 0 ∷ []) action
+    (append_cancel_right (rest ++ action) (((front ++ file) ++ 0 ∷ []) ++ action) (0 ∷ []) (sym is ∙ same)))
+
+-- a text that does not begin with the key, the id, or the NUL behind it
+pub no_key : (key text instance : List ℕ) → ((rest : List ℕ) → text ≢ key ++ rest) → (rest : List ℕ) → text ≢ (key ++ instance) ++ 0 ∷ rest
+no_key key text instance none rest same = none (instance ++ 0 ∷ rest) (same ∙ append_assoc key instance (0 ∷ rest))
+
+pub no_id : (key text value instance : List ℕ) → text ≡ key ++ value → ((rest : List ℕ) → value ≢ instance ++ rest) → (rest : List ℕ)
+    → text ≢ (key ++ instance) ++ 0 ∷ rest
+no_id key text value instance is none rest same =
+    none (0 ∷ rest) (append_cancel_left key value (instance ++ 0 ∷ rest) (sym is ∙ same ∙ append_assoc key instance (0 ∷ rest)))
+
+pub no_end : (key text value instance behind : List ℕ) → text ≡ key ++ value → value ≡ instance ++ behind
+    → ((rest : List ℕ) → behind ≢ 0 ∷ rest) → (rest : List ℕ) → text ≢ (key ++ instance) ++ 0 ∷ rest
+no_end key text value instance behind is then none rest same =
+    none rest (append_cancel_left instance behind (0 ∷ rest) (sym then
+    ∙ append_cancel_left key value (instance ++ 0 ∷ rest) (sym is ∙ same ∙ append_assoc key instance (0 ∷ rest))))
+
+pub no_instance : (instance : List ℕ) → BeginsWithInstance instance [] → ⊥
+no_instance instance (rest, same) = let never : [] ≡ (codes "OCF_RESOURCE_INSTANCE=" ++ instance) ++ 0 ∷ rest = same in cc

@@ -1,0 +1,85 @@
+//! What is left of an action whose executor was killed.
+ghost use Rattle.std.specs.Prelude.{◌≡◌, ◌≢◌, ◌↔◌, ◌++◌, ◌∷◌, [], ℕ, List, IfNone, IfSome, IsTrue, codes};
+ghost use Rattle.proc_files.specs.Orphans.{BeginsWithInstance, Calls, HasInstance, IsOrphan};
+
+use crate::pieces::{after, before, is_pieces};
+
+// What stands before the instance's id in an agent's environment. OCF Resource Agent API 1.1, OCF_RESOURCE_INSTANCE.
+const INSTANCE: &[u8] = b"OCF_RESOURCE_INSTANCE=";
+
+// What stands before a last word and the NUL behind it.
+fn before_word<'a>(words: &'a [u8], word: &[u8]) -> Option<&'a [u8]>
+    ensures front { IfSome result (λ front. words.now ≡ front.now ++ word.now ++ 0 ∷ []) }
+    ensures none { IfNone result ((front : List ℕ) → words.now ≢ front ++ word.now ++ 0 ∷ []) }
+{
+    before(before(words, b"\0")?, word)
+}
+
+// What stands before the agent's file as the last word but one and the action as the last.
+#[tactic(auto, using(crate::proofs::OrphanLemmas::no_call))]
+fn before_call<'a>(cmdline: &'a [u8], agent_file: &[u8], action: &[u8]) -> Option<&'a [u8]>
+    ensures front { IfSome result (λ front.
+        cmdline.now ≡ (front.now ++ agent_file.now ++ 0 ∷ []) ++ action.now ++ 0 ∷ []) }
+    ensures none { IfNone result ((front : List ℕ)
+        → cmdline.now ≢ (front ++ agent_file.now ++ 0 ∷ []) ++ action.now ++ 0 ∷ []) }
+{
+    before_word(before_word(cmdline, action)?, agent_file)
+}
+
+/// Whether a command line ends with the agent's file and, behind it, the action: the bytes of `/proc/PID/cmdline`.
+pub fn calls(cmdline: &[u8], agent_file: &[u8], action: &[u8]) -> bool
+    ensures { IsTrue result ↔ Calls cmdline.now agent_file.now action.now }
+{
+    match before_call(cmdline, agent_file, action) {
+        Some(front) => is_pieces(front, 0),
+        None => false,
+    }
+}
+
+// What stands behind the variable that names this instance, where a text begins with it.
+fn after_instance<'a>(text: &'a [u8], instance: &[u8]) -> Option<&'a [u8]>
+    ensures rest { IfSome result (λ rest. text.now ≡ codes "OCF_RESOURCE_INSTANCE=" ++ instance.now ++ 0 ∷ rest.now) }
+    ensures none { IfNone result ((rest : List ℕ) → text.now ≢ codes "OCF_RESOURCE_INSTANCE=" ++ instance.now ++ 0 ∷ rest) }
+{
+    after(after(after(text, INSTANCE)?, instance)?, b"\0")
+}
+
+// Whether a text begins with the variable that names this instance.
+fn begins_with_instance(text: &[u8], instance: &[u8]) -> bool
+    ensures { IsTrue result ↔ BeginsWithInstance instance.now text.now }
+{
+    match after_instance(text, instance) {
+        Some(_) => true,
+        None => false,
+    }
+}
+
+// Whether an environment has the variable that names this instance.
+fn has_instance(environ: &[u8], instance: &[u8]) -> bool
+    ensures { IsTrue result ↔ HasInstance environ.now instance.now }
+{
+    for at in 0..environ.len() {
+        let (words, rest) = environ.split_at(at);
+        if is_pieces(words, 0) && begins_with_instance(rest, instance) {
+            return true;
+        }
+    }
+    false
+}
+
+/// Whether a process with this command line and this environment is an action of an agent: the agent's file stands in the
+/// line with the action right behind it as the last word, and the environment names the instance.
+///
+/// Both are the bytes of `/proc/PID/cmdline` and `/proc/PID/environ`, with a NUL behind each word; an environment may be
+/// cut at any byte. OCF Resource Agent API 1.1, actions.
+pub fn is_orphan(
+    cmdline: &[u8],
+    environ: &[u8],
+    agent_file: &[u8],
+    action: &[u8],
+    instance: &[u8],
+) -> bool
+    ensures { IsTrue result ↔ IsOrphan cmdline.now environ.now agent_file.now action.now instance.now }
+{
+    calls(cmdline, agent_file, action) && has_instance(environ, instance)
+}

@@ -1,0 +1,72 @@
+//! Which signals a process ignores.
+ghost use Rattle.std.specs.Prelude.{◌≡◌, ◌↔◌, ◌≤◌, ◌^◌, ℕ, IfNone, IfSome, IsTrue};
+ghost use Rattle.std.specs.Str.Parse.{IsNumeral, digits_value};
+ghost use Rattle.proc_files.specs.Signals.{BeginsWithBit, HasBit, IsIgnored, IsMaskLine};
+
+use crate::pieces::{after, is_pieces};
+use std::str;
+
+// What stands before the mask of ignored signals.
+const IGNORED: &[u8] = b"SigIgn:\t";
+
+// How many digits a mask has: one for four of 64 signals.
+const DIGITS: usize = 16;
+
+// The number that hexadecimal digits write.
+fn number_of(digits: &[u8]) -> Option<u64>
+    ensures some { IfSome result (λ number. IsNumeral 16 digits.now × (digits_value 16 digits.now ≡ number)) }
+    ensures none { IfNone result (IsNumeral 16 digits.now → 2 ^ 64 ≤ digits_value 16 digits.now) }
+{
+    if after(digits, b"+").is_some() {
+        return None;
+    }
+    match str::from_utf8(digits) {
+        Ok(text) => u64::from_str_radix(text, 16).ok(),
+        Err(_) => None,
+    }
+}
+
+// The mask that a text begins with as a line of its own, if it does.
+fn mask_of(text: &[u8]) -> Option<u64>
+    ensures some { IfSome result (λ mask. IsMaskLine text.now mask) }
+    ensures none { IfNone result ((mask : ℕ) → IsMaskLine text.now mask → ⊥) }
+{
+    let value = after(text, IGNORED)?;
+    if value.len() < DIGITS {
+        return None;
+    }
+    let (digits, behind) = value.split_at(DIGITS);
+    after(behind, b"\n")?;
+    number_of(digits)
+}
+
+// Whether a mask has the bit of a signal; the first has the lowest.
+fn has_bit(mask: u64, signal: u8) -> bool
+    ensures { IsTrue result ↔ HasBit mask signal }
+{
+    (1..=64).contains(&signal) && (mask >> (signal - 1)) % 2 == 1
+}
+
+// Whether a text begins with a line that gives a mask with the bit of a signal.
+fn begins_with_bit(text: &[u8], signal: u8) -> bool
+    ensures { IsTrue result ↔ BeginsWithBit signal text.now }
+{
+    match mask_of(text) {
+        Some(mask) => has_bit(mask, signal),
+        None => false,
+    }
+}
+
+/// Whether a process ignores a signal, from 1 to 64: its bit is set in the mask that stands in the line SigIgn of this
+/// text, the bytes of `/proc/PID/status`.
+pub fn is_ignored(status: &[u8], signal: u8) -> bool
+    ensures { IsTrue result ↔ IsIgnored status.now signal }
+{
+    for at in 0..status.len() {
+        let (lines, rest) = status.split_at(at);
+        if is_pieces(lines, b'\n') && begins_with_bit(rest, signal) {
+            return true;
+        }
+    }
+    false
+}
