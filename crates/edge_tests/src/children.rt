@@ -206,8 +206,8 @@ fn request(alloc: Global, line: &str) -> Option<Request> {
     }
 }
 
-// Starts of so many resources with a timeout of a second, and turns before and behind it.
-fn inputs(alloc: Global, resources: u32) -> Option<Vec<Input>> {
+// Starts of so many resources with a timeout of a second, and turns at these moments.
+fn inputs(alloc: Global, resources: u32, turns: &[u64]) -> Option<Vec<Input>> {
     let mut inputs = Vec::new(alloc);
     for n in 0..resources {
         let lines = [
@@ -223,22 +223,25 @@ fn inputs(alloc: Global, resources: u32) -> Option<Vec<Input>> {
             inputs.push(InputOf::Request { now: 0, request }).ok()?;
         }
     }
+    for now in turns {
+        inputs.push(InputOf::Turn { now: *now }).ok()?;
+    }
     Some(inputs)
 }
 
-// An executor over children of this system in which so many starts run.
-fn started<'a>(
+// An executor that has taken such inputs over children of this system.
+fn played<'a>(
     alloc: Global,
     system: &'a FakeSystem,
     resources: u32,
+    turns: &[u64],
 ) -> Option<Executor<MemDisk, Processes<&'a FakeSystem>>> {
     let children = Processes::new(system, alloc, 16).ok()?;
     match Executor::open(alloc, MemDisk::new(alloc), children, nowhere(alloc), 0) {
         Ok((mut executor, _)) => {
             executor
-                .session(inputs(alloc, resources)?, &mut Vec::new(alloc))
+                .session(inputs(alloc, resources, turns)?, &mut Vec::new(alloc))
                 .ok()?;
-            executor.turn(0);
             Some(executor)
         }
         Err(_) => None,
@@ -249,9 +252,7 @@ fn started<'a>(
 // told then, and how long it took.
 fn asked(alloc: Global, course: Course) -> Option<([[u32; 4]; 4], u32, u64)> {
     let system = FakeSystem::new(course, Behind::Fault);
-    let mut executor = started(alloc, &system, 1)?;
-    executor.turn(1);
-    executor.turn(1_001);
+    let executor = played(alloc, &system, 1, &[0, 1, 1_001])?;
     let mut children = executor.close().1;
     let mut counts = [system.counts(); 4];
     for count in &mut counts[1..] {
@@ -277,7 +278,7 @@ fn a_child_that_outlives_its_kill_is_told_once_after_a_tenth_of_a_second(rt: Hos
 // How many kills are asked of the system, and how many lines are told, when so many children are given up; how long it took.
 fn given_up(alloc: Global, resources: u32) -> Option<(u32, u32, u64)> {
     let system = FakeSystem::new(Course::Immortal, Behind::Fault);
-    let mut executor = started(alloc, &system, resources)?;
+    let mut executor = played(alloc, &system, resources, &[0])?;
     executor.abandon();
     Some((system.kills.get(), system.told.get(), system.clock.get()))
 }
