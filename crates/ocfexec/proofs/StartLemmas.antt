@@ -27,6 +27,8 @@ ends look tend source limits report p q (Ok done) how = tt
 ends look tend source limits report p q (Err fault.Usage) how = absurd how
 ends look tend source limits report p q (Err fault.Choice) how = absurd how
 ends look tend source limits report p q (Err fault.TidyAt) how = absurd how
+ends look tend source limits report p q (Err fault.Root) how = absurd how
+ends look tend source limits report p q (Err fault.Orphans) how = absurd how
 ends look tend source limits report p q (Err fault.NotText) how = absurd how
 ends look tend source limits report p q (Err fault.NotOpened) how = absurd how
 ends look tend source limits report p q (Err (fault.Damaged damage)) how = tt
@@ -50,6 +52,8 @@ refused_ends {T} words (words_fault.Help text) (Err f) is told = subst (λ x. En
 refused_ends words (words_fault.Usage text) r is told = subst (λ x. EndsFor words x) (sym told) (text, is)
 refused_ends words words_fault.Choice r is told = subst (λ x. EndsFor words x) (sym told) is
 refused_ends words words_fault.TidyAt r is told = subst (λ x. EndsFor words x) (sym told) is
+refused_ends words words_fault.Root r is told = subst (λ x. EndsFor words x) (sym told) is
+refused_ends words words_fault.Orphans r is told = subst (λ x. EndsFor words x) (sym told) is
 refused_ends words words_fault.Memory r is told = subst (λ x. EndsFor words x) (sym told) tt
 
 -- words that ask for a journal
@@ -58,6 +62,8 @@ journal_ends words o (Ok done) gives ends = inr (o, gives)
 journal_ends words o (Err fault.Usage) gives ends = absurd ends
 journal_ends words o (Err fault.Choice) gives ends = absurd ends
 journal_ends words o (Err fault.TidyAt) gives ends = absurd ends
+journal_ends words o (Err fault.Root) gives ends = absurd ends
+journal_ends words o (Err fault.Orphans) gives ends = absurd ends
 journal_ends words o (Err fault.NotText) gives ends = absurd ends
 journal_ends words o (Err fault.NotOpened) gives ends = absurd ends
 journal_ends words o (Err (fault.Damaged damage)) gives ends = (o, gives)
