@@ -8,6 +8,8 @@
 # Use: orphans.sh PROGRAM [ROUNDS [SEED]]
 set -eu
 . "$(dirname "$0")/common.sh" "$@"
+# an agent that ends just then may still write there
+trap 'for _ in 1 2 3 4 5; do rm -rf "$here" 2> /dev/null && break; sleep 1; done' EXIT
 rounds=${2:-100}
 seed=${3:-20261124}
 
