@@ -28,8 +28,8 @@ use std::rt::Clock;
 // How many reads are made at most between two turns, and so how many lines are answered.
 const READS_A_TURN: u32 = 64;
 
-// The longest wait while nothing is queued or runs, in milliseconds.
-const LONGEST_IDLE: u32 = 1_000;
+// The longest wait while nothing is queued or runs, in milliseconds: a monitor that falls due meanwhile begins at its end.
+const LONGEST_IDLE: u32 = 50;
 
 // Goes on with the line in the buffer by one read, and answers it once it is whole; none while it is not.
 fn take_read<R: Input, W: Output, D: Disk + Drop, C: Children + Drop, K: Clock, M: Metadata>(
