@@ -3,7 +3,7 @@ PREFIX ?= /usr/local
 PROGRAM := crates/ocfexec/out/ocfexec
 AGENTS := crates/ocf_agents/out/ocf_agents
 
-.PHONY: run test check mutants bench install clean
+.PHONY: run test check mutants bench install deb clean
 
 # Compiles every crate, proves nothing, and answers the example's commands, with the example's agent.
 run:
@@ -23,7 +23,7 @@ mutants:
 
 # The rate of each benchmark. The first call proves the program; `crates/bench/out/bench NAME ROUNDS` runs it again.
 bench:
-	cd crates/bench && rt run -- appends 20 && rt run -- events 20 && rt run -- state-reads 20 && rt run -- state-writes 20 && rt run -- triples 20 && rt run -- openings 1 && rt run -- tidies 4 && rt run -- waiting-turns 20 && rt run -- busy-turns 5
+	cd crates/bench && rt run -- appends 20 && rt run -- events 20 && rt run -- state-reads 20 && rt run -- state-writes 20 && rt run -- triples 20 && rt run -- openings 1 && rt run -- tidies 4 && rt run -- waiting-turns 20 && rt run -- busy-turns 5 && rt run -- resting-turns 20 && rt run -- lone-turns 20 && rt run -- due-turns 20
 
 # Installs the programs that the gate proved and built, or proves and builds them first; with them the manual page, the two
 # clients and the unit.
@@ -33,7 +33,12 @@ install: $(PROGRAM) $(AGENTS)
 	install -D -m 644 docs/ocfexec.8 $(DESTDIR)$(PREFIX)/share/man/man8/ocfexec.8
 	install -D examples/client.py $(DESTDIR)$(PREFIX)/share/doc/ocfexec/client.py
 	install -D examples/client.sh $(DESTDIR)$(PREFIX)/share/doc/ocfexec/client.sh
+	install -D examples/with-executor.sh $(DESTDIR)$(PREFIX)/share/doc/ocfexec/with-executor.sh
 	install -D -m 644 examples/ocfexec.service $(DESTDIR)$(PREFIX)/share/doc/ocfexec/ocfexec.service
+
+# Builds a Debian package of the programs that the gate proved, and of no others.
+deb:
+	@package/deb.sh
 
 $(PROGRAM): $(shell find crates -name out -prune -o -type f -print)
 	cd crates/ocfexec && rt run -- --help > /dev/null

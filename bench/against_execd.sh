@@ -7,7 +7,8 @@
 # and for pacemaker-execd: apt-get install pacemaker pacemaker-dev pkg-config, and root, since the daemon wants it and gets
 # a mount of its own in place of /usr/lib/ocf. Without these it says so and compares with the floor alone. Journals lie in
 # a folder under TMPDIR, whose device is so measured.
-# Use: against_execd.sh [PROGRAM [ROUNDS [PART..]]], where a part is rates, waits or reading, and without any all three run
+# Use: against_execd.sh [PROGRAM [ROUNDS [PART..]]], where a part is rates, waits, answers, monitors or reading, and without
+# any all of them run
 set -eu
 sources=$(cd "$(dirname "$0")" && pwd)
 program=$(realpath "${1:-$sources/../crates/ocfexec/out/ocfexec}")
@@ -82,11 +83,16 @@ load_of() {
         execd) words+=("$execd") ;;
         floor-memory) words+=("$file" -) ;;
         floor-journal) words+=("$file" "$here/floor-rows") ;;
-        ours-memory) words+=("$program" run --memory --root "$here/root") ;;
+        ours-memory) words+=("$program" serve --memory --root "$here/root") ;;
         ours-journal)
             rm -rf "$here/journal"
             mkdir "$here/journal"
-            words+=("$program" run --journal "$here/journal" --root "$here/root")
+            words+=("$program" serve --journal "$here/journal" --root "$here/root")
+            ;;
+        ours-drain)
+            rm -rf "$here/drained"
+            mkdir "$here/drained"
+            words+=("$program" run --journal "$here/drained" --root "$here/root")
             ;;
     esac
 }
@@ -204,7 +210,8 @@ ratios() {
     echo
 }
 
-# What the journal costs: of the commands, which are recorded one by one, and of the drain, whose rows the floor writes too.
+# What the journal costs, in a run that drains: of the commands, which are recorded one by one, and of the drain, whose rows
+# the floor writes too.
 journals() {
     local agent width
     echo "| Agent | At once | a command recorded, ms | drain, actions a second | floor with rows | drain : floor with rows |"
@@ -212,10 +219,10 @@ journals() {
     for agent in Shell Compiled; do
         for width in 1 16 64 256; do
             printf '| %s | %d | %.1f | %.0f | %.0f | %s |\n' "$agent" "$width" \
-                "$(column recorded "$agent" "$width" ours-journal | median)" \
-                "$(column drained "$agent" "$width" ours-journal | median)" \
+                "$(column recorded "$agent" "$width" ours-drain | median)" \
+                "$(column drained "$agent" "$width" ours-drain | median)" \
                 "$(column drained "$agent" "$width" floor-journal | median)" \
-                "$(ratio drained "$agent" "$width" ours-journal floor-journal)"
+                "$(ratio drained "$agent" "$width" ours-drain floor-journal)"
         done
     done
     echo
@@ -259,6 +266,84 @@ waits() {
                 "$(median < "$here/late")" "$(at_share 0.99 < "$here/late")"
         done
     done
+    echo
+}
+
+# ---- Answers
+
+# How long a question waits for its answer while so many agents sleep.
+answers() {
+    local system words
+    echo "Answers while 256 agents run"
+    echo
+    echo "| Executor | median | 99th of 100 |"
+    echo "|---|---|---|"
+    for system in execd ours-memory ours-journal; do
+        [ "$system" != execd ] || [ -n "$execd" ] || continue
+        load_of "$system" asks Compiled 256 1 6000 0 -
+        echo | "${words[@]}" | awk '{ print $1 * 1000 }' > "$here/answered"
+        printf '| %s | %.3f ms | %.3f ms |\n' "$system" "$(median < "$here/answered")" "$(at_share 0.99 < "$here/answered")"
+    done
+    echo
+}
+
+# ---- Monitors
+
+# Registrations of so many resources with so many monitors each, of this interval in milliseconds and the ones behind it.
+# Use: monitored WIDTH MONITORS INTERVAL
+monitored() {
+    local n monitor
+    for ((n = 0; n < $1; n++)); do
+        echo "{\"op\":\"register\",\"id\":\"r$n\",\"provider\":\"bench\",\"type\":\"Compiled\"}"
+        for ((monitor = 0; monitor < $2; monitor++)); do
+            echo "{\"op\":\"recur\",\"id\":\"r$n\",\"interval\":$(($3 + monitor))}"
+        done
+    done
+}
+
+# The share of a core of a run that serves and has nothing to do for ten seconds, with so many resources and monitors of an
+# hour each, which have all run once. Use: resting WIDTH MONITORS
+resting() {
+    local fed began ended pid
+    : > "$here/told"
+    mkfifo "$here/lines"
+    "$program" serve --memory --root "$here/root" < "$here/lines" > "$here/told" &
+    pid=$!
+    exec {fed}> "$here/lines"
+    rm "$here/lines"
+    monitored "$1" "$2" 3600000 >&"$fed"
+    until [ "$(grep -c '"outcome"' "$here/told")" -eq $(($1 * $2)) ]; do
+        sleep 0.1
+    done
+    sleep 1
+    began=$(cut -d ' ' -f 1 "/proc/$pid/schedstat")
+    sleep 10
+    ended=$(cut -d ' ' -f 1 "/proc/$pid/schedstat")
+    exec {fed}>&-
+    wait "$pid"
+    awk -v spent=$((ended - began)) 'BEGIN { printf "%.3f %%", spent / 1e8 }'
+}
+
+# How many milliseconds behind its due moment a monitor began, a line each: one resource with a monitor of 100 milliseconds,
+# for ten seconds, with nothing else to do.
+begun_late() {
+    { monitored 1 1 100; sleep 10; } | "$program" serve --memory --root "$here/root" |
+        awk -F '[:,}]' '/"outcome"/ {
+            for (n = 1; n < NF; n++) { if ($n ~ /"since"/) since = $(n + 1); if ($n ~ /"at"/) at = $(n + 1) }
+            if (last) print since - last - 100
+            last = at }'
+}
+
+monitors() {
+    echo "Monitors"
+    echo
+    begun_late > "$here/late"
+    printf 'A monitor begins after its due moment: median %d ms, 99th of 100 %d ms, of %d.\n\n' "$(median < "$here/late")" \
+        "$(at_share 0.99 < "$here/late")" "$(wc -l < "$here/late")"
+    echo "| Resources | Monitors of each | Resting, of a core |"
+    echo "|---|---|---|"
+    echo "| 0 | 0 | $(resting 0 0) |"
+    echo "| 256 | 8 | $(resting 256 8) |"
     echo
 }
 
@@ -339,9 +424,9 @@ compile
 began=$(date +%s)
 read -r all stolen idle < <(processor)
 start_execd
-systems=(ours-journal ours-memory floor-memory floor-journal)
+systems=(ours-journal ours-memory ours-drain floor-memory floor-journal)
 [ -z "$execd" ] || systems=(execd "${systems[@]}")
-for part in ${parts:-rates waits reading}; do
+for part in ${parts:-rates waits answers monitors reading}; do
     "$part"
 done
 read -r all_now stolen_now idle_now < <(processor)

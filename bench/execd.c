@@ -69,6 +69,13 @@ void executor_drain(const struct load *load) {
     }
 }
 
+void executor_ask(void) {
+    lrmd_rsc_info_t *info = executor->cmds->get_rsc_info(executor, id_of(0), lrmd_opt_none);
+    if (!info)
+        fail("pacemaker-execd does not know a resource");
+    lrmd_free_rsc_info(info);
+}
+
 void executor_close(const struct load *load) {
     for (int n = 0; n < load->width; n++)
         executor->cmds->unregister_rsc(executor, id_of(n), lrmd_opt_none);

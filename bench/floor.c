@@ -85,6 +85,10 @@ void executor_drain(const struct load *load) {
     }
 }
 
+void executor_ask(void) {
+    fail("the floor answers nothing");
+}
+
 void executor_close(const struct load *load) {
     (void)load;
 }

@@ -1,7 +1,8 @@
 /* A load on an executor, again for each line of standard input, or once. `rate` prints the seconds of the whole, those of the
    drain alone, and the processor seconds of the executor; `ends` prints a line `RESOURCE NANOSECONDS` when each end is
-   told; `idle` prints the processor seconds of the executor for each second in which it waits for its agents.
-   Use: load rate|ends|idle AGENT WIDTH DEPTH WAIT STEP TO WORD.. */
+   told; `idle` prints the processor seconds of the executor for each second in which it waits for its agents; `asks` prints
+   the seconds of each of a thousand questions, a millisecond after one another, while all agents run.
+   Use: load rate|ends|idle|asks AGENT WIDTH DEPTH WAIT STEP TO WORD.. */
 #include "load.h"
 
 #include <stdio.h>
@@ -11,7 +12,7 @@
 #include <time.h>
 #include <unistd.h>
 
-enum { MOST = 256 * 32, SETTLING_SECONDS = 1, WINDOW_SECONDS = 2 };
+enum { MOST = 256 * 32, SETTLING_SECONDS = 1, WINDOW_SECONDS = 2, QUESTIONS = 1000 };
 
 static struct {
     int resource;
@@ -87,12 +88,27 @@ static void idle(const struct load *load, clockid_t clock) {
     waitpid(watcher, NULL, 0);
 }
 
+/* All agents have begun when the first question is asked. */
+static void asks(const struct load *load) {
+    executor_queue(load);
+    sleep(SETTLING_SECONDS);
+    for (int n = 0; n < QUESTIONS; n++) {
+        double asked = seconds(CLOCK_MONOTONIC);
+        executor_ask();
+        printf("%.6f\n", seconds(CLOCK_MONOTONIC) - asked);
+        usleep(1000);
+    }
+    executor_drain(load);
+}
+
 static void run(const char *mode, const struct load *load, clockid_t clock) {
     tellings = 0;
     if (!strcmp(mode, "rate"))
         rate(load, clock);
     else if (!strcmp(mode, "ends"))
         ends(load);
+    else if (!strcmp(mode, "asks"))
+        asks(load);
     else
         idle(load, clock);
     if (tellings != load->width * load->depth)
@@ -103,7 +119,7 @@ static void run(const char *mode, const struct load *load, clockid_t clock) {
 int main(int count, char **words) {
     char line[16];
     if (count < 9)
-        fail("use: load rate|ends|idle AGENT WIDTH DEPTH WAIT STEP TO WORD..");
+        fail("use: load rate|ends|idle|asks AGENT WIDTH DEPTH WAIT STEP TO WORD..");
     struct load load = {words[2], atoi(words[3]), atoi(words[4]), atoi(words[5]), atoi(words[6]), words[7]};
     if (load.width < 1 || load.width > 256 || load.depth < 1 || load.depth > 32)
         fail("1 to 256 resources and 1 to 32 starts of each");

@@ -30,6 +30,9 @@ void executor_queue(const struct load *load);
 /* Waits for all of them to end. Calls load_ended for each. */
 void executor_drain(const struct load *load);
 
+/* Asks what the first resource is, and waits for the answer. */
+void executor_ask(void);
+
 /* Unregisters the resources, or ends the executor. */
 void executor_close(const struct load *load);
 

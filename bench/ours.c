@@ -1,4 +1,5 @@
-/* ocfexec under load, by lines of JSON over two pipes. The words are the program and its words. */
+/* ocfexec under load, by lines of JSON over two pipes. The words are the program and its words: where it serves, ends are
+   told between the replies, and otherwise in a drain. */
 #define _GNU_SOURCE
 #include "load.h"
 
@@ -10,13 +11,37 @@
 
 static FILE *commands, *replies;
 static pid_t program;
+static int serves, waited;
 
-/* The next reply. */
-static const char *next_reply(void) {
+/* The next line. */
+static const char *next_line(void) {
     static char *line;
     static size_t room;
     if (getline(&line, &room, replies) < 0)
         fail("ocfexec ended");
+    return line;
+}
+
+/* The number behind a key of a line. */
+static int member(const char *line, const char *key) {
+    const char *found = strstr(line, key);
+    return found ? atoi(found + strlen(key)) : -1;
+}
+
+/* Whether a line is a notice of an end, which is taken then. */
+static int heard(const char *line) {
+    if (!strstr(line, "\"outcome\""))
+        return 0;
+    waited--;
+    load_ended(member(line, "\"id\":\"r"), member(line, "\"code\":"));
+    return 1;
+}
+
+/* The next reply. */
+static const char *next_reply(void) {
+    const char *line = next_line();
+    while (heard(line))
+        line = next_line();
     return line;
 }
 
@@ -54,6 +79,7 @@ static void put_parameters(const struct load *load, int resource) {
 
 pid_t executor_open(const struct load *load, char **words) {
     start(words);
+    serves = !strcmp(words[1], "serve");
     for (int n = 0; n < load->width; n++) {
         fprintf(commands, "{\"op\":\"register\",\"id\":\"r%d\",\"provider\":\"bench\",\"type\":\"%s\",\"params\":{", n, load->agent);
         put_parameters(load, n);
@@ -65,6 +91,7 @@ pid_t executor_open(const struct load *load, char **words) {
 
 /* A round at a time, so that neither pipe fills up. */
 void executor_queue(const struct load *load) {
+    waited = load->width * load->depth;
     for (int left = load->depth; left > 0; left--) {
         for (int n = 0; n < load->width; n++)
             fprintf(commands, "{\"op\":\"exec\",\"id\":\"r%d\",\"action\":\"start\",\"timeout\":60000}\n", n);
@@ -72,18 +99,22 @@ void executor_queue(const struct load *load) {
     }
 }
 
-/* The number behind a key of a reply. */
-static int member(const char *reply, const char *key) {
-    const char *found = strstr(reply, key);
-    return found ? atoi(found + strlen(key)) : -1;
-}
-
 void executor_drain(const struct load *load) {
     (void)load;
+    while (serves && waited > 0)
+        if (!heard(next_line()))
+            fail("a reply to nothing");
+    if (serves)
+        return;
     fputs("{\"op\":\"drain\"}\n", commands);
     fflush(commands);
-    for (const char *reply = next_reply(); !strstr(reply, "\"end\""); reply = next_reply())
-        load_ended(member(reply, "\"id\":\"r"), member(reply, "\"code\":"));
+    if (!strstr(next_reply(), "\"end\""))
+        fail("the drain did not end");
+}
+
+void executor_ask(void) {
+    fputs("{\"op\":\"info\",\"id\":\"r0\"}\n", commands);
+    acknowledged(1);
 }
 
 void executor_close(const struct load *load) {

@@ -3,7 +3,10 @@
 SIGTERM. An executor that ends is started again: with --journal it goes on where it was, and first tells what was interrupted.
 
     client.py --interval 10000 ocfexec serve --journal /var/lib/ocfexec
-    client.py --type Dummy --param state=/tmp/dummy ocfexec serve --memory
+    client.py --type Dummy --param state=/tmp/dummy ocfexec serve --memory --meta-variables --log -
+
+Agents of Debian's package resource-agents want --meta-variables: without Pacemaker's interval they take each monitor for a
+probe. --log - shows what they say.
 
 A reader may be slow (--slow): the executor waits where the pipe is full, and no line is lost.
 """

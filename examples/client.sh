@@ -1,7 +1,8 @@
 #!/bin/sh
 # Runs one resource through ocfexec for three seconds: registers and starts it, monitors it each second, and stops it. The
 # commands go through one FIFO and the lines come back through another. Each line that comes is printed.
-# Use: client.sh PROVIDER TYPE PARAMETER=VALUE ocfexec serve --memory
+# Debian's agents want --meta-variables, or they take each monitor for a probe; --log - shows what they say.
+# Use: client.sh PROVIDER TYPE PARAMETER=VALUE ocfexec serve --memory --meta-variables --log -
 set -eu
 provider=$1 type=$2 parameter=${3%%=*} value=${3#*=}
 shift 3

@@ -12,7 +12,7 @@ if [ ! -x "$AGENTS" ]; then
     (cd crates/ocf_agents && OCF_RESOURCE_TYPE=Dummy rt run -- meta-data > /dev/null) || exit 1
 fi
 passed=0 failed=0 skipped=0
-for check in words lines random_lines speed drains time ends serve agents agents_alone files journals durable kills orphans tidies clients real_agents; do
+for check in words lines random_lines speed drains time ends serve agents agents_alone agent_log meta_variables files memory journals layouts durable kills orphans tidies clients package real_agents; do
     echo "== tests/$check.sh"
     status=0
     timeout 170 "tests/$check.sh" "$PROGRAM" < /dev/null || status=$?

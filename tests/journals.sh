@@ -8,7 +8,7 @@ set -u
 # For printf: the epoch 1, the head of a part with it and the empty state, and the registration of r1 at moment 0.
 first='\0\0\0\0\0\0\0\1'
 empty="$first$first\\0\\0\\0\\0\\0\\0\\0\\0\\0\\0"
-head="\\1OCFJ\\1$first\\0\\0\\0\\x1a$empty"
+head="\\1OCFJ\\2$first\\0\\0\\0\\x1a$empty"
 register='\1\0\0\0\0\0\0\0\0\2r1\x09pacemaker\5Dummy\0'
 
 # Two empty parts. Use: parts DIR
@@ -139,10 +139,10 @@ same "a report that cannot be written, status" 7 $?
 printf "$head" | head -c 43 | spelled_a cut "A at 0: cut"
 printf "$head\\1\\0\\0" | spelled_a record_cut "A at 44: cut"
 head -c 46 /dev/zero | spelled_a closed "A at 0: closed"
-printf "\\1OCFK\\1$first\\0\\0\\0\\x1a$empty\\0" | spelled_b magic "B at 0: magic"
-printf "\\1OCFJ\\2$first\\0\\0\\0\\x1a$empty\\0" | spelled_b version "B at 0: version"
-printf "\\1OCFJ\\1\\0\\0\\0\\0\\0\\0\\0\\0\\0\\0\\0\\x1a$empty\\0" | spelled_a epoch "A at 0: epoch"
-printf "\\1OCFJ\\1$first\\0\\0\\0\\1x\\0" | spelled_a state "A at 0: state"
+printf "\\1OCFK\\2$first\\0\\0\\0\\x1a$empty\\0" | spelled_b magic "B at 0: magic"
+printf "\\1OCFJ\\3$first\\0\\0\\0\\x1a$empty\\0" | spelled_b version "B at 0: version"
+printf "\\1OCFJ\\2\\0\\0\\0\\0\\0\\0\\0\\0\\0\\0\\0\\x1a$empty\\0" | spelled_a epoch "A at 0: epoch"
+printf "\\1OCFJ\\2$first\\0\\0\\0\\1x\\0" | spelled_a state "A at 0: state"
 printf "$head\\1\\0\\0\\x80\\1" | spelled_a long "A at 44: long"
 printf "$head\\1\\0\\0\\0\\1\\0\\0" | spelled_b event "B at 44: event"
 printf "$head\\1\\0\\0\\0\\x0c\\2\\0\\0\\0\\0\\0\\0\\0\\0\\2r1\\0" | spelled_a order "A at 44: order"

@@ -135,10 +135,7 @@ def dies_along():
     # an agent that is killed with its executor: the report comes at once, and nothing is brought up
     if not shutil.which("setpriv"):
         return
-    with open(here + "/along", "w") as script:
-        script.write('#!/bin/sh\nexec setpriv --pdeathsig KILL sh "$@"\n')
-    os.chmod(here + "/along", 0o755)
-    journal, since = fresh("alone", via=here + "/along")
+    journal, since = fresh("alone", via=os.path.realpath("examples/with-executor.sh"))
     second = opened(journal)
     wanted(told(second) == "interrupted" and time.monotonic() - since < 1.5, "a report at once")
     wanted(second.communicate()[1] == "", "nothing on standard error")

@@ -24,7 +24,7 @@ trap leave EXIT
 
 # Answers the lines of standard input. Use: answers FILE
 answers() {
-    "$program" run --memory --root "$root" > "$1" || differs "ocfexec, status" 0 $?
+    "$program" run --memory --root "$root" --meta-variables > "$1" || differs "ocfexec, status" 0 $?
 }
 
 # The metadata of one agent. Use: tells_metadata TYPE

@@ -3,7 +3,8 @@
 //! are read and written, `state-reads` and `state-writes` count bytes, `triples` counts actions that are accepted, begun
 //! and ended, `openings` counts the bytes of a full part that a journal is opened on, and `tidies` those of the largest
 //! state that a journal writes as its snapshot, twice behind an opening; `waiting-turns` and `busy-turns`
-//! count turns over 256 running actions, which all run on, or all end and are followed by the next ones.
+//! count turns over 256 running actions, which all run on, or all end and are followed by the next ones; `resting-turns`,
+//! `lone-turns` and `due-turns` count turns over 2,048 recurring monitors, of which none is due, one or all.
 #![tactic(auto)]
 
 mod openings;
@@ -18,7 +19,7 @@ use crate::slots::appends;
 use crate::spellings::{events, is_written_again, largest_state, read_state, write_state};
 use crate::tidies::tidies;
 use crate::triples::triples;
-use crate::turns::{busy_turns, waiting_turns};
+use crate::turns::{busy_turns, due_turns, lone_turns, resting_turns, waiting_turns};
 use anyhow::{Context, Result, bail, ensure};
 use event_wire::decode_state;
 use ocf_types::StateParts;
@@ -27,7 +28,7 @@ use std::env;
 use std::rt::{Clock, Env};
 use std::time::Instant;
 
-const NAMES: [&str; 9] = [
+const NAMES: [&str; 12] = [
     "appends",
     "events",
     "state-reads",
@@ -37,6 +38,9 @@ const NAMES: [&str; 9] = [
     "tidies",
     "waiting-turns",
     "busy-turns",
+    "resting-turns",
+    "lone-turns",
+    "due-turns",
 ];
 
 // The largest state, its spelling, and a part that is full of records.
@@ -66,6 +70,9 @@ fn round(alloc: Global, largest: &Largest, name: &str) -> Result<u64> {
         "tidies" => tidies(alloc, largest.bytes.as_slice()),
         "waiting-turns" => waiting_turns(alloc),
         "busy-turns" => busy_turns(alloc),
+        "resting-turns" => resting_turns(alloc),
+        "lone-turns" => lone_turns(alloc),
+        "due-turns" => due_turns(alloc),
         _ => bail!("no benchmark is called {name}"),
     }
 }

@@ -10,7 +10,7 @@ use exec_state::State;
 use std::alloc::Global;
 
 // What a part begins with: an open gate, magic, version and epoch 1.
-const HEAD: [u8; 14] = *b"\x01OCFJ\x01\0\0\0\0\0\0\0\x01";
+const HEAD: [u8; 14] = *b"\x01OCFJ\x02\0\0\0\0\0\0\0\x01";
 
 // A part with this snapshot and no record.
 fn bare_part(alloc: Global, snapshot: &[u8]) -> Result<Vec<u8>> {

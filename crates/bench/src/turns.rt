@@ -5,14 +5,21 @@ use disk_model::MemDisk;
 use executor::{Executor, Input, InputOf};
 use ocf_env::{Site, Text};
 use ocf_types::{
-    AgentType, CommandOf, Millis, Params, Provider, QUEUE_LIMIT, RESOURCES_LIMIT, Registration,
-    Reply, ReplyOf, RequestOf, RscId, Task, TurnEnd,
+    AgentType, CommandOf, Level, Millis, Params, Provider, QUEUE_LIMIT, RECURRING_LIMIT,
+    RESOURCES_LIMIT, Registration, Reply, ReplyOf, RequestOf, RscId, Task, TurnEnd,
 };
 use std::alloc::Global;
 use std::collections::VecDeque;
 
 // How many turns are made over actions that all run on.
 const WAITING_TURNS: usize = 2_000;
+
+// How many turns are made while nothing runs, while one recurring monitor is due, and while all are.
+const RESTING_TURNS: usize = 20_000;
+
+const MONITOR_TURNS: usize = 2_000;
+
+const DUE_TURNS: usize = 20;
 
 fn id(n: usize) -> Result<RscId> {
     let hundreds = b'0' + (n / 100 % 10) as u8;
@@ -65,6 +72,48 @@ fn push_actions(alloc: Global, inputs: &mut Vec<Input>, actions: usize) -> Resul
     register_all(alloc, inputs)?;
     for _ in 0..actions {
         push_round(inputs)?;
+    }
+    Ok(())
+}
+
+// A recurring monitor of a resource.
+fn recur(n: usize, interval: u32) -> Result<Input> {
+    Ok(request(CommandOf::Recur {
+        id: id(n)?,
+        interval: Millis::new(interval).context("an interval")?,
+        timeout: Millis::new(20_000).context("a timeout")?,
+        level: Level::Zero,
+    }))
+}
+
+// Each resource gets one recurring monitor more, of this interval; the first resource, of that.
+fn push_monitors(inputs: &mut Vec<Input>, first: u32, interval: u32) -> Result<()> {
+    inputs.push(recur(0, first)?)?;
+    for n in 1..RESOURCES_LIMIT {
+        inputs.push(recur(n, interval)?)?;
+    }
+    Ok(())
+}
+
+// Each resource is registered and gets as many recurring monitors as it may have, which are all run once, at moment 0: the
+// first of the first resource is due this long behind that, and the others of it that long and longer.
+fn push_monitored(alloc: Global, inputs: &mut Vec<Input>, first: u32, interval: u32) -> Result<()> {
+    register_all(alloc, inputs)?;
+    push_monitors(inputs, first, interval)?;
+    let mut interval = interval;
+    for _ in 1..RECURRING_LIMIT {
+        interval = interval.saturating_add(1);
+        push_monitors(inputs, interval, interval)?;
+    }
+    push_turns(inputs, 1 + RECURRING_LIMIT)
+}
+
+// Turns so many milliseconds apart.
+fn push_turns_apart(inputs: &mut Vec<Input>, turns: usize, apart: u64) -> Result<()> {
+    let mut now: u64 = 0;
+    for _ in 0..turns {
+        now = now.saturating_add(apart);
+        inputs.push(InputOf::Turn { now })?;
     }
     Ok(())
 }
@@ -146,4 +195,37 @@ pub fn busy_turns(alloc: Global) -> Result<u64> {
     )?;
     play(alloc, children, inputs)?;
     Ok(QUEUE_LIMIT as u64)
+}
+
+// Turns so many milliseconds apart over all recurring monitors, the first of the first resource due this long behind its last
+// end, and the others that long.
+fn monitored_turns(
+    alloc: Global,
+    turns: usize,
+    first: u32,
+    interval: u32,
+    apart: u64,
+) -> Result<u64> {
+    let mut inputs = Vec::new(alloc);
+    push_monitored(alloc, &mut inputs, first, interval)?;
+    push_turns_apart(&mut inputs, turns, apart)?;
+    let polls = RESOURCES_LIMIT.saturating_mul(turns.saturating_add(2 * RECURRING_LIMIT));
+    let children = children(alloc, polls, polls.saturating_mul(2))?;
+    play(alloc, children, inputs)?;
+    Ok(turns as u64)
+}
+
+/// Turns in which nothing runs, and no recurring monitor is due.
+pub fn resting_turns(alloc: Global) -> Result<u64> {
+    monitored_turns(alloc, RESTING_TURNS, 1_000_000, 1_000_000, 0)
+}
+
+/// Turns in every second of which one recurring monitor is due and begins, and in the others of which it ends.
+pub fn lone_turns(alloc: Global) -> Result<u64> {
+    monitored_turns(alloc, MONITOR_TURNS, 1, 1_000_000, 1)
+}
+
+/// Turns in which the recurring monitors of every resource are due, one of them has ended, and the next begins.
+pub fn due_turns(alloc: Global) -> Result<u64> {
+    monitored_turns(alloc, DUE_TURNS, 1, 1, 1_000)
 }

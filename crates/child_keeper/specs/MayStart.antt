@@ -21,7 +21,7 @@ pub record IsLaunch (s : State) (launch : LaunchOf Call) : Type 0 where
   pub runs : resource.history.running ≡ Some running
   pub call_is : running.call ≡ launch.call
   pub run_is : running.run ≡ launch.run
-  pub invocation : IsInvocation site (registration_of launch.id resource) running.task launch.invocation
+  pub invocation : IsInvocation site (registration_of launch.id resource) running launch.invocation
 
 -- the journal, over a disk that is seen so, is settled at a state in which the launched action runs: whatever a stop leaves,
 -- its begin is found

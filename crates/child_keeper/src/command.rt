@@ -84,6 +84,16 @@ fn bare<A: Allocator + Copy>(alloc: A, program: &str) -> Result<Command<A>, Allo
     Ok(command)
 }
 
+/// Has a command write its output and its errors there.
+pub fn write_to<A: Allocator + Copy>(command: &mut Command<A>, output: Stdio, errors: Stdio)
+    ensures call { SameProgramAndArgs command.old command.new }
+    ensures environment { SameEnv command.old command.new }
+    ensures folder { SameDir command.old command.new }
+{
+    command.stdout(output);
+    command.stderr(errors);
+}
+
 // With nothing to read and nowhere to write.
 fn silence<A: Allocator + Copy>(command: &mut Command<A>)
     ensures call { SameProgramAndArgs command.old command.new }

@@ -5,10 +5,11 @@ ghost use Rattle.child_keeper.specs.Children.{without_run};
 
 use crate::agents::Agents;
 use crate::book::Book;
-use crate::command::command_of;
+use crate::command::{command_of, write_to};
 use crate::dying::Dying;
 use crate::ends::{poll_of, start_fault};
 use crate::patience::{Pauses, outlives};
+use crate::log::Log;
 use crate::tell::tell_alive;
 use crate::{Answer, Children, Entry, KillFault, Poll};
 use disk_model::Disk;
@@ -22,17 +23,18 @@ use std::process::{Child, OpenProcess};
 use std::rt::Clock;
 
 /// Agents as processes of the system. Each runs in the root folder with just the variables of its launch, and reads
-/// nothing and writes nowhere; it has no descriptor but 0, 1 and 2, blocks no signal and is ended by SIGPIPE, and has the
-/// umask of this process. OCF Resource Agent API 1.1, actions.
+/// nothing and writes where the log says; it has no descriptor but 0, 1 and 2, blocks no signal and is ended by SIGPIPE, and
+/// has the umask of this process. OCF Resource Agent API 1.1, actions.
 ///
 /// A killed child is the agent alone, not what it started. Its end is waited for, a tenth of a second at most: one that
 /// outlives that is named on standard error, and is asked for again whenever the book is emptied or another is started,
 /// without blocking. A start takes the memory of its command from the allocator, and is refused as [`StartFault::Other`]
-/// where there is none.
+/// where there is none, or no descriptor more.
 #[derive(Drop)]
 pub struct Processes<R: process::Processes + Drop, A: Allocator + Copy = Global> {
     rt: R,
     alloc: A,
+    log: Log,
     book: Book<A>,
     live: Agents<R::Started, A>,
     dying: Dying<R::Started, A>,
@@ -42,14 +44,15 @@ pub struct Processes<R: process::Processes + Drop, A: Allocator + Copy = Global>
 impl<R: process::Processes + Clock + Eprint + Drop, A: Allocator + Copy> Processes<R, A> {
     ghost use Rattle.child_keeper.specs.Processes.{processes_of};
 
-    /// No children yet, with a book of so many entries. The room for the book and for all that may live is made here. It
-    /// fails only where memory is refused.
-    pub fn new(rt: R, alloc: A, book: usize) -> Result<Processes<R, A>, AllocError>
+    /// No children yet, which will write to the log, with a book of so many entries. The room for the book and for all that may
+    /// live is made here. It fails only where memory is refused.
+    pub fn new(rt: R, alloc: A, log: Log, book: usize) -> Result<Processes<R, A>, AllocError>
         ensures children { IfOk result (λ p. processes_of p ≡ record { book = []; room = book; last_run = 0; live = [] }) }
     {
         Ok(Processes {
             rt,
             alloc,
+            log,
             book: Book::new(alloc, book)?,
             live: Agents::new(alloc)?,
             dying: Dying::new(alloc)?,
@@ -93,11 +96,16 @@ fn tell_killed<P: OpenProcess>(
 fn spawn<R: process::Processes, A: Allocator + Copy, L: Allocator>(
     rt: &R,
     alloc: A,
+    log: &Log,
     invocation: &Invocation<L>,
 ) -> Result<Child<R::Started>, StartFault> {
+    let (Ok(output), Ok(errors)) = (log.stdio(), log.stdio()) else {
+        return Err(StartFault::Other);
+    };
     let Ok(mut command) = command_of(alloc, invocation) else {
         return Err(StartFault::Other);
     };
+    write_to(&mut command, output, errors);
     command.spawn(rt).map_err(|error| start_fault(&error))
 }
 
@@ -130,7 +138,7 @@ impl<R: process::Processes + Clock + Eprint + Drop, A: Allocator + Copy> Childre
     ) -> Result<(), StartFault> {
         self.dying.sweep();
         let run = launch.run;
-        let answer = match spawn(&self.rt, self.alloc, &launch.invocation) {
+        let answer = match spawn(&self.rt, self.alloc, &self.log, &launch.invocation) {
             Ok(child) => {
                 self.live.add(run, child);
                 Ok(())

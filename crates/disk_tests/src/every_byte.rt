@@ -56,6 +56,7 @@ fn counts(alloc: Global) -> Option<[u32; 10]> {
 
 #[test]
 fn every_byte_is_read_as_it_stands(rt: HostRuntime) {
-    let wanted = [8_255, 1_314, 1_020, 255, 1, 255, 2_009, 639, 4_836, 1_561];
+    // the version of the first layout is read, too
+    let wanted = [8_256, 1_314, 1_020, 254, 1, 255, 2_009, 639, 4_836, 1_561];
     assert_eq!(rt; counts(rt.alloc()), Some(wanted));
 }

@@ -9,7 +9,7 @@ pub const EMPTY_STATE: &[u8] = b"\0\0\0\0\0\0\0\x01\0\0\0\0\0\0\0\x01\0\0\0\0\0\
 
 /// Part A of a journal in which r1 was registered at moment 0.
 pub const FIRST: &[u8] =
-    b"\x01OCFJ\x01\0\0\0\0\0\0\0\x01\0\0\0\x1a\0\0\0\0\0\0\0\x01\0\0\0\0\0\0\0\x01\0\0\0\0\0\0\0\0\0\0\x01\0\0\0\
+    b"\x01OCFJ\x02\0\0\0\0\0\0\0\x01\0\0\0\x1a\0\0\0\0\0\0\0\x01\0\0\0\0\0\0\0\x01\0\0\0\0\0\0\0\0\0\0\x01\0\0\0\
     \x1d\x01\0\0\0\0\0\0\0\0\x02r\x31\x09pacemaker\x05Dummy\0\0";
 
 /// The state after that.
@@ -18,7 +18,7 @@ pub const FIRST_STATE: &[u8] =
 
 /// Part A of a journal in which then a start and a monitor of level 10 were accepted, and the start began at moment 10.
 pub const QUEUED: &[u8] =
-    b"\x01OCFJ\x01\0\0\0\0\0\0\0\x01\0\0\0\x1a\0\0\0\0\0\0\0\x01\0\0\0\0\0\0\0\x01\0\0\0\0\0\0\0\0\0\0\x01\0\0\0\
+    b"\x01OCFJ\x02\0\0\0\0\0\0\0\x01\0\0\0\x1a\0\0\0\0\0\0\0\x01\0\0\0\0\0\0\0\x01\0\0\0\0\0\0\0\0\0\0\x01\0\0\0\
     \x1d\x01\0\0\0\0\0\0\0\0\x02r\x31\x09pacemaker\x05Dummy\0\x01\0\0\0\x1a\x04\0\0\0\0\0\0\0\0\x02r\x31\0\0\0\0\
     \0\0\0\x01\x01\0\0\0N\x20\x01\0\0\0\x1a\x04\0\0\0\0\0\0\0\0\x02r\x31\0\0\0\0\0\0\0\x02\x03\x0a\0\0N\x20\x01\0\
     \0\0\x1c\x08\0\0\0\0\0\0\0\x0a\x02r\x31\0\0\0\0\0\0\0\x01\0\0\0\0\0\0\0\x01\0";
@@ -37,7 +37,7 @@ pub const DROPPED_STATE: &[u8] =
 
 /// Part B of epoch 2, with a snapshot of r1 whose start runs.
 pub const BEGUN: &[u8] =
-    b"\x01OCFJ\x01\0\0\0\0\0\0\0\x02\0\0\0\x54\0\0\0\0\0\0\0\x02\0\0\0\0\0\0\0\x02\0\0\0\0\0\0\0\x0a\0\x01\x02r\x31\
+    b"\x01OCFJ\x02\0\0\0\0\0\0\0\x02\0\0\0\x54\0\0\0\0\0\0\0\x02\0\0\0\0\0\0\0\x02\0\0\0\0\0\0\0\x0a\0\x01\x02r\x31\
     \x09pacemaker\x05Dummy\0\0\x01\0\0\0\0\0\0\0\x01\0\0\0\0\0\0\0\x01\x01\0\0\0N\x20\0\0\0\0\0\0\0\0\0\0\0\x0a\0\
     \0\0";
 

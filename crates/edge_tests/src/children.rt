@@ -1,6 +1,6 @@
 // What children of the system ask of the system, over one that starts nothing and counts.
 use crate::runs::nowhere;
-use child_keeper::{Children, Processes, Waited, run_meta};
+use child_keeper::{Children, Log, Processes, Waited, run_meta};
 use disk_model::MemDisk;
 use exec_commands::{Line, read_command};
 use executor::{Executor, Input, InputOf};
@@ -236,7 +236,7 @@ fn played<'a>(
     resources: u32,
     turns: &[u64],
 ) -> Option<Executor<MemDisk, Processes<&'a FakeSystem>>> {
-    let children = Processes::new(system, alloc, 16).ok()?;
+    let children = Processes::new(system, alloc, Log::none(), 16).ok()?;
     match Executor::open(alloc, MemDisk::new(alloc), children, nowhere(alloc), 0) {
         Ok((mut executor, _)) => {
             executor

@@ -43,9 +43,12 @@ with_site_app a =
     let a₂ = with_rule a₁ (text_rule (codes "via")) in
     with_rule a₂ (text_rule_or (codes "path") default_path)
 
--- how long is waited for what a killed executor's agents still do
+-- what agents get and where they write, and how long is waited for what a killed executor's agents still do
 abbrev pub with_agent_app : App → App
-with_agent_app a = with_rule a (text_rule_or (codes "orphans") default_orphans)
+with_agent_app a =
+    let a₁ = with_rule a (flag_rule (codes "meta-variables")) in
+    let a₂ = with_rule a₁ (text_rule (codes "log")) in
+    with_rule a₂ (text_rule_or (codes "orphans") default_orphans)
 
 abbrev pub with_options_app : App → App
 with_options_app a = with_agent_app (with_site_app (with_journal_app a))

@@ -57,6 +57,8 @@ pub record IsReadFrom (rows : List Row) (o : Options) : Type 0 where
   pub absolute : is_absolute o.root.now ≡ true
   pub via : option_map (λ s. s.now) o.via ≡ first_of (codes "via") rows
   pub path : o.path.now ≡ unwrap_or (first_of (codes "path") rows) default_path
+  pub meta_variables : o.meta_variables ≡ is_true_text (first_of (codes "meta-variables") rows)
+  pub log : option_map (λ s. s.now) o.log ≡ first_of (codes "log") rows
   pub orphans : IsNumberTo longest_wait (orphans_text rows) o.orphans
 
 -- by `clap`'s rules the words name this subcommand, with these rows

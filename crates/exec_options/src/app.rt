@@ -106,6 +106,17 @@ fn with_agent_options<'a>(alloc: Global, command: Command<'a>) -> Result<Command
     ensures app { IfOk result (λ r. app_of r ≡ with_agent_app (app_of command.entry)) }
     ensures local { IfOk result (λ r. (out-Command r).has_globals ≡ (out-Command command.entry).has_globals) }
 {
+    let command = command.arg(flag(
+        alloc,
+        "meta-variables",
+        "Give agents Pacemaker's OCF_RESKEY_CRM_meta_interval, _name and _timeout too, as Debian's agents want them",
+    ))?;
+    let command = command.arg(text_option(
+        alloc,
+        "log",
+        "FILE",
+        "Append what agents write to FILE; -: to this program's standard error; left out, it is lost",
+    ))?;
     command.arg(text_option_or(
         alloc,
         "orphans",

@@ -57,6 +57,10 @@ pub struct Options<'a> {
     pub path: &'a str,
     /// The journal is tidied once it holds more bytes than this; 0 for never. It is at most a part's limit.
     pub tidy_at: u64,
+    /// Whether agents get Pacemaker's own variables too.
+    pub meta_variables: bool,
+    /// The file that what agents write is appended to, `-` for the standard error of the program, or none: then it is lost.
+    pub log: Option<&'a str>,
     /// How long an opening waits for what a killed executor's agents still do, in milliseconds; 0: it does not. It is a
     /// day at most.
     pub orphans: u64,

@@ -116,6 +116,8 @@ fn options_of<'a>(
         root,
         via: text_of(matches, "via"),
         path: text_of(matches, "path").unwrap_or(PATH),
+        meta_variables: is_set(matches, "meta-variables"),
+        log: text_of(matches, "log"),
         orphans,
     })
 }

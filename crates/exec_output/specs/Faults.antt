@@ -17,12 +17,14 @@ status_of fault.TidyAt = 2
 status_of fault.Root = 2
 status_of fault.Orphans = 2
 status_of fault.NotText = 2
+status_of fault.Log = 7
 status_of (fault.Damaged damage) = 3
 status_of fault.Memory = 4
 status_of fault.NotOpened = 5
 status_of fault.Disk = 5
 status_of fault.Full = 6
 status_of fault.InputOrOutput = 7
+status_of fault.ReplyMemory = 7
 status_of fault.ChildrenIgnored = 8
 
 -- what a person can do about it, where there is more to say than its text
@@ -34,12 +36,15 @@ fault_advice fault.Root = None
 fault_advice fault.Orphans = None
 fault_advice fault.NotText = None
 fault_advice fault.NotOpened = None
+fault_advice fault.Log = Some (codes "Nothing was changed. Check the file of --log, its folder and its permissions.")
 fault_advice (fault.Damaged damage) = Some (codes "Nothing was changed. Keep both parts, and begin with a new journal.")
 fault_advice fault.Memory = Some (codes "Free memory or raise the limit of the process, and start it again.")
 fault_advice fault.Disk = Some (codes "Check the device of the journal, its free space and its permissions.")
 fault_advice fault.Full = Some (codes "Nothing was changed. See what it holds by show, and begin with a new journal.")
 fault_advice fault.InputOrOutput =
     Some (codes "Check what standard input and output are connected to. A command without a reply may be recorded.")
+fault_advice fault.ReplyMemory =
+    Some (codes "Free memory or raise the limit of the process. A command without a reply may be recorded.")
 fault_advice fault.ChildrenIgnored =
     Some (codes "Nothing was changed. Start it with SIGCHLD at its default: no end of an agent would be seen.")
 
@@ -66,7 +71,7 @@ cause_word cause.Long = codes "long"
 cause_word cause.Event = codes "event"
 cause_word cause.Order = codes "order"
 
--- how a run and a show may end on a disk: well, or by a fault that is neither one of the words nor of the journal's files
+-- how a run and a show may end on a disk: well, or by a fault that is neither one of the words nor of the files of the journal and the log
 abbrev pub IsRunEnd : {T : Type 0} → Result T Fault → Type 0
 IsRunEnd (Ok done) = ⊤
 IsRunEnd (Err fault.Usage) = ⊥
@@ -75,5 +80,6 @@ IsRunEnd (Err fault.TidyAt) = ⊥
 IsRunEnd (Err fault.Root) = ⊥
 IsRunEnd (Err fault.Orphans) = ⊥
 IsRunEnd (Err fault.NotText) = ⊥
+IsRunEnd (Err fault.Log) = ⊥
 IsRunEnd (Err fault.NotOpened) = ⊥
 IsRunEnd (Err _) = ⊤

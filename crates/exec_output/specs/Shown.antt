@@ -33,4 +33,5 @@ ShowsAs reads old new (Err (fault.Damaged damage)) = IsFound reads (Damaged dama
 ShowsAs reads old new (Err fault.Disk) = new ≡ old
 ShowsAs reads old new (Err fault.Memory) = new ≡ old
 ShowsAs reads old new (Err fault.InputOrOutput) = ⊤
+ShowsAs reads old new (Err fault.ReplyMemory) = ⊤
 ShowsAs reads old new (Err _) = ⊥

@@ -8,21 +8,29 @@ use exec_commands::{LineReply, NoticeForm, write_notice, write_reply};
 use exec_lines::write_flushed;
 use ocf_types::Notice;
 use std::alloc::{AllocError, Global};
-use std::io::{self, Write};
+use std::io::{self, ErrorKind, Write};
 
-/// Why a run stops before its input ends: standard input or output failed, or a reply found no memory.
+/// Why a run stops before its input ends.
 #[derive(Drop)]
-pub struct Stopped;
+pub enum Stopped {
+    /// Standard input or output failed, or nobody reads what is written.
+    InputOrOutput,
+    /// A reply or a notice found no memory.
+    Memory,
+}
 
 impl From<io::Error> for Stopped {
-    fn from(_: io::Error) -> Stopped {
-        Stopped
+    fn from(error: io::Error) -> Stopped {
+        match error.kind() {
+            ErrorKind::OutOfMemory => Stopped::Memory,
+            _ => Stopped::InputOrOutput,
+        }
     }
 }
 
 impl From<AllocError> for Stopped {
     fn from(_: AllocError) -> Stopped {
-        Stopped
+        Stopped::Memory
     }
 }
 

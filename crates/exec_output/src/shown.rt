@@ -27,7 +27,7 @@ fn write_answer<W: Write>(
     ensures { OnOk result (Appends (W.contents writer.old) (W.contents writer.new) (answer_line state.now.state question.now)) }
 {
     match state.answer(alloc, question) {
-        Reply::Refused(_) => Err(Stopped),
+        Reply::Refused(_) => Err(Stopped::Memory),
         reply => send_reply(alloc, writer, &LineReply::Request(reply)),
     }
 }
@@ -64,7 +64,7 @@ fn write_state<W: Write>(alloc: Global, writer: &mut W, state: &State) -> Result
 {
     let reply = LineReply::Request(state.answer(alloc, &Question::List));
     let LineReply::Request(Reply::List(ids)) = &reply else {
-        return Err(Stopped);
+        return Err(Stopped::Memory);
     };
     send_reply(alloc, writer, &reply)?;
     write_resources(alloc, writer, state, ids.as_slice())
@@ -82,7 +82,8 @@ fn opening_fault(fault: JournalFault) -> Fault
 }
 
 /// Opens a journal without a boot and writes what it holds: the reply of `list`, and then of each resource those of `info`
-/// and `history`. It is all written, or the fault is that of input or output. The disk is handed back.
+/// and `history`. It is all written, or the fault is that of input or output, or of memory for a reply. The disk is handed
+/// back.
 pub fn show<D: Disk + Drop, W: Write>(
     alloc: Global,
     disk: D,
@@ -96,7 +97,8 @@ pub fn show<D: Disk + Drop, W: Write>(
     match Journal::open(alloc, disk) {
         Ok((journal, state)) => match write_state(alloc, writer, &state) {
             Ok(()) => (journal.into_disk(), Ok(())),
-            Err(_) => (journal.into_disk(), Err(Fault::InputOrOutput)),
+            Err(Stopped::InputOrOutput) => (journal.into_disk(), Err(Fault::InputOrOutput)),
+            Err(Stopped::Memory) => (journal.into_disk(), Err(Fault::ReplyMemory)),
         },
         Err((fault, disk)) => (disk, Err(opening_fault(fault))),
     }

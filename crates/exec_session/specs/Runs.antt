@@ -13,7 +13,7 @@ use Rattle.exec_commands.specs.Replies.{formed_line}
 use Rattle.exec_commands.specs.declared.notice.NoticeForm.{NoticeForm}
 use Rattle.exec_lines.specs.Pieces.{IsMidLine}
 use Rattle.exec_output.specs.declared.fault.Fault.{Fault}
-use Rattle.exec_output.specs.declared.fault.Fault.TheVariants.{Disk, Memory, InputOrOutput}
+use Rattle.exec_output.specs.declared.fault.Fault.TheVariants.{Disk, Memory, InputOrOutput, ReplyMemory}
 use Rattle.exec_session.specs.declared.lines.Progress.{Progress}
 use Rattle.exec_session.specs.declared.lines.Progress.TheVariants.{End}
 use Rattle.exec_session.specs.declared.session.Run.{Run as RunResult}
@@ -86,6 +86,7 @@ EndsAs look tend source limits report p q (Err Disk) =
     Runs look tend source limits report p q × ((sight_of tend q.executor).is_open ≡ false)
 EndsAs look tend source limits report p q (Err Memory) = q ≡ p
 EndsAs look tend source limits report p q (Err InputOrOutput) = ⊤
+EndsAs look tend source limits report p q (Err ReplyMemory) = ⊤
 EndsAs look tend source limits report p q (Err _) = ⊥
 
 -- A run that begins at this place ended, with what the reader has left then and what the writer holds: at its end all

@@ -73,12 +73,12 @@ pub fn drain<W: Output, D: Disk + Drop, C: Children + Drop, K: Clock, M: Metadat
         let end = make_turn(setting, writer, executor, now)?;
         rest(setting.clock, pause.behind_turn(setting.clock, executor));
         if !writer.is_heard() {
-            return Err(Stopped);
+            return Err(Stopped::InputOrOutput);
         }
         now = moment_now(setting.clock).get();
         if let Some(end) = terms.end_behind(turns + 1, now, end, executor.idle()) {
             return Ok(end);
         }
     }
-    Err(Stopped)
+    Err(Stopped::InputOrOutput)
 }

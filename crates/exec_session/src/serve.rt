@@ -28,8 +28,8 @@ use std::rt::Clock;
 // How many reads are made at most between two turns, and so how many lines are answered.
 const READS_A_TURN: u32 = 64;
 
-// The longest wait while nothing is queued or runs, in milliseconds: a monitor that falls due meanwhile begins at its end.
-const LONGEST_IDLE: u32 = 50;
+// The longest wait while nothing is queued or runs, in milliseconds.
+const LONGEST_IDLE: u32 = 1_000;
 
 // Goes on with the line in the buffer by one read, and answers it once it is whole; none while it is not.
 fn take_read<R: Input, W: Output, D: Disk + Drop, C: Children + Drop, K: Clock, M: Metadata>(
@@ -107,7 +107,8 @@ fn make_own_turn<W: Output, D: Disk + Drop, C: Children + Drop, K: Clock, M>(
     Ok(())
 }
 
-// How long may be waited for a line behind a turn, in microseconds: not at all behind one in which something happened.
+// How long may be waited for a line behind a turn, in microseconds: not at all behind one in which something happened, and
+// while nothing is queued or runs until the next monitor is due.
 fn wait_micros<D: Disk + Drop, C: Children + Drop, K: Clock, M>(
     setting: &Setting<K, M>,
     executor: &Executor<D, C>,
@@ -117,7 +118,12 @@ fn wait_micros<D: Disk + Drop, C: Children + Drop, K: Clock, M>(
     if micros == 0 || !executor.idle() {
         return micros;
     }
-    1_000 * u64::from(LONGEST_IDLE)
+    let now = moment_now(setting.clock).get();
+    match executor.first_due() {
+        Some(due) if due <= now => micros,
+        Some(due) => 1_000 * (due - now).min(u64::from(LONGEST_IDLE)),
+        None => 1_000 * u64::from(LONGEST_IDLE),
+    }
 }
 
 // Waits until a line is there, something may have ended, or a monitor is due. It stops where nobody reads what is written.
@@ -139,7 +145,7 @@ fn wait<R: Input, W: Output, D: Disk + Drop, C: Children + Drop, K: Clock, M>(
     if writer.is_heard() {
         Ok(())
     } else {
-        Err(Stopped)
+        Err(Stopped::InputOrOutput)
     }
 }
 
@@ -169,5 +175,5 @@ pub fn serve_all<R: Input, W: Output, D: Disk + Drop, C: Children + Drop, K: Clo
         make_own_turn(setting, writer, executor, &mut pause)?;
         wait(setting, reader, writer, executor, &mut pause)?;
     }
-    Err(Stopped)
+    Err(Stopped::InputOrOutput)
 }

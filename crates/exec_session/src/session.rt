@@ -5,7 +5,7 @@ ghost use Rattle.executor.specs.Lives.{ByCalls};
 ghost use Rattle.executor.specs.Sights.{IsSound, sight_of};
 ghost use Rattle.exec_session.specs.Limits.{limits_of};
 ghost use Rattle.exec_session.specs.Progress.{Takes, place};
-ghost use Rattle.exec_session.specs.Runs.{ClosesByCalls, Ended, EndsAs, ReachesEnd};
+ghost use Rattle.exec_session.specs.Runs.{ClosesByCalls, Ended, EndsAs, ReachesEnd, Runs};
 
 use crate::lines::{Progress, answer_found, found_in};
 use crate::metadata::Metadata;
@@ -70,7 +70,7 @@ fn answer_all<R: Input, W: Output, D: Disk + Drop, C: Children + Drop, K: Clock,
             return Ok(());
         }
     }
-    Err(Stopped)
+    Err(Stopped::InputOrOutput)
 }
 
 // Answers the lines of the input, up to its end, in the way that is set. The buffer is empty.
@@ -94,7 +94,28 @@ fn answer_in_way<R: Input, W: Output, D: Disk + Drop, C: Children + Drop, K: Clo
     }
 }
 
-// Writes the report, and then answers all lines.
+// Writes the report, and then answers all lines. The buffer is empty.
+fn report_and_answer<R: Input, W: Output, D: Disk + Drop, C: Children + Drop, K: Clock, M: Metadata>(
+    setting: &Setting<K, M>,
+    reader: &mut R,
+    writer: &mut W,
+    executor: &mut Executor<D, C>,
+    buffer: &mut LineBuffer,
+    report: &Report,
+) -> Result<(), Stopped>
+    requires sound { IsSound D.view (sight_of C.view executor.old) }
+    requires empty { line_bytes buffer.old ≡ [] }
+    ensures calls { ByCalls D.view (sight_of C.view executor.old) (sight_of C.view executor.new) }
+    ensures runs { OnOk result (Runs D.view C.view (M.gives setting.now.metadata.now) (limits_of setting.now) report.now
+        (place executor.old (R.remaining reader.old) (W.contents writer.old))
+        (place executor.new (R.remaining reader.new) (W.contents writer.new))) }
+{
+    send_report(setting.alloc, writer, setting.form, report)?;
+    answer_in_way(setting, reader, writer, executor, buffer)?;
+    Ok(())
+}
+
+// Writes the report, and then answers all lines; how the program ends behind that.
 fn answer_lines<R: Input, W: Output, D: Disk + Drop, C: Children + Drop, K: Clock, M: Metadata>(
     setting: &Setting<K, M>,
     reader: &mut R,
@@ -111,22 +132,17 @@ fn answer_lines<R: Input, W: Output, D: Disk + Drop, C: Children + Drop, K: Cloc
     let Ok(mut buffer) = LineBuffer::new(setting.alloc) else {
         return Err(Fault::Memory);
     };
-    if send_report(setting.alloc, writer, setting.form, report).is_err() {
-        return Err(Fault::InputOrOutput);
-    }
-    if answer_in_way(setting, reader, writer, executor, &mut buffer).is_err() {
-        return Err(Fault::InputOrOutput);
-    }
-    if executor.is_open() {
-        Ok(())
-    } else {
-        Err(Fault::Disk)
+    match report_and_answer(setting, reader, writer, executor, &mut buffer, report) {
+        Ok(()) if executor.is_open() => Ok(()),
+        Ok(()) => Err(Fault::Disk),
+        Err(Stopped::InputOrOutput) => Err(Fault::InputOrOutput),
+        Err(Stopped::Memory) => Err(Fault::ReplyMemory),
     }
 }
 
 /// Writes what the opening reports, and then answers each line of the input, up to its end; a run that serves makes turns by
 /// itself, too. Each reply is flushed before the next line is answered, and a turn's notices before the next turn. Where the
-/// disk failed the end of the input is a fault, and input or output that fails is another. In any case all children are given
+/// disk failed the end of the input is a fault; input or output that fails is another, and so is a reply that finds no memory. In any case all children are given
 /// up then, and the executor closed.
 pub fn run_lines<R: Input, W: Output, D: Disk + Drop, C: Children + Drop, K: Clock, M: Metadata>(
     setting: &Setting<K, M>,

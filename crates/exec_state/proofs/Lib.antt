@@ -3,6 +3,7 @@ pub mod Lookups
 pub mod Entries
 pub mod Picks
 pub mod Rooms
+pub mod Resting
 pub mod Restored
 pub mod DueSteps
 pub mod DueLaw

@@ -1,5 +1,6 @@
 pub mod Seen
 pub mod Store
+pub mod Resting
 pub mod Contents
 pub mod MonitorsAfter
 pub mod Lawful

@@ -1,6 +1,7 @@
 -- What contracts see of the state machine: the state that the journal keeps, when each recurring monitor is due, and
 -- whether a resource can be registered without memory.
 use Rattle.std.specs.Prelude.{◌≡◌, ℕ, ◌==◌, Bool, List, [], map, find, Option, IsTrue, MatchOption, None, ⊤, option_map, unwrap_or}
+use Rattle.std.specs.List.{flat_map}
 use Rattle.std.specs.Map.{lookup}
 use Rattle.std.specs.Str.{bytes_eq}
 use Rattle.ocf_types.specs.Kinds.{Change, Event}
@@ -8,7 +9,7 @@ use Rattle.ocf_types.specs.State.{State, resource_at}
 use Rattle.ocf_types.specs.Due.{Due, IsPick}
 use Rattle.ocf_types.specs.declared.event.Change.TheVariants as change
 use Rattle.recurring.specs.declared.monitor.Monitor.{Monitor}
-use Rattle.recurring.specs.Monitors.{all_due_at}
+use Rattle.recurring.specs.Monitors.{all_due_at, pairs}
 
 -- the recurring monitors of each resource with their due moments, by its id, in order of registration
 abbrev pub Monitors : Type 0
@@ -31,6 +32,10 @@ IsPrepared s e = IsReadyFor s e.change
 -- the monitors of the resource of an id
 abbrev pub monitors_at : Monitors → List ℕ → List Monitor
 monitors_at all id = unwrap_or (lookup (bytes_eq id) all) []
+
+-- the due moments of all monitors, each with its call
+abbrev pub all_pairs : Monitors → List (ℕ × ℕ)
+all_pairs all = flat_map (λ e. pairs e.1) all
 
 -- when the monitor of an id and a call is due
 abbrev pub due_of : Monitors → Due

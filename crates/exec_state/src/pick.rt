@@ -1,7 +1,9 @@
 //! The pick: what a resource begins now.
+ghost use Rattle.std.specs.Prelude.{◌≡◌, ◌<◌, ℕ, None, IsTrue};
 ghost use Rattle.ocf_types.specs.Due.{IsPickOf};
-ghost use Rattle.recurring.specs.Monitors.{pairs};
-ghost use Rattle.exec_state.specs.Store.{IsChoice};
+ghost use Rattle.recurring.specs.Monitors.{pairs, IsFirstMoment};
+ghost use Rattle.exec_state.specs.Store.{IsChoice, all_pairs};
+ghost use Rattle.exec_state.specs.Resting.{Rests};
 
 use crate::registered::Registered;
 use crate::state::State;
@@ -19,6 +21,29 @@ impl<A: Allocator + Copy> State<A> {
             None => None,
         }
     }
+
+    /// Looks when the next resource has something to begin, unless that is known since the last event. Nothing else
+    /// changes.
+    pub fn look(&mut self)
+        ensures { self.new ≡ self.old }
+    {
+        self.registry.look();
+    }
+
+    /// The least moment, in milliseconds, at which a recurring monitor is due: `None` just where there are no recurring
+    /// monitors.
+    pub fn first_due(&self) -> Option<u64>
+        ensures { IsFirstMoment (all_pairs self.now.monitors) result }
+    {
+        self.registry.first_due()
+    }
+
+    /// Whether it is known that no resource has anything to begin at that moment.
+    pub fn rests(&self, now: Moment) -> bool
+        ensures { IsTrue result → Rests self.now now }
+    {
+        self.registry.rests(now)
+    }
 }
 
 impl<A: Allocator> Registered<A> {
@@ -33,5 +58,18 @@ impl<A: Allocator> Registered<A> {
             return Some(self.ops.queued_at(0).call);
         }
         self.monitors.due(now)
+    }
+
+    /// A moment before which it begins nothing, as long as it stays as it is.
+    pub(crate) fn rests_until(&self) -> u64
+        ensures { (now : ℕ) → now < result → IsPickOf self.now.ops.running self.now.ops.queue (pairs self.now.monitors) now None }
+    {
+        if self.ops.running().is_some() {
+            return u64::MAX;
+        }
+        if self.ops.queue_len() != 0 {
+            return 0;
+        }
+        self.monitors.first_due().unwrap_or(u64::MAX)
     }
 }

@@ -1,17 +1,19 @@
 //! The resources by id, in order of registration.
-ghost use Rattle.std.specs.Prelude.{◌≡◌, ◌<◌, ◌++◌, ◌∷◌, [], None, map, not, filter, length, nat_le, is_some, option_map, option_and_then};
+ghost use Rattle.std.specs.Prelude.{ℕ, List, ◌≡◌, ◌<◌, ◌++◌, ◌∷◌, [], None, map, not, filter, length, nat_le, is_some, option_map, option_and_then};
 ghost use Rattle.std.specs.Prelude.{slice_index_or, IsTrue, IsSomeAnd, IsOk, IfOk, OnOk};
 ghost use Rattle.std.specs.Map.{keys_of, lookup};
-ghost use Rattle.std.specs.List.{list_any, AllByRecursion, IsDistinct};
+ghost use Rattle.std.specs.List.{flat_map, list_any, AllByRecursion, IsDistinct};
 ghost use Rattle.std.specs.Str.{bytes_eq};
 ghost use Rattle.indexmap.specs.IndexMap.{values, spare};
 ghost use Rattle.ocf_types.specs.Resource.{booted, is_busy};
 ghost use Rattle.ocf_types.specs.State.{at_id, others, on_history, stepped, registered};
 ghost use Rattle.ocf_types.specs.Places.{no_entry};
-ghost use Rattle.recurring.specs.Monitors.{all_due_at};
+ghost use Rattle.recurring.specs.Monitors.{all_due_at, pairs, IsFirstMoment};
 ghost use Rattle.exec_state.specs.Seen.{seen, seen_all, monitors_of, monitors_all, CanTake, FitsRoom};
 ghost use Rattle.exec_state.specs.MonitorsAfter.{monitors_stepped};
 ghost use Rattle.exec_state.specs.Lawful.{recurs_by_id, recurring_by_id};
+ghost use Rattle.exec_state.specs.Resting.{AllRest, RestBefore};
+ghost use Rattle.exec_state.specs.Store.{all_pairs};
 
 use crate::registered::Registered;
 use indexmap::IndexMap;
@@ -30,6 +32,8 @@ type Resources<A> = IndexMap<RscId, Registered<A>, BuildHasherDefault<FoldHasher
 pub(crate) struct Registry<A: Allocator + Copy = Global> {
     resources: Resources<A>,
     next_ops: Option<Ops<A>>,
+    // A moment before which no resource has anything to begin: 0 since something changed.
+    rests_until: u64,
 }
 
 impl<A: Allocator + Copy> Model for Registry<A> {
@@ -38,6 +42,7 @@ impl<A: Allocator + Copy> Model for Registry<A> {
     ghost use Rattle.ocf_types.specs.Resource.{no_history};
     ghost use Rattle.exec_state.specs.Seen.{seen_all, monitors_all};
     ghost use Rattle.exec_state.specs.Contents.{Contents};
+    ghost use Rattle.exec_state.specs.Resting.{RestBefore};
 
     ghost Value = { Contents };
 
@@ -47,11 +52,13 @@ impl<A: Allocator + Copy> Model for Registry<A> {
       ready = is_some r.next_ops && nat_lt 0 (spare r.resources);
     } };
 
-    ghost invariant = { λ r. IfSome r.next_ops (λ o. o ≡ no_history) };
+    ghost invariant = { λ r. (IfSome r.next_ops (λ o. o ≡ no_history))
+        × RestBefore (seen_all r.resources.entries) (monitors_all r.resources.entries) r.rests_until };
 }
 
 impl<A: Allocator + Copy> Registry<A> {
     /// No resources. It takes no memory.
+    #[tactic(auto, using(crate::proofs::Resting::rest_before_0))]
     pub(crate) fn new(alloc: A) -> Registry<A>
         ensures resources { result.resources ≡ [] }
         ensures monitors { result.monitors ≡ [] }
@@ -59,10 +66,12 @@ impl<A: Allocator + Copy> Registry<A> {
         Registry {
             resources: IndexMap::new(alloc),
             next_ops: None,
+            rests_until: 0,
         }
     }
 
     /// The registry of these parts, every recurring monitor due at that moment. The only error is want of memory.
+    #[tactic(auto, using(crate::proofs::Resting::rest_before_0))]
     pub(crate) fn from_parts(
         alloc: A,
         due: Moment,
@@ -81,6 +90,7 @@ impl<A: Allocator + Copy> Registry<A> {
         Ok(Registry {
             resources,
             next_ops: None,
+            rests_until: 0,
         })
     }
 
@@ -164,6 +174,7 @@ impl<A: Allocator + Copy> Registry<A> {
     }
 
     /// Adds a resource, for which there is room.
+    #[tactic(auto, using(crate::proofs::Resting::rest_before_0))]
     pub(crate) fn register(&mut self, registration: Registration<Params<A>>)
         requires absent { lookup (bytes_eq registration.id) self.old.resources ≡ None }
         requires ready { IsTrue self.old.ready }
@@ -173,6 +184,7 @@ impl<A: Allocator + Copy> Registry<A> {
         let Some(ops) = self.next_ops.take() else {
             unreachable!()
         };
+        self.rests_until = 0;
         let (id, resource) = Registered::new(registration, ops, Recurrings::new());
         if insert(&mut self.resources, id, resource).is_err() {
             unreachable!()
@@ -180,15 +192,18 @@ impl<A: Allocator + Copy> Registry<A> {
     }
 
     /// Removes the resource of that id. Those behind it move up.
+    #[tactic(auto, using(crate::proofs::Resting::rest_before_0))]
     pub(crate) fn remove(&mut self, id: &RscId)
         ensures resources { self.new.resources ≡ others id.now self.old.resources }
         ensures monitors { self.new.monitors ≡ filter (λ e. not (bytes_eq id.now e.0)) self.old.monitors }
     {
         let _len = self.resources.len();
+        self.rests_until = 0;
         self.resources.shift_remove(id);
     }
 
     /// Does what the step of the resource of that id says.
+    #[tactic(auto, using(crate::proofs::Resting::rest_before_0))]
     pub(crate) fn take_step(&mut self, id: &RscId, at: Moment, step: Step<Params<A>>)
         requires { IsSomeAnd (lookup (bytes_eq id.now) self.old.resources) (CanTake step) }
         ensures resources { self.new.resources ≡ at_id id.now (stepped at step) self.old.resources }
@@ -196,6 +211,7 @@ impl<A: Allocator + Copy> Registry<A> {
             ≡ at_id id.now (monitors_stepped at
             (option_and_then (λ r. r.history.running) (lookup (bytes_eq id.now) self.old.resources)) step) self.old.monitors }
     {
+        self.rests_until = 0;
         let Some(resource) = self.resources.get_mut(id) else {
             unreachable!()
         };
@@ -203,10 +219,12 @@ impl<A: Allocator + Copy> Registry<A> {
     }
 
     /// Boots every resource.
+    #[tactic(auto, using(crate::proofs::Resting::rest_before_0))]
     pub(crate) fn boot(&mut self, at: Moment)
         ensures resources { self.new.resources ≡ map (λ e. (e.0, on_history (booted at) e.1)) self.old.resources }
         ensures monitors { self.new.monitors ≡ self.old.monitors }
     {
+        self.rests_until = 0;
         let resources = &mut self.resources;
         for place in 0..resources.len() {
             let resource = &mut resources[place];
@@ -215,16 +233,78 @@ impl<A: Allocator + Copy> Registry<A> {
     }
 
     /// Makes every recurring monitor due at that moment.
+    #[tactic(auto, using(crate::proofs::Resting::rest_before_0))]
     pub(crate) fn restart(&mut self, at: Moment)
         ensures resources { self.new.resources ≡ self.old.resources }
         ensures monitors { self.new.monitors ≡ map (λ e. (e.0, all_due_at at e.1.recurring)) self.old.resources }
     {
+        self.rests_until = 0;
         let resources = &mut self.resources;
         for place in 0..resources.len() {
             let resource = &mut resources[place];
             resource.restart(at);
         }
     }
+
+    /// Looks when the next resource has something to begin, unless that is known since the last change.
+    pub(crate) fn look(&mut self)
+        ensures { self.new ≡ self.old }
+    {
+        if self.rests_until == 0 {
+            self.rests_until = rests_until(&self.resources);
+        }
+    }
+
+    /// The least moment at which a recurring monitor is due.
+    pub(crate) fn first_due(&self) -> Option<u64>
+        ensures { IsFirstMoment (all_pairs self.now.monitors) result }
+    {
+        first_due(&self.resources)
+    }
+
+    /// Whether it is known that no resource has anything to begin at that moment.
+    pub(crate) fn rests(&self, now: Moment) -> bool
+        ensures { IsTrue result → AllRest self.now.resources self.now.monitors now }
+    {
+        now.get() < self.rests_until
+    }
+}
+
+/// The earlier of two moments that may be there.
+fn earlier(one: Option<u64>, other: Option<u64>) -> Option<u64>
+    ensures { (xs ys : List (ℕ × ℕ)) → IsFirstMoment xs one → IsFirstMoment ys other → IsFirstMoment (xs ++ ys) result }
+{
+    match (one, other) {
+        (None, other) => other,
+        (one, None) => one,
+        (Some(one), Some(other)) => Some(one.min(other)),
+    }
+}
+
+/// The least moment at which a recurring monitor of one of these is due.
+fn first_due<A: Allocator + Copy>(resources: &Resources<A>) -> Option<u64>
+    ensures { IsFirstMoment (flat_map (λ r. pairs r.monitors) (values resources.now)) result }
+{
+    let mut first = None;
+    for place in 0..resources.len() {
+        let resource = &resources[place];
+        let own = resource.monitors.first_due();
+        first = earlier(first, own);
+    }
+    first
+}
+
+/// A moment before which none of these has anything to begin.
+fn rests_until<A: Allocator + Copy>(resources: &Resources<A>) -> u64
+    ensures { RestBefore (seen_all resources.now.entries) (monitors_all resources.now.entries) result }
+{
+    let mut until = u64::MAX;
+    for place in 0..resources.len() {
+        let resource = &resources[place];
+        let own = resource.rests_until();
+        until = until.min(own);
+    }
+    until
 }
 
 /// Whether one of these has an action queued or running.

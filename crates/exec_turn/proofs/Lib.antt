@@ -11,3 +11,4 @@ pub mod Picking
 pub mod Tending
 pub mod Turning
 pub mod Ends
+pub mod Resting

@@ -11,7 +11,6 @@ use Rattle.ocf_types.specs.Places.{entry_at, id_at}
 use Rattle.ocf_types.specs.Resource.{Resource}
 use Rattle.ocf_types.specs.Spelling.{spelled_event}
 use Rattle.ocf_types.specs.State.{State}
-use Rattle.ocf_types.specs.declared.action.Task.{Task}
 use Rattle.ocf_types.specs.declared.operation.Running.{Running}
 use Rattle.ocf_env.specs.Places.{Call, Place}
 use Rattle.exec_journal.specs.Front.{spelled_row}
@@ -25,15 +24,15 @@ use Rattle.exec_turn.specs.declared.picks.StartOf.{StartOf}
 use Rattle.exec_turn.proofs.Choosing.{picks_cut}
 
 -- what is called for these texts is called for the resource whose texts they are
-pub invoked : (site : Place) (id : List ℕ) (r : Resource) (task : Task) (call : Call) (own provider agent : List ℕ) (params : ParamList)
+pub invoked : (site : Place) (id : List ℕ) (r : Resource) (running : Running) (call : Call) (own provider agent : List ℕ) (params : ParamList)
     → id ≡ own → provider ≡ r.provider → agent ≡ r.agent → params ≡ r.params
-    → IsInvocation site (record { id = own; provider = provider; agent = agent; params = params }) task call
-    → IsInvocation site (registration_of id r) task call
-invoked site id r task call own provider agent params id_is provider_is agent_is params_is is =
+    → IsInvocation site (record { id = own; provider = provider; agent = agent; params = params }) running call
+    → IsInvocation site (registration_of id r) running call
+invoked site id r running call own provider agent params id_is provider_is agent_is params_is is =
     let given : Registration = record { id = own; provider = provider; agent = agent; params = params } in
     let same : given ≡ registration_of id r =
     λ k. record { id = sym id_is k; provider = provider_is k; agent = agent_is k; params = params_is k } in
-    subst (λ (x : Registration). IsInvocation site x task call) same is
+    subst (λ (x : Registration). IsInvocation site x running call) same is
 
 -- one more begin makes the row longer by its spelling
 pub row_longer : (es : List Event) (e : Event) → length (spelled_row (es ++ e ∷ [])) ≡ length (spelled_row es) + length (spelled_event e)

@@ -26,7 +26,7 @@ pub record IsStart (site : Place) (s : State) (x : StartOf Call) : Type 0 where
   pub resource : Resource
   pub is : resource_at s x.launch.id ≡ Some resource
   pub of_one : IsOfOne x
-  pub invocation : IsInvocation site (registration_of x.launch.id resource) x.running.task x.launch.invocation
+  pub invocation : IsInvocation site (registration_of x.launch.id resource) x.running x.launch.invocation
 
 -- each of these launches what runs at this state
 abbrev pub AllLaunch : State → List (StartOf Call) → Type 0

@@ -122,19 +122,14 @@ fn start_of<A: Allocator + Copy, S: Allocator>(
         agent: state.agent_at(place),
         params: state.params_at(place),
     };
-    let launch = launch(
-        alloc,
-        site,
-        &instance,
-        running.task,
-        running.call,
-        running.run,
-    )?;
+    let action = &running;
+    let launch = launch(alloc, site, &instance, *action)?;
     Ok(StartOf { launch, running })
 }
 
 /// Picks what each resource has to begin, in order of registration: the row of their begins, and what is to be started
-/// then. It ends before the first pick that finds no run number, no room in the journal, or no memory for its launch.
+/// then. It ends before the first pick that finds no run number, no room in the journal, or no memory for its launch. Where
+/// it is known that nothing is to begin, no resource is asked.
 pub(crate) fn pick_all<D: Disk + Drop, A: Allocator + Copy, S: Allocator>(
     alloc: A,
     site: &Site<S>,
@@ -155,6 +150,10 @@ pub(crate) fn pick_all<D: Disk + Drop, A: Allocator + Copy, S: Allocator>(
 {
     row.clear();
     starts.clear();
+    state.known();
+    if state.rests(at) {
+        return TurnEnd::Done;
+    }
     let mut run = state.next_run();
     let mut len = 0;
     for place in 0..state.len() {

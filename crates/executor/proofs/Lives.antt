@@ -12,10 +12,10 @@ use Rattle.disk_model.specs.View.{Lawful, View}
 use Rattle.child_keeper.specs.Children.{ChildrenView}
 use Rattle.two_parts.specs.declared.choice.Choice.{Choice}
 use Rattle.two_parts.specs.declared.damage.Damage.{Damage}
-use Rattle.exec_journal.specs.Found.{Damaged, Finding, Finds, FoundAs, IsFound, IsFreshPair, Whole}
+use Rattle.exec_journal.specs.Found.{Damaged, Finding, Finds, FoundAs, IsFirstPart, IsFound, IsFreshPair, IsToWrite, Whole}
 use Rattle.exec_journal.specs.Laws.{same_whole}
-use Rattle.exec_journal.specs.Room.{HasRoom, Roomy}
-use Rattle.executor.specs.Lives.{GoesOnFrom, InOpening, InService, IsLife, LifeLeaves, Lived, OpensBehind, Sitting, boots}
+use Rattle.exec_journal.specs.Room.{Roomy}
+use Rattle.executor.specs.Lives.{BeginsAs, GoesOnFrom, InOpening, InService, IsLife, LifeLeaves, Lived, OpensBehind, Sitting, boots}
 use Rattle.executor.specs.Openings.{NotOpened, Opened, StartsLike, booted}
 use Rattle.executor.specs.Reports.{dropped, interrupted}
 use Rattle.executor.specs.Sights.{Sight}
@@ -39,29 +39,35 @@ boots_is s now = by (any_busy s)
     by true = refl
     by false = refl
 
-module _ {D : Type 0} (look : D → View) (law : WhatStands) (once : OneFinding) (lawful : (d : D) → (look d).honest → Lawful (look d)) where
-  one_state : (s t : State) (c : Image) → FoundAs s c → FoundAs t c → s ≡ t
-  one_state s t c here there = same_whole s t (once c (Whole s) (Whole t) here there)
-
-  -- a fresh pair is found as the empty state, and has room
+-- a life begins on a fresh pair, and on one of the first layout
+module _ (law : WhatStands) where
   fresh_found : (c : Image) → IsFreshPair c → FoundAs empty c
   fresh_found c fresh = subst (λ (h : Choice). Finds h c (Whole empty)) (sym fresh) refl
 
-  fresh_roomy : (c : Image) → IsFreshPair c → Roomy c
-  fresh_roomy c fresh p t stands =
-      subst (λ (x : State). HasRoom p.tail x) (sym (law.fresh t c (law.found p t c stands) fresh))
-      (λ busy. absurd (let no : false ≡ true = busy in cc))
+  pub written_begins : (s : State) (c : Image) → FoundAs s c → IsToWrite c → BeginsAs s c
+  written_begins s c found to_write = (found, λ p t stands. absurd (law.stays p t c stands to_write))
+
+  pub fresh_begins : (c : Image) → IsFreshPair c → BeginsAs empty c
+  fresh_begins c fresh = written_begins empty c (fresh_found c fresh) (inl fresh)
+
+  pub first_begins : (s : State) (c : Image) → FoundAs s c → IsFirstPart c → BeginsAs s c
+  first_begins s c found first = written_begins s c found (inr (first, (s, found)))
+
+module _ {D : Type 0} (look : D → View) (law : WhatStands) (once : OneFinding) (lawful : (d : D) → (look d).honest → Lawful (look d))
+    (start : State) where
+  one_state : (s t : State) (c : Image) → FoundAs s c → FoundAs t c → s ≡ t
+  one_state s t c here there = same_whole s t (once c (Whole s) (Whole t) here there)
 
   -- the state behind some events and the boot that it needs
-  behind_boots : (ys : List Event) (s : State) (now : ℕ) → s ≡ after_all empty ys
-      → after_all empty (ys ++ boots (after_all empty ys) now) ≡ booted s now
+  behind_boots : (ys : List Event) (s : State) (now : ℕ) → s ≡ after_all start ys
+      → after_all start (ys ++ boots (after_all start ys) now) ≡ booted s now
   behind_boots ys s now same =
-      after_all-append empty ys (boots (after_all empty ys) now) ∙ boots_is (after_all empty ys) now
+      after_all-append start ys (boots (after_all start ys) now) ∙ boots_is (after_all start ys) now
       ∙ ap (λ (t : State). booted t now) (sym same)
 
   -- what is found behind a life
   abbrev Behind : List (Sitting D) → Image → Type 0
-  Behind life c = (zs : List Event) × Lived life zs × FoundAs (after_all empty zs) c
+  Behind life c = (zs : List Event) × Lived start life zs × FoundAs (after_all start zs) c
 
   -- behind an opening that was refused or stopped
   in_opening : (old new : D) (now : ℕ) (older : List (Sitting D)) → ((d : Image) → (look old).now d → Behind older d)
@@ -70,23 +76,23 @@ module _ {D : Type 0} (look : D → View) (law : WhatStands) (once : OneFinding)
       let b = from c was in (b.0, (b.0, b.1, inl refl), b.2)
   in_opening old new now older from honest c (inl (inr (s, reads, found))) =
       let b = from (look old).reads (lawful old honest).reads_now in
-      let same = one_state s (after_all empty b.0) (look old).reads reads b.2 in
+      let same = one_state s (after_all start b.0) (look old).reads reads b.2 in
       (b.0, (b.0, b.1, inl refl), subst (λ (t : State). FoundAs t c) same found)
   in_opening old new now older from honest c (inr (s, reads, inl found)) =
       let b = from (look old).reads (lawful old honest).reads_now in
-      let same = one_state s (after_all empty b.0) (look old).reads reads b.2 in
+      let same = one_state s (after_all start b.0) (look old).reads reads b.2 in
       (b.0, (b.0, b.1, inl refl), subst (λ (t : State). FoundAs t c) same found)
   in_opening old new now older from honest c (inr (s, reads, inr found)) =
       let b = from (look old).reads (lawful old honest).reads_now in
-      let same = one_state s (after_all empty b.0) (look old).reads reads b.2 in (
-        b.0 ++ boots (after_all empty b.0) now,
+      let same = one_state s (after_all start b.0) (look old).reads reads b.2 in (
+        b.0 ++ boots (after_all start b.0) now,
         (b.0, b.1, inr refl),
         subst (λ (t : State). FoundAs t c) (sym (behind_boots b.0 s now same)) found,
       )
 
   -- every pair that a life may leave is found so, and has room for its boot
-  pub life_leaves : (life : List (Sitting D)) → IsLife look life → (c : Image) → LifeLeaves look life c → Behind life c × Roomy c
-  life_leaves [] is c left = (([], refl, fresh_found c left), fresh_roomy c left)
+  pub life_leaves : (life : List (Sitting D)) → IsLife look start life → (c : Image) → LifeLeaves look start life c → Behind life c × Roomy c
+  life_leaves [] is c left = (([], refl, left.0), left.1)
   life_leaves (InOpening old new now ∷ older) (is, from, did, honest) c left =
       let was_honest = did.goes.passed.honest honest in (
         in_opening old new now older (λ d d_now. (life_leaves older is d (from d d_now)).0) was_honest c
@@ -100,13 +106,13 @@ module _ {D : Type 0} (look : D → View) (law : WhatStands) (once : OneFinding)
       let starts = serves.opens.starts opened_honest in
       let before = (life_leaves older is (look x.disk).reads (from (look x.disk).reads (lawful x.disk was_honest).reads_now)).0 in
       let ys = before.0 in
-      let same = one_state starts.state (after_all empty ys) (look x.disk).reads starts.found before.2 in
+      let same = one_state starts.state (after_all start ys) (look x.disk).reads starts.found before.2 in
       let stands = service_stands look law lawful x serves honest c left in
-      let b = boots (after_all empty ys) x.now in
+      let b = boots (after_all start ys) x.now in
       let p = stands.0 in
-      let opened : after_all empty (ys ++ b) ≡ x.opened.state = behind_boots ys starts.state x.now same ∙ sym starts.boot in
-      let all : after_all empty (ys ++ (b ++ p)) ≡ after_all x.opened.state p =
-      ap (λ (l : List Event). after_all empty l) (sym (append_assoc ys b p)) ∙ after_all-append empty (ys ++ b) p
+      let opened : after_all start (ys ++ b) ≡ x.opened.state = behind_boots ys starts.state x.now same ∙ sym starts.boot in
+      let all : after_all start (ys ++ (b ++ p)) ≡ after_all x.opened.state p =
+      ap (λ (l : List Event). after_all start l) (sym (append_assoc ys b p)) ∙ after_all-append start (ys ++ b) p
       ∙ ap (λ (s : State). after_all s p) opened in (
         (ys ++ (b ++ p), (ys, p, before.1, stands.1, refl), subst (λ (t : State). FoundAs t c) (sym all) stands.2),
         service_roomy look law lawful x serves honest c left,
@@ -114,13 +120,13 @@ module _ {D : Type 0} (look : D → View) (law : WhatStands) (once : OneFinding)
 
   -- so an opening behind a life gives what stands of it, and reports what ran
   pub opened_behind : (life : List (Sitting D)) (old : D) (from : ChildrenView) (now : ℕ) (x : Sight D) (ran queued : List Notice)
-      → IsLife look life → GoesOnFrom look life old → Opened look (look old) from now x ran queued → (look x.disk).honest
-      → OpensBehind life now x.state ran queued
+      → IsLife look start life → GoesOnFrom look start life old → Opened look (look old) from now x ran queued → (look x.disk).honest
+      → OpensBehind start life now x.state ran queued
   opened_behind life old from now x ran queued is goes_on opens honest =
       let starts = opens.starts honest in
       let reads = (look old).reads in
       let before = (life_leaves life is reads (goes_on reads (lawful old (opens.did.goes.passed.honest honest)).reads_now)).0 in
-      let same = one_state starts.state (after_all empty before.0) reads starts.found before.2 in
+      let same = one_state starts.state (after_all start before.0) reads starts.found before.2 in
       record {
         stands = before.0;
         lived = before.1;
@@ -130,14 +136,14 @@ module _ {D : Type 0} (look : D → View) (law : WhatStands) (once : OneFinding)
       }
 
   -- and it finds no damage, and room for its boot
-  pub opens_behind : (life : List (Sitting D)) (old new : D) (from to : ChildrenView) (now : ℕ) (fault : OpenError) → IsLife look life
-      → GoesOnFrom look life old → NotOpened (look old) (look new) from to now fault → (look new).honest
+  pub opens_behind : (life : List (Sitting D)) (old new : D) (from to : ChildrenView) (now : ℕ) (fault : OpenError) → IsLife look start life
+      → GoesOnFrom look start life old → NotOpened (look old) (look new) from to now fault → (look new).honest
       → (fault ≡ why.Full → ⊥) × ((d : Damage) → fault ≡ why.Damaged d → ⊥)
   opens_behind life old new from to now fault is goes_on fails honest =
       let was_honest = fails.did.goes.passed.honest honest in
       let reads = (life_leaves life is (look old).reads (goes_on (look old).reads (lawful old was_honest).reads_now)).0 in (
         fails.never_full (λ _ c c_now. (life_leaves life is c (goes_on c c_now)).1) honest,
-        λ d bad. let same : Damaged d ≡ Whole (after_all empty reads.0) =
-            once (look old).reads (Damaged d) (Whole (after_all empty reads.0)) (fails.damaged honest d bad) reads.2 in
+        λ d bad. let same : Damaged d ≡ Whole (after_all start reads.0) =
+            once (look old).reads (Damaged d) (Whole (after_all start reads.0)) (fails.damaged honest d bad) reads.2 in
             let none : ⊥ = cc in absurd none,
       )

@@ -14,7 +14,7 @@ use Rattle.disk_model.specs.Runs.{Goes}
 use Rattle.disk_model.specs.View.{Passed, Rests, View}
 use Rattle.gated_slots.specs.declared.append.SlotFault.{SlotFault}
 use Rattle.gated_slots.specs.declared.append.SlotFault.TheVariants as slot
-use Rattle.exec_journal.specs.Found.{FoundAs, IsFreshPair, StandsAt}
+use Rattle.exec_journal.specs.Found.{FoundAs, IsToWrite, StandsAt}
 pub use Rattle.exec_journal.specs.Laws.{same_whole}
 use Rattle.exec_journal.specs.Opening.{FailsToOpen, Opens, OpensAt, OpensLike}
 use Rattle.exec_journal.specs.Place.{Place}
@@ -53,7 +53,7 @@ opens_like old new now goes = weakened old new (OpensLike old) (StartsLike old n
 
 -- only the journal was opened, or not even that
 read_only : (old new : View) (now : ℕ) → Goes old new (OpensLike old) → ((old.honest → AllRoomy old) → Goes old new Roomy)
-    → ((old.honest → IsFreshPair old.reads → ⊥) → Rests old new) → OpensDisk old new now
+    → ((old.honest → IsToWrite old.reads → ⊥) → Rests old new) → OpensDisk old new now
 read_only old new now goes roomy unwritten =
     record { goes = opens_like old new now goes; roomy = roomy; unwritten = λ quiet. unwritten (λ h. (quiet h).0) }
 
@@ -172,21 +172,28 @@ module _ {D : Type 0} (look : D → View) (law : WhatStands) (once : (c : Image)
               since = λ h. absurd (never h);
             }
 
-    -- what has to be booted is no fresh pair, so it stands where it was found
-    stands_before : (look mid.disk).honest → any_busy mid.state ≡ true → StandsAt mid.place mid.state old.reads
-    stands_before h busy =
-        let not_fresh : old.honest → IsFreshPair old.reads → ⊥ = λ _ fresh. true≢false
-        (sym busy ∙ ap any_busy (law.fresh mid.state old.reads (opens.found h) fresh)) in
-        subst (λ (c : Image). StandsAt mid.place mid.state c) ((opens.opens.unwritten not_fresh).same h) (opens.settled h).stands
+    -- where nothing was written, it stands where it was found
+    stands_before : (look mid.disk).honest → (IsToWrite old.reads → ⊥) → StandsAt mid.place mid.state old.reads
+    stands_before h unwritten =
+        subst (λ (c : Image). StandsAt mid.place mid.state c) ((opens.opens.unwritten (λ _. unwritten)).same h) (opens.settled h).stands
+
+    -- and nothing was where a boot does not fit
+    lacks_unwritten : (look mid.disk).honest → LacksBoot mid.place.tail mid.state → IsToWrite old.reads → ⊥
+    lacks_unwritten h lacks to_write =
+        let room = opens.anew h to_write lacks.0 in
+        let short = lacks.1 in
+        omega (arith, room, short)
 
     lacks_room : (look mid.disk).honest → LacksBoot mid.place.tail mid.state → LacksRoom old.reads
-    lacks_room h lacks = record { place = mid.place; state = mid.state; stands = stands_before h lacks.0; lacks = lacks }
+    lacks_room h lacks =
+        record { place = mid.place; state = mid.state; stands = stands_before h (lacks_unwritten h lacks); lacks = lacks }
 
     lacks_boot : (look mid.disk).honest → LacksRoom old.reads → LacksBoot mid.place.tail mid.state
     lacks_boot h lacks =
         let same = once old.reads lacks.state mid.state (law.found lacks.place lacks.state old.reads lacks.stands) (opens.found h) in
         let here = subst (λ (s : State). LacksBoot lacks.place.tail s) same lacks.lacks in
-        let at = (law.once lacks.place mid.place lacks.state mid.state old.reads lacks.stands (stands_before h here.0)).0 in
+        let at = (law.once lacks.place mid.place lacks.state mid.state old.reads lacks.stands
+        (stands_before h (law.stays lacks.place lacks.state old.reads lacks.stands))).0 in
         subst (λ p. LacksBoot p.tail mid.state) at here
 
     pub opened : (x : Unit) (final : Sight D) (ran queued : List Notice) → Boots look now mid new (Ok x) → final.is_open ≡ true

@@ -3,13 +3,14 @@ use Rattle.std.specs.Prelude.{◌≡◌, ◌⊎◌, ◌≤◌, ℕ, ⊤, List, [
 use Rattle.ocf_types.specs.Answer.{moment}
 use Rattle.ocf_types.specs.Boot.{boot_event}
 use Rattle.ocf_types.specs.Kinds.{Event, Reply}
-use Rattle.ocf_types.specs.State.{State, after_all, empty}
+use Rattle.ocf_types.specs.State.{State, after_all}
 use Rattle.ocf_types.specs.declared.reply.Notice.{Notice}
 use Rattle.ocf_types.specs.declared.reply.TidyEnd.{TidyEnd}
 use Rattle.disk_model.specs.Image.{Image}
 use Rattle.disk_model.specs.View.{View}
 use Rattle.child_keeper.specs.Children.{Asked, ChildrenView}
-use Rattle.exec_journal.specs.Found.{IsFreshPair}
+use Rattle.exec_journal.specs.Found.{FoundAs}
+use Rattle.exec_journal.specs.Room.{Roomy}
 use Rattle.exec_turn.specs.Pieces.{HasBegin}
 use Rattle.executor.specs.Openings.{Opened, OpensDisk, booted}
 use Rattle.executor.specs.Reports.{dropped, interrupted}
@@ -93,20 +94,24 @@ abbrev pub StopLeaves : {D : Type 0} → (D → View) → Sitting D → Image �
 StopLeaves look (InOpening old new now) c = (look new).since (look old).clock c
 StopLeaves look (InService x) c = (look x.last.disk).since x.stop c
 
--- What a life leaves, the last sitting first: before the first one stands a fresh pair.
-abbrev pub LifeLeaves : {D : Type 0} → (D → View) → List (Sitting D) → Image → Type 0
-LifeLeaves look [] c = IsFreshPair c
-LifeLeaves look (x ∷ older) c = StopLeaves look x c
+-- a life can begin on this pair: it is found as this state, and has room for its boot
+abbrev pub BeginsAs : State → Image → Type 0
+BeginsAs start c = FoundAs start c × Roomy c
+
+-- What a life that begins with this state leaves, the last sitting first.
+abbrev pub LifeLeaves : {D : Type 0} → (D → View) → State → List (Sitting D) → Image → Type 0
+LifeLeaves look start [] c = BeginsAs start c
+LifeLeaves look start (x ∷ older) c = StopLeaves look x c
 
 -- this disk holds nothing but what a life left
-abbrev pub GoesOnFrom : {D : Type 0} → (D → View) → List (Sitting D) → D → Type 0
-GoesOnFrom look older disk = (c : Image) → (look disk).now c → LifeLeaves look older c
+abbrev pub GoesOnFrom : {D : Type 0} → (D → View) → State → List (Sitting D) → D → Type 0
+GoesOnFrom look start older disk = (c : Image) → (look disk).now c → LifeLeaves look start older c
 
 -- A life, the last sitting first: each begins with nothing but what the one before left, on a disk that is honest throughout.
-abbrev pub IsLife : {D : Type 0} → (D → View) → List (Sitting D) → Type 0
-IsLife look [] = ⊤
-IsLife look (x ∷ older) =
-    IsLife look older × GoesOnFrom look older (first_disk x) × Sat look x × (look (last_disk x)).honest
+abbrev pub IsLife : {D : Type 0} → (D → View) → State → List (Sitting D) → Type 0
+IsLife look start [] = ⊤
+IsLife look start (x ∷ older) =
+    IsLife look start older × GoesOnFrom look start older (first_disk x) × Sat look x × (look (last_disk x)).honest
 
 -- the boot that an opening at this moment needs, if one is
 abbrev pub boots : State → ℕ → List Event
@@ -121,20 +126,20 @@ pub record Stands {D : Type 0} (x : Service D) (p : List Event) : Type 0 where
   pub acknowledged : p ≡ x.done.events ++ later
   pub begins : (run clock : ℕ) → Asked (both x.done x.under_way).entries run clock → clock ≤ x.stop → HasBegin run p
 
--- The events of a life that stand: of each sitting its boot, which stands once the opening was done, and so much of what its
--- calls did.
-abbrev pub Lived : {D : Type 0} → List (Sitting D) → List Event → Type 0
-Lived [] zs = zs ≡ []
-Lived {D} (InOpening old new now ∷ older) zs =
-    (ys : List Event) × Lived older ys × ((zs ≡ ys) ⊎ (zs ≡ ys ++ boots (after_all empty ys) now))
-Lived {D} (InService x ∷ older) zs =
-    (ys : List Event) × (p : List Event) × Lived older ys × Stands x p × (zs ≡ ys ++ (boots (after_all empty ys) x.now ++ p))
+-- The events of a life that stand, from the state on with which it began: of each sitting its boot, which stands once the
+-- opening was done, and so much of what its calls did.
+abbrev pub Lived : {D : Type 0} → State → List (Sitting D) → List Event → Type 0
+Lived start [] zs = zs ≡ []
+Lived {D} start (InOpening old new now ∷ older) zs =
+    (ys : List Event) × Lived start older ys × ((zs ≡ ys) ⊎ (zs ≡ ys ++ boots (after_all start ys) now))
+Lived {D} start (InService x ∷ older) zs =
+    (ys : List Event) × (p : List Event) × Lived start older ys × Stands x p × (zs ≡ ys ++ (boots (after_all start ys) x.now ++ p))
 
 -- An opening behind a life gives this state and this report: what stands of the life, after its boot; what ran in it told as
 -- interrupted, what was queued as dropped.
-pub record OpensBehind {D : Type 0} (life : List (Sitting D)) (now : ℕ) (t : State) (was_running was_queued : List Notice) : Type 0 where
+pub record OpensBehind {D : Type 0} (start : State) (life : List (Sitting D)) (now : ℕ) (t : State) (was_running was_queued : List Notice) : Type 0 where
   pub stands : List Event
-  pub lived : Lived life stands
-  pub state : t ≡ booted (after_all empty stands) now
-  pub ran : was_running ≡ interrupted (after_all empty stands) (moment (after_all empty stands) now)
-  pub queued : was_queued ≡ dropped (after_all empty stands) (moment (after_all empty stands) now)
+  pub lived : Lived start life stands
+  pub state : t ≡ booted (after_all start stands) now
+  pub ran : was_running ≡ interrupted (after_all start stands) (moment (after_all start stands) now)
+  pub queued : was_queued ≡ dropped (after_all start stands) (moment (after_all start stands) now)

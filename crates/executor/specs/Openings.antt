@@ -12,7 +12,7 @@ use Rattle.disk_model.specs.View.{Grew, Rests, View}
 use Rattle.child_keeper.specs.Children.{ChildrenView, given_up}
 use Rattle.gated_slots.specs.declared.append.SlotFault.{SlotFault}
 use Rattle.gated_slots.specs.declared.append.SlotFault.TheVariants as slot
-use Rattle.exec_journal.specs.Found.{Damaged, FoundAs, IsFound, IsFreshPair, StandsAt}
+use Rattle.exec_journal.specs.Found.{Damaged, FoundAs, IsFound, IsToWrite, StandsAt}
 use Rattle.exec_journal.specs.Opening.{OpensLike}
 use Rattle.exec_journal.specs.Place.{Place}
 use Rattle.exec_journal.specs.Room.{AllRoomy, HasRoom, Roomy}
@@ -71,9 +71,9 @@ pub record LacksRoom (c : Image) : Type 0 where
   pub stands : StandsAt place state c
   pub lacks : LacksBoot place.tail state
 
--- these parts hold a journal in which nothing is queued or running, or a damaged one
+-- these parts hold a journal of the second layout in which nothing is queued or running, or a damaged one of either
 abbrev pub IsQuiet : Image → Type 0
-IsQuiet c = (IsFreshPair c → ⊥) × ((s : State) → FoundAs s c → any_busy s ≡ false)
+IsQuiet c = (IsToWrite c → ⊥) × ((s : State) → FoundAs s c → any_busy s ≡ false)
 
 -- What an opening does to the disk, done or failed.
 pub record OpensDisk (old new : View) (now : ℕ) : Type 0 where
@@ -81,7 +81,7 @@ pub record OpensDisk (old new : View) (now : ℕ) : Type 0 where
   pub goes : Goes old new (StartsLike old now)
   -- where all that a stop might have left before has room for its boot, all that it leaves has
   pub roomy : (old.honest → AllRoomy old) → Goes old new Roomy
-  -- nothing is written where nothing is queued or running, and a damaged pair is left as it is
+  -- nothing is written on a journal of the second layout in which nothing is queued or running, nor on a damaged pair
   pub unwritten : (old.honest → IsQuiet old.reads) → Rests old new
 
 -- an executor over these children, once they were given up: none of them was started for a later state than its own

@@ -9,7 +9,8 @@ use Rattle.gated_slots.specs.Stands.{Stands}
 use Rattle.exec_journal.specs.Front.{opening}
 use Rattle.exec_journal.specs.Place.{Place}
 use Rattle.exec_journal.specs.Room.{Roomy}
-use Rattle.exec_journal.specs.Tidying.{last_epoch, tidied_place}
+use Rattle.two_parts.specs.Head.{last_epoch}
+use Rattle.exec_journal.specs.Tidying.{tidied_place}
 use Rattle.exec_turn.specs.Pieces.{Leaves}
 use Rattle.ocf_types.specs.State.{State}
 use Rattle.executor.specs.Sights.{Sight}

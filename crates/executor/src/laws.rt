@@ -8,10 +8,10 @@ ghost use Rattle.ocf_types.specs.declared.reply.Notice.{Notice};
 ghost use Rattle.disk_model.specs.Image.{Image};
 ghost use Rattle.two_parts.specs.declared.damage.Damage.{Damage};
 ghost use Rattle.child_keeper.specs.Children.{ChildrenView};
-ghost use Rattle.exec_journal.specs.Found.{FoundAs};
+ghost use Rattle.exec_journal.specs.Found.{FoundAs, IsFirstPart, IsFreshPair};
 ghost use Rattle.exec_journal.specs.Room.{Roomy};
 ghost use Rattle.exec_turn.specs.Lives.{Tends};
-ghost use Rattle.executor.specs.Lives.{GoesOnFrom, IsLife, LifeLeaves, Lived, OpensBehind, Sitting};
+ghost use Rattle.executor.specs.Lives.{BeginsAs, GoesOnFrom, IsLife, LifeLeaves, Lived, OpensBehind, Sitting};
 ghost use Rattle.executor.specs.Openings.{NotOpened, Opened};
 ghost use Rattle.executor.specs.Parts.{Apart, AreRising, IsPlain, entries_of_runs, events_of, own_runs, part};
 ghost use Rattle.executor.specs.Sessions.{Deeds, Input, Session};
@@ -47,16 +47,22 @@ pub fn tended_apart()
 /// had recorded when it returned, and the begin of each start that was asked before the stop. It has room for its boot. So an
 /// opening behind a life gives the state after what stands, with what ran told as interrupted, and is never told of damage or
 /// of a full journal.
+///
+/// A life begins on any pair that is found as a state and has room for its boot: so does a fresh pair, with the empty state,
+/// and a journal of the first layout, with what it leads to.
 pub fn whole_life<D: Disk>()
-    ensures stands { (life : List (Sitting D)) → IsLife D.view life → (c : Image) → LifeLeaves D.view life c
-        → (zs : List Event) × Lived life zs × FoundAs (after_all empty zs) c }
-    ensures roomy { (life : List (Sitting D)) → IsLife D.view life → (c : Image) → LifeLeaves D.view life c → Roomy c }
-    ensures opened { (life : List (Sitting D)) (old : D) (from : ChildrenView) (now : ℕ) (x : Sight D) (ran queued : List Notice)
-        → IsLife D.view life → GoesOnFrom D.view life old → Opened D.view (D.view old) from now x ran queued → (D.view x.disk).honest
-        → OpensBehind life now x.state ran queued }
-    ensures not_refused { (life : List (Sitting D)) (old new : D) (from to : ChildrenView) (now : ℕ) (fault : OpenError)
-        → IsLife D.view life
-        → GoesOnFrom D.view life old → NotOpened (D.view old) (D.view new) from to now fault → (D.view new).honest
+    ensures fresh { (c : Image) → IsFreshPair c → BeginsAs empty c }
+    ensures first { (start : State) (c : Image) → FoundAs start c → IsFirstPart c → BeginsAs start c }
+    ensures stands { (start : State) (life : List (Sitting D)) → IsLife D.view start life → (c : Image) → LifeLeaves D.view start life c
+        → (zs : List Event) × Lived start life zs × FoundAs (after_all start zs) c }
+    ensures roomy { (start : State) (life : List (Sitting D)) → IsLife D.view start life → (c : Image) → LifeLeaves D.view start life c
+        → Roomy c }
+    ensures opened { (start : State) (life : List (Sitting D)) (old : D) (from : ChildrenView) (now : ℕ) (x : Sight D) (ran queued : List Notice)
+        → IsLife D.view start life → GoesOnFrom D.view start life old → Opened D.view (D.view old) from now x ran queued
+        → (D.view x.disk).honest → OpensBehind start life now x.state ran queued }
+    ensures not_refused { (start : State) (life : List (Sitting D)) (old new : D) (from to : ChildrenView) (now : ℕ) (fault : OpenError)
+        → IsLife D.view start life
+        → GoesOnFrom D.view start life old → NotOpened (D.view old) (D.view new) from to now fault → (D.view new).honest
         → (fault ≢ why.Full) × ((d : Damage) → fault ≢ why.Damaged d) }
 {
     found_once();

@@ -24,6 +24,7 @@ impl<D: Disk + Drop, C: Children + Drop, A: Allocator + Copy> Executor<D, C, A> 
         if !self.open {
             return TurnEnd::Closed;
         }
+        self.state.look();
         let end = take_turn(
             &self.site,
             &mut self.journal,

@@ -3,7 +3,8 @@ use crate::heaps::{Ended, done, grows, refused};
 use linked_list_allocator::LocalHeap;
 use ocf_env::{Instance, Site, Text, launch, launch_meta};
 use ocf_types::{
-    AgentType, CallId, Level, ParamName, ParamValue, Params, Provider, RscId, RunId, Task,
+    AgentType, CallId, Level, Millis, Moment, ParamName, ParamValue, Params, Provider, RscId, RunId,
+    Running, Task,
 };
 use std::alloc::Global;
 
@@ -13,7 +14,7 @@ fn text(alloc: Global, text: &str) -> Option<Text> {
 
 fn site(alloc: Global) -> Option<Site> {
     let (root, path) = (text(alloc, "/usr/lib/ocf")?, text(alloc, "/bin")?);
-    Some(Site::new(root, path, None))
+    Some(Site::new(root, path, None).with_meta(true))
 }
 
 fn params(alloc: Global) -> Option<Params> {
@@ -25,10 +26,16 @@ fn params(alloc: Global) -> Option<Params> {
 
 // The launch of a monitor of a resource of that agent.
 fn launched(site: &Site, instance: &Instance<'_, Params>, heap: &LocalHeap) -> Option<Ended> {
-    let (call, run) = (CallId::new(3)?, RunId::new(7)?);
-    let task = Task::Monitor(Level::Ten);
-    Some(match launch(heap, site, instance, task, call, run) {
-        Ok(launch) => done(launch.invocation.environment().len() == 9),
+    let running = Running {
+        call: CallId::new(3)?,
+        run: RunId::new(7)?,
+        task: Task::Monitor(Level::Ten),
+        timeout: Millis::new(20_000)?,
+        interval: 10_000,
+        since: Moment::new(0)?,
+    };
+    Some(match launch(heap, site, instance, running) {
+        Ok(launch) => done(launch.invocation.environment().len() == 12),
         Err(_) => refused(true),
     })
 }

@@ -6,3 +6,5 @@ pub mod Amongs
 pub mod SortedLemmas
 pub mod MemberLemmas
 pub mod OnceLemmas
+pub mod NewLemmas
+pub mod MetaLemmas

@@ -1,6 +1,7 @@
 pub mod Places
 pub mod Programs
 pub mod Variables
+pub mod MetaVariables
 pub mod Lists
 pub mod Instances
 pub mod Invocations

@@ -1,10 +1,12 @@
 -- The environment as a list, in the order in which it is filled.
-use Rattle.std.specs.Prelude.{ℕ, List, [], ◌∷◌, ◌++◌, map, codes, decimal}
-use Rattle.ocf_types.specs.Params.{ParamList}
-use Rattle.ocf_types.specs.Actions.{level_number}
+use Rattle.std.specs.Prelude.{ℕ, List, [], ◌∷◌, ◌++◌, map, codes, decimal, count_by, insert, if◌then◌else◌, bytes_eq}
+use Rattle.std.specs.List.{list_any}
+use Rattle.ocf_types.specs.Params.{ParamList, is_before}
+use Rattle.ocf_types.specs.Actions.{action_of, action_word, level_number}
 use Rattle.ocf_types.specs.Kinds.{Registration}
 use Rattle.ocf_types.specs.declared.action.Task.{Task}
 use Rattle.ocf_types.specs.declared.action.Task.TheVariants.{Monitor}
+use Rattle.ocf_types.specs.declared.operation.Running.{Running}
 use Rattle.ocf_env.specs.Places.{Place, Pair}
 use Rattle.ocf_env.specs.Variables.{reskey}
 
@@ -48,3 +50,22 @@ action_pairs site r task = level_pairs task ++ (version_pairs ++ instance_pairs 
 -- all variables of meta-data, in order
 unfoldable pub meta_pairs : Place → List ℕ → List ℕ → List Pair
 meta_pairs site provider agent = version_pairs ++ last_pairs site provider agent
+
+-- with a pair more, in its place by name, but where its name is there already
+abbrev pub with_new : Pair → List Pair → List Pair
+with_new p xs =
+    if list_any (λ x. bytes_eq x.0 p.0) xs then xs else insert xs (count_by (λ x. is_before x.0 p.0) xs) p
+
+-- Pacemaker's variables of an action
+abbrev pub interval_pair : Running → Pair
+interval_pair running = (codes "OCF_RESKEY_CRM_meta_interval", decimal running.interval)
+
+abbrev pub name_pair : Running → Pair
+name_pair running = (codes "OCF_RESKEY_CRM_meta_name", action_word (action_of running.task))
+
+abbrev pub timeout_pair : Running → Pair
+timeout_pair running = (codes "OCF_RESKEY_CRM_meta_timeout", decimal running.timeout)
+
+-- with them, each but where its name is there already
+unfoldable pub with_meta : Running → List Pair → List Pair
+with_meta running xs = with_new (timeout_pair running) (with_new (name_pair running) (with_new (interval_pair running) xs))

@@ -1,11 +1,12 @@
 -- Sites, instances of agents, and how they are called.
-use Rattle.std.specs.Prelude.{ℕ, List, Option}
+use Rattle.std.specs.Prelude.{ℕ, Bool, List, Option}
 
--- where agents are: OCF_ROOT, PATH, and a program to run them through
+-- where agents are: OCF_ROOT, PATH, and a program to run them through; and whether they get Pacemaker's own variables
 pub record Place : Type 0 where
   pub root : List ℕ
   pub path : List ℕ
   pub via : Option (List ℕ)
+  pub meta : Bool
 
 -- a variable: its name and its value
 abbrev pub Pair : Type 0

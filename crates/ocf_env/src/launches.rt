@@ -3,12 +3,14 @@ ghost use Rattle.std.specs.Prelude.{◌≡◌, ◌↔◌, ℕ, List, codes, IfOk
 ghost use Rattle.ocf_env.specs.Instances.{registered};
 ghost use Rattle.ocf_env.specs.Invocations.{IsInvocation};
 ghost use Rattle.ocf_env.specs.Programs.{agent_path, program_at, arguments_at};
+ghost use Rattle.ocf_env.specs.MetaVariables.{IsGiven};
 ghost use Rattle.ocf_env.specs.Variables.{IsVariable, IsAgentVariable, are_ascending};
 
 use crate::invocation::{Invocation, agent_file, called};
+use crate::meta_variables::add_meta;
 use crate::site::Site;
 use crate::variables::{Pairs, push_instance, push_last, push_level, push_params, push_version};
-use ocf_types::{AgentType, CallId, Params, Provider, RscId, RunId, Task};
+use ocf_types::{AgentType, CallId, Params, Provider, RscId, RunId, Running, Task};
 use std::alloc::{AllocError, Allocator, Global};
 
 /// An instance of an agent: its id, provider, type and parameters, which stand elsewhere. `P` is the type of
@@ -53,6 +55,25 @@ fn action_variables<A: Allocator + Copy, S: Allocator, P: Allocator>(
     Ok(pairs)
 }
 
+// What an action is given: its variables, and where the site says so Pacemaker's.
+fn given_variables<A: Allocator + Copy, S: Allocator, P: Allocator>(
+    alloc: A,
+    site: &Site<S>,
+    instance: &Instance<'_, Params<P>>,
+    running: Running,
+) -> Result<Pairs<A>, AllocError>
+    ensures sorted { IfOk result (λ e. IsTrue (are_ascending e.items)) }
+    ensures variables { IfOk result
+        (λ e. (name value : List ℕ) → Contains e.items (name, value) ↔ IsGiven site.now (registered instance.now) running name value) }
+{
+    let mut pairs = action_variables(alloc, site, instance, running.task)?;
+    if !site.meta() {
+        return Ok(pairs);
+    }
+    add_meta(alloc, &mut pairs, running)?;
+    Ok(pairs)
+}
+
 fn meta_variables<A: Allocator + Copy, S: Allocator>(
     alloc: A,
     site: &Site<S>,
@@ -71,22 +92,22 @@ fn meta_variables<A: Allocator + Copy, S: Allocator>(
 
 /// What starts an action of an instance. The agent gets just the variables of OCF Resource Agent API 1.1 that
 /// `IsVariable` lists, OCF_CHECK_LEVEL for a monitor only, OCF_RESOURCE_PROVIDER as Pacemaker sets it, PATH, and one
-/// OCF_RESKEY_ variable for each parameter. No OCF_RESKEY_CRM_meta_ variable is set but that of a parameter which an
-/// administrator named so.
+/// OCF_RESKEY_ variable for each parameter. Where the site says so it also gets those of `IsMetaVariable`: the action's
+/// name, and its interval and timeout in milliseconds. Otherwise no OCF_RESKEY_CRM_meta_ variable is set but that of a
+/// parameter which an administrator named so, and that one is never replaced.
 pub fn launch<A: Allocator + Copy, S: Allocator, P: Allocator>(
     alloc: A,
     site: &Site<S>,
     instance: &Instance<'_, Params<P>>,
-    task: Task,
-    call: CallId,
-    run: RunId,
+    running: Running,
 ) -> Result<Launch<A>, AllocError>
-    ensures invocation { IfOk result (λ l. IsInvocation site.now (registered instance.now) task l.invocation) }
+    ensures invocation { IfOk result (λ l. IsInvocation site.now (registered instance.now) running l.invocation) }
     ensures id { IfOk result (λ l. l.id ≡ instance.now.id.now) }
-    ensures call { IfOk result (λ l. l.call ≡ call) }
-    ensures run { IfOk result (λ l. l.run ≡ run) }
+    ensures call { IfOk result (λ l. l.call ≡ running.call) }
+    ensures run { IfOk result (λ l. l.run ≡ running.run) }
 {
-    let environment = action_variables(alloc, site, instance, task)?;
+    let (task, call, run) = (running.task, running.call, running.run);
+    let environment = given_variables(alloc, site, instance, running)?;
     let file = agent_file(alloc, site, instance.provider, instance.agent)?;
     let invocation = called(alloc, site, file, task.action().word(), environment)?;
     Ok(LaunchOf {

@@ -5,6 +5,7 @@ mod invocation;
 mod key;
 mod launches;
 pub mod laws;
+mod meta_variables;
 mod site;
 mod text;
 mod variables;

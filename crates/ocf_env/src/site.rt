@@ -1,17 +1,19 @@
 //! Where agents are.
-ghost use Rattle.std.specs.Prelude.{◌≡◌, Some, None, IfSome, IfNone};
+ghost use Rattle.std.specs.Prelude.{◌≡◌, Some, None, IfSome, IfNone, false};
 
 use crate::text::Text;
 use std::alloc::{Allocator, Global};
 use std::marker::Model;
 
 /// Where agents are and what they are run with: the folder above `resource.d`, the search path that they get, and
-/// a program to run them through, if there is one. OCF Resource Agent API 1.1, OCF_ROOT.
+/// a program to run them through, if there is one; and whether they get Pacemaker's own variables. OCF Resource Agent API
+/// 1.1, OCF_ROOT.
 #[derive(Drop)]
 pub struct Site<A: Allocator = Global> {
     root: Text<A>,
     path: Text<A>,
     via: Option<Text<A>>,
+    meta: bool,
 }
 
 impl<A: Allocator> Model for Site<A> {
@@ -19,15 +21,28 @@ impl<A: Allocator> Model for Site<A> {
 
     ghost Value = { Place };
 
-    ghost view = { λ s. record { root = s.root; path = s.path; via = s.via } };
+    ghost view = { λ s. record { root = s.root; path = s.path; via = s.via; meta = s.meta } };
 }
 
 impl<A: Allocator> Site<A> {
-    /// The site of a root, a search path and perhaps a program to run agents through.
+    /// The site of a root, a search path and perhaps a program to run agents through. Agents get the variables of the
+    /// standard alone.
     pub fn new(root: Text<A>, path: Text<A>, via: Option<Text<A>>) -> Self
-        ensures { result ≡ record { root = root; path = path; via = via } }
+        ensures { result ≡ record { root = root; path = path; via = via; meta = false } }
     {
-        Site { root, path, via }
+        Site {
+            root,
+            path,
+            via,
+            meta: false,
+        }
+    }
+
+    /// The same site, whose agents get Pacemaker's own variables or not.
+    pub fn with_meta(self, meta: bool) -> Self
+        ensures { result ≡ record self { meta = meta } }
+    {
+        Site { meta, ..self }
     }
 
     /// The folder above `resource.d`. OCF Resource Agent API 1.1, OCF_ROOT.
@@ -42,6 +57,13 @@ impl<A: Allocator> Site<A> {
         ensures { result.now ≡ self.now.path }
     {
         self.path.as_str()
+    }
+
+    /// Whether agents get Pacemaker's own variables.
+    pub fn meta(&self) -> bool
+        ensures { result ≡ self.now.meta }
+    {
+        self.meta
     }
 
     /// The program that agents are run through.

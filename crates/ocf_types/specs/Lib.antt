@@ -4,6 +4,7 @@ pub mod Numbers
 pub mod Values
 pub mod Params
 pub mod Actions
+pub mod Layouts
 pub mod Outcomes
 pub mod Refusals
 pub mod Kinds

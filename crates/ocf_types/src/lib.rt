@@ -9,6 +9,7 @@ mod items;
 mod key;
 mod known;
 pub mod laws;
+mod layout;
 mod limits;
 mod names;
 mod numbers;
@@ -32,6 +33,7 @@ pub use command::{Command, CommandOf, Question, Request, RequestOf};
 pub use event::{Change, Event, EventOf, Registration, Step};
 pub use items::Items;
 pub use key::OpKey;
+pub use layout::Layout;
 pub use limits::{
     BODY_LIMIT, CREATED_LEN, DEFAULT_TIMEOUT, ENDED_KEPT, EVENT_LIMIT, HEAD_LEN, KEY_LIMIT,
     LINE_LIMIT, METADATA_LIMIT, NAME_LIMIT, NUM_MAX, PARAMS_LIMIT, PART_LIMIT, QUEUE_LIMIT,

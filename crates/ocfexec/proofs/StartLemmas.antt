@@ -1,5 +1,5 @@
 -- Why a program ends as it does.
-use Rattle.std.proofs.Common.{inl, inr, ℕ, List, Result, Ok, Err, Option, subst, sym}
+use Rattle.std.proofs.Common.{inl, inr, ℕ, List, Result, Ok, Err, Option, subst, sym, ◌≡◌, is_some, true}
 use Rattle.disk_model.specs.View.{View}
 use Rattle.child_keeper.specs.Children.{ChildrenView}
 use Rattle.executor.specs.declared.executor.Executor.{Executor}
@@ -30,12 +30,14 @@ ends look tend source limits report p q (Err fault.TidyAt) how = absurd how
 ends look tend source limits report p q (Err fault.Root) how = absurd how
 ends look tend source limits report p q (Err fault.Orphans) how = absurd how
 ends look tend source limits report p q (Err fault.NotText) how = absurd how
+ends look tend source limits report p q (Err fault.Log) how = absurd how
 ends look tend source limits report p q (Err fault.NotOpened) how = absurd how
 ends look tend source limits report p q (Err (fault.Damaged damage)) how = tt
 ends look tend source limits report p q (Err fault.Memory) how = tt
 ends look tend source limits report p q (Err fault.Disk) how = tt
 ends look tend source limits report p q (Err fault.Full) how = tt
 ends look tend source limits report p q (Err fault.InputOrOutput) how = tt
+ends look tend source limits report p q (Err fault.ReplyMemory) how = tt
 ends look tend source limits report p q (Err fault.ChildrenIgnored) how = absurd how
 
 pub run_ends : {D C M N : Type 0} (look : D → View) (tend : C → ChildrenView) (source : Source) (limits : Limits) (report : Report N)
@@ -65,10 +67,17 @@ journal_ends words o (Err fault.TidyAt) gives ends = absurd ends
 journal_ends words o (Err fault.Root) gives ends = absurd ends
 journal_ends words o (Err fault.Orphans) gives ends = absurd ends
 journal_ends words o (Err fault.NotText) gives ends = absurd ends
+journal_ends words o (Err fault.Log) gives ends = absurd ends
 journal_ends words o (Err fault.NotOpened) gives ends = absurd ends
 journal_ends words o (Err (fault.Damaged damage)) gives ends = (o, gives)
 journal_ends words o (Err fault.Memory) gives ends = tt
 journal_ends words o (Err fault.Disk) gives ends = (o, gives)
 journal_ends words o (Err fault.Full) gives ends = (o, gives)
 journal_ends words o (Err fault.InputOrOutput) gives ends = inr (o, gives)
+journal_ends words o (Err fault.ReplyMemory) gives ends = (o, gives)
 journal_ends words o (Err fault.ChildrenIgnored) gives ends = (o, gives)
+
+-- words that ask for a log that is not opened
+pub log_ends : (words : List (List ℕ)) (o : Options) (f : Fault) → Gives words o → f ≡ fault.Log → is_some o.log ≡ true
+    → EndsFor {T = Unit {0}} words (Err f)
+log_ends words o f gives is named = subst (λ x. EndsFor {T = Unit {0}} words (Err x)) (sym is) (o, gives, named)

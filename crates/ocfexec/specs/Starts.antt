@@ -19,7 +19,7 @@ status_of_end (Err f) = status_of f
 
 -- where these options say that agents are
 abbrev pub site_of : Options → Place
-site_of o = record { root = o.root.now; path = o.path.now; via = option_map (λ s. s.now) o.via }
+site_of o = record { root = o.root.now; path = o.path.now; via = option_map (λ s. s.now) o.via; meta = o.meta_variables }
 
 -- what an executor that was not opened ends the program with; fresh children are never of another journal
 abbrev pub opening_fault : OpenError → Fault
@@ -48,6 +48,10 @@ AsksForJournal words = (o : Options) × Gives words o
 abbrev pub IsInFolder : List (List ℕ) → Type 0
 IsInFolder words = (o : Options) × Gives words o × (is_some (folder_of o.journal) ≡ true)
 
+-- the words name a file for what agents write
+abbrev pub AsksForLog : List (List ℕ) → Type 0
+AsksForLog words = (o : Options) × Gives words o × (is_some o.log ≡ true)
+
 -- why the files of a journal are not opened
 abbrev pub IsNotOpened : {T : Type 0} → Result T Fault → Type 0
 IsNotOpened ended = IfErr ended (λ f. f ≡ fault.Memory ⊎ f ≡ fault.NotOpened)
@@ -62,6 +66,7 @@ EndsFor words (Err fault.Root) = IsFault words words_fault.Root
 EndsFor words (Err fault.Orphans) = IsFault words words_fault.Orphans
 EndsFor words (Err fault.NotText) = ⊥
 EndsFor words (Err fault.Memory) = ⊤
+EndsFor words (Err fault.Log) = AsksForLog words
 EndsFor words (Err fault.NotOpened) = IsInFolder words
 EndsFor words (Err fault.InputOrOutput) = AsksForText words ⊎ AsksForJournal words
 EndsFor words (Err _) = AsksForJournal words

@@ -29,7 +29,7 @@ pub fn site_of(alloc: Global, options: Options) -> Result<Site, AllocError>
         Some(program) => Some(text(alloc, program)?),
         None => None,
     };
-    Ok(Site::new(root, path, via))
+    Ok(Site::new(root, path, via).with_meta(options.meta_variables))
 }
 
 /// The agents of a site, which are asked for their metadata.

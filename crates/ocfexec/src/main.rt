@@ -7,6 +7,7 @@ ghost use Rattle.ocfexec.specs.Starts.{status_of_end};
 
 mod agents;
 mod interrupted;
+mod log;
 mod orphans;
 mod signals;
 mod start;
@@ -24,7 +25,10 @@ fn main(rt: HostRuntime) -> ExitCode {
 
 // Says on standard error what ended the program, and what can be done about it in a line behind.
 fn tell(rt: &HostRuntime, fault: Fault) {
-    if matches!(fault, Fault::Usage | Fault::NotOpened | Fault::Disk) {
+    if matches!(
+        fault,
+        Fault::Usage | Fault::Log | Fault::NotOpened | Fault::Disk
+    ) {
         // it was told where it happened
         return;
     }

@@ -4,9 +4,10 @@ ghost use Rattle.exec_output.specs.Faults.{IsRunEnd};
 ghost use Rattle.ocfexec.specs.Starts.{EndsFor, IsNotOpened, IsToldAs, opening_fault};
 
 use crate::agents::{Agents, BOOK_ROOM, site_of};
+use crate::log::log_of;
 use crate::orphans::wait_for_orphans;
 use crate::signals::children_ignored;
-use child_keeper::Processes;
+use child_keeper::{Log, Processes};
 use disk_model::Disk;
 use exec_commands::NoticeForm;
 use exec_lines::{Patient, RunClock, moment_now};
@@ -118,7 +119,7 @@ fn told<D: TellsError>(
 }
 
 // Does what these words ask for, the program's name first.
-#[tactic(auto, using(crate::proofs::StartLemmas::journal_ends))]
+#[tactic(auto, using(crate::proofs::StartLemmas::journal_ends, crate::proofs::StartLemmas::log_ends))]
 fn run(rt: &HostRuntime, words: &[String]) -> Result<(), Fault>
     ensures { EndsFor (map string_bytes words.now) result }
 {
@@ -129,9 +130,13 @@ fn run(rt: &HostRuntime, words: &[String]) -> Result<(), Fault>
     if options.subcommand != Subcommand::Show && children_ignored(rt) {
         return Err(Fault::ChildrenIgnored);
     }
+    let log = match log_of(rt, options) {
+        Ok(log) => log,
+        Err(fault) => return Err(fault),
+    };
     let ended = match options.journal {
-        JournalPlace::Folder(folder) => run_in(rt, options, folder),
-        JournalPlace::Memory => Ok(run_on(rt, options, RamDisk::new(rt.alloc()))),
+        JournalPlace::Folder(folder) => run_in(rt, options, log, folder),
+        JournalPlace::Memory => Ok(run_on(rt, options, log, RamDisk::new(rt.alloc()))),
     };
     match ended {
         Ok(ended) => ended,
@@ -140,7 +145,12 @@ fn run(rt: &HostRuntime, words: &[String]) -> Result<(), Fault>
 }
 
 // Does what the options ask for with the journal in this folder, or says why there is none.
-fn run_in(rt: &HostRuntime, options: Options, folder: &str) -> Result<Result<(), Fault>, Fault>
+fn run_in(
+    rt: &HostRuntime,
+    options: Options,
+    log: Log,
+    folder: &str,
+) -> Result<Result<(), Fault>, Fault>
     ensures ends { IfOk result IsRunEnd }
     ensures not_opened { IsNotOpened result }
 {
@@ -148,7 +158,7 @@ fn run_in(rt: &HostRuntime, options: Options, folder: &str) -> Result<Result<(),
         Subcommand::Show => show_files(rt, options, folder),
         Subcommand::Run | Subcommand::Serve => {
             let disk = found(rt, folder, open_files(rt, folder))?;
-            Ok(run_on(rt, options, disk))
+            Ok(run_on(rt, options, log, disk))
         }
     }
 }
@@ -186,13 +196,14 @@ fn show_on<D: Disk + TellsError + Drop>(
 fn run_on<D: Disk + TellsError + Drop>(
     rt: &HostRuntime,
     options: Options,
+    log: Log,
     disk: D,
 ) -> Result<(), Fault>
     ensures { IsRunEnd result }
 {
     match options.subcommand {
-        Subcommand::Run => run_agents(rt, options, disk, Way::Run),
-        Subcommand::Serve => run_agents(rt, options, disk, Way::Serve),
+        Subcommand::Run => run_agents(rt, options, log, disk, Way::Run),
+        Subcommand::Serve => run_agents(rt, options, log, disk, Way::Serve),
         Subcommand::Show => show_on(rt, options, disk),
     }
 }
@@ -224,6 +235,7 @@ fn form_of(way: Way) -> NoticeForm {
 fn run_agents<D: Disk + TellsError + Drop>(
     rt: &HostRuntime,
     options: Options,
+    log: Log,
     disk: D,
     way: Way,
 ) -> Result<(), Fault>
@@ -234,7 +246,7 @@ fn run_agents<D: Disk + TellsError + Drop>(
     let Ok(mut reader) = BufReader::with_capacity(alloc, READ_SIZE, input) else {
         return Err(Fault::Memory);
     };
-    let Ok(children) = Processes::new(rt, alloc, BOOK_ROOM) else {
+    let Ok(children) = Processes::new(rt, alloc, log, BOOK_ROOM) else {
         return Err(Fault::Memory);
     };
     let (Ok(site), Ok(asked)) = (site_of(alloc, options), site_of(alloc, options)) else {

@@ -1,5 +1,5 @@
 -- The recurring monitors of a resource, with their due moments.
-use Rattle.std.specs.Prelude.{ℕ, ◌+◌, ◌<◌, ◌≤◌, ◌==◌, List, map, filter, not, if◌then◌else◌, Option, Some, None, All, Contains}
+use Rattle.std.specs.Prelude.{◌≡◌, [], ℕ, ◌+◌, ◌<◌, ◌≤◌, ◌==◌, List, map, filter, not, if◌then◌else◌, Option, Some, None, All, Contains}
 use Rattle.ocf_types.specs.declared.operation.Recur.{Recur}
 use Rattle.ocf_types.specs.Due.{IsBefore}
 use Rattle.recurring.specs.declared.monitor.Monitor.{Monitor}
@@ -46,3 +46,8 @@ restarted at monitors = map (due_at at) monitors
 abbrev pub IsFirstDue : List (ℕ × ℕ) → ℕ → Option Monitor → Type 0
 IsFirstDue pairs now None = All (λ p. now < p.0) pairs
 IsFirstDue pairs now (Some m) = Contains pairs (pair m) × (m.due ≤ now) × All (λ p. p.0 ≤ now → IsBefore (pair m) p) pairs
+
+-- the moment is that of one of the pairs, and none is earlier; or there is none
+abbrev pub IsFirstMoment : List (ℕ × ℕ) → Option ℕ → Type 0
+IsFirstMoment pairs None = pairs ≡ []
+IsFirstMoment pairs (Some due) = (call : ℕ) × Contains pairs (due, call) × All (λ p. due ≤ p.0) pairs

@@ -1,7 +1,7 @@
 //! A recurring monitor with its due moment.
 ghost use Rattle.std.specs.Prelude.{◌≡◌, ◌≤◌, ◌↔◌, ◌⊎◌, ℕ, List, [], ◌∷◌, ◌++◌, IsTrue};
 ghost use Rattle.ocf_types.specs.Due.{IsBefore};
-ghost use Rattle.recurring.specs.Monitors.{pair, settled_one, due_at, IsFirstDue};
+ghost use Rattle.recurring.specs.Monitors.{pair, settled_one, due_at, IsFirstDue, IsFirstMoment};
 
 use ocf_types::{CallId, Level, Millis, Moment, Recur};
 use std::default::MadeWith;
@@ -70,6 +70,16 @@ impl Monitor {
         match others {
             None => Some(self),
             Some(other) => Some(self.first_of(other)),
+        }
+    }
+
+    /// The least due moment: this monitor's, or the least of the others.
+    pub(crate) fn first_moment(self, others: Option<u64>) -> Option<u64>
+        ensures { (xs : List (ℕ × ℕ)) → IsFirstMoment xs others → IsFirstMoment (xs ++ pair self ∷ []) result }
+    {
+        match others {
+            None => Some(self.due),
+            Some(other) => Some(self.due.min(other)),
         }
     }
 }

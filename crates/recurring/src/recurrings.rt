@@ -3,7 +3,7 @@ ghost use Rattle.std.specs.Prelude.{◌≡◌, ◌<◌, ◌≤◌, ◌↔◌, []
 ghost use Rattle.std.specs.Prelude.{OnErr};
 ghost use Rattle.ocf_types.specs.Resource.{of_call, of_interval, without_interval};
 ghost use Rattle.ocf_types.specs.Due.{IsLeastDue};
-ghost use Rattle.recurring.specs.Monitors.{recurs, pairs, all_due_at, cancelled, settled, restarted};
+ghost use Rattle.recurring.specs.Monitors.{recurs, pairs, all_due_at, cancelled, settled, restarted, IsFirstMoment};
 
 use crate::monitor::Monitor;
 use arrayvec::ArrayVec;
@@ -184,5 +184,16 @@ impl Recurrings {
             first = m.first_due(first, now);
         }
         first.map(|m| m.recur.call)
+    }
+
+    /// The least moment, in milliseconds, at which a monitor is due: `None` just where there are no monitors.
+    pub fn first_due(&self) -> Option<u64>
+        ensures { IsFirstMoment (pairs self.now) result }
+    {
+        let mut first: Option<u64> = None;
+        for m in self.monitors.as_slice() {
+            first = m.first_moment(first);
+        }
+        first
     }
 }

@@ -10,7 +10,9 @@ use anyhow::{Context, Result};
 use event_wire::{StateReader, decode_event, decode_state, encode_event, encode_state};
 use exec_commands::LineReply;
 use ocf_env::{Instance, Launch, Site, launch};
-use ocf_types::{CallId, EVENT_LIMIT, Event, Info, Part, Question, Reply, RscId, RunId, Task};
+use ocf_types::{
+    CallId, EVENT_LIMIT, Event, Info, Millis, Moment, Part, Question, Reply, RscId, RunId, Running, Task,
+};
 use std::alloc::Global;
 use std::io::Write;
 
@@ -78,9 +80,15 @@ fn first_launch(alloc: Global, site: &Site, info: &Info, task: Task) -> Result<L
         agent: &info.agent,
         params: &info.params,
     };
-    let call = CallId::new(1).context("1 is a call id")?;
-    let run = RunId::new(1).context("1 is a run number")?;
-    Ok(launch(alloc, site, &instance, task, call, run)?)
+    let running = Running {
+        call: CallId::new(1).context("1 is a call id")?,
+        run: RunId::new(1).context("1 is a run number")?,
+        task,
+        timeout: Millis::new(20_000).context("20000 is a timeout")?,
+        interval: 0,
+        since: Moment::new(0).context("0 is a moment")?,
+    };
+    Ok(launch(alloc, site, &instance, running)?)
 }
 
 fn show_start<W: Write>(

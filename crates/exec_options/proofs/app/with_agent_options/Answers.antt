@@ -1,16 +1,22 @@
 use Rattle.std.proofs.Common.{refl, codes}
 use Rattle.std.proofs.lemmas.Result.{IfOk-weaker}
-use Rattle.exec_options.specs.App.{text_rule_or}
+use Rattle.exec_options.specs.App.{flag_rule, text_rule, text_rule_or}
 use Rattle.exec_options.proofs.AppLemmas.{app-arg, local-arg}
 use Rattle.exec_options.proofs.app.with_agent_options.Goals as goal
 
 pub returns-clause-app : goal.returns-clause-app
 returns-clause-app c =
-    IfOk-weaker c.arg.result _ _
+    let one = app-arg _ _ c.in_ok-command.command
+    (flag_rule (codes "meta-variables")) _ c.in_ok-command.ensures c.flag.ensures.local c.flag.ensures.rule refl in
+    let two = app-arg _ _ c.in_ok-command-2.command
+    (text_rule (codes "log")) _ c.in_ok-command-2.ensures c.text_option.ensures.local c.text_option.ensures.rule one in
+    IfOk-weaker c.arg-3.result _ _
     (λ r h. app-arg _ _ r
     (text_rule_or (codes "orphans")
-    (codes "20000")) _ h c.text_option_or.ensures.local c.text_option_or.ensures.rule refl) c.arg.ensures
+    (codes "20000")) _ h c.text_option_or.ensures.local c.text_option_or.ensures.rule two) c.arg-3.ensures
 
 pub returns-clause-local : goal.returns-clause-local
 returns-clause-local c =
-    IfOk-weaker c.arg.result _ _ (λ r h. local-arg _ _ r _ h c.text_option_or.ensures.local refl) c.arg.ensures
+    let one = local-arg _ _ c.in_ok-command.command _ c.in_ok-command.ensures c.flag.ensures.local refl in
+    let two = local-arg _ _ c.in_ok-command-2.command _ c.in_ok-command-2.ensures c.text_option.ensures.local one in
+    IfOk-weaker c.arg-3.result _ _ (λ r h. local-arg _ _ r _ h c.text_option_or.ensures.local two) c.arg-3.ensures

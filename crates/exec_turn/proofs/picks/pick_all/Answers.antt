@@ -1,4 +1,4 @@
-use Rattle.std.proofs.Common.{◌≡◌, ◌<◌, ◌≤◌, ◌+◌, ◌++◌, [], ◌∷◌, List, ℕ, Some, None, true, false, length, take, refl, sym, ap, subst, ◌∙◌}
+use Rattle.std.proofs.Common.{rules, ◌≡◌, ◌<◌, ◌≤◌, ◌+◌, ◌++◌, [], ◌∷◌, List, ℕ, Some, None, true, false, length, take, refl, sym, ap, subst, ◌∙◌}
 use Rattle.std.proofs.Common.{arith}
 use Rattle.std.proofs.lemmas.List.{append-nil, length-map}
 use Rattle.std.specs.List.{AllByRecursion}
@@ -15,7 +15,14 @@ use Rattle.exec_turn.specs.Picks.{ArePicks, MayBegin, begins}
 use Rattle.exec_turn.proofs.Choosing.{picks_more}
 use Rattle.exec_turn.proofs.PickSteps.{above, cut_at, each_push, longer, may_more, one_longer, row_more, spelled_more, starting_more}
 use Rattle.exec_turn.proofs.PickSteps.{too_long}
+use Rattle.exec_turn.proofs.Resting.{rests_picked}
 use Rattle.exec_turn.proofs.picks.pick_all.Goals as goal
+
+pub returns-then-rests-clause-picked : goal.returns-then-rests-clause-picked
+returns-then-rests-clause-picked g c =
+    let none : c.clear-2.new.self.items ≡ [] = search rules in
+    rests_picked c.args.state.now c.args.journal.now.tail.at c.args.at c.clear-2.new.self.items c.known.ensures.lawful
+    (c.if-rests.ensures refl) none
 
 pub loop-place-preserved-in_default : goal.loop-place-preserved-in_default
 loop-place-preserved-in_default g c =

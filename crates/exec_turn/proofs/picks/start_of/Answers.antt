@@ -12,7 +12,7 @@ returns-clause-start g c =
           found_by s c.args.place launch.id c.id_at.result.now c.known.ensures.lawful c.requires.place c.in_ok-launch.ensures.id
           c.id_at.ensures;
       of_one = (c.in_ok-launch.ensures.call, c.in_ok-launch.ensures.run);
-      invocation = invoked c.args.site.now launch.id (at_place s c.args.place) c.args.running.task launch.invocation
+      invocation = invoked c.args.site.now launch.id (at_place s c.args.place) c.args.running launch.invocation
           c.id_at.result.now c.provider_at.result.now c.agent_at.result.now c.params_at.result.now
           c.in_ok-launch.ensures.id c.provider_at.ensures c.agent_at.ensures c.params_at.ensures
           c.in_ok-launch.ensures.invocation;

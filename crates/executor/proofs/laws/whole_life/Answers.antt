@@ -1,15 +1,17 @@
 use Rattle.executor.proofs.Journaling.{WhatStands}
-use Rattle.executor.proofs.Lives.{OneFinding, life_leaves, opened_behind, opens_behind}
+use Rattle.executor.proofs.Lives.{OneFinding, first_begins, fresh_begins, life_leaves, opened_behind, opens_behind}
 use Rattle.executor.proofs.laws.whole_life.Goals as goal
 
 pub returns : goal.returns
 returns g c =
     let law : WhatStands =
-    record { found = c.what_stands.ensures.found; once = c.what_stands.ensures.once; fresh = c.what_stands.ensures.fresh } in
+    record { found = c.what_stands.ensures.found; once = c.what_stands.ensures.once; fresh = c.what_stands.ensures.fresh; stays = c.what_stands.ensures.stays } in
     let once : OneFinding = c.found_once.ensures in
     record {
-      stands = λ life is image left. (life_leaves g.D.Disk.view law once g.met.D.Disk.lawful life is image left).0;
-      roomy = λ life is image left. (life_leaves g.D.Disk.view law once g.met.D.Disk.lawful life is image left).1;
+      fresh = fresh_begins law;
+      first = first_begins law;
+      stands = λ start life is image left. (life_leaves g.D.Disk.view law once g.met.D.Disk.lawful start life is image left).0;
+      roomy = λ start life is image left. (life_leaves g.D.Disk.view law once g.met.D.Disk.lawful start life is image left).1;
       opened = opened_behind g.D.Disk.view law once g.met.D.Disk.lawful;
       not_refused = opens_behind g.D.Disk.view law once g.met.D.Disk.lawful;
     }

@@ -9,7 +9,7 @@ returns-clause-invocation g c =
     let via = c.args.site.now.via in
     let call = c.in_ok-invocation.ensures in
     let file = c.in_ok-file.ensures in
-    let word : c.word.result.now ≡ action_word (action_of c.args.task) = c.word.ensures ∙ ap action_word c.action.ensures in
+    let word : c.word.result.now ≡ action_word (action_of c.args.running.task) = c.word.ensures ∙ ap action_word c.action.ensures in
     let same = ap (λ (i : Call). i.environment) call in
     record {
       program = ap (λ (i : Call). i.program) call ∙ ap (program_at via) file;

@@ -14,7 +14,7 @@ pub loop-input-init : goal.loop-input-init
 loop-input-init g c =
     let x = c.args.self.now in
     let law : WhatStands =
-    record { found = c.what_stands.ensures.found; once = c.what_stands.ensures.once; fresh = c.what_stands.ensures.fresh } in
+    record { found = c.what_stands.ensures.found; once = c.what_stands.ensures.once; fresh = c.what_stands.ensures.fresh; stays = c.what_stands.ensures.stays } in
     let whole_len : vec_len c.args.inputs ≡ length c.args.inputs.items = search rules in
     let all = c.into_iter-input-iterator.ensures.into_iter_gives.0 in
     record {

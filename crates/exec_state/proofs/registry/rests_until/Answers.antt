@@ -1,0 +1,17 @@
+use Rattle.std.proofs.Common.{◌≡◌, arith, subst, take, min, rules, List}
+use Rattle.std.proofs.lemmas.List.{take_all}
+use Rattle.std.specs.List.{AllByRecursion}
+use Rattle.std.specs.Map.{values_of}
+use Rattle.exec_state.proofs.Resting.{RestsAt, length-values, rest_more, rest_seen}
+use Rattle.exec_state.proofs.registry.rests_until.Goals as goal
+
+pub loop-place-preserved : goal.loop-place-preserved
+loop-place-preserved g c = λ now lt.
+    rest_more (values_of c.args.resources.now.entries) c.loop-place.place c.loop-place.until c.rests_until-own.result c.min-until.result now
+    c.index-resource.result.now c.index-resource.ensures c.loop-place.invariant c.rests_until-own.ensures (search rules) lt
+
+pub returns : goal.returns
+returns g c = λ now lt.
+    let es = c.args.resources.now.entries in
+    let all : take c.loop-place.place (values_of es) ≡ values_of es = take_all c.loop-place.place (values_of es) (omega (arith, c.loop-place-test.false, c.len-place-end.ensures.len, length-values es)) in
+    rest_seen es now (rw (← all) (c.loop-place.invariant now lt))

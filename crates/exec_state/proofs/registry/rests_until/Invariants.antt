@@ -1,0 +1,8 @@
+use Rattle.std.proofs.Common.{ℕ, ◌<◌, take}
+use Rattle.std.specs.List.{AllByRecursion}
+use Rattle.std.specs.Map.{values_of}
+use Rattle.exec_state.proofs.Resting.{RestsAt}
+use Rattle.exec_state.proofs.registry.rests_until.Given as goal
+
+abbrev pub invariant-loop-place : goal.invariant-loop-place
+invariant-loop-place g l = (now : ℕ) → now < l.until → AllByRecursion (RestsAt now) (take l.place (values_of l.resources.entries))

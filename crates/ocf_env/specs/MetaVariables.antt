@@ -1,0 +1,20 @@
+-- The variables of an action that Pacemaker sets beside the standard's.
+use Rattle.std.specs.Prelude.{◌≡◌, true, ℕ, List, codes, decimal}
+use Rattle.ocf_types.specs.Actions.{action_of, action_word}
+use Rattle.ocf_types.specs.Kinds.{Registration}
+use Rattle.ocf_types.specs.declared.operation.Running.{Running}
+use Rattle.ocf_env.specs.Places.{Place}
+use Rattle.ocf_env.specs.Variables.{IsVariable}
+
+-- Pacemaker Administration, environment variables of agents: the name of the action, its interval in milliseconds, which is
+-- 0 for a one-time action, and its timeout in milliseconds
+pub data IsMetaVariable (running : Running) : List ℕ → List ℕ → Type 0 where
+  interval : IsMetaVariable running (codes "OCF_RESKEY_CRM_meta_interval") (decimal running.interval)
+  name : IsMetaVariable running (codes "OCF_RESKEY_CRM_meta_name") (action_word (action_of running.task))
+  timeout : IsMetaVariable running (codes "OCF_RESKEY_CRM_meta_timeout") (decimal running.timeout)
+
+-- what an action is given: its variables, and where the site says so Pacemaker's, each but where a variable of its name is
+pub data IsGiven (site : Place) (r : Registration) (running : Running) : List ℕ → List ℕ → Type 0 where
+  own : {name value : List ℕ} → IsVariable site r running.task name value → IsGiven site r running name value
+  meta : {name value : List ℕ} → site.meta ≡ true → IsMetaVariable running name value
+      → ((other : List ℕ) → IsVariable site r running.task name other → ⊥) → IsGiven site r running name value

@@ -1,0 +1,10 @@
+#!/bin/sh
+# Shows why a start failed: with --log the agent's own words stand beside its exit code. The example's agent is to keep its
+# state in a folder that is not there.
+# Use: failed.sh [PROGRAM]
+set -eu
+program=$(realpath "$(command -v "${1:-ocfexec}")")
+cd "$(dirname "$0")"
+printf '%s\n' '{"op":"register","id":"web","provider":"example","type":"Dummy","params":{"state":"/nowhere/web"}}' \
+    '{"op":"exec","id":"web","action":"start"}' '{"op":"drain"}' |
+    "$program" run --memory --root "$PWD" --meta-variables --log - 2>&1
