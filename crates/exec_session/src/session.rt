@@ -95,7 +95,14 @@ fn answer_in_way<R: Input, W: Output, D: Disk + Drop, C: Children + Drop, K: Clo
 }
 
 // Writes the report, and then answers all lines. The buffer is empty.
-fn report_and_answer<R: Input, W: Output, D: Disk + Drop, C: Children + Drop, K: Clock, M: Metadata>(
+fn report_and_answer<
+    R: Input,
+    W: Output,
+    D: Disk + Drop,
+    C: Children + Drop,
+    K: Clock,
+    M: Metadata,
+>(
     setting: &Setting<K, M>,
     reader: &mut R,
     writer: &mut W,

@@ -3,8 +3,8 @@ use crate::heaps::{Ended, done, grows, refused};
 use linked_list_allocator::LocalHeap;
 use ocf_env::{Instance, Site, Text, launch, launch_meta};
 use ocf_types::{
-    AgentType, CallId, Level, Millis, Moment, ParamName, ParamValue, Params, Provider, RscId, RunId,
-    Running, Task,
+    AgentType, CallId, Level, Millis, Moment, ParamName, ParamValue, Params, Provider, RscId,
+    RunId, Running, Task,
 };
 use std::alloc::Global;
 

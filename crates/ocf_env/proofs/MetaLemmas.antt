@@ -85,12 +85,12 @@ given_only site r running xs asked are x a =
     elim (new_cases (timeout_pair running) two x a) [
       | inr t ↦ put site r running xs two asked are in_two (timeout_pair running) x timeout t.0 t.1
       | inl b ↦ elim (new_cases (name_pair running) one x b) [
-          | inr t ↦ put site r running xs one asked are in_one (name_pair running) x name t.0 t.1
-          | inl d ↦ elim (new_cases (interval_pair running) xs x d) [
-              | inr t ↦ put site r running xs xs asked are (λ y h. h) (interval_pair running) x interval t.0 t.1
-              | inl e ↦ own ((are x.0 x.1).0 (contained xs x e))
-            ]
+        | inr t ↦ put site r running xs one asked are in_one (name_pair running) x name t.0 t.1
+        | inl d ↦ elim (new_cases (interval_pair running) xs x d) [
+          | inr t ↦ put site r running xs xs asked are (λ y h. h) (interval_pair running) x interval t.0 t.1
+          | inl e ↦ own ((are x.0 x.1).0 (contained xs x e))
         ]
+      ]
     ]
 
 -- and each that is given is in it

@@ -19,7 +19,10 @@ fn is_before(a: &str, b: &str) -> bool
 fn lesser_names<A: Allocator>(pairs: &[(Text<A>, Text<A>)], name: &str) -> usize
     ensures { result ≡ count_by (λ p. is_before p.0 name.now) pairs.now }
 {
-    pairs.iter().filter(|p| is_before(p.0.as_str(), name)).count()
+    pairs
+        .iter()
+        .filter(|p| is_before(p.0.as_str(), name))
+        .count()
 }
 
 fn is_there<A: Allocator>(pairs: &[(Text<A>, Text<A>)], name: &str) -> bool

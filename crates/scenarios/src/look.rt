@@ -11,7 +11,8 @@ use event_wire::{StateReader, decode_event, decode_state, encode_event, encode_s
 use exec_commands::LineReply;
 use ocf_env::{Instance, Launch, Site, launch};
 use ocf_types::{
-    CallId, EVENT_LIMIT, Event, Info, Millis, Moment, Part, Question, Reply, RscId, RunId, Running, Task,
+    CallId, EVENT_LIMIT, Event, Info, Millis, Moment, Part, Question, Reply, RscId, RunId, Running,
+    Task,
 };
 use std::alloc::Global;
 use std::io::Write;

@@ -20,5 +20,5 @@ pub returns-clause-variables : goal.returns-clause-variables
 returns-clause-variables g c =
     let asked : c.args.site.now.meta ≡ true = search rules in
     λ name value. rw c.in_ok-add_meta.ensures
-        (meta_members c.args.site.now (registered c.args.instance.now) c.args.running c.in_ok-pairs.pairs.items asked
-        c.in_ok-pairs.ensures.variables name value)
+    (meta_members c.args.site.now (registered c.args.instance.now) c.args.running c.in_ok-pairs.pairs.items asked
+    c.in_ok-pairs.ensures.variables name value)
