@@ -16,3 +16,4 @@ pub mod AskedLemmas
 pub mod LawfulParts
 pub mod LawfulSteps
 pub mod LawfulLaw
+pub mod LayoutLemmas

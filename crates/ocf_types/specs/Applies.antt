@@ -2,10 +2,12 @@
 use Rattle.std.specs.Prelude.{◌≡◌, ℕ, ◌<◌, ◌≤◌, List, [], ◌∷◌, length, None, IsSome, IsSomeAnd, IsTrue, ⊤, false}
 use Rattle.ocf_types.specs.Limits.{num_max, resources_limit, queue_limit, recurring_limit}
 use Rattle.ocf_types.specs.Kinds.{Step, Change, Event}
-use Rattle.ocf_types.specs.Lawful.{HasSpelling}
+use Rattle.ocf_types.specs.Lawful.{HasSpellingIn}
 use Rattle.ocf_types.specs.Resource.{Resource, is_busy, of_call, of_interval}
 use Rattle.ocf_types.specs.State.{State, resource_at}
 use Rattle.ocf_types.specs.Boot.{any_busy}
+use Rattle.ocf_types.specs.declared.layout.Layout.{Layout}
+use Rattle.ocf_types.specs.declared.layout.Layout.TheVariants.{Second}
 use Rattle.ocf_types.specs.declared.operation.Op.{Op}
 use Rattle.ocf_types.specs.declared.operation.Recur.{Recur}
 use Rattle.ocf_types.specs.declared.event.Step.TheVariants as step
@@ -39,8 +41,11 @@ ChangeApplies s (change.Unregister id) = IsSomeAnd (resource_at s id) (λ r. is_
 ChangeApplies s (change.Step id what) = IsSomeAnd (resource_at s id) (StepApplies s.next_call s.next_run what)
 ChangeApplies s change.Boot = IsTrue (any_busy s)
 
--- where an event applies: it has a spelling, its moment is not before the clock, and its change applies
-pub record Applies (s : State) (e : Event) : Type 0 where
-  pub spelled : HasSpelling e
+-- where an event applies: it has a spelling in the layout, its moment is not before the clock, and its change applies
+pub record AppliesIn (layout : Layout) (s : State) (e : Event) : Type 0 where
+  pub spelled : HasSpellingIn layout e
   pub later : s.clock ≤ e.at
   pub change : ChangeApplies s e.change
+
+abbrev pub Applies : State → Event → Type 0
+Applies s e = AppliesIn Second s e

@@ -5,7 +5,9 @@ use Rattle.ocf_types.specs.Names.{is_rsc_id, is_provider, is_agent_type}
 use Rattle.ocf_types.specs.Numbers.{IsMoment, IsDrawn, IsMillis}
 use Rattle.ocf_types.specs.Params.{AreParams}
 use Rattle.ocf_types.specs.Kinds.{Registration, Step, Change, Event, Command}
-use Rattle.ocf_types.specs.Spelling.{spelled_event}
+use Rattle.ocf_types.specs.Spelling.{spelled_event_in}
+use Rattle.ocf_types.specs.declared.layout.Layout.{Layout}
+use Rattle.ocf_types.specs.declared.layout.Layout.TheVariants.{Second}
 use Rattle.ocf_types.specs.declared.operation.Op.{Op}
 use Rattle.ocf_types.specs.declared.operation.Recur.{Recur}
 use Rattle.ocf_types.specs.declared.outcome.RunEnd.{RunEnd}
@@ -55,16 +57,22 @@ pub record IsLawfulEvent (e : Event) : Type 0 where
   pub at : IsMoment e.at
   pub change : IsLawfulChange e.change
 
--- what has a spelling: a lawful event of at most 16,384 bytes
-pub record HasSpelling (e : Event) : Type 0 where
+-- what has a spelling in a layout: a lawful event of at most 16,384 bytes
+pub record HasSpellingIn (layout : Layout) (e : Event) : Type 0 where
   pub lawful : IsLawfulEvent e
-  pub short : length (spelled_event e) ≤ event_limit
+  pub short : length (spelled_event_in layout e) ≤ event_limit
 
--- the spelling of this event begins these bytes
-pub record Begins (bytes : List ℕ) (e : Event) : Type 0 where
-  pub spelled : HasSpelling e
+abbrev pub HasSpelling : Event → Type 0
+HasSpelling e = HasSpellingIn Second e
+
+-- the spelling of this event in a layout begins these bytes
+pub record BeginsIn (layout : Layout) (bytes : List ℕ) (e : Event) : Type 0 where
+  pub spelled : HasSpellingIn layout e
   pub rest : List ℕ
-  pub whole : bytes ≡ spelled_event e ++ rest
+  pub whole : bytes ≡ spelled_event_in layout e ++ rest
+
+abbrev pub Begins : List ℕ → Event → Type 0
+Begins bytes e = BeginsIn Second bytes e
 
 abbrev pub IsLawfulCommand : Command → Type 0
 IsLawfulCommand (command.Register r) = IsLawfulRegistration r

@@ -9,10 +9,13 @@ use Rattle.ocf_types.specs.Numbers.{IsMoment, IsDrawn, IsMillis}
 use Rattle.ocf_types.specs.Params.{AreParams}
 use Rattle.ocf_types.specs.Actions.{action_of}
 use Rattle.ocf_types.specs.Spelling.{spelled_params}
-use Rattle.ocf_types.specs.StateSpelling.{spelled_state}
+use Rattle.ocf_types.specs.StateSpelling.{spelled_state_in}
 use Rattle.ocf_types.specs.Lawful.{IsLawfulOp, IsLawfulRecur, IsRunEnd}
-use Rattle.ocf_types.specs.Resource.{Resource, kept}
+use Rattle.ocf_types.specs.Layouts.{kept_in}
+use Rattle.ocf_types.specs.Resource.{Resource}
 use Rattle.ocf_types.specs.State.{State}
+use Rattle.ocf_types.specs.declared.layout.Layout.{Layout}
+use Rattle.ocf_types.specs.declared.layout.Layout.TheVariants.{Second}
 use Rattle.ocf_types.specs.declared.action.Action.{Action}
 use Rattle.ocf_types.specs.declared.action.Action.TheVariants.{Monitor}
 use Rattle.ocf_types.specs.declared.operation.Running.{Running}
@@ -51,8 +54,8 @@ pub record IsLawfulEnded (next_call next_run clock : ℕ) (e : Ended) : Type 0 w
   pub at : e.at ≤ clock
   pub outcome : IsOutcome e.outcome
 
--- a resource, in a state with these next numbers and this clock
-pub record IsLawfulResource (next_call next_run clock : ℕ) (r : Resource) : Type 0 where
+-- a resource in a layout, in a state with these next numbers and this clock
+pub record IsLawfulResourceIn (layout : Layout) (next_call next_run clock : ℕ) (r : Resource) : Type 0 where
   pub provider : IsTrue (is_provider r.provider)
   pub agent : IsTrue (is_agent_type r.agent)
   pub are_params : AreParams r.params
@@ -65,20 +68,29 @@ pub record IsLawfulResource (next_call next_run clock : ℕ) (r : Resource) : Ty
   pub recurring : AllByRecursion (λ m. IsLawfulRecur m × (m.call < next_call)) r.recurring
   pub recurring_ascends : IsAscending (map (λ m. m.call) r.recurring)
   pub intervals : IsDistinct nat_eq (map (λ m. m.interval) r.recurring)
-  pub ended_len : length r.history.ended ≤ kept
+  pub ended_len : length r.history.ended ≤ kept_in layout
   pub ended : AllByRecursion (IsLawfulEnded next_call next_run clock) r.history.ended
 
--- a state: what the conditions of its spelling ask for
-pub record IsLawfulState (s : State) : Type 0 where
+abbrev pub IsLawfulResource : ℕ → ℕ → ℕ → Resource → Type 0
+IsLawfulResource next_call next_run clock r = IsLawfulResourceIn Second next_call next_run clock r
+
+-- a state: what the conditions of its spelling in a layout ask for
+pub record IsLawfulStateIn (layout : Layout) (s : State) : Type 0 where
   pub next_call : IsDrawn s.next_call
   pub next_run : IsDrawn s.next_run
   pub clock : IsMoment s.clock
   pub at_most_256 : length s.resources ≤ resources_limit
   pub ids : IsDistinct bytes_eq (keys_of s.resources)
   pub named : AllByRecursion (λ e. IsTrue (is_rsc_id e.0)) s.resources
-  pub resources : AllByRecursion (λ e. IsLawfulResource s.next_call s.next_run s.clock e.1) s.resources
+  pub resources : AllByRecursion (λ e. IsLawfulResourceIn layout s.next_call s.next_run s.clock e.1) s.resources
 
--- the bytes are the spelling of a lawful state
-pub record Spells (bytes : List ℕ) (s : State) : Type 0 where
-  pub lawful : IsLawfulState s
-  pub whole : bytes ≡ spelled_state s
+abbrev pub IsLawfulState : State → Type 0
+IsLawfulState s = IsLawfulStateIn Second s
+
+-- the bytes are the spelling of a lawful state in a layout
+pub record SpellsIn (layout : Layout) (bytes : List ℕ) (s : State) : Type 0 where
+  pub lawful : IsLawfulStateIn layout s
+  pub whole : bytes ≡ spelled_state_in layout s
+
+abbrev pub Spells : List ℕ → State → Type 0
+Spells bytes s = SpellsIn Second bytes s

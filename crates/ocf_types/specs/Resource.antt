@@ -2,10 +2,12 @@
 -- are kept, and what a boot does, is this executor's own.
 use Rattle.std.specs.Prelude.{ℕ, ◌-◌, ◌==◌, Bool, ◌||◌, List, [], ◌∷◌, ◌++◌, map, length, drop, find, filter, not, nat_lt, Option, Some}
 use Rattle.std.specs.Prelude.{None, option_map, option_to_list, is_some}
-use Rattle.ocf_types.specs.Limits.{ended_kept}
+use Rattle.ocf_types.specs.Layouts.{kept_in}
 use Rattle.ocf_types.specs.Params.{ParamList}
 use Rattle.ocf_types.specs.Actions.{action_of}
 use Rattle.ocf_types.specs.declared.action.Task.TheVariants.{Monitor}
+use Rattle.ocf_types.specs.declared.layout.Layout.{Layout}
+use Rattle.ocf_types.specs.declared.layout.Layout.TheVariants.{Second}
 use Rattle.ocf_types.specs.declared.operation.Op.{Op}
 use Rattle.ocf_types.specs.declared.operation.Recur.{Recur}
 use Rattle.ocf_types.specs.declared.operation.Running.{Running}
@@ -29,11 +31,14 @@ pub record Resource : Type 0 where
 
 -- how many results are kept
 abbrev pub kept : ℕ
-kept = ended_kept
+kept = kept_in Second
 
--- the last ones
+-- the last ones, as many as a layout keeps
+abbrev pub last_in : Layout → List Ended → List Ended
+last_in layout results = drop (length results - kept_in layout) results
+
 abbrev pub last_ended : List Ended → List Ended
-last_ended results = drop (length results - kept) results
+last_ended results = last_in Second results
 
 -- the run of a queued action, begun at a moment
 abbrev pub run_of_op : ℕ → ℕ → Op → Running
@@ -73,19 +78,30 @@ abbrev pub begun : Option Recur → ℕ → ℕ → History → History
 begun monitor run at h = begun_from h.queue monitor run at h
 
 -- what ran has ended
+abbrev pub ended_in : Layout → Outcome → ℕ → History → History
+ended_in layout outcome at h =
+    record h { running = None; ended = last_in layout (h.ended ++ map (ended_of outcome at) (option_to_list h.running)) }
+
 abbrev pub ended : Outcome → ℕ → History → History
-ended outcome at h = record h { running = None; ended = last_ended (h.ended ++ map (ended_of outcome at) (option_to_list h.running)) }
+ended outcome at h = ended_in Second outcome at h
 
 -- what was queued is dropped, in order, and then what ran is interrupted
-abbrev pub booted : ℕ → History → History
-booted at h = record {
+abbrev pub booted_in : Layout → ℕ → History → History
+booted_in layout at h = record {
   queue = [];
   running = None;
-  ended = last_ended (h.ended ++ map (dropped_of at) h.queue ++ map (ended_of Interrupted at) (option_to_list h.running));
+  ended = last_in layout (h.ended ++ map (dropped_of at) h.queue ++ map (ended_of Interrupted at) (option_to_list h.running));
 }
+
+abbrev pub booted : ℕ → History → History
+booted at h = booted_in Second at h
 
 abbrev pub forgotten : History → History
 forgotten h = record h { ended = [] }
+
+-- a history with the results alone that a layout keeps
+abbrev pub history_in : Layout → History → History
+history_in layout h = record h { ended = last_in layout h.ended }
 
 -- the monitor of a call, and that of an interval
 abbrev pub of_call : ℕ → List Recur → Option Recur

@@ -1,9 +1,13 @@
--- The state, and the state after an event: this executor's own.
+-- The state, and the state after an event: this executor's own. A layout keeps its number of results; the name without one is
+-- that of the second.
 use Rattle.std.specs.Prelude.{ℕ, ◌+◌, List, [], ◌∷◌, ◌++◌, map, filter, fold, not, if◌then◌else◌, Option, Some, None, ⊤}
 use Rattle.std.specs.Map.{lookup}
 use Rattle.std.specs.Str.{bytes_eq}
 use Rattle.ocf_types.specs.Kinds.{Registration, Step, Change, Event}
-use Rattle.ocf_types.specs.Resource.{History, Resource, no_history, accepted, begun, ended, booted, forgotten, of_call, without_interval}
+use Rattle.ocf_types.specs.Resource.{History, Resource, no_history, accepted, begun, ended_in, booted_in, forgotten, history_in, of_call}
+use Rattle.ocf_types.specs.Resource.{without_interval}
+use Rattle.ocf_types.specs.declared.layout.Layout.{Layout}
+use Rattle.ocf_types.specs.declared.layout.Layout.TheVariants.{First, Second}
 use Rattle.ocf_types.specs.declared.operation.Recur.{Recur}
 use Rattle.ocf_types.specs.declared.outcome.Outcome.TheVariants.{Run}
 use Rattle.ocf_types.specs.declared.event.Step.TheVariants as step
@@ -47,14 +51,17 @@ abbrev pub on_recurring : (List Recur → List Recur) → Resource → Resource
 on_recurring f r = record r { recurring = f r.recurring }
 
 -- a resource after a step, at its moment
+abbrev pub stepped_in : Layout → ℕ → Step → Resource → Resource
+stepped_in layout at (step.SetParams ps) r = record r { params = ps }
+stepped_in layout at (step.Exec o) r = on_history (accepted o) r
+stepped_in layout at (step.Recur m) r = on_recurring (λ ms. ms ++ m ∷ []) r
+stepped_in layout at (step.Cancel interval) r = on_recurring (without_interval interval) r
+stepped_in layout at step.Forget r = on_history forgotten r
+stepped_in layout at (step.Begin call run) r = on_history (begun (of_call call r.recurring) run at) r
+stepped_in layout at (step.Result run end) r = on_history (ended_in layout (Run end) at) r
+
 abbrev pub stepped : ℕ → Step → Resource → Resource
-stepped at (step.SetParams ps) r = record r { params = ps }
-stepped at (step.Exec o) r = on_history (accepted o) r
-stepped at (step.Recur m) r = on_recurring (λ ms. ms ++ m ∷ []) r
-stepped at (step.Cancel interval) r = on_recurring (without_interval interval) r
-stepped at step.Forget r = on_history forgotten r
-stepped at (step.Begin call run) r = on_history (begun (of_call call r.recurring) run at) r
-stepped at (step.Result run end) r = on_history (ended (Run end) at) r
+stepped at what r = stepped_in Second at what r
 
 -- the id and the resource of a registration, with what it does and its recurring monitors
 abbrev pub resource_of : Registration → History → List Recur → List ℕ × Resource
@@ -66,11 +73,14 @@ abbrev pub registered : Registration → List ℕ × Resource
 registered r = resource_of r no_history []
 
 -- the resources after a change
+abbrev pub changed_in : Layout → ℕ → Change → Registry → Registry
+changed_in layout at (change.Register r) rs = rs ++ registered r ∷ []
+changed_in layout at (change.Unregister id) rs = others id rs
+changed_in layout at (change.Step id s) rs = at_id id (stepped_in layout at s) rs
+changed_in layout at change.Boot rs = map (λ e. (e.0, on_history (booted_in layout at) e.1)) rs
+
 abbrev pub changed : ℕ → Change → Registry → Registry
-changed at (change.Register r) rs = rs ++ registered r ∷ []
-changed at (change.Unregister id) rs = others id rs
-changed at (change.Step id s) rs = at_id id (stepped at s) rs
-changed at change.Boot rs = map (λ e. (e.0, on_history (booted at) e.1)) rs
+changed at c rs = changed_in Second at c rs
 
 -- how many call ids, and how many run numbers, a change draws
 abbrev pub calls_drawn : Change → ℕ
@@ -83,16 +93,26 @@ runs_drawn (change.Step id (step.Begin call run)) = 1
 runs_drawn _ = 0
 
 -- the state after an event, and after a list of them
-abbrev pub after : State → Event → State
-after s e = record {
+abbrev pub after_in : Layout → State → Event → State
+after_in layout s e = record {
   next_call = s.next_call + calls_drawn e.change;
   next_run = s.next_run + runs_drawn e.change;
   clock = e.at;
-  resources = changed e.at e.change s.resources;
+  resources = changed_in layout e.at e.change s.resources;
 }
+
+abbrev pub after : State → Event → State
+after s e = after_in Second s e
+
+abbrev pub after_all_in : Layout → State → List Event → State
+after_all_in layout s es = fold (after_in layout) s es
 
 abbrev pub after_all : State → List Event → State
 after_all s es = fold after s es
+
+-- a state without what the first layout does not know: each resource's results but the last ones
+abbrev pub in_first : State → State
+in_first s = record s { resources = map (λ e. (e.0, on_history (history_in First) e.1)) s.resources }
 
 -- the id of the resource that a change names; a boot names none
 abbrev pub named : Change → Option (List ℕ)

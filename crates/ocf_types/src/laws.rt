@@ -1,17 +1,20 @@
 //! Laws of the definitions, each the contract of a function that does nothing.
-ghost use Rattle.std.specs.Prelude.{◌≡◌, ◌≢◌, ℕ, ◌≤◌, List, length, Some, Ok, IsTrue, IsSomeAnd};
+ghost use Rattle.std.specs.Prelude.{◌≡◌, ◌≢◌, ◌↔◌, ℕ, ◌≤◌, List, length, Some, Ok, IsTrue, IsSomeAnd};
 ghost use Rattle.ocf_types.specs.declared.event.Step.TheVariants as step;
 ghost use Rattle.ocf_types.specs.declared.event.Change.TheVariants as change;
 ghost use Rattle.ocf_types.specs.declared.outcome.RunEnd.{RunEnd};
 ghost use Rattle.ocf_types.specs.Limits.{num_max, boot_len, longest_result, longest_begin, longest_small, longest_state};
 ghost use Rattle.ocf_types.specs.Kinds.{Event, Command, Step, Change};
-ghost use Rattle.ocf_types.specs.Lawful.{IsId, IsLawfulEvent, IsLawfulCommand};
+ghost use Rattle.ocf_types.specs.Lawful.{HasSpelling, HasSpellingIn, IsId, IsLawfulEvent, IsLawfulCommand};
 ghost use Rattle.ocf_types.specs.Spelling.{spelled_event, HasNoParams};
-ghost use Rattle.ocf_types.specs.State.{State, empty, resource_at, named, others, after, IsRegistration};
-ghost use Rattle.ocf_types.specs.Applies.{Applies};
+ghost use Rattle.ocf_types.specs.State.{State, empty, resource_at, named, others, after, after_in, after_all, after_all_in, in_first};
+ghost use Rattle.ocf_types.specs.State.{IsRegistration};
+ghost use Rattle.ocf_types.specs.Applies.{Applies, AppliesIn};
+ghost use Rattle.ocf_types.specs.declared.layout.Layout.TheVariants.{First};
+ghost use Rattle.std.specs.List.{AllByRecursion};
 ghost use Rattle.ocf_types.specs.Boot.{any_busy, boot, boot_at, IsLast};
 ghost use Rattle.ocf_types.specs.Answer.{event_of, IsRegister};
-ghost use Rattle.ocf_types.specs.LawfulState.{IsLawfulState};
+ghost use Rattle.ocf_types.specs.LawfulState.{IsLawfulState, IsLawfulStateIn};
 ghost use Rattle.ocf_types.specs.StateSpelling.{spelled_state};
 ghost use Rattle.ocf_types.specs.Resource.{Resource, ended_of};
 ghost use Rattle.ocf_types.specs.declared.operation.Running.{Running};
@@ -65,4 +68,16 @@ pub fn lengths()
     ensures small { (at : ℕ) (c : Change) → IsLawfulEvent (record { at = at; change = c }) → HasNoParams c
         → length (spelled_event (record { at = at; change = c })) ≤ longest_small }
     ensures state { (s : State) → IsLawfulState s → length (spelled_state s) ≤ longest_state }
+{}
+
+/// What the first layout has, the second has too, with the same meaning: so what stands in a part of the first is a state
+/// of today's, and today's events on a state, without what the first layout does not know, are those of the first.
+pub fn layouts()
+    ensures lawful { (s : State) → IsLawfulStateIn First s → IsLawfulState s }
+    ensures whole { (s : State) → IsLawfulStateIn First s → in_first s ≡ s }
+    ensures spelled { (e : Event) → HasSpellingIn First e → HasSpelling e }
+    ensures applies { (s : State) (e : Event) → HasSpellingIn First e → Applies s e ↔ AppliesIn First (in_first s) e }
+    ensures after { (s : State) (e : Event) → HasSpellingIn First e → in_first (after s e) ≡ after_in First (in_first s) e }
+    ensures after_all { (s : State) (es : List Event) → AllByRecursion (HasSpellingIn First) es
+        → in_first (after_all s es) ≡ after_all_in First (in_first s) es }
 {}

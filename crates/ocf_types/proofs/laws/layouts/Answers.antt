@@ -1,0 +1,20 @@
+use Rattle.ocf_types.proofs.LayoutLemmas.{state_carried, state_whole, spelling_carried, applies_cut, after_cut, after_all_cut}
+use Rattle.ocf_types.proofs.laws.layouts.Goals as goal
+
+pub returns-clause-lawful : goal.returns-clause-lawful
+returns-clause-lawful c s h = state_carried s h
+
+pub returns-clause-whole : goal.returns-clause-whole
+returns-clause-whole c s h = state_whole s h
+
+pub returns-clause-spelled : goal.returns-clause-spelled
+returns-clause-spelled c e h = spelling_carried e h
+
+pub returns-clause-applies : goal.returns-clause-applies
+returns-clause-applies c s e h = applies_cut s e h
+
+pub returns-clause-after : goal.returns-clause-after
+returns-clause-after c s e h = after_cut s e
+
+pub returns-clause-after_all : goal.returns-clause-after_all
+returns-clause-after_all c s es h = after_all_cut es s
