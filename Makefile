@@ -23,7 +23,7 @@ mutants:
 
 # The rate of each benchmark. The first call proves the program; `crates/bench/out/bench NAME ROUNDS` runs it again.
 bench:
-	cd crates/bench && rt run -- appends 20 && rt run -- events 20 && rt run -- state-reads 20 && rt run -- state-writes 20 && rt run -- triples 20 && rt run -- openings 1 && rt run -- tidies 4 && rt run -- waiting-turns 20 && rt run -- busy-turns 5 && rt run -- resting-turns 20 && rt run -- lone-turns 20 && rt run -- due-turns 20
+	cd crates/bench && rt run -- appends 20 && rt run -- events 20 && rt run -- state-reads 20 && rt run -- state-writes 20 && rt run -- triples 20 && rt run -- openings 1 && rt run -- tidies 4 && rt run -- waiting-turns 20 && rt run -- busy-turns 5 && rt run -- resting-turns 20 && rt run -- lone-turns 20 && rt run -- due-turns 20 && rt run -- scans 20
 
 # Installs the programs that the gate proved and built, or proves and builds them first; with them the manual page, the two
 # clients and the unit.

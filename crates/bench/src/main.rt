@@ -4,10 +4,12 @@
 //! and ended, `openings` counts the bytes of a full part that a journal is opened on, and `tidies` those of the largest
 //! state that a journal writes as its snapshot, twice behind an opening; `waiting-turns` and `busy-turns`
 //! count turns over 256 running actions, which all run on, or all end and are followed by the next ones; `resting-turns`,
-//! `lone-turns` and `due-turns` count turns over 2,048 recurring monitors, of which none is due, one or all.
+//! `lone-turns` and `due-turns` count turns over 2,048 recurring monitors, of which none is due, one or all; `scans` counts
+//! how often all 256 resources with them are asked what they begin, as a turn would that remembers nothing.
 #![tactic(auto)]
 
 mod openings;
+mod scans;
 mod slots;
 mod spellings;
 mod tidies;
@@ -15,6 +17,7 @@ mod triples;
 mod turns;
 
 use crate::openings::{full_part, openings};
+use crate::scans::scans;
 use crate::slots::appends;
 use crate::spellings::{events, is_written_again, largest_state, read_state, write_state};
 use crate::tidies::tidies;
@@ -22,13 +25,13 @@ use crate::triples::triples;
 use crate::turns::{busy_turns, due_turns, lone_turns, resting_turns, waiting_turns};
 use anyhow::{Context, Result, bail, ensure};
 use event_wire::decode_state;
-use ocf_types::StateParts;
+use ocf_types::{Layout, StateParts};
 use std::alloc::Global;
 use std::env;
 use std::rt::{Clock, Env};
 use std::time::Instant;
 
-const NAMES: [&str; 12] = [
+const NAMES: [&str; 13] = [
     "appends",
     "events",
     "state-reads",
@@ -41,6 +44,7 @@ const NAMES: [&str; 12] = [
     "resting-turns",
     "lone-turns",
     "due-turns",
+    "scans",
 ];
 
 // The largest state, its spelling, and a part that is full of records.
@@ -53,7 +57,9 @@ struct Largest {
 
 fn make_largest(alloc: Global) -> Result<Largest> {
     let bytes = largest_state(alloc)?;
-    let state = decode_state(alloc, bytes.as_slice())?.context("the bytes are no state")?;
+    let state = decode_state(alloc, Layout::Second, bytes.as_slice())?.context(
+        "the bytes are no state",
+    )?;
     let part = full_part(alloc)?;
     Ok(Largest { bytes, state, part })
 }
@@ -73,6 +79,7 @@ fn round(alloc: Global, largest: &Largest, name: &str) -> Result<u64> {
         "resting-turns" => resting_turns(alloc),
         "lone-turns" => lone_turns(alloc),
         "due-turns" => due_turns(alloc),
+        "scans" => scans(alloc),
         _ => bail!("no benchmark is called {name}"),
     }
 }

@@ -1,7 +1,7 @@
 //! Events and states, read and written.
 use anyhow::Result;
 use event_wire::{decode_event, decode_state, encode_event, encode_state};
-use ocf_types::{RESOURCES_LIMIT, StateParts, StateView};
+use ocf_types::{Layout, RESOURCES_LIMIT, StateParts, StateView};
 use std::alloc::{AllocError, Global};
 
 // A queued monitor of level 10.
@@ -13,7 +13,7 @@ pub fn events(alloc: Global) -> Result<u64> {
     let mut bytes = EXEC;
     let mut count = 0;
     for done in 0..100_000 {
-        let Some((event, _)) = decode_event(alloc, &bytes)? else {
+        let Some((event, _)) = decode_event(alloc, Layout::Second, &bytes)? else {
             break
         };
         if encode_event(&event, &mut bytes).is_err() {
@@ -26,7 +26,7 @@ pub fn events(alloc: Global) -> Result<u64> {
 
 /// How many bytes of a state were read.
 pub fn read_state(alloc: Global, bytes: &[u8]) -> Result<u64> {
-    match decode_state(alloc, bytes)? {
+    match decode_state(alloc, Layout::Second, bytes)? {
         Some(_) => Ok(bytes.len() as u64),
         None => Ok(0),
     }

@@ -46,12 +46,15 @@ fn triple(state: &mut State<Global>, id: &RscId, timeout: Millis, now: u64) -> b
     record(state, event) && begin(state, id, Moment::cut(now))
 }
 
-// Begins the action at that moment, and ends it.
+// Begins the action of the only resource at that moment, and ends it.
 fn begin(state: &mut State<Global>, id: &RscId, at: Moment) -> bool {
-    let Some(call) = state.choose(id, at) else {
-        return false
+    if state.len() == 0 {
+        return false;
+    }
+    let Some(running) = state.pick(0, state.next_run(), at) else {
+        return false;
     };
-    let run = state.next_run();
+    let (call, run) = (running.call, running.run);
     let change = Change::Step(id.copied(), Step::Begin { call, run });
     if !record(state, EventOf { at, change }) {
         return false;
@@ -62,7 +65,7 @@ fn begin(state: &mut State<Global>, id: &RscId, at: Moment) -> bool {
 }
 
 // Does what the event says, if it applies.
-fn record(state: &mut State<Global>, event: Event<Global>) -> bool {
+pub(crate) fn record(state: &mut State<Global>, event: Event<Global>) -> bool {
     if !state.applies(&event) || state.prepare(&event).is_err() {
         return false;
     }

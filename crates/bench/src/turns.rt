@@ -21,7 +21,8 @@ const MONITOR_TURNS: usize = 2_000;
 
 const DUE_TURNS: usize = 20;
 
-fn id(n: usize) -> Result<RscId> {
+/// The id of a resource by its number.
+pub(crate) fn id(n: usize) -> Result<RscId> {
     let hundreds = b'0' + (n / 100 % 10) as u8;
     let tens = b'0' + (n / 10 % 10) as u8;
     let ones = b'0' + (n % 10) as u8;

@@ -1,8 +1,11 @@
 -- Look-ups by id: what is found, and what stays.
-use Rattle.std.proofs.Common.{◌≡◌, ℕ, Bool, true, false, cond, not, List, [], ◌∷◌, ◌++◌, filter, Option, Some, None, IsSomeAnd, refl, subst}
-use Rattle.std.specs.List.{AllByRecursion}
-use Rattle.std.specs.Map.{lookup}
+use Rattle.std.proofs.Common.{◌≡◌, ℕ, zero, suc, Bool, true, false, cond, not, List, [], ◌∷◌, ◌++◌, filter, slice_get, Option, Some, None, IsSomeAnd}
+use Rattle.std.proofs.Common.{refl, ap, subst}
+use Rattle.std.specs.List.{AllByRecursion, IsDistinct}
+use Rattle.std.specs.Map.{keys_of, lookup}
 use Rattle.std.specs.Str.{bytes_eq}
+use Rattle.std.proofs.lemmas.Map.Keys.{IsDistinct-head, IsDistinct-tail}
+use Rattle.ocf_types.specs.RegistryLaws.{other_way, same_id}
 
 -- a weaker fact of what is there
 pub some_weaken : {A : Type 0} (o : Option A) (P Q : A → Type 0) → ((x : A) → P x → Q x) → IsSomeAnd o P → IsSomeAnd o Q
@@ -45,3 +48,26 @@ module _ {A : Type 0} where
       by : (b : Bool) → bytes_eq id e.0 ≡ b → lookup (bytes_eq id) rest ≡ None → lookup (bytes_eq id) (cond (not b) (e ∷ rest) rest) ≡ None
       by true same k = k
       by false other k = rw other k
+
+  -- a fact of each key holds of the one at a place
+  key_fact : (P : List ℕ → Type 0) (es : List (List ℕ × A)) (i : ℕ) (k : List ℕ) (v : A) → AllByRecursion P (keys_of es)
+      → Some (k, v) ≡ slice_get es i → P k
+  key_fact P [] i k v h at = absurd (let none : Some (k, v) ≡ None = at in cc)
+  key_fact P (e ∷ es) zero k v h at =
+      let here : Some (k, v) ≡ Some e = at in
+      let same : e ≡ (k, v) = cc in
+      subst P (ap (λ (x : List ℕ × A). x.0) same) h.0
+  key_fact P (e ∷ es) (suc i) k v h at = key_fact P es i k v h.1 at
+
+  -- the entry at a place is found by its key, where these are distinct
+  pub lookup_own : (es : List (List ℕ × A)) (i : ℕ) (k : List ℕ) (v : A) → IsDistinct bytes_eq (keys_of es)
+      → Some (k, v) ≡ slice_get es i → lookup (bytes_eq k) es ≡ Some v
+  lookup_own [] i k v distinct at = absurd (let none : Some (k, v) ≡ None = at in cc)
+  lookup_own (e ∷ es) zero k v distinct at =
+      let here : Some (k, v) ≡ Some e = at in
+      let same : e ≡ (k, v) = cc in
+      rw (same, same_id k) refl
+  lookup_own (e ∷ es) (suc i) k v distinct at =
+      let apart : bytes_eq e.0 k ≡ false
+      = key_fact (λ x. bytes_eq e.0 x ≡ false) es i k v (IsDistinct-head bytes_eq e.0 (keys_of es) distinct) at in
+      rw (other_way e.0 k apart) (lookup_own es i k v (IsDistinct-tail bytes_eq e.0 (keys_of es) distinct) at)

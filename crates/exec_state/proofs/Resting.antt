@@ -1,6 +1,6 @@
 -- When nothing is to begin.
 use Rattle.std.proofs.Common.{◌≡◌, ℕ, suc, ◌<◌, ◌≤◌, ◌+◌, ◌++◌, min, length, take, slice_get, Bool, true, false, cond, List, [], ◌∷◌, Option, Some, None, MatchOption, is_some, All, ◌⊎◌, inl, inr, append-nil}
-use Rattle.std.proofs.Common.{unwrap_or, refl, sym, ap, subst, ◌∙◌, arith, slice_index_or}
+use Rattle.std.proofs.Common.{unwrap_or, refl, ap, arith}
 use Rattle.std.specs.Prelude.{⊤}
 use Rattle.std.specs.Option.{option_map}
 use Rattle.std.specs.List.{AllByRecursion, flat_map}
@@ -14,11 +14,11 @@ use Rattle.ocf_types.specs.declared.operation.Op.{Op}
 use Rattle.ocf_types.specs.declared.operation.Running.{Running}
 use Rattle.ocf_types.specs.Resource.{Resource}
 use Rattle.ocf_types.specs.State.{Registry}
-use Rattle.ocf_types.specs.Due.{IsPickOf, IsLeastDue}
+use Rattle.ocf_types.specs.Due.{IsPickOf}
 use Rattle.recurring.specs.Monitors.{pairs, IsFirstMoment}
 use Rattle.exec_state.specs.declared.registered.Registered.{Registered}
 use Rattle.exec_state.specs.Seen.{seen, seen_all, monitors_of, monitors_all}
-use Rattle.exec_state.specs.Store.{Store, Monitors, IsChoice, all_pairs, monitors_at}
+use Rattle.exec_state.specs.Store.{Store, Monitors, all_pairs, monitors_at}
 use Rattle.exec_state.specs.Resting.{AllRest, RestBefore, Rests}
 use Rattle.exec_state.specs.Lawful.{IsLawfulStore}
 use Rattle.exec_state.proofs.Choices.{take_more_some}

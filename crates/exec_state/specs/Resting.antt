@@ -1,5 +1,5 @@
 -- When nothing is to begin.
-use Rattle.std.specs.Prelude.{◌≡◌, ℕ, ◌<◌, List, None, MatchOption, ⊤}
+use Rattle.std.specs.Prelude.{ℕ, ◌<◌, List, None, MatchOption, ⊤}
 use Rattle.std.specs.Map.{lookup}
 use Rattle.std.specs.Str.{bytes_eq}
 use Rattle.ocf_types.specs.Due.{IsPickOf}

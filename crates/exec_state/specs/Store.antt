@@ -1,13 +1,16 @@
 -- What contracts see of the state machine: the state that the journal keeps, when each recurring monitor is due, and
 -- whether a resource can be registered without memory.
-use Rattle.std.specs.Prelude.{◌≡◌, ℕ, ◌==◌, Bool, List, [], map, find, Option, IsTrue, MatchOption, None, ⊤, option_map, unwrap_or}
+use Rattle.std.specs.Prelude.{◌≡◌, ℕ, ◌==◌, Bool, List, [], map, find, Option, IsTrue, MatchOption, None, ⊤, option_map, option_and_then, unwrap_or}
 use Rattle.std.specs.List.{flat_map}
 use Rattle.std.specs.Map.{lookup}
 use Rattle.std.specs.Str.{bytes_eq}
 use Rattle.ocf_types.specs.Kinds.{Change, Event}
-use Rattle.ocf_types.specs.State.{State, resource_at}
+use Rattle.ocf_types.specs.Resource.{Resource}
+use Rattle.ocf_types.specs.State.{State, resource_at, stepped}
 use Rattle.ocf_types.specs.Due.{Due, IsPick}
 use Rattle.ocf_types.specs.declared.event.Change.TheVariants as change
+use Rattle.ocf_types.specs.declared.event.Step.TheVariants as step
+use Rattle.ocf_types.specs.declared.operation.Running.{Running}
 use Rattle.recurring.specs.declared.monitor.Monitor.{Monitor}
 use Rattle.recurring.specs.Monitors.{all_due_at, pairs}
 
@@ -48,6 +51,14 @@ dues s = due_of s.monitors
 -- the monitors of a state, all due at a moment
 abbrev pub monitors_due_at : ℕ → State → Monitors
 monitors_due_at at s = map (λ e. (e.0, all_due_at at e.1.recurring)) s.resources
+
+-- what then runs in a resource: the call that it picks, begun at a moment under this run
+abbrev pub run_of_pick : ℕ → ℕ → Resource → Option ℕ → Option Running
+run_of_pick at run r pick = option_and_then (λ call. (stepped at (step.Begin call run) r).history.running) pick
+
+-- what the resource of an entry begins at a moment under this run, as it will run, if it begins anything
+abbrev pub Chooses : Due → ℕ → ℕ → List ℕ × Resource → Option Running → Type 0
+Chooses due at run e chosen = (call : Option ℕ) × IsPick e.1 (due e.0) at call × (chosen ≡ run_of_pick at run e.1 call)
 
 -- what the resource of an id begins at a moment: nothing where there is none
 abbrev pub IsChoice : Store → List ℕ → ℕ → Option ℕ → Type 0

@@ -1,25 +1,25 @@
 //! The pick: what a resource begins now.
-ghost use Rattle.std.specs.Prelude.{◌≡◌, ◌<◌, ℕ, None, IsTrue};
+ghost use Rattle.std.specs.Prelude.{◌≡◌, ◌<◌, ℕ, None, IsTrue, Option, length};
 ghost use Rattle.ocf_types.specs.Due.{IsPickOf};
+ghost use Rattle.ocf_types.specs.Places.{entry_at};
 ghost use Rattle.recurring.specs.Monitors.{pairs, IsFirstMoment};
-ghost use Rattle.exec_state.specs.Store.{IsChoice, all_pairs};
+ghost use Rattle.exec_state.specs.Seen.{seen};
+ghost use Rattle.exec_state.specs.Store.{Chooses, all_pairs, dues, run_of_pick};
 ghost use Rattle.exec_state.specs.Resting.{Rests};
 
 use crate::registered::Registered;
 use crate::state::State;
-use ocf_types::{CallId, Moment, RscId};
+use ocf_types::{CallId, Moment, RunId, Running, StateView};
 use std::alloc::Allocator;
 
 impl<A: Allocator + Copy> State<A> {
-    /// The call that a resource begins at that moment: the first queued one, else that of the recurring monitor that is
-    /// due first; none where an action runs, where nothing is due or where there is no such resource.
-    pub fn choose(&self, id: &RscId, now: Moment) -> Option<CallId>
-        ensures { IsChoice self.now id.now now result }
+    /// What the resource at a place begins at that moment, as it will run under that run number: the first queued
+    /// action, else the recurring monitor that is due first; none where an action runs or where nothing is due.
+    pub fn pick(&self, place: usize, run: RunId, at: Moment) -> Option<Running>
+        requires { place < length self.now.state.resources }
+        ensures { Chooses (dues self.now) at run (entry_at self.now.state place) result }
     {
-        match self.registry.get(id) {
-            Some(resource) => resource.choose(now),
-            None => None,
-        }
+        self.registry.entry(place).1.pick(run, at)
     }
 
     /// Looks when the next resource has something to begin, unless that is known since the last event. Nothing else
@@ -47,8 +47,17 @@ impl<A: Allocator + Copy> State<A> {
 }
 
 impl<A: Allocator> Registered<A> {
+    /// What it begins now, as it will run under that run number.
+    fn pick(&self, run: RunId, at: Moment) -> Option<Running>
+        ensures { (call : Option ℕ) × IsPickOf self.now.ops.running self.now.ops.queue (pairs self.now.monitors) at call
+            × (result ≡ run_of_pick at run (seen self.now) call) }
+    {
+        let call = self.choose(at)?;
+        self.ops.next(self.monitors.of_call(call), run, at)
+    }
+
     /// The call that it begins now, if any.
-    pub(crate) fn choose(&self, now: Moment) -> Option<CallId>
+    fn choose(&self, now: Moment) -> Option<CallId>
         ensures { IsPickOf self.now.ops.running self.now.ops.queue (pairs self.now.monitors) now result }
     {
         if self.ops.running().is_some() {

@@ -135,7 +135,10 @@ impl<A: Allocator + Copy> Registry<A> {
         requires { place < length self.now.resources }
         ensures id { result.0.now ≡ (slice_index_or self.now.resources place no_entry).0 }
         ensures resource { seen result.1.now ≡ (slice_index_or self.now.resources place no_entry).1 }
+        ensures by_id { lookup (bytes_eq result.0.now) self.now.resources ≡ Some (seen result.1.now) }
+        ensures monitors { lookup (bytes_eq result.0.now) self.now.monitors ≡ Some (monitors_of result.1.now) }
     {
+        let _len = self.resources.len();
         match self.resources.get_index(place) {
             Some(entry) => entry,
             None => unreachable!(),

@@ -1,6 +1,6 @@
 -- What resources pick: there is always one answer, and what two lists of resources pick is what both together do.
-use Rattle.std.proofs.Common.{◌≡◌, ◌⊎◌, inl, inr, ℕ, zero, suc, ◌+◌, ◌<◌, ◌≤◌, ◌==◌, true, false, cond, List, [], ◌∷◌, ◌++◌}
-use Rattle.std.proofs.Common.{length, take, drop, slice_get, slice_index_or, Option, Some, None, MatchOption, All, Contains, option_map}
+use Rattle.std.proofs.Common.{◌≡◌, ◌⊎◌, inl, inr, ℕ, zero, suc, ◌+◌, ◌<◌, ◌≤◌, false, List, [], ◌∷◌, ◌++◌}
+use Rattle.std.proofs.Common.{length, take, drop, slice_get, slice_index_or, Option, Some, None, All, Contains, option_map}
 use Rattle.std.proofs.Common.{refl, sym, ap, subst, ◌∙◌, arith}
 use Rattle.std.specs.List.{AllByRecursion, IsDistinct}
 use Rattle.std.specs.Map.{keys_of, lookup}
@@ -10,19 +10,18 @@ use Rattle.std.proofs.lemmas.List.{append-nil, append_assoc, length-append, take
 use Rattle.std.proofs.lemmas.List.Elements.{All-from_recursion}
 use Rattle.std.proofs.lemmas.Map.Keys.{IsDistinct-head, IsDistinct-tail}
 use Rattle.ocf_types.specs.Due.{Due, IsBefore, IsLeastDue, IsPick, IsPickOf, due_pairs}
-use Rattle.ocf_types.specs.Resource.{History, Resource, begun_from, of_call, run_of_monitor, run_of_op}
+use Rattle.ocf_types.specs.Resource.{History, Resource, begun_from, run_of_monitor, run_of_op}
 use Rattle.ocf_types.specs.State.{Registry, State, resource_at}
 use Rattle.ocf_types.specs.LawfulState.{IsLawfulState}
 use Rattle.ocf_types.specs.Laws.{IsBefore-trans}
-use Rattle.ocf_types.specs.RegistryLaws.{call_of, other_way, same_id}
+use Rattle.ocf_types.specs.RegistryLaws.{other_way, same_id}
 use Rattle.ocf_types.specs.Places.{at_place, id_at, no_entry}
-use Rattle.ocf_types.specs.declared.action.Task.TheVariants.{Monitor}
 use Rattle.ocf_types.specs.declared.operation.Op.{Op}
 use Rattle.ocf_types.specs.declared.operation.Recur.{Recur}
 use Rattle.ocf_types.specs.declared.operation.Running.{Running}
-use Rattle.exec_state.specs.Store.{IsChoice, Store, dues}
+use Rattle.exec_state.specs.Store.{Chooses, run_of_pick}
 use Rattle.exec_turn.specs.Actives.{Active, active_of}
-use Rattle.exec_turn.specs.Picks.{ArePicks, begun_in, Chooses}
+use Rattle.exec_turn.specs.Picks.{ArePicks, begun_in}
 
 -- each entry is found by its id, where these are distinct
 pub own_found : (rs : Registry) → IsDistinct bytes_eq (keys_of rs) → AllByRecursion (λ e. lookup (bytes_eq e.0) rs ≡ Some e.1) rs
@@ -155,10 +154,16 @@ picks_append due at run (x ∷ xs) ys first bs (call, rest, pick, more, is) k =
     let behind = picks_append due at (run + length own) xs ys rest bs more (subst (λ n. ArePicks due at n ys bs) from k) in
     (call, rest ++ bs, pick, behind, ap (λ (l : List Active). l ++ bs) is ∙ append_assoc own rest bs)
 
+-- what a resource then begins is what runs in it
+begun_is : (at run : ℕ) (e : List ℕ × Resource) (call : Option ℕ) (chosen : Option Running) → chosen ≡ run_of_pick at run e.1 call
+    → begun_in at run e call ≡ active_of e.0 chosen
+begun_is at run e None chosen is = ap (λ (x : Option Running). active_of e.0 x) (sym is)
+begun_is at run e (Some call) chosen is = ap (λ (x : Option Running). active_of e.0 x) (sym is)
+
 -- what one resource picks
 one_pick : (due : Due) (at run : ℕ) (e : List ℕ × Resource) (chosen : Option Running) → Chooses due at run e chosen
     → ArePicks due at run (e ∷ []) (active_of e.0 chosen)
-one_pick due at run e chosen (call, pick, is) = (call, [], pick, refl, sym is ∙ sym (append-nil _))
+one_pick due at run e chosen (call, pick, is) = (call, [], pick, refl, sym (begun_is at run e call chosen is) ∙ sym (append-nil _))
 
 -- what the resources up to a place pick, and that at the place
 pub picks_more : (due : Due) (at run next : ℕ) (rs : Registry) (place : ℕ) (bs : List Active) (chosen : Option Running) → place < length rs
@@ -185,15 +190,6 @@ picks_cut due at run next rs place bs x lt before is now =
           (subst (λ (l : Registry). ArePicks due at run l ((bs ++ a ∷ []) ++ later.0)) whole all),
     )
 
--- what is chosen is a pick
-pub is_pick : (s : Store) (place at : ℕ) (id : List ℕ) (pick : Option ℕ) → IsLawfulState s.state → place < length s.state.resources
-    → id ≡ id_at s.state place
-    → IsChoice s id at pick → IsPick (at_place s.state place) (dues s (id_at s.state place)) at pick
-is_pick s place at id pick lawful lt is h =
-    subst (λ (o : Option Resource). MatchOption o (pick ≡ None) (λ r. IsPick r (dues s (id_at s.state place)) at pick))
-    (found_at s.state place lawful lt)
-    (subst (λ (i : List ℕ). IsChoice s i at pick) is h)
-
 -- the first queued action runs
 pub runs_op : (queue : List Op) (monitor : Option Recur) (run at : ℕ) (h : History) (o : Op) → slice_get queue 0 ≡ Some o
     → (begun_from queue monitor run at h).running ≡ Some (run_of_op run at o)
@@ -205,80 +201,3 @@ pub runs_monitor : (queue : List Op) (monitor : Option Recur) (run at : ℕ) (h 
     → (begun_from queue monitor run at h).running ≡ option_map (run_of_monitor run at) monitor
 runs_monitor [] monitor run at h none = refl
 runs_monitor (q ∷ qs) monitor run at h none = absurd (omega (arith, none))
-
--- the call of a pick is that of the first queued action
-picks_op : (x : Option Running) (queue : List Op) (pairs : List (ℕ × ℕ)) (now call : ℕ) (o : Op) → IsPickOf x queue pairs now (Some call)
-    → slice_get queue 0 ≡ Some o → o.call ≡ call
-picks_op (Some x) queue pairs now call o pick is = absurd (let no : Some call ≡ None = pick in cc)
-picks_op None [] pairs now call o pick is = absurd (let no : None ≡ Some o = is in cc)
-picks_op None (q ∷ qs) pairs now call o pick is =
-    let same : Some q ≡ Some o = is in
-    let this : q ≡ o = cc in
-    let said : Some call ≡ Some q.call = pick in
-    let call_is : call ≡ q.call = cc in
-    ap (λ (y : Op). y.call) (sym this) ∙ sym call_is
-
--- what a resource begins where an action is queued
-pub begins_op : (due : Due) (at run call : ℕ) (e : List ℕ × Resource) (o : Op) → IsPick e.1 (due e.0) at (Some call)
-    → slice_get e.1.history.queue 0 ≡ Some o
-    → Chooses due at run e (Some (record { call = call; run = run; task = o.task; timeout = o.timeout; interval = 0; since = at }))
-begins_op due at run call e o pick is =
-    let r = e.1 in
-    let call_is : o.call ≡ call = picks_op r.history.running r.history.queue (due_pairs r.recurring (due e.0)) at call o pick is in (
-      Some call,
-      pick,
-      ap (λ (x : Option Running). active_of e.0 x) (runs_op r.history.queue (of_call call r.recurring) run at r.history o is)
-          ∙ ap (λ n. active_of e.0
-          (Some (record { call = n; run = run; task = o.task; timeout = o.timeout; interval = 0; since = at }))) call_is,
-    )
-
--- what it begins where none is
-pub begins_monitor : (due : Due) (at run call interval : ℕ) (e : List ℕ × Resource) (m : Recur) → IsPick e.1 (due e.0) at (Some call)
-    → length e.1.history.queue ≡ 0 → Some m ≡ of_call call e.1.recurring → interval ≡ m.interval
-    → Chooses due at run e (Some
-    (record { call = call; run = run; task = Monitor m.level; timeout = m.timeout; interval = interval; since = at }))
-begins_monitor due at run call interval e m pick none is every =
-    let r = e.1 in
-    let call_is : m.call ≡ call = call_of call r.recurring m (sym is) in
-    let runs = runs_monitor r.history.queue (of_call call r.recurring) run at r.history none
-    ∙ ap (λ (o : Option Recur). option_map (run_of_monitor run at) o) (sym is) in (
-      Some call,
-      pick,
-      ap (λ (x : Option Running). active_of e.0 x) runs
-          ∙ (λ k. active_of e.0 (Some
-          (record { call = call_is k; run = run; task = Monitor m.level; timeout = m.timeout; interval = sym every k; since = at }))),
-    )
-
--- and where no monitor has that call
-pub begins_no_monitor : (due : Due) (at run call : ℕ) (e : List ℕ × Resource) → IsPick e.1 (due e.0) at (Some call)
-    → length e.1.history.queue ≡ 0 → None ≡ of_call call e.1.recurring → Chooses due at run e None
-begins_no_monitor due at run call e pick none is =
-    let r = e.1 in
-    let runs = runs_monitor r.history.queue (of_call call r.recurring) run at r.history none
-    ∙ ap (λ (o : Option Recur). option_map (run_of_monitor run at) o) (sym is) in
-    (Some call, pick, ap (λ (x : Option Running). active_of e.0 x) runs)
-
--- it begins nothing where it picks nothing
-pub begins_none : (due : Due) (at run : ℕ) (e : List ℕ × Resource) → IsPick e.1 (due e.0) at None → Chooses due at run e None
-begins_none due at run e h = (None, h, refl)
-
--- from a place on
-from_get : {A : Type 0} (xs : List A) (i : ℕ) (x : A) → slice_get xs i ≡ Some x → drop i xs ≡ x ∷ drop (suc i) xs
-from_get [] i x h = absurd (let no : None ≡ Some x = h in cc)
-from_get (y ∷ ys) zero x h = let same : Some y ≡ Some x = h in let this : y ≡ x = cc in ap (λ z. z ∷ ys) this
-from_get (y ∷ ys) (suc i) x h = from_get ys i x h
-
--- a search for a monitor by its call, up to a place
-pub search_more : (call : ℕ) (monitors : List Recur) (i : ℕ) (m : Recur) → of_call call monitors ≡ of_call call (drop i monitors)
-    → slice_get monitors i ≡ Some m
-    → (m.call == call) ≡ false → of_call call monitors ≡ of_call call (drop (i + 1) monitors)
-search_more call monitors i m so_far h is =
-    let on : suc i ≡ i + 1 = omega arith in
-    so_far ∙ ap (of_call call) (from_get monitors i m h) ∙ ap (λ b. cond b (Some m) (of_call call (drop (suc i) monitors))) is
-    ∙ ap (λ n. of_call call (drop n monitors)) on
-
-pub search_found : (call : ℕ) (monitors : List Recur) (i : ℕ) (m : Recur) → of_call call monitors ≡ of_call call (drop i monitors)
-    → slice_get monitors i ≡ Some m
-    → (m.call == call) ≡ true → Some m ≡ of_call call monitors
-search_found call monitors i m so_far h is =
-    sym (so_far ∙ ap (of_call call) (from_get monitors i m h) ∙ ap (λ b. cond b (Some m) (of_call call (drop (suc i) monitors))) is)

@@ -19,7 +19,8 @@ use Rattle.exec_turn.specs.Actives.{Active}
 use Rattle.ocf_env.specs.Instances.{registration_of}
 use Rattle.ocf_env.specs.Invocations.{IsInvocation}
 use Rattle.exec_turn.specs.Launches.{IsOfOne, IsStart, all_starting, what_starts}
-use Rattle.exec_turn.specs.Picks.{ArePicks, Chooses, Cut, MayBegin, begin_of, begins}
+use Rattle.exec_state.specs.Store.{Chooses}
+use Rattle.exec_turn.specs.Picks.{ArePicks, Cut, MayBegin, begin_of, begins}
 use Rattle.exec_turn.specs.declared.picks.StartOf.{StartOf}
 use Rattle.exec_turn.proofs.Choosing.{picks_cut}
 

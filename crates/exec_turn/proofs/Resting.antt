@@ -1,12 +1,12 @@
 -- Where nothing is to begin, nothing is picked.
-use Rattle.std.proofs.Common.{◌≡◌, ℕ, ◌+◌, ◌<◌, ◌≤◌, List, [], ◌∷◌, Some, None, MatchOption, Option, length, sym, subst, arith, refl}
+use Rattle.std.proofs.Common.{◌≡◌, ℕ, ◌+◌, List, [], ◌∷◌, Some, None, MatchOption, Option, sym, subst, arith, refl}
 use Rattle.std.specs.List.{AllByRecursion}
 use Rattle.std.specs.Map.{lookup}
 use Rattle.std.specs.Str.{bytes_eq}
-use Rattle.ocf_types.specs.Due.{Due, IsPick}
+use Rattle.ocf_types.specs.Due.{IsPick}
 use Rattle.ocf_types.specs.LawfulState.{IsLawfulState}
 use Rattle.ocf_types.specs.Resource.{Resource}
-use Rattle.ocf_types.specs.State.{Registry, State}
+use Rattle.ocf_types.specs.State.{Registry}
 use Rattle.ocf_types.specs.declared.reply.TurnEnd.TheVariants as turn_end
 use Rattle.exec_state.specs.Resting.{Rests}
 use Rattle.exec_state.specs.Store.{Store, dues}

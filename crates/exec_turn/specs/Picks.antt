@@ -7,11 +7,10 @@ use Rattle.ocf_types.specs.Resource.{Resource}
 use Rattle.ocf_types.specs.State.{Registry, State, stepped}
 use Rattle.ocf_types.specs.declared.event.Change.TheVariants as change
 use Rattle.ocf_types.specs.declared.event.Step.TheVariants as step
-use Rattle.ocf_types.specs.declared.operation.Running.{Running}
 use Rattle.ocf_types.specs.declared.reply.TurnEnd.{TurnEnd}
 use Rattle.ocf_types.specs.declared.reply.TurnEnd.TheVariants as turn_end
 use Rattle.exec_journal.specs.Rows.{IsTooLong}
-use Rattle.exec_turn.specs.Actives.{Active, active_in, active_of}
+use Rattle.exec_turn.specs.Actives.{Active, active_in}
 
 -- what runs in a resource once it has begun this call, under this run
 abbrev pub begun_in : ℕ → ℕ → List ℕ × Resource → Option ℕ → List Active
@@ -24,11 +23,6 @@ abbrev pub ArePicks : Due → ℕ → ℕ → Registry → List Active → Type 
 ArePicks due at run [] begun = begun ≡ []
 ArePicks due at run (e ∷ es) begun = (call : Option ℕ) × (rest : List Active) × IsPick e.1 (due e.0) at call
     × ArePicks due at (run + length (begun_in at run e call)) es rest × (begun ≡ begun_in at run e call ++ rest)
-
--- what the resource of an entry begins at a moment under this run, as it will run, if it begins anything
-abbrev pub Chooses : Due → ℕ → ℕ → List ℕ × Resource → Option Running → Type 0
-Chooses due at run e chosen = (call : Option ℕ) × IsPick e.1 (due e.0) at call
-    × (begun_in at run e call ≡ active_of e.0 chosen)
 
 -- the begin of an action, as an event
 abbrev pub begin_of : ℕ → Active → Event

@@ -5,20 +5,17 @@ ghost use Rattle.std.specs.Vec.{vec_capacity};
 ghost use Rattle.exec_journal.specs.Journal.{journal_place};
 ghost use Rattle.exec_state.specs.Store.{dues};
 ghost use Rattle.ocf_types.specs.Limits.{longest_begin};
-ghost use Rattle.ocf_types.specs.Places.{at_place, entry_at, id_at};
-ghost use Rattle.ocf_types.specs.Resource.{of_call};
+ghost use Rattle.ocf_types.specs.Places.{id_at};
 ghost use Rattle.ocf_types.specs.Spelling.{spelled_event};
 ghost use Rattle.exec_turn.specs.Launches.{IsStart, all_starting, what_starts};
-ghost use Rattle.exec_turn.specs.Picks.{Chooses, Picked, begin_of, begins};
+ghost use Rattle.exec_turn.specs.Picks.{Picked, begin_of, begins};
 
 use disk_model::Disk;
 use exec_journal::Journal;
 use exec_state::State;
 use ocf_env::{Instance, Invocation, LaunchOf, Site, launch};
 use ocf_types::laws::lengths;
-use ocf_types::{
-    CallId, Change, Event, EventOf, Moment, Recur, RunId, Running, StateView, Step, Task, TurnEnd,
-};
+use ocf_types::{Change, Event, EventOf, Moment, RunId, Running, StateView, Step, TurnEnd};
 use std::alloc::{AllocError, Allocator, Global};
 
 /// What is started: the launch of an action that has begun, and the action. `I` is the type of the call.
@@ -30,55 +27,6 @@ pub(crate) struct StartOf<I> {
 
 /// A start whose texts lie in memory of the allocator.
 pub(crate) type Start<A = Global> = StartOf<Invocation<A>>;
-
-// The recurring monitor of a call, of the resource at a place.
-fn find_monitor<A: Allocator + Copy>(state: &State<A>, place: usize, call: CallId) -> Option<Recur>
-    requires place { place < length state.now.state.resources }
-    ensures monitor { result ≡ of_call call (at_place state.now.state place).recurring }
-{
-    for index in 0..state.recurring_len(place) {
-        let monitor = state.recurring_at(place, index);
-        if monitor.call == call {
-            return Some(monitor);
-        }
-    }
-    None
-}
-
-// What the resource at a place begins at a moment, as it will run: the first queued action, else the recurring monitor
-// that is due first.
-fn chosen<A: Allocator + Copy>(
-    state: &State<A>,
-    place: usize,
-    run: RunId,
-    at: Moment,
-) -> Option<Running>
-    requires place { place < length state.now.state.resources }
-    ensures chosen { Chooses (dues state.now) at run (entry_at state.now.state place) result }
-{
-    state.known();
-    let call = state.choose(state.id_at(place), at)?;
-    if state.queue_len(place) > 0 {
-        let op = state.queued_at(place, 0);
-        return Some(Running {
-            call,
-            run,
-            task: op.task,
-            timeout: op.timeout,
-            interval: 0,
-            since: at,
-        });
-    }
-    let monitor = find_monitor(state, place, call)?;
-    Some(Running {
-        call,
-        run,
-        task: Task::Monitor(monitor.level),
-        timeout: monitor.timeout,
-        interval: monitor.interval.get(),
-        since: at,
-    })
-}
 
 // The begin of an action of the resource at a place.
 fn begin_at<A: Allocator + Copy>(
@@ -157,7 +105,7 @@ pub(crate) fn pick_all<D: Disk + Drop, A: Allocator + Copy, S: Allocator>(
     let mut run = state.next_run();
     let mut len = 0;
     for place in 0..state.len() {
-        let Some(running) = chosen(state, place, run, at) else {
+        let Some(running) = state.pick(place, run, at) else {
             continue;
         };
         let Some(next) = RunId::new(run.get() + 1) else {

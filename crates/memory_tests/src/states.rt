@@ -5,8 +5,8 @@ use event_wire::{decode_event, decode_state};
 use exec_state::State;
 use linked_list_allocator::LocalHeap;
 use ocf_types::{
-    CallId, CommandOf, Event, Millis, Moment, Op, Question, Refusal, ReplyOf, RscId, StateView,
-    Task,
+    CallId, CommandOf, Event, Layout, Millis, Moment, Op, Question, Refusal, ReplyOf, RscId,
+    StateView, Task,
 };
 use op_history::Ops;
 use std::alloc::{Allocator, Global};
@@ -28,13 +28,13 @@ fn ops(_: Global, heap: &LocalHeap) -> Option<Ended> {
         return Some(Ended::Refused);
     };
     let used = heap.used();
-    let accepted = ops.accept(op).is_ok();
+    ops.accept(op);
     ops.drop_all(Moment::cut(8));
-    Some(done(accepted && ops.ended_len() == 1 && heap.used() == used))
+    Some(done(ops.ended_len() == 1 && heap.used() == used))
 }
 
 fn from_parts(_: Global, heap: &LocalHeap) -> Option<Ended> {
-    let Ok(parts) = decode_state(heap, BUSY) else {
+    let Ok(parts) = decode_state(heap, Layout::Second, BUSY) else {
         return Some(Ended::TooSmall);
     };
     Some(match State::from_parts(heap, parts?) {
@@ -45,7 +45,7 @@ fn from_parts(_: Global, heap: &LocalHeap) -> Option<Ended> {
 
 // The registration of r1, or nothing where the heap is too small.
 fn registration(heap: &LocalHeap) -> Option<Event<&LocalHeap>> {
-    let read = decode_event(heap, REGISTER).ok()?;
+    let read = decode_event(heap, Layout::Second, REGISTER).ok()?;
     Some(read?.0)
 }
 

@@ -1,5 +1,5 @@
 //! The operations of one resource.
-ghost use Rattle.std.specs.Prelude.{◌≡◌, ◌<◌, ◌≤◌, ◌↔◌, length, slice_get, IfOk, IsErr, OnOk, OnErr};
+ghost use Rattle.std.specs.Prelude.{◌≡◌, ◌<◌, ◌≤◌, length, slice_get, IfOk};
 ghost use Rattle.ocf_types.specs.Resource.{kept, no_history, is_busy, accepted, begun, ended, booted, forgotten};
 
 use crate::entries::{run_of_monitor, run_of_op};
@@ -11,12 +11,6 @@ use ocf_types::{
 };
 use std::alloc::{AllocError, Allocator, Global};
 use std::marker::Model;
-use thiserror::Error;
-
-/// As many actions of the resource are queued as may be.
-#[derive(Clone, Copy, Debug, PartialEq, Eq, Error)]
-#[error("32 actions of the resource are queued already: wait for a result")]
-pub struct QueueFull;
 
 /// The operations of one resource: at most 32 queued actions, the one that runs, and the last 16 results. All its
 /// memory is taken as it is made.
@@ -109,28 +103,32 @@ impl<A: Allocator> Ops<A> {
         self.queue.len() > 0 || self.running.is_some()
     }
 
-    /// Puts an action at the end of the queue. `QueueFull` comes just where 32 are there already.
-    pub fn accept(&mut self, op: Op) -> Result<(), QueueFull>
-        ensures ok { OnOk result (self.new ≡ accepted op self.old) }
-        ensures full { IsErr result ↔ (length self.old.queue ≡ QUEUE_LIMIT) }
-        ensures err { OnErr result (self.new ≡ self.old) }
+    /// Puts an action at the end of the queue, which has room for it.
+    pub fn accept(&mut self, op: Op)
+        requires room { length self.old.queue < QUEUE_LIMIT }
+        ensures { self.new ≡ accepted op self.old }
     {
-        if self.queue.is_full() {
-            return Err(QueueFull);
-        }
         self.queue.push(Queued::new(op));
-        Ok(())
+    }
+
+    /// What runs once it has begun under that run number: the first queued action; with an empty queue, the recurring
+    /// monitor.
+    pub fn next(&self, monitor: Option<Recur>, run: RunId, at: Moment) -> Option<Running>
+        ensures { result ≡ (begun monitor run at self.now).running }
+    {
+        if self.queue.is_empty() {
+            return monitor.map(|m| run_of_monitor(m, run, at));
+        }
+        Some(run_of_op(self.queued_at(0), run, at))
     }
 
     /// Begins the first queued action under that run number; with an empty queue, a run of the recurring monitor.
     pub fn begin(&mut self, monitor: Option<Recur>, run: RunId, at: Moment)
         ensures { self.new ≡ begun monitor run at self.old }
     {
-        if self.queue.is_empty() {
-            self.running = monitor.map(|m| run_of_monitor(m, run, at));
-        } else {
-            let op = self.queue.remove(0).op();
-            self.running = Some(run_of_op(op, run, at));
+        self.running = self.next(monitor, run, at);
+        if !self.queue.is_empty() {
+            self.queue.remove(0);
         }
     }
 

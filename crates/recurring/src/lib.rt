@@ -5,4 +5,4 @@ mod monitor;
 mod recurrings;
 
 pub use monitor::Monitor;
-pub use recurrings::{AddError, NoSuchRecurring, Recurrings};
+pub use recurrings::Recurrings;

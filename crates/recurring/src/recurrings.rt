@@ -1,29 +1,13 @@
 //! The recurring monitors of one resource.
-ghost use Rattle.std.specs.Prelude.{◌≡◌, ◌<◌, ◌≤◌, ◌↔◌, [], ◌∷◌, ◌++◌, length, slice_get, nat_le, is_some, IsSome, IsNone, IsErr, OnOk};
-ghost use Rattle.std.specs.Prelude.{OnErr};
+ghost use Rattle.std.specs.Prelude.{◌≡◌, ◌<◌, ◌≤◌, [], ◌∷◌, ◌++◌, length, slice_get, nat_le, is_some};
 ghost use Rattle.ocf_types.specs.Resource.{of_call, of_interval, without_interval};
 ghost use Rattle.ocf_types.specs.Due.{IsLeastDue};
-ghost use Rattle.recurring.specs.Monitors.{recurs, pairs, all_due_at, cancelled, settled, restarted, IsFirstMoment};
+ghost use Rattle.recurring.specs.Monitors.{recurs, pairs, monitor_due_at, all_due_at, cancelled, settled, restarted, IsFirstMoment};
 
 use crate::monitor::Monitor;
 use arrayvec::ArrayVec;
 use ocf_types::{CallId, Millis, Moment, RECURRING_LIMIT, Recur};
 use std::marker::Model;
-use thiserror::Error;
-
-/// Why a recurring monitor was not added.
-#[derive(Clone, Copy, Debug, PartialEq, Eq, Error)]
-pub enum AddError {
-    #[error("the resource has a recurring monitor of this interval already: cancel it first")]
-    Duplicate,
-    #[error("the resource has 8 recurring monitors already: cancel one first")]
-    RecurringFull,
-}
-
-/// The resource has no recurring monitor of the interval.
-#[derive(Clone, Copy, Debug, PartialEq, Eq, Error)]
-#[error("the resource has no recurring monitor of this interval")]
-pub struct NoSuchRecurring;
 
 /// The recurring monitors of one resource with their due moments, in order of acceptance: at most 8. No call takes
 /// memory.
@@ -118,39 +102,22 @@ impl Recurrings {
             .find(|m| m.interval == interval)
     }
 
-    /// Puts a monitor behind the others, due at that moment. It is `Duplicate` just where one of its interval is
-    /// there, and otherwise `RecurringFull` just where 8 are there.
-    pub fn add(&mut self, recur: Recur, due: Moment) -> Result<(), AddError>
-        ensures ok { OnOk result (self.new ≡ self.old ++ record { recur = recur; due = due } ∷ []) }
-        ensures recurs { OnOk result (recurs self.new ≡ recurs self.old ++ recur ∷ []) }
-        ensures duplicate { (result ≡ Err AddError.Duplicate) ↔ IsSome (of_interval recur.interval (recurs self.old)) }
-        ensures full { (result ≡ Err AddError.RecurringFull)
-            ↔ (IsNone (of_interval recur.interval (recurs self.old)) × (length self.old ≡ RECURRING_LIMIT)) }
-        ensures err { OnErr result (self.new ≡ self.old) }
+    /// Puts a monitor, due at that moment, behind the others, among which there is room for it.
+    pub fn add(&mut self, recur: Recur, due: Moment)
+        requires room { length self.old < RECURRING_LIMIT }
+        ensures monitors { self.new ≡ self.old ++ monitor_due_at due recur ∷ [] }
+        ensures recurs { recurs self.new ≡ recurs self.old ++ recur ∷ [] }
     {
-        if self.has_interval(recur.interval) {
-            return Err(AddError::Duplicate);
-        }
-        if self.is_full() {
-            return Err(AddError::RecurringFull);
-        }
         let due = due.get();
         self.monitors.push(Monitor { recur, due });
-        Ok(())
     }
 
-    /// Takes the monitor of that interval away. It is `NoSuchRecurring` just where there is none.
-    pub fn cancel(&mut self, interval: Millis) -> Result<(), NoSuchRecurring>
-        ensures ok { OnOk result (self.new ≡ cancelled interval self.old) }
-        ensures recurs { OnOk result (recurs self.new ≡ without_interval interval (recurs self.old)) }
-        ensures none { IsErr result ↔ IsNone (of_interval interval (recurs self.old)) }
-        ensures err { OnErr result (self.new ≡ self.old) }
+    /// Takes the monitor of that interval away. Where there is none, nothing changes.
+    pub fn cancel(&mut self, interval: Millis)
+        ensures monitors { self.new ≡ cancelled interval self.old }
+        ensures recurs { recurs self.new ≡ without_interval interval (recurs self.old) }
     {
-        if !self.has_interval(interval) {
-            return Err(NoSuchRecurring);
-        }
         self.monitors.retain(|m| m.recur.interval != interval);
-        Ok(())
     }
 
     /// After a run of that call ended at that moment: its monitor is due its own interval later. Where it is gone,

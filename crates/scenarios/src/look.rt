@@ -11,8 +11,8 @@ use event_wire::{StateReader, decode_event, decode_state, encode_event, encode_s
 use exec_commands::LineReply;
 use ocf_env::{Instance, Launch, Site, launch};
 use ocf_types::{
-    CallId, EVENT_LIMIT, Event, Info, Millis, Moment, Part, Question, Reply, RscId, RunId, Running,
-    Task,
+    CallId, EVENT_LIMIT, Event, Info, Layout, Millis, Moment, Part, Question, Reply, RscId, RunId,
+    Running, Task,
 };
 use std::alloc::Global;
 use std::io::Write;
@@ -116,7 +116,7 @@ fn event_text(alloc: Global, event: &Event) -> Result<String> {
 }
 
 fn show_event<W: Write>(alloc: Global, bytes: &[u8], writer: &mut W) -> Result<()> {
-    match decode_event(alloc, bytes)? {
+    match decode_event(alloc, Layout::Second, bytes)? {
         None => print_line(writer, "no event"),
         Some((event, len)) => {
             let text = event_text(alloc, &event)?;
@@ -128,7 +128,7 @@ fn show_event<W: Write>(alloc: Global, bytes: &[u8], writer: &mut W) -> Result<(
 
 // Whether a reader that is fed so many bytes at a time finds a state.
 fn is_read_by_pieces(alloc: Global, bytes: &[u8], size: usize) -> Result<bool> {
-    let mut reader = StateReader::new(alloc);
+    let mut reader = StateReader::new(alloc, Layout::Second);
     for piece in bytes.chunks(size.max(1)) {
         reader.feed(piece)?;
     }
@@ -137,7 +137,7 @@ fn is_read_by_pieces(alloc: Global, bytes: &[u8], size: usize) -> Result<bool> {
 
 // What bytes are as a state, read at once and in pieces of one byte and of seven.
 fn state_word(alloc: Global, bytes: &[u8]) -> Result<&'static str> {
-    let found = decode_state(alloc, bytes)?;
+    let found = decode_state(alloc, Layout::Second, bytes)?;
     for size in [1, 7] {
         if is_read_by_pieces(alloc, bytes, size)? != found.is_some() {
             return Ok("state differs in pieces");

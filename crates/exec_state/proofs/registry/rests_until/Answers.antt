@@ -1,8 +1,7 @@
-use Rattle.std.proofs.Common.{◌≡◌, arith, subst, take, min, rules, List}
+use Rattle.std.proofs.Common.{◌≡◌, arith, take, rules}
 use Rattle.std.proofs.lemmas.List.{take_all}
-use Rattle.std.specs.List.{AllByRecursion}
 use Rattle.std.specs.Map.{values_of}
-use Rattle.exec_state.proofs.Resting.{RestsAt, length-values, rest_more, rest_seen}
+use Rattle.exec_state.proofs.Resting.{length-values, rest_more, rest_seen}
 use Rattle.exec_state.proofs.registry.rests_until.Goals as goal
 
 pub loop-place-preserved : goal.loop-place-preserved

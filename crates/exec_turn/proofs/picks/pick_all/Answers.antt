@@ -36,7 +36,7 @@ loop-place-preserved-in_default g c =
     let within : place < length s.resources = omega (arith, c.loop-place-test.true, c.len-place-end.ensures.value) in
     let run_is : c.loop-place.run ≡ s.next_run + length bs = omega (arith, inv.run, length-map items what_starts) in
     let more =
-    picks_more due at s.next_run c.loop-place.run s.resources place bs None within inv.picked run_is c.in_default.ensures.chosen in
+    picks_more due at s.next_run c.loop-place.run s.resources place bs None within inv.picked run_is c.in_default.ensures in
     record {
       picked = subst (λ (l : List Active). ArePicks due at s.next_run (take (place + 1) s.resources) l) (append-nil bs) more;
       row = inv.row;
@@ -67,7 +67,7 @@ returns-in_default-new-clause-picked g c =
     let spent : 9007199254740991 < c.get.result + 1 = above (c.get.result + 1) 9007199254740991
     (λ le. let no : false ≡ true = c.in_default-new.ensures.lawful.1 (omega arith, le) in cc) in (
       cut_at s due at c.loop-place.run place bs x
-          (λ more. num_max < s.next_run + length more) within inv.picked run_is c.in-Some.ensures.chosen
+          (λ more. num_max < s.next_run + length more) within inv.picked run_is c.in-Some.ensures
           (omega (arith, run_is, longer bs a, spent, c.get.ensures.value)),
       record { runs = omega (arith, run_is, inv.drawn); room = inv.room },
     )
@@ -96,7 +96,7 @@ returns-then-not-fits-clause-picked g c =
     (λ le. let no : false ≡ true = c.if-not-fits.ensures.value.1 le in cc) in (
       cut_at s due at c.loop-place.run place bs x
           (λ more. (s.next_run + length more ≤ num_max) × IsTooLong tail (begins at more)) within inv.picked run_is
-          c.in-Some.ensures.chosen (too_long s tail at c.loop-place.run all bs a run_is drawn size over),
+          c.in-Some.ensures (too_long s tail at c.loop-place.run all bs a run_is drawn size over),
       record { runs = omega (arith, run_is, inv.drawn); room = inv.room },
     )
 
@@ -121,7 +121,7 @@ returns-in_default-start_of-clause-picked g c =
     c.begin_at-begin.ensures.begin inv.len c.spelled_len-len.ensures in
     let fit : tail + 5 + (c.loop-place.len + c.spelled_len-len.result) + 1 + 32768 ≤ 8388608 = c.if-not-fits.ensures.value.0 refl in
     let may = may_more s tail at c.loop-place.run (c.loop-place.len + c.spelled_len-len.result) bs a run_is drawn size fit in (
-      cut_at s due at c.loop-place.run place bs x (MayBegin s tail at) within inv.picked run_is c.in-Some.ensures.chosen may,
+      cut_at s due at c.loop-place.run place bs x (MayBegin s tail at) within inv.picked run_is c.in-Some.ensures may,
       record { runs = omega (arith, run_is, inv.drawn); room = inv.room },
     )
 
@@ -155,7 +155,7 @@ loop-place-preserved g c =
     c.begin_at-begin.ensures.begin in
     let short : length (spelled_event c.begin_at-begin.result) ≤ 90 = c.begin_at-begin.ensures.short in
     let more = picks_more due at s.next_run c.loop-place.run s.resources place bs
-    (Some x) within inv.picked run_is c.in-Some.ensures.chosen in
+    (Some x) within inv.picked run_is c.in-Some.ensures in
     let count : length c.push_reserved-in-loop-place.new.self.items ≡ length items + 1 =
     one_longer items c.push_reserved-in-loop-place.new.self.items c.in-Ok.start grown in record {
       picked = subst (λ (l : List Active). ArePicks due at s.next_run (take (place + 1) s.resources) l) (sym all) more;

@@ -1,5 +1,3 @@
-use Rattle.std.proofs.Common.{sym}
-use Rattle.recurring.specs.Monitors.{IsFirstMoment}
 use Rattle.exec_state.proofs.Resting.{pairs_seen}
 use Rattle.exec_state.proofs.registry.Registry.first_due.Goals as goal
 

@@ -1,4 +1,3 @@
-use Rattle.std.proofs.Common.{rules}
 use Rattle.exec_state.specs.Store.{Store}
 use Rattle.exec_state.specs.Contents.{store_of}
 use Rattle.exec_state.proofs.Resting.{rests_all}

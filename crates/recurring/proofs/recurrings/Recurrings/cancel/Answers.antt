@@ -4,10 +4,10 @@ use Rattle.recurring.specs.Monitors.{recurs}
 use Rattle.recurring.proofs.Recurs.{recurs-cancelled}
 use Rattle.recurring.proofs.recurrings.Recurrings.cancel.Goals as goal
 
-pub returns-clause-ok : goal.returns-clause-ok
-returns-clause-ok c =
+pub returns-clause-monitors : goal.returns-clause-monitors
+returns-clause-monitors c =
     rw (← c.self.view_is) (filter-from_retain _ (λ m. not (m.recur.interval == c.args.interval)) _
     (λ x b f' y called. search rules) _ _ c.retain.ensures.filtered)
 
 pub returns-clause-recurs : goal.returns-clause-recurs
-returns-clause-recurs c = ap recurs (returns-clause-ok c) ∙ recurs-cancelled c.args.interval c.args.self.now
+returns-clause-recurs c = ap recurs (returns-clause-monitors c) ∙ recurs-cancelled c.args.interval c.args.self.now
