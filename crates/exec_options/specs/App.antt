@@ -1,4 +1,5 @@
--- The command line of `ocfexec` as `clap` reads it: `run`, `serve` and `show`, each with the same options.
+-- The command line of `ocfexec` as `clap` reads it: `run`, `serve`, `show` and `status`, each with the same options, and `status`
+-- with two more.
 use Rattle.std.specs.Prelude.{[], ◌∷◌, Some, true, codes}
 use Rattle.clap.specs.Words.{App, Rule, Text, new_app, new_rule, with_rule, with_subcommand}
 use Rattle.clap.specs.declared.builder.ArgAction.TheVariants.{SetTrue}
@@ -10,6 +11,10 @@ text_rule id = record (new_rule id) { long = Some id; value_names = 1 }
 -- an option with one text, which stands for this one where it is left out
 abbrev pub text_rule_or : Text → Text → Rule
 text_rule_or id default = record (text_rule id) { defaults = default ∷ [] }
+
+-- a word that stands by itself
+abbrev pub word_rule : Text → Rule
+word_rule id = record (new_rule id) { value_names = 1 }
 
 -- an option without a text
 abbrev pub flag_rule : Text → Rule
@@ -53,6 +58,10 @@ with_agent_app a =
 abbrev pub with_options_app : App → App
 with_options_app a = with_agent_app (with_site_app (with_journal_app a))
 
+-- which resource is asked for, and whether as JSON
+abbrev pub with_status_app : App → App
+with_status_app a = with_rule (with_rule a (word_rule (codes "resource"))) (flag_rule (codes "json"))
+
 -- a subcommand is asked for; the version is told by `--version`
 abbrev pub top_app : App
 top_app =
@@ -64,4 +73,5 @@ abbrev pub ocfexec_app : App
 ocfexec_app =
     let with_run = with_subcommand top_app (with_options_app (new_app (codes "run"))).top in
     let with_serve = with_subcommand with_run (with_options_app (new_app (codes "serve"))).top in
-    with_subcommand with_serve (with_options_app (new_app (codes "show"))).top
+    let with_show = with_subcommand with_serve (with_options_app (new_app (codes "show"))).top in
+    with_subcommand with_show (with_status_app (with_options_app (new_app (codes "status")))).top

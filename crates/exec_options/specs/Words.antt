@@ -60,6 +60,8 @@ pub record IsReadFrom (rows : List Row) (o : Options) : Type 0 where
   pub meta_variables : o.meta_variables ≡ is_true_text (first_of (codes "meta-variables") rows)
   pub log : option_map (λ s. s.now) o.log ≡ first_of (codes "log") rows
   pub orphans : IsNumberTo longest_wait (orphans_text rows) o.orphans
+  pub resource : option_map (λ s. s.now) o.resource ≡ first_of (codes "resource") rows
+  pub json : o.json ≡ is_true_text (first_of (codes "json") rows)
 
 -- by `clap`'s rules the words name this subcommand, with these rows
 abbrev pub Names : List Text → Subcommand → List Row → Type 0

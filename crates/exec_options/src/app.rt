@@ -2,7 +2,7 @@
 ghost use Rattle.std.specs.Prelude.{◌≡◌, false, IfOk, codes};
 ghost use Rattle.clap.specs.Words.{app_of, rule_of, new_app};
 ghost use Rattle.clap.specs.declared.builder.command.Command.TheViews.{out-Command};
-ghost use Rattle.exec_options.specs.App.{text_rule, text_rule_or, flag_rule, with_agent_app, with_journal_app, with_options_app, with_site_app};
+ghost use Rattle.exec_options.specs.App.{text_rule, text_rule_or, flag_rule, with_agent_app, with_journal_app, with_options_app, with_site_app, with_status_app, word_rule};
 ghost use Rattle.exec_options.specs.App.{top_app, ocfexec_app};
 
 use crate::texts;
@@ -50,6 +50,13 @@ fn flag<'a>(alloc: Global, id: &'a str, help: &'a str) -> Arg<'a>
         .long(id)
         .action(ArgAction::SetTrue)
         .help(help)
+}
+
+fn word<'a>(alloc: Global, id: &'a str, value: &'a str, help: &'a str) -> Arg<'a>
+    ensures rule { rule_of result ≡ word_rule id.entry.now }
+    ensures local { result.global ≡ false }
+{
+    Arg::new(alloc, id).value_name(value).help(help)
 }
 
 fn with_journal_options<'a>(alloc: Global, command: Command<'a>) -> Result<Command<'a>, AllocError>
@@ -135,6 +142,19 @@ fn with_options<'a>(alloc: Global, command: Command<'a>) -> Result<Command<'a>, 
     with_agent_options(alloc, command)
 }
 
+fn with_status_options<'a>(alloc: Global, command: Command<'a>) -> Result<Command<'a>, AllocError>
+    ensures app { IfOk result (λ r. app_of r ≡ with_status_app (app_of command.entry)) }
+    ensures local { IfOk result (λ r. (out-Command r).has_globals ≡ (out-Command command.entry).has_globals) }
+{
+    let command = command.arg(word(
+        alloc,
+        "resource",
+        "ID",
+        "The one resource that is asked for, whose history is told, too; left out, all",
+    ))?;
+    command.arg(flag(alloc, "json", "Print the lines of show, and no table"))
+}
+
 fn bare<'a>(alloc: Global, name: &'a str, about: &'a str, more: &'a str) -> Command<'a>
     ensures app { app_of result ≡ new_app name.entry.now }
     ensures local { (out-Command result).has_globals ≡ false }
@@ -192,6 +212,18 @@ fn show<'a>(alloc: Global) -> Command<'a>
     )
 }
 
+fn status<'a>(alloc: Global) -> Command<'a>
+    ensures app { app_of result ≡ new_app (codes "status") }
+    ensures local { (out-Command result).has_globals ≡ false }
+{
+    bare(
+        alloc,
+        "status",
+        "Prints what a journal holds, as a table for a person",
+        texts::STATUS,
+    )
+}
+
 /// The whole command line.
 pub fn ocfexec<'a>(alloc: Global) -> Result<Command<'a>, AllocError>
     ensures { IfOk result (λ c. app_of c ≡ ocfexec_app) }
@@ -201,5 +233,8 @@ pub fn ocfexec<'a>(alloc: Global) -> Result<Command<'a>, AllocError>
     let show = with_options(alloc, show(alloc))?;
     let with_run = top(alloc).subcommand(run)?;
     let with_serve = with_run.subcommand(serve)?;
-    with_serve.subcommand(show)
+    let status = with_options(alloc, status(alloc))?;
+    let status = with_status_options(alloc, status)?;
+    let with_show = with_serve.subcommand(show)?;
+    with_show.subcommand(status)
 }

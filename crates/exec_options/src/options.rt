@@ -15,6 +15,8 @@ pub enum Subcommand {
     Serve,
     /// Prints what the journal holds.
     Show,
+    /// Prints the same as a table for a person.
+    Status,
 }
 
 impl Subcommand {
@@ -29,6 +31,8 @@ impl Subcommand {
             Some(Subcommand::Serve)
         } else if name == "show" {
             Some(Subcommand::Show)
+        } else if name == "status" {
+            Some(Subcommand::Status)
         } else {
             None
         }
@@ -64,4 +68,8 @@ pub struct Options<'a> {
     /// How long an opening waits for what a killed executor's agents still do, in milliseconds; 0: it does not. It is a
     /// day at most.
     pub orphans: u64,
+    /// The id of the one resource whose status is asked for, or none.
+    pub resource: Option<&'a str>,
+    /// Whether a status is given as the lines of a show.
+    pub json: bool,
 }

@@ -48,3 +48,12 @@ The other options are those of run, and do nothing here.
 
 Example:
   ocfexec show --journal /var/lib/ocfexec";
+
+/// What stands behind the help of `status`.
+pub const STATUS: &str =
+    "Give just one of --journal and --memory. A journal that is in use can be shown too, and nothing is changed.
+The other options are those of run, and do nothing here. Results are in colour on a terminal alone.
+
+Examples:
+  ocfexec status --journal /var/lib/ocfexec
+  ocfexec status --journal /var/lib/ocfexec web";

@@ -119,6 +119,8 @@ fn options_of<'a>(
         meta_variables: is_set(matches, "meta-variables"),
         log: text_of(matches, "log"),
         orphans,
+        resource: text_of(matches, "resource"),
+        json: is_set(matches, "json"),
     })
 }
 

@@ -1,2 +1,4 @@
 pub mod Faults
+pub mod Meanings
 pub mod Shown
+pub mod Tables

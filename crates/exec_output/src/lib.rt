@@ -2,9 +2,17 @@
 #![tactic(auto)]
 
 mod fault;
+mod lines;
+mod look;
+mod meanings;
 mod send;
 mod shown;
+mod spans;
+mod statuses;
+mod table;
 
 pub use fault::Fault;
+pub use look::Look;
 pub use send::{Stopped, send_notices, send_reply};
 pub use shown::show;
+pub use statuses::status;

@@ -71,7 +71,7 @@ fn write_state<W: Write>(alloc: Global, writer: &mut W, state: &State) -> Result
 }
 
 // Why a journal was not opened, as the program ends with it.
-fn opening_fault(fault: JournalFault) -> Fault
+pub(crate) fn opening_fault(fault: JournalFault) -> Fault
     ensures { result ≡ opening_fault fault }
 {
     match fault {

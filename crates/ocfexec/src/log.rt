@@ -21,11 +21,11 @@ fn opened(rt: &HostRuntime, name: &str) -> io::Result<Log> {
     Log::to(&options.open(rt, name)?)
 }
 
-/// Where the options say that agents write; a show starts none. Why a file was not opened is told here, behind the line of the fault.
+/// Where the options say that agents write; a show and a status start none. Why a file was not opened is told here, behind the line of the fault.
 pub fn log_of(rt: &HostRuntime, options: Options) -> Result<Log, Fault>
     ensures { IfErr result (λ f. (f ≡ Fault.Log) × (is_some options.entry.log ≡ true)) }
 {
-    if options.subcommand == Subcommand::Show {
+    if matches!(options.subcommand, Subcommand::Show | Subcommand::Status) {
         return Ok(Log::none());
     }
     let Some(name) = options.log else {

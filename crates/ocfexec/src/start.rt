@@ -12,12 +12,13 @@ use disk_model::Disk;
 use exec_commands::NoticeForm;
 use exec_lines::{Patient, RunClock, moment_now};
 use exec_options::{JournalPlace, Options, Subcommand, WordsFault, read_words};
-use exec_output::{Fault, show};
+use exec_output::{Fault, Look, show, status};
 use exec_session::{Setting, Way, run_lines};
 use executor::{Executor, OpenError};
 use file_disk::{FileDisk, OpenFault, RamDisk, TellsError, read_parts};
 use std::env;
 use std::io::{self, BufReader, ErrorKind};
+use std::path::Path;
 use std::thread::sleep;
 use std::time::Duration;
 
@@ -127,7 +128,8 @@ fn run(rt: &HostRuntime, words: &[String]) -> Result<(), Fault>
         Ok(options) => options,
         Err(fault) => return refuse(rt, &fault),
     };
-    if options.subcommand != Subcommand::Show && children_ignored(rt) {
+    let starts_agents = matches!(options.subcommand, Subcommand::Run | Subcommand::Serve);
+    if starts_agents && children_ignored(rt) {
         return Err(Fault::ChildrenIgnored);
     }
     let log = match log_of(rt, options) {
@@ -155,7 +157,7 @@ fn run_in(
     ensures not_opened { IsNotOpened result }
 {
     match options.subcommand {
-        Subcommand::Show => show_files(rt, options, folder),
+        Subcommand::Show | Subcommand::Status => show_files(rt, options, folder),
         Subcommand::Run | Subcommand::Serve => {
             let disk = found(rt, folder, open_files(rt, folder))?;
             Ok(run_on(rt, options, log, disk))
@@ -180,7 +182,27 @@ fn show_files(rt: &HostRuntime, options: Options, folder: &str) -> Result<Result
     Ok(show_on(rt, options, disk))
 }
 
-// Shows the journal on this disk.
+// How a status is looked at: now, and in colour on a terminal alone.
+fn look_of<'a>(rt: &HostRuntime, options: Options<'a>) -> Look<'a> {
+    Look {
+        moment: moment_now(rt),
+        only: options.resource,
+        colours: is_terminal(rt),
+    }
+}
+
+// Whether standard output is a terminal. Linux, proc(5).
+fn is_terminal(rt: &HostRuntime) -> bool {
+    match Path::new("/proc/self/fd/1").read_link(rt) {
+        Ok(path) => match path.to_str() {
+            Some(path) => path.starts_with("/dev/pts/") || path.starts_with("/dev/tty"),
+            None => false,
+        },
+        Err(_) => false,
+    }
+}
+
+// Shows the journal on this disk, as lines of JSON or as a table.
 fn show_on<D: Disk + TellsError + Drop>(
     rt: &HostRuntime,
     options: Options,
@@ -188,7 +210,12 @@ fn show_on<D: Disk + TellsError + Drop>(
 ) -> Result<(), Fault>
     ensures { IsRunEnd result }
 {
-    let (disk, ended) = show(rt.alloc(), disk, &mut io::writer(rt));
+    let (disk, ended) = match options.subcommand {
+        Subcommand::Status if !options.json => {
+            status(rt.alloc(), disk, &mut io::writer(rt), &look_of(rt, options))
+        }
+        _ => show(rt.alloc(), disk, &mut io::writer(rt)),
+    };
     told(rt, options, &disk, ended)
 }
 
@@ -204,7 +231,7 @@ fn run_on<D: Disk + TellsError + Drop>(
     match options.subcommand {
         Subcommand::Run => run_agents(rt, options, log, disk, Way::Run),
         Subcommand::Serve => run_agents(rt, options, log, disk, Way::Serve),
-        Subcommand::Show => show_on(rt, options, disk),
+        Subcommand::Show | Subcommand::Status => show_on(rt, options, disk),
     }
 }
 

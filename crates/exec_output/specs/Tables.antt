@@ -1,0 +1,53 @@
+-- A journal's state as a table for a person.
+use Rattle.std.specs.Prelude.{◌≡◌, ℕ, ⊤, Bool, true, List, [], ◌∷◌, ◌++◌, filter, Option, Result, Ok, Err}
+use Rattle.std.specs.Option.{option_map_or}
+use Rattle.std.specs.Str.{bytes_eq}
+use Rattle.std.specs.Io.KnownBytes.{Appends}
+use Rattle.ocf_types.specs.Resource.{Resource}
+use Rattle.ocf_types.specs.State.{State}
+use Rattle.disk_model.specs.Image.{Image}
+use Rattle.exec_journal.specs.Found.{Damaged, FoundAs, IsFound}
+use Rattle.exec_output.specs.declared.look.Look.{Look}
+use Rattle.exec_output.specs.declared.fault.Fault.{Fault}
+use Rattle.exec_output.specs.declared.fault.Fault.TheVariants as fault
+
+-- an agent, as its provider and its type
+abbrev pub agent_text : Resource → List ℕ
+agent_text r = r.provider ++ 58 ∷ r.agent
+
+-- a look asks for the resource of this id
+abbrev pub is_asked_for : Look → List ℕ → Bool
+is_asked_for look id = option_map_or (λ only. bytes_eq only.now id) look.only true
+
+-- the resources that a look asks for, in order of registration
+abbrev pub asked_entries : Look → List (List ℕ × Resource) → List (List ℕ × Resource)
+asked_entries look es = filter (λ e. is_asked_for look e.0) es
+
+-- a resource's row: its id, a gap and its agent, and then what is told of it
+abbrev pub IsRow : List ℕ × Resource → List ℕ → Type 0
+IsRow e row = (gap : List ℕ) × (told : List ℕ) × (row ≡ ((e.0 ++ gap) ++ agent_text e.1) ++ told)
+
+-- a row of each of these resources, just once, in their order
+abbrev pub AreRows : List (List ℕ × Resource) → List ℕ → Type 0
+AreRows [] text = text ≡ []
+AreRows (e ∷ es) text = (row : List ℕ) × (more : List ℕ) × (text ≡ row ++ more) × IsRow e row × AreRows es more
+
+-- a head, and then the rows of the resources that are asked for
+abbrev pub IsTable : Look → State → List ℕ → Type 0
+IsTable look s text = (head : List ℕ) × (rows : List ℕ) × (text ≡ head ++ rows) × AreRows (asked_entries look s.resources) rows
+
+-- what is told of a state, by how it ended: its table, or nothing where no such resource is registered
+abbrev pub IsToldAs : {T : Type 0} → Look → State → Option (List ℕ) → Option (List ℕ) → Result T Fault → Type 0
+IsToldAs look s old new (Ok done) = (text : List ℕ) × IsTable look s text × Appends old new text
+IsToldAs look s old new (Err fault.NoResource) = (asked_entries look s.resources ≡ []) × (new ≡ old)
+IsToldAs look s old new (Err fault.InputOrOutput) = ⊤
+IsToldAs look s old new (Err fault.ReplyMemory) = ⊤
+IsToldAs look s old new (Err _) = ⊥
+
+-- what is written, by how it ended: what is told of the state that is found on these parts, or nothing where the pair is not
+-- read; damage that is told is the one that is found
+abbrev pub TellsAs : {T : Type 0} → Image → Look → Option (List ℕ) → Option (List ℕ) → Result T Fault → Type 0
+TellsAs reads look old new (Err (fault.Damaged damage)) = IsFound reads (Damaged damage) × (new ≡ old)
+TellsAs reads look old new (Err fault.Disk) = new ≡ old
+TellsAs reads look old new (Err fault.Memory) = new ≡ old
+TellsAs reads look old new ended = (s : State) × FoundAs s reads × IsToldAs look s old new ended

@@ -1,0 +1,61 @@
+//! What a journal holds, for a person.
+ghost use Rattle.std.specs.Prelude.{IsErrOf};
+ghost use Rattle.disk_model.specs.View.{Grew};
+ghost use Rattle.exec_journal.specs.Opening.{Opens};
+ghost use Rattle.exec_output.specs.Faults.{IsRunEnd};
+ghost use Rattle.exec_output.specs.Tables.{IsToldAs, TellsAs};
+
+use crate::fault::Fault;
+use crate::look::Look;
+use crate::shown::opening_fault;
+use crate::table::table_of;
+use disk_model::Disk;
+use exec_journal::Journal;
+use exec_lines::write_flushed;
+use exec_state::State;
+use std::alloc::Global;
+use std::io::Write;
+
+// Writes the table of a state.
+fn write_table<W: Write>(
+    alloc: Global,
+    writer: &mut W,
+    look: &Look,
+    state: &State,
+) -> Result<(), Fault>
+    ensures { IsToldAs look.now state.now.state (W.contents writer.old) (W.contents writer.new) result }
+{
+    match table_of(alloc, look, state) {
+        Ok(Some(text)) => match write_flushed(writer, text.as_slice()) {
+            Ok(()) => Ok(()),
+            Err(_) => Err(Fault::InputOrOutput),
+        },
+        Ok(None) => Err(Fault::NoResource),
+        Err(_) => Err(Fault::ReplyMemory),
+    }
+}
+
+/// Opens a journal without a boot and writes what it holds as a table for a person: a line of heads, and then a row of each
+/// resource that is asked for, in order of registration, with its last results, its monitors and, of one that is asked for, its
+/// history. It is all written, or the fault is that of input or output, or of memory for a reply, or that there is no such
+/// resource. The disk is handed back.
+#[tactic(auto, using(crate::proofs::RowLemmas::tells))]
+pub fn status<D: Disk + Drop, W: Write>(
+    alloc: Global,
+    disk: D,
+    writer: &mut W,
+    look: &Look,
+) -> (D, Result<(), Fault>)
+    ensures told { (D.view result.0).honest → TellsAs (D.view disk).reads look.now (W.contents writer.old) (W.contents writer.new) result.1 }
+    ensures opens { Opens (D.view disk) (D.view result.0) }
+    ensures cause { IsErrOf result.1 Fault.Disk → Grew (D.view disk).failures (D.view result.0).failures }
+    ensures ends { IsRunEnd result.1 }
+{
+    match Journal::open(alloc, disk) {
+        Ok((journal, state)) => {
+            let ended = write_table(alloc, writer, look, &state);
+            (journal.into_disk(), ended)
+        }
+        Err((fault, disk)) => (disk, Err(opening_fault(fault))),
+    }
+}
