@@ -11,8 +11,8 @@ use std::time::{Duration, Instant};
 // The shortest pause that is not nothing, in microseconds.
 const SHORTEST: u64 = 20;
 
-// Which part a pause is of the time since something happened: so an end is noticed late by a quarter of its action's length.
-const GROWTH: u64 = 4;
+// Which part a pause is of the time since something happened: so an end is noticed late by a tenth of its action's length.
+const GROWTH: u64 = 10;
 
 // The longest pause while something is queued or runs, in microseconds, where a turn takes little.
 const LONG: u64 = 1_000;
@@ -26,7 +26,7 @@ const LONGEST: u64 = 5_000;
 // The longest pause of a watch while nothing is, in microseconds.
 const LONGEST_IDLE: u64 = 10_000;
 
-/// How long a run pauses before its next turn: not behind a turn in which something happened, and then a quarter of the time
+/// How long a run pauses before its next turn: not behind a turn in which something happened, and then a tenth of the time
 /// since, up to a millisecond or to fifty times what a turn takes.
 #[derive(Drop)]
 pub struct Pause {
