@@ -6,8 +6,8 @@ use Rattle.ocf_types.specs.declared.operation.Running.{Running}
 use Rattle.ocf_env.specs.Places.{Place}
 use Rattle.ocf_env.specs.Variables.{IsVariable}
 
--- Pacemaker Administration, environment variables of agents: the name of the action, its interval in milliseconds, which is
--- 0 for a one-time action, and its timeout in milliseconds
+-- the name of the action, its interval in milliseconds, which is 0 for a one-time action, and its timeout in milliseconds: set by
+-- Pacemaker beside those that Pacemaker Explained names, and read by agents of the package resource-agents, as by ocf_is_probe
 pub data IsMetaVariable (running : Running) : List ℕ → List ℕ → Type 0 where
   interval : IsMetaVariable running (codes "OCF_RESKEY_CRM_meta_interval") (decimal running.interval)
   name : IsMetaVariable running (codes "OCF_RESKEY_CRM_meta_name") (action_word (action_of running.task))

@@ -50,7 +50,7 @@ fn add_new<A: Allocator + Copy>(
 }
 
 /// Adds the interval, the name and the timeout of an action, each in its place by name, but where there is a variable of this
-/// name. Pacemaker Administration, environment variables of agents.
+/// name. They are Pacemaker's own; agents of the package resource-agents read them, as in `ocf_is_probe`.
 pub fn add_meta<A: Allocator + Copy>(
     alloc: A,
     pairs: &mut Pairs<A>,
