@@ -1,0 +1,334 @@
+#!/usr/bin/env python3
+"""Manages the services of a cluster on one node: etcd holds what is wanted and who may run what, and ocfexec does it.
+
+    manager.py --node n1 --etcd http://10.0.0.1:2379 --fence 'fence.py SOCKET' --record FILE \\
+        ocfexec serve --journal /var/lib/ocfexec --via with-executor.sh --orphans 20000
+
+Keys of etcd:
+    /services/NAME  the table of placement, which a person writes: {"nodes": ["n1", "n2"], "provider": .., "type": ..,
+                    "params": {..}}; a service belongs on the first of its nodes that is there
+    /nodes/NODE     the node is there; goes with the lease of its manager
+    /active/NAME    the node that alone may run the service, until it gives it up or was fenced
+    /failed/NAME/NODE  it did not start there; goes by itself after a while
+    /fencing/NODE   the node is being fenced, or asks for it, and may not join
+
+What runs here is known by the executor's journal alone, and is found out anew whenever the manager or the executor starts.
+"""
+import argparse
+import json
+import shlex
+import subprocess
+import sys
+import time
+
+from etcd import Etcd, Unreachable, absent, delete, now, put, unchanged
+from executor import Ended, Executor, Record
+
+NOT_RUNNING = 7  # the exit code of a monitor that finds its service cleanly stopped
+FOR_A_PERSON = (2, 3, 6)  # statuses of the executor: wrong words, a damaged journal, a full one
+INTERVAL, TIMEOUT, FENCE_SECONDS, FAILED_SECONDS = 500, 10000, 20, 15
+
+
+class Lease:
+    """What keeps the node in the cluster. Its time counts from the moment when the last keep-alive that was answered was SENT:
+    etcd counts from when it came, which is later, so it is over here first."""
+
+    def __init__(self, etcd, seconds, reserve):
+        self.etcd, self.seconds, self.reserve = etcd, seconds, reserve
+        self.id, self.sent, self.tried = None, 0, 0
+
+    def held(self):
+        """Whether services may run: for as long as they can still be stopped before the lease's time is over."""
+        return self.id is not None and now() < self.etcd.until
+
+    def has(self, lease, sent):
+        self.id, self.sent = lease, sent
+        self.etcd.until = sent + self.seconds - self.reserve
+
+    def take(self, node):
+        """Joins the cluster, unless the node is being fenced. An old key of the node goes over to the new lease."""
+        sent = now()
+        lease = self.etcd.grant(self.seconds)
+        if self.etcd.change([absent(f"/fencing/{node}")], [put(f"/nodes/{node}", "here", lease)]):
+            self.has(lease, sent)
+        else:
+            self.etcd.revoke(lease)
+
+    def keep(self):
+        """Sends a keep-alive where one is due."""
+        sent = now()
+        if self.id is None or sent < self.tried + self.seconds / 8:
+            return
+        self.tried = sent
+        try:
+            if self.etcd.keep_alive(self.id):
+                self.has(self.id, sent)
+            else:
+                self.id = None
+        except Unreachable:
+            pass
+
+
+class Service:
+    def __init__(self, name):
+        self.name = name
+        self.state = "unknown"  # or "up", "down", "doubtful": perhaps half started, so stopped and probed before all else
+        self.task = None  # what is being done: a generator that asks for actions, and is sent their results
+        self.call = None  # the action that it waits for
+
+
+class Manager:
+    def __init__(self, options):
+        self.node, self.words, self.fence = options.node, options.words, options.fence
+        self.etcd = Etcd(options.etcd)
+        self.lease = Lease(self.etcd, options.lease, options.reserve)
+        self.record = Record(options.record)
+        self.services, self.view, self.seen = {}, {}, 0
+        self.fresh, self.joined = True, False  # whether it has not tried to join yet, and whether it has a lease to lose
+        self.fencing = None  # the node that is being fenced, its key, the process, and when it began
+
+    def say(self, what):
+        print(f"{time.time():.2f} {self.node}: {what}", file=sys.stderr, flush=True)
+
+    # What the view says
+
+    def value(self, key):
+        return self.view[key].value if key in self.view else None
+
+    def table(self, name):
+        return json.loads(self.value(f"/services/{name}") or '{"nodes": []}')
+
+    def place(self, name):
+        """Where the table wants the service: the first of its nodes that is there, and where it did not fail."""
+        there = (node for node in self.table(name)["nodes"] if f"/nodes/{node}" in self.view)
+        return next((node for node in there if f"/failed/{name}/{node}" not in self.view), None)
+
+    def is_mine(self, name):
+        return self.value(f"/active/{name}") == self.node
+
+    # An opening of the journal
+
+    def open(self):
+        """Starts an executor, and takes over from its journal what this manager, or the one before it, has not seen."""
+        self.executor = Executor(self.words, self.record, self.lease.keep)
+        for name in self.executor.ask(op="list")["resources"]:
+            for monitor in self.executor.ask(op="info", id=name)["recurring"]:
+                self.executor.ask(op="cancel", id=name, interval=monitor["interval"])
+            for result in self.executor.ask(op="history", id=name)["results"]:
+                self.record.add(name, result)
+            self.services[name] = self.recovered(name)
+        self.record.new.clear()
+
+    def recovered(self, name):
+        """What the last action says. The report of the opening is told once, so it is read from the record: the manager may
+        have been killed between the report and what it did about it."""
+        service, last = Service(name), self.record.last(name) or {"action": "monitor", "outcome": "done", "code": 0}
+        action, outcome = last["action"], last["outcome"]
+        if action == "start" and outcome == "dropped":
+            service.state = "down"  # it never began, and was asked of what was down: it is asked again if it's still wanted
+        elif action != "monitor" and (outcome != "done" or last["code"] != 0):
+            service.state = "doubtful"  # a stop that was dropped is asked again by this too
+        if outcome != "done":
+            self.say(f"{name}: {action} was {outcome}, so it is {service.state}")
+        return service
+
+    def register(self, name):
+        """Registers a service of the table, with its parameters as they are there now, and the node's name."""
+        table = self.table(name)
+        params = {**table.get("params", {}), "node": self.node}
+        self.executor.ask("exists", op="register", id=name, provider=table["provider"], type=table["type"], params=params)
+        self.executor.ask(op="params", id=name, params=params)
+
+    # What is done to a service: each yields the actions that it asks for, and is sent their results
+
+    def find_out(self, service):
+        code = (yield "monitor")["code"]
+        service.state = {0: "up", NOT_RUNNING: "down"}.get(code, "doubtful")
+        if service.state == "up":
+            self.executor.ask("exists", op="recur", id=service.name, interval=INTERVAL, timeout=TIMEOUT)
+
+    def bring_up(self, service):
+        self.register(service.name)
+        service.state = "doubtful"
+        code = (yield "start")["code"]
+        if code == 0:
+            yield from self.find_out(service)
+        if service.state == "up":
+            return self.say(f"{service.name} is up")
+        self.say(f"{service.name} did not start, with code {code}")
+        yield from self.bring_down(service)
+        lease = self.etcd.grant(FAILED_SECONDS)
+        self.etcd.change([], [put(f"/failed/{service.name}/{self.node}", str(code), lease)])
+
+    def bring_down(self, service):
+        """Stops it, and believes that it is down when a probe says so; else the node asks to be fenced, and goes."""
+        service.state = "doubtful"
+        self.executor.ask("no-such-recurring", op="cancel", id=service.name, interval=INTERVAL)
+        for _ in range(3):
+            yield "stop"
+            if (yield "monitor")["code"] == NOT_RUNNING:
+                service.state = "down"
+                return self.say(f"{service.name} is down")
+        self.say(f"{service.name} does not stop: this node is to be fenced")
+        self.etcd.change([], [put(f"/fencing/{self.node}", "wanted"), delete(f"/nodes/{self.node}")])
+        sys.exit(1)
+
+    def choose(self, service):
+        """What is to be done to a service now, if anything. Without a lease everything is stopped."""
+        name, held = service.name, self.lease.held()
+        mine, here = self.is_mine(name), self.place(name) == self.node
+        if service.state == "doubtful" or (service.state == "up" and not (held and mine)):
+            return self.bring_down(service)
+        if service.state == "unknown":
+            return self.find_out(service)
+        if held and mine and not here:
+            return self.give_up(service)
+        if held and mine and service.state == "down":
+            return self.bring_up(service)
+        if held and here and f"/active/{name}" not in self.view:
+            self.claim(name)
+        return None
+
+    def give_up(self, service):
+        """Another node is to run it: it may do so as soon as the key is gone."""
+        if service.state != "down":
+            yield from self.bring_down(service)
+        key = f"/active/{service.name}"
+        self.etcd.change([unchanged(key, self.view[key])], [delete(key)])
+        self.seen = 0
+
+    def claim(self, name):
+        """One node alone gets the key, and only while it is a member."""
+        mine = f"/nodes/{self.node}"
+        self.etcd.change([absent(f"/active/{name}"), unchanged(mine, self.view[mine])], [put(f"/active/{name}", self.node)])
+        self.seen = 0
+
+    # Nodes that are gone
+
+    def fence_one(self):
+        """Marks a node that is gone and may still run something, and then runs the command that ends it. What it was active
+        for is free only when that command has said that it is done. Without a command nothing is taken over."""
+        gone = {item.value for key, item in self.view.items() if key.startswith("/active/")}
+        gone = sorted(node for node in gone if f"/nodes/{node}" not in self.view)
+        for node in gone if self.fence else []:
+            key = f"/fencing/{node}"
+            mark = self.view.get(key)
+            if mark and mark.value != "wanted":
+                continue
+            free = [unchanged(key, mark) if mark else absent(key), absent(f"/nodes/{node}")]
+            if self.etcd.change(free, [put(key, f"by {self.node}", self.lease.id)]):
+                self.say(f"fences {node}")
+                process = subprocess.Popen([*shlex.split(self.fence), node], start_new_session=True)
+                self.fencing = node, key, process, now()
+                return
+
+    def finish_fencing(self):
+        node, key, process, since = self.fencing
+        if process.poll() is None and now() < since + FENCE_SECONDS:
+            return
+        if process.poll() is None:
+            process.kill()
+        status, self.fencing, self.seen = process.wait(), None, 0
+        self.view = self.etcd.view()
+        if self.value(key) != f"by {self.node}":
+            return self.say(f"{node}: the mark of the fencing is gone, so its outcome is not used")
+        free = [delete(name) for name, item in self.view.items() if name.startswith("/active/") and item.value == node]
+        self.say(f"{node} is fenced" if status == 0 else f"{node} could not be fenced, so nothing of it is taken over")
+        self.etcd.change([unchanged(key, self.view[key])], [delete(key), *(free if status == 0 else [])])
+
+    # The loop
+
+    def look(self):
+        """Keeps the lease and reads the keys. A lease that was lost is taken anew when all is stopped, and etcd is not waited
+        for before; a manager that has just started joins with what may run, since its node was not fenced."""
+        self.lease.keep()
+        if not self.lease.held():
+            if not self.fresh and any(service.state != "down" for service in self.services.values()):
+                return
+            self.fresh, self.lease.id, self.etcd.until = False, None, float("inf")
+            self.lease.take(self.node)
+            self.joined = self.lease.held()
+        if now() > self.seen + 0.2:
+            self.view, self.seen = self.etcd.view(), now()
+            if self.lease.id and f"/nodes/{self.node}" not in self.view:
+                self.lease.id = None
+            for name in [key.removeprefix("/services/") for key in self.view if key.startswith("/services/")]:
+                if name not in self.services:
+                    self.services[name] = Service(name)
+                    self.register(name)
+        if self.lease.held():
+            self.finish_fencing() if self.fencing else self.fence_one()
+
+    def begin(self, service):
+        try:
+            service.task, service.call = self.choose(service), None
+        except Unreachable:
+            return
+        if service.task:
+            self.go_on(service)
+
+    def go_on(self, service, result=None):
+        """Takes a service's task on: to the next action that it asks for, or to its end."""
+        try:
+            action = service.task.send(result)
+            limit = TIMEOUT if self.lease.held() else int(self.lease.reserve * 1000)
+            service.call = self.executor.ask(op="exec", id=service.name, action=action, timeout=limit)["call"]
+        except (StopIteration, Unreachable):  # what could not be told to etcd is chosen again
+            service.task = None
+
+    def hear(self):
+        """Takes what has ended to the services that it belongs to."""
+        self.executor.hears(0.05)
+        while self.record.new:
+            name, result = self.record.new.pop(0)
+            service = self.services[name]
+            if service.task and result["call"] == service.call:
+                self.go_on(service, result)
+            elif result["interval"] and not service.task and service.state == "up" and result["code"] != 0:
+                self.say(f"{name}: a monitor said {result['code']}")
+                service.state = "doubtful"
+
+    def manage(self):
+        """One run of the executor, until it ends. A lease that is lost ends it, since a stop would wait behind what runs: the
+        next one has it as interrupted, and stops all."""
+        self.open()
+        while True:
+            try:
+                self.look()
+            except Unreachable:
+                pass
+            if self.joined and not self.lease.held():
+                self.joined = False
+                self.say("no lease any more: all is stopped")
+                return self.executor.close()
+            for service in self.services.values():
+                if not service.task:
+                    self.begin(service)
+            self.hear()
+
+    def run(self):
+        while True:
+            self.services = {}
+            try:
+                self.manage()
+            except Ended as ended:
+                self.say(f"the executor ended with status {ended}")
+                if ended.args[0] in FOR_A_PERSON:
+                    return ended.args[0]
+                time.sleep(0.1)
+
+
+def main():
+    parser = argparse.ArgumentParser(description=__doc__, formatter_class=argparse.RawDescriptionHelpFormatter)
+    parser.add_argument("--node", required=True)
+    parser.add_argument("--etcd", action="append", required=True, metavar="URL", help="a member; once for each")
+    parser.add_argument("--lease", type=int, default=8, help="its time, in seconds")
+    parser.add_argument("--reserve", type=float, default=2.5, help="seconds of it that are kept to stop services in")
+    parser.add_argument("--fence", help="a command that ends the node that is added to it, and then ends with 0")
+    parser.add_argument("--record", required=True, help="the file of the results that were seen")
+    parser.add_argument("words", nargs=argparse.REMAINDER, help="the executor's command line")
+    return Manager(parser.parse_args()).run()
+
+
+if __name__ == "__main__":
+    sys.exit(main())

@@ -1,0 +1,14 @@
+#!/bin/sh
+# The first process of a node: it brings up the node's network, where it has one of its own, and starts the manager again
+# whenever that ends. What is left of processes falls to it. Use: node.sh ADDRESS|- COMMAND..
+address=$1
+shift
+if [ "$address" != - ]; then
+    ip link set lo up
+    until ip link set eth0 up 2> /dev/null; do sleep 0.05; done
+    ip address add "$address/24" dev eth0
+fi
+while :; do
+    "$@"
+    sleep 0.3
+done
