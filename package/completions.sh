@@ -50,9 +50,11 @@ in_zsh() {
     echo "        compadd -- $(subcommands)--help --version"
     echo "        return"
     echo "    fi"
-    echo "    case \$words[2] in"
+    echo "    shift words"
+    echo "    ((CURRENT--))"
+    echo "    case \$words[1] in"
     for name in $(subcommands); do
-        echo "    $name) _arguments -s \\"
+        echo "    $name) _arguments \\"
         while read -r option value; do
             case $value in
                 -) echo "        '$option' \\" ;;

@@ -75,4 +75,4 @@ same "what is left behind" "left behind: 0" "$(tail -n 1 "$here/log")"
 # a show starts nothing, and so opens no log
 "$program" show --memory --log "$here/shown" > "$here/out" 2> "$here/err"
 [ ! -e "$here/shown" ] || differs "the log of a show" "none" "$(ls -l "$here/shown")"
-finish
+finish "where agents write"

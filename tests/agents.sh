@@ -295,12 +295,20 @@ crowd() {
 }
 
 codes
+checked "each exit code, a signal and a timeout"
 flags
+checked "two agents at once"
 metadata
+checked "metadata"
 through
+checked "agents through a program"
 refused
+checked "agents that cannot be started"
 stubborn
+checked "an agent that ignores signals"
 inherited
+checked "what an agent inherits"
 unseen
+checked "SIGCHLD ignored"
 crowd
-finish
+finish "256 agents at once"

@@ -138,4 +138,4 @@ wanted='{"meta":34}
 <resource-agent name="Stateful"/>'
 same "meta of Stateful under ocfexec" "$wanted" "$(tail -n 3 "$here/out")"
 
-finish
+finish "each action of the two agents, alone and under the program"

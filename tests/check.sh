@@ -1,6 +1,6 @@
 #!/usr/bin/env bash
-# The checks of the built programs, one script each. A script that needs what this machine has not ends with 77 and is
-# counted as skipped. The last line counts them.
+# The checks of the built programs. Each prints a line for what it checked, by name and with its time; one that needs what this
+# machine has not ends with 77, or says so in such a line, and is skipped. The last line counts the checks.
 set -u
 cd "$(dirname "$0")/.."
 export PROGRAM=$PWD/crates/ocfexec/out/ocfexec
@@ -11,16 +11,32 @@ fi
 if [ ! -x "$AGENTS" ]; then
     (cd crates/ocf_agents && OCF_RESOURCE_TYPE=Dummy rt run -- meta-data > /dev/null) || exit 1
 fi
+said=$(mktemp)
+trap 'rm -f "$said"' EXIT
 passed=0 failed=0 skipped=0
-for check in words lines random_lines speed drains time ends serve agents agents_alone agent_log meta_variables files memory journals layouts durable kills orphans tidies clients package real_agents; do
-    echo "== tests/$check.sh"
+
+# How many checks of a script ended so. Use: count WORD
+count() {
+    grep -c "^$1 .* s  " "$said"
+}
+
+for check in words.sh status.sh lines.sh random_lines.sh speed.sh drains.sh time.sh ends.py serve.sh agents.sh agents_alone.sh agent_log.sh meta_variables.sh \
+    files.sh memory.sh journals.sh layouts.py durable.sh kills.py orphans.sh tidies.sh clients.sh cluster.sh package.sh completions.sh real_agents.sh; do
     status=0
-    timeout 170 "tests/$check.sh" "$PROGRAM" < /dev/null || status=$?
+    timeout 170 "tests/$check" "$PROGRAM" < /dev/null > "$said" 2>&1 || status=$?
+    cat "$said"
+    passed=$((passed + $(count ok)))
+    failed=$((failed + $(count failed)))
+    skipped=$((skipped + $(count skipped)))
     case $status in
-        0) passed=$((passed + 1)) ;;
+        0) ;;
         77) skipped=$((skipped + 1)) ;;
-        *) failed=$((failed + 1)); echo "tests/$check.sh FAILED with status $status" ;;
+        *)
+            echo "failed          tests/$check, with status $status"
+            [ "$(count failed)" -gt 0 ] || failed=$((failed + 1))
+            ;;
     esac
 done
-echo "$passed passed, $failed failed, $skipped skipped"
+[ "$skipped" -eq 0 ] || echo "$skipped skipped: see the lines above"
+echo "$passed passed, $failed failed"
 [ "$failed" -eq 0 ]

@@ -49,6 +49,8 @@ same "client.sh" "$wanted" "$(outcomes "$here/out" | uniq)"
 has 3 'monitor done 0' || differs "client.sh" "three monitors at least" "$(cat "$here/out")"
 [ ! -e "$here/shell" ] || differs "client.sh" "a resource that is stopped" "$(ls -l "$here/shell")"
 
+checked "the client of the shell"
+
 # The client in Python: its resource runs and is monitored
 mkdir "$here/journal"
 "$top/examples/client.py" --provider pacemaker --param "state=$here/python" --interval 100 --slow 0.02 \
@@ -86,6 +88,8 @@ same "client.py, runs that are told twice" '' "$(sort -n <<< "$runs" | uniq -d)"
 found=$("$program" show --journal "$here/journal" | tail -n 1 | grep -o '"run":[0-9]*' | cut -d : -f 2)
 same "the journal's last runs" "$(tail -n 10 <<< "$runs")" "$(tail -n 10 <<< "$found")"
 
+checked "the client in Python"
+
 # A reader that sleeps loses nothing: the replies are more than a pipe holds
 found=$(yes '{"op":"list"}' | head -n 3000 | "$program" run --memory | { sleep 0.5 && cat; } | sort | uniq -c | sed 's/^ *//')
 same "a slow reader" '3000 {"ok":true,"resources":[]}' "$found"
@@ -97,4 +101,4 @@ if command -v systemd-analyze > /dev/null; then
     found=$(systemd-analyze verify --man=no "$here/ocfexec.service" 2>&1) || differs "ocfexec.service" "" "$found"
 fi
 
-finish
+finish "a slow reader, and the unit"

@@ -1,4 +1,4 @@
-# What the checks share; read by `. "$(dirname "$0")/common.sh" "$@"`, with the program as the first word. A check has a
+# What the checks of the shell share; read by `. "$(dirname "$0")/common.sh" "$@"`, with the program as the first word. A check has a
 # folder of its own, `$here`, which is removed at its end.
 # shellcheck shell=sh
 program=$(realpath "$1")
@@ -6,6 +6,9 @@ check=${0##*/}
 here=$(mktemp -d)
 trap 'rm -rf "$here"' EXIT
 failed=0
+any_failed=0
+check_began=$(date +%s%3N)
+check_part=${check%.sh}
 
 # Says what is not as wanted. Use: differs WHAT WANTED FOUND
 differs() {
@@ -77,8 +80,23 @@ outcomes() {
     notices "$1" | cut -d ' ' -f 1-3
 }
 
-# Ends a check.
+# Prints what was checked since the last such line, with its time. Use: checked NAME
+checked() {
+    check_now=$(date +%s%3N)
+    check_took=$((check_now - check_began))
+    check_began=$check_now
+    check_word=ok
+    if [ "$failed" -ne 0 ]; then
+        check_word=failed
+        any_failed=1
+        failed=0
+    fi
+    printf '%-8s%4d.%02d s  %s: %s\n' "$check_word" $((check_took / 1000)) $((check_took % 1000 / 10)) "$check_part" "$1"
+}
+
+# Ends a check: what was checked last has this name. Use: finish NAME
 finish() {
-    [ "$failed" -eq 0 ] || exit 1
-    echo "$check: ok"
+    checked "$1"
+    [ "$any_failed" -eq 0 ] || exit 1
+    exit 0
 }

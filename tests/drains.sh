@@ -60,4 +60,4 @@ echo "ends: the middle one of $count is noticed after $middle milliseconds, the 
 [ "$began" -le "$first" ] && [ "$last" -le "$ended" ] || { echo "drains.sh: moments that the clock did not show" >&2; exit 1; }
 [ "$spent" -lt 2000 ] || { echo "drains.sh: a waiting drain costs too much" >&2; exit 1; }
 [ "$middle" -le 20 ] || { echo "drains.sh: an end was noticed too late" >&2; exit 1; }
-finish
+finish "drains and watches"

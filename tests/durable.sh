@@ -64,4 +64,4 @@ ours=$(median "$here/ours") floor=$(median "$here/floor")
 echo "a recorded command: $ours microseconds; its two writes and two syncs by a C loop: $floor"
 echo "ratio $(awk "BEGIN { printf \"%.2f\", $ours / $floor }"), $((ours - floor)) microseconds more (at most 50 wanted)"
 [ "$((ours - floor))" -le 500 ] || [ "$ours" -le $((2 * floor)) ] || { echo "durable.sh: a command costs too much" >&2; exit 1; }
-finish
+finish "what a sync costs, beside a loop in C"

@@ -265,4 +265,4 @@ echo "opening a part of $(stat -c %s much/part-a) bytes: $took milliseconds (und
 [ "$took" -lt 5000 ] || differs "opening a full part, milliseconds" "under 5000" "$took"
 [ "$memory" -lt 65536 ] || differs "opening a full part, KiB" "under 65536" "$memory"
 
-finish
+finish "files of a journal, their locks and their faults"

@@ -135,6 +135,8 @@ same "a busy journal, opened again" "" "$(cat out)"
 "$program" run --journal untold < asked > /dev/full 2> err
 same "a report that cannot be written, status" 7 $?
 
+checked "what a spelled journal shows and reports"
+
 # Damage, of each cause
 printf "$head" | head -c 43 | spelled_a cut "A at 0: cut"
 printf "$head\\1\\0\\0" | spelled_a record_cut "A at 44: cut"
@@ -147,6 +149,8 @@ printf "$head\\1\\0\\0\\x80\\1" | spelled_a long "A at 44: long"
 printf "$head\\1\\0\\0\\0\\1\\0\\0" | spelled_b event "B at 44: event"
 printf "$head\\1\\0\\0\\0\\x0c\\2\\0\\0\\0\\0\\0\\0\\0\\0\\2r1\\0" | spelled_a order "A at 44: order"
 
+checked "damage of each cause"
+
 # A part that has no room for a boot: it is shown, and not opened
 crowded crowded
 stays crowded 6 "ocfexec: full" "Nothing was changed. See what it holds by show"
@@ -154,4 +158,4 @@ shows crowded
 same "a crowded part, status of show" 0 "$status"
 same "a crowded part, shown" '"running":{"call":1,"key":"r1_start_0","run":1}' "$(grep -o '"running":{[^}]*}' out)"
 
-finish
+finish "a part without room"

@@ -57,4 +57,4 @@ answers "the line behind one of 131,074 bytes" "$syntax" "$none" < "$here/in"
 { padded "" 400000; echo '{"op":"drain"}'; echo "$list"; } > "$here/in"
 answers "the line behind one that is too long" "$syntax" "$none" < "$here/in"
 
-finish
+finish "lines of every length and end"

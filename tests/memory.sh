@@ -106,4 +106,5 @@ wanted(any(status == 7 for status, _ in seen) or any(refused for _, refused in s
 on_files(lines)
 print("memory.sh: ended as", sorted(seen))
 PYTHON
-python3 "$here/memory.py" "$program" "$here"
+python3 "$here/memory.py" "$program" "$here" || failed=1
+finish "less and less memory"

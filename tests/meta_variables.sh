@@ -51,4 +51,4 @@ sees start '' OCF_RESKEY_CRM_meta_interval=77 OCF_RESKEY_CRM_meta_name=start OCF
     OCF_RESKEY_CRM_meta_timeout=4321
 sees monitor 10 OCF_RESKEY_CRM_meta_interval=77 OCF_RESKEY_CRM_meta_name=monitor OCF_RESKEY_CRM_meta_other=x \
     OCF_RESKEY_CRM_meta_timeout=5000
-finish
+finish "Pacemaker's variables"

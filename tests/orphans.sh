@@ -180,4 +180,4 @@ never_twice()
 PYTHON
 
 python3 "$here/orphans.py" "$program" "$here" "$rounds" "$seed"
-finish
+finish "what a killed executor left is waited for"

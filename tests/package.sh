@@ -30,18 +30,12 @@ grep -q "commit $(head -n 1 "$top/crates/ocfexec/out/gate")" "$root/usr/share/do
 grep -q '/usr/bin/ocfexec serve .* \$OCFEXEC_OPTIONS$' "$root/lib/systemd/system/ocfexec.service" || differs "the unit" "the options of /etc/default" ""
 [ -s "$root/usr/share/man/man8/ocfexec.8.gz" ] || differs "the manual page" "there" "not"
 
-# What bash offers for words, the last of them being completed. Use: offered WORD..
-offered() {
-    bash --norc -c '. "$1"; shift; complete -p ocfexec > /dev/null || exit 1
-        COMP_WORDS=("$@"); COMP_CWORD=$(($# - 1)); _ocfexec; printf "%s " "${COMPREPLY[@]}"' \
-        bash "$root/usr/share/bash-completion/completions/ocfexec" "$@"
-}
-same "subcommands" "run serve show --help --version " "$(offered ocfexec '')"
-same "an option" "--journal " "$(offered ocfexec serve --jo)"
-same "a folder" "$root/usr/lib $root/usr/libexec " "$(offered ocfexec serve --journal "$root/usr/li" | tr ' ' '\n' | sort | xargs printf '%s ')"
+for completions in bash-completion/completions/ocfexec zsh/vendor-completions/_ocfexec fish/vendor_completions.d/ocfexec.fish; do
+    [ -s "$root/usr/share/$completions" ] || differs "$completions" "there" "not"
+done
 
 package -r ocfexec
 same "what is left" "$root/etc/default/ocfexec" "$(find "$root" -type f -not -path "$root/var/lib/dpkg/*")"
 package -P ocfexec
 same "what is left of it" "" "$(find "$root" -type f -not -path "$root/var/lib/dpkg/*")"
-exit "$failed"
+finish "the installed package"

@@ -79,4 +79,4 @@ echo "resident memory: $middle KiB after half of the lines, $end KiB at the end,
 [ "$answered" -eq "$filled" ] || { echo "random_lines.sh: as many replies as lines are wanted" >&2; exit 1; }
 [ "$accepted" -eq 0 ] || { echo "random_lines.sh: no line was to be accepted" >&2; exit 1; }
 [ "$greatest" -lt "$limit" ] || { echo "random_lines.sh: below $limit KiB are wanted" >&2; exit 1; }
-finish
+finish "random lines, in bounded memory"

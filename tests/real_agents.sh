@@ -153,4 +153,4 @@ wanted='5 monitor done 0 OCF_SUCCESS
 [ "$found" = "$wanted" ] || differs "five agents at once" "$wanted" "$found"
 
 echo "the metadata of $told agents, and the lives of $lived"
-finish
+finish "the agents of Debian's package"

@@ -204,4 +204,4 @@ print(f"serve.sh: 60 kills, {told} told lines stand")
 sys.exit(failed)
 PYTHON
 python3 "$here/serve.py" "$program" "$here" || failed=1
-finish
+finish "serving"

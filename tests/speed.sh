@@ -60,4 +60,4 @@ echo "resident memory: at most $greatest KiB (under 8192 wanted)"
 [ "$rate" -ge 15000 ] || { echo "speed.sh: too few lines a second" >&2; exit 1; }
 [ "$start" -lt 50000 ] || { echo "speed.sh: too long from start to end" >&2; exit 1; }
 [ "$greatest" -lt 8192 ] || { echo "speed.sh: too much resident memory" >&2; exit 1; }
-finish
+finish "the rate of questions"

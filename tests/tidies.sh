@@ -107,4 +107,4 @@ for options, full in (([], False), (["--tidy-at", "0"], True)):
 PYTHON
 
 python3 "$here/tidies.py" "$program" "$here" "$rounds" "$seed"
-finish
+finish "tidies and kills"

@@ -86,6 +86,8 @@ awaits 2 '"end"' "$here/out"
 [ "$(grep -c '"interval":200,"name"' "$here/out")" -ge 3 ] || differs "monitors of 200 ms in 1.5 s" "3 or more" "$(cat "$here/out")"
 ends
 
+checked "a journal of ten years ahead"
+
 # The clock is set back by thirty seconds while an agent runs with a timeout of a second, and then while a watch goes on.
 shimmed "$here/out" run --memory --root "$here"
 printf '%s\n' "$register" "${start}1000}" '{"op":"drain"}' >&3
@@ -102,6 +104,8 @@ awaits 2 '"end"' "$here/out"
 between "a watch of 1.5 seconds, the clock set back" 1200 3000 $(($(now) - began))
 ends
 
+checked "a timeout and a watch, the clock set back"
+
 # The clock is set forward by an hour while a start is under way that has twenty seconds.
 set_ahead 0
 shimmed "$here/out" run --memory --root "$here"
@@ -111,4 +115,4 @@ set_ahead 3600
 awaits 1 '"end"' "$here/out"
 same "a start, the clock set forward" "start done 0" "$(outcomes "$here/out")"
 ends
-finish
+finish "a start, the clock set forward"

@@ -88,6 +88,8 @@ done
 ends 0 "" show --memory
 wrote "show --memory" '{"ok":true,"resources":[]}'
 
+checked "texts that are asked for"
+
 # The options of a run, as the metadata of an agent show them: what they are, and that there are none. Use: takes REPLY WORD..
 takes() {
     local wanted=$1
@@ -105,6 +107,8 @@ takes '{"end":"missing"}' --via=-x
 mkdir "$here/journal"
 ends 0 "" show --root=/r --journal "$here/journal" --path /p --via v
 wrote "show of a new journal" '{"ok":true,"resources":[]}'
+
+checked "the options of a run"
 
 # Words that are not those of the command line
 ends 2 "ocfexec: give one of --journal and --memory" run
@@ -135,6 +139,8 @@ misused "unexpected argument '--version'" run --version
 misused "a value is required" run --journal
 misused "cannot be used multiple times" run --memory --memory
 
+checked "words that are refused"
+
 # Output and input that fail
 full_output --help
 full_output run --help
@@ -153,6 +159,8 @@ $check_output"
 # Standard error that fails changes no status
 "$program" run --journal "$here/none" < /dev/null > "$here/out" 2> /dev/full
 same "run --journal none 2> /dev/full, status" 5 $?
+
+checked "output and input that fail"
 
 # Memory that is refused: from little memory to enough, each run ends with 4 and its line, or as it should, or is ended by
 # the system before it begins. At least one that is refused and one that is answered are wanted.
@@ -178,4 +186,4 @@ if [ "$refused" -eq 0 ] || [ "$answered" -eq 0 ]; then
     differs "limits of memory" "some runs refused and some answered" "$refused refused, $answered answered"
 fi
 
-finish
+finish "memory that is refused"

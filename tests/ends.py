@@ -1,0 +1,90 @@
+#!/usr/bin/env python3
+"""The two ends of a run: a reader that goes away ends a drain, a watch and a run that serves within a second, with its agents, and
+descriptors that do not block are waited for; and words that are refused for the folder of agents.
+Use: ends.py PROGRAM"""
+import fcntl
+import os
+import subprocess
+import time
+
+import helper
+from helper import PROGRAM
+
+
+class Ends(helper.Check):
+    def gone(self, word, *last):
+        self.agent("Sleeper", 'echo $$ > "$OCF_RESKEY_pid"\nexec sleep 60\n')
+        pid_file = self.place("pid")
+        run = subprocess.Popen([PROGRAM, word, "--memory", "--root", self.here],
+                               stdin=subprocess.PIPE, stdout=subprocess.PIPE, stderr=subprocess.PIPE)
+        self.addCleanup(run.kill)
+        run.stdin.write(helper.lines(helper.register("r1", "Sleeper", pid=pid_file), helper.action("r1", "start"), *last))
+        run.stdin.flush()
+        while not os.path.exists(pid_file) or not os.path.getsize(pid_file):
+            time.sleep(0.02)
+        with open(pid_file, encoding="ascii") as file:
+            pid = int(file.read())
+        run.stdout.close()
+        began = time.monotonic()
+        self.assertEqual(run.wait(5), 7)
+        self.assertLess(time.monotonic() - began, 1.5)
+        self.assertTrue(run.stderr.read().startswith(b"ocfexec: input or output\n"))
+        time.sleep(0.1)
+        self.assertFalse(helper.is_alive(pid), "its agent lives on")
+        run.stderr.close()
+        run.stdin.close()
+
+    def test_drain(self):
+        """a reader that goes away amid a drain"""
+        self.gone("run", {"op": "drain"})
+
+    def test_watch(self):
+        """a reader that goes away amid a watch"""
+        self.gone("run", {"op": "watch", "limit": 43200000})
+
+    def test_serve(self):
+        """a reader that goes away while it is served"""
+        self.gone("serve")
+
+    def not_blocking(self, word):
+        # two thousand lines come in pieces, and their replies are read late
+        read_in, write_in = os.pipe()
+        read_out, write_out = os.pipe()
+        for descriptor in (read_in, write_out):
+            fcntl.fcntl(descriptor, fcntl.F_SETFL, fcntl.fcntl(descriptor, fcntl.F_GETFL) | os.O_NONBLOCK)
+        run = subprocess.Popen([PROGRAM, word, "--memory"], stdin=read_in, stdout=write_out)
+        os.close(read_in), os.close(write_out)
+        line = b'{"op":"info","id":"' + b"x" * 2000 + b'"}\n'
+        writer = os.fork()
+        if writer == 0:
+            for count in (200, 1800):
+                for _ in range(count):
+                    os.write(write_in, line)
+                time.sleep(0.2)
+            os._exit(0)
+        os.close(write_in)
+        time.sleep(0.5)
+        found = b""
+        while part := os.read(read_out, 65536):
+            found += part
+        os.waitpid(writer, 0)
+        os.close(read_out)
+        self.assertEqual(run.wait(10), 0)
+        self.assertEqual(found.count(b"bad-name"), 2000)
+
+    def test_run_not_blocking(self):
+        """run where neither end blocks"""
+        self.not_blocking("run")
+
+    def test_serve_not_blocking(self):
+        """serve where neither end blocks"""
+        self.not_blocking("serve")
+
+    def test_root(self):
+        """a root that is not absolute"""
+        done = subprocess.run([PROGRAM, "run", "--memory", "--root", "some/folder"], stdin=subprocess.DEVNULL, capture_output=True)
+        self.assertEqual((done.returncode, done.stderr), (2, b"ocfexec: give --root an absolute path\n"))
+
+
+if __name__ == "__main__":
+    helper.main()

@@ -1,0 +1,193 @@
+"""What the checks in Python share: the program, a folder for each check, its agents, the lines of commands, and runs that are asked
+and heard. A module is called as `tests/NAME.py PROGRAM`; each of its tests is a check, which is printed with its time."""
+import json
+import os
+import shutil
+import subprocess
+import sys
+import tempfile
+import threading
+import time
+import unittest
+
+PROGRAM = os.path.realpath(sys.argv[1]) if len(sys.argv) > 1 else ""
+TOP = os.path.dirname(os.path.dirname(os.path.abspath(__file__)))
+
+
+def number(name, default):
+    """A number that the environment may name, as ROUNDS or SEED."""
+    return int(os.environ.get(name, default))
+
+
+def register(name, kind, provider="test", **params):
+    return {"op": "register", "id": name, "provider": provider, "type": kind, "params": params}
+
+
+def action(name, what, **more):
+    return {"op": "exec", "id": name, "action": what, **more}
+
+
+def lines(*commands):
+    """The lines of these commands, in bytes."""
+    return "".join(json.dumps(command) + "\n" for command in commands).encode()
+
+
+def replies(out):
+    """The values of whole lines; what stands behind the last newline is none."""
+    return [json.loads(line) for line in out.split(b"\n")[:-1]]
+
+
+def is_notice(value):
+    return "outcome" in value
+
+
+def parts(folder):
+    """The bytes of a journal's two parts."""
+    found = []
+    for name in ("part-a", "part-b"):
+        with open(os.path.join(folder, name), "rb") as part:
+            found.append(part.read())
+    return found
+
+
+def shown(folder):
+    """What `show` prints of a journal."""
+    done = subprocess.run([PROGRAM, "show", "--journal", folder], capture_output=True, timeout=60)
+    assert done.returncode == 0, done.stderr
+    return done.stdout
+
+
+def results(folder):
+    """The results of each resource of a journal, by its id."""
+    found = replies(shown(folder))
+    return {name: found[2 + 2 * place]["results"] for place, name in enumerate(found[0]["resources"])}
+
+
+def is_alive(pid):
+    """Whether a process runs, and is no zombie."""
+    try:
+        with open(f"/proc/{pid}/stat", encoding="ascii") as stat:
+            return stat.read().rsplit(")", 1)[1].split()[0] != "Z"
+    except OSError:
+        return False
+
+
+class Heard:
+    """A program that runs, whose lines are kept with the moments at which they came."""
+
+    def __init__(self, *words):
+        self.run = subprocess.Popen([PROGRAM, *words], stdin=subprocess.PIPE, stdout=subprocess.PIPE, stderr=subprocess.DEVNULL)
+        self.lines, self.came = [], threading.Condition()
+        self.reader = threading.Thread(target=self.read, daemon=True)
+        self.reader.start()
+
+    def read(self):
+        for line in self.run.stdout:
+            with self.came:
+                self.lines.append((time.monotonic(), line.decode()))
+                self.came.notify_all()
+
+    def tell(self, *commands):
+        self.send(lines(*commands))
+
+    def send(self, text):
+        self.run.stdin.write(text)
+        self.run.stdin.flush()
+
+    def awaits(self, holds, seconds=10):
+        """The moment and the value of the first line of which this holds; two None where none came."""
+        until, at = time.monotonic() + seconds, 0
+        with self.came:
+            while True:
+                while at < len(self.lines):
+                    value = json.loads(self.lines[at][1])
+                    if holds(value):
+                        return self.lines[at][0], value
+                    at += 1
+                if not self.came.wait(max(0, until - time.monotonic())):
+                    return None, None
+
+    def ends(self):
+        """The exit status, behind the end of its input."""
+        self.run.stdin.close()
+        status = self.run.wait(10)
+        self.reader.join()
+        return status
+
+    def killed(self):
+        self.run.kill()
+        self.run.wait()
+        self.reader.join()
+        self.run.stdin.close()
+
+
+class Check(unittest.TestCase):
+    """A check has a folder of its own, `here`, which is the root of its agents, too."""
+
+    longMessage = True
+
+    def setUp(self):
+        self.here = tempfile.mkdtemp()
+        self.addCleanup(self.clear)
+
+    def clear(self):
+        # an agent that ends just then may still write there
+        for _ in range(5):
+            shutil.rmtree(self.here, ignore_errors=True)
+            if not os.path.exists(self.here):
+                return
+            time.sleep(1)
+
+    def place(self, name):
+        return os.path.join(self.here, name)
+
+    def agent(self, kind, text):
+        """An agent of the provider test, as a script of the shell."""
+        folder = self.place("resource.d/test")
+        os.makedirs(folder, exist_ok=True)
+        path = os.path.join(folder, kind)
+        with open(path, "w", encoding="utf-8") as file:
+            file.write("#!/bin/sh\n" + text)
+        os.chmod(path, 0o755)
+
+    def journal(self, name="journal"):
+        os.mkdir(self.place(name))
+        return self.place(name)
+
+    def holds(self, what, name):
+        self.assertTrue(what, name)
+
+
+class Told(unittest.TestResult):
+    """Prints each check with its time, and what it found wrong."""
+
+    def startTest(self, test):
+        super().startTest(test)
+        self.began, self.before = time.monotonic(), self.bad()
+
+    def bad(self):
+        return len(self.failures) + len(self.errors)
+
+    def addSkip(self, test, reason):
+        super().addSkip(test, reason)
+        self.say("skipped", test, f": {reason}")
+
+    def say(self, word, test, more=""):
+        name = os.path.basename(sys.argv[0]).removesuffix(".py")
+        print(f"{word:8}{time.monotonic() - self.began:7.2f} s  {name}: {test.shortDescription() or test.id()}{more}", flush=True)
+
+    def stopTest(self, test):
+        if self.bad() > self.before:
+            self.say("failed", test)
+        elif not any(skipped is test for skipped, _ in self.skipped):
+            self.say("ok", test)
+        super().stopTest(test)
+
+
+def main():
+    suite = unittest.defaultTestLoader.loadTestsFromModule(sys.modules["__main__"])
+    told = Told()
+    suite.run(told)
+    for test, trace in told.failures + told.errors:
+        print(f"{test.id()}:\n{trace}", file=sys.stderr)
+    sys.exit(0 if told.wasSuccessful() and told.testsRun else 1)
