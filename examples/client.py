@@ -89,6 +89,12 @@ def bring_up(executor, name, code):
         executor.code_of(name, "start")
 
 
+def withdraw_queued(executor, name):
+    """Takes back what is queued for a resource, so that a stop waits for nothing but what has begun."""
+    for call in executor.ask(op="info", id=name)["queued"]:
+        executor.ask("not-queued", op="withdraw", id=name, call=call)
+
+
 def keep(executor, options, stopping):
     """Brings the resource up, watches it until it is to stop, and stops it."""
     name, params = options.id, dict(pair.split("=", 1) for pair in options.param)
@@ -102,6 +108,7 @@ def keep(executor, options, stopping):
         executor.hears(0.5)
         code = next((result["code"] for result in executor.results.values()), 0)
     executor.ask("no-such-recurring", op="cancel", id=name, interval=options.interval)
+    withdraw_queued(executor, name)
     return executor.code_of(name, "stop")
 
 

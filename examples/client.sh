@@ -1,6 +1,6 @@
 #!/bin/sh
-# Runs one resource through ocfexec for three seconds: registers and starts it, monitors it each second, and stops it. The
-# commands go through one FIFO and the lines come back through another. Each line that comes is printed.
+# Runs one resource through ocfexec for three seconds: registers and starts it, monitors it each second, withdraws what is
+# queued then, and stops it. The commands go through one FIFO and the lines come back through another. Each line that comes is printed.
 # Debian's agents want --meta-variables, or they take each monitor for a probe; --log - shows what they say.
 # Use: client.sh PROVIDER TYPE PARAMETER=VALUE ocfexec serve --memory --meta-variables --log -
 set -eu
@@ -41,6 +41,12 @@ for _ in 1 2 3; do
     await '{"action":"monitor"'
 done
 ask '{"op":"cancel","id":"r1","interval":1000}' '{"ok":'
+ask '{"op":"info","id":"r1"}' '{"failed":'
+queued=${line##*'"queued":['}
+for call in $(printf '%s' "${queued%%]*}" | tr , ' '); do
+    # what has begun in the meantime is refused, and ends by itself
+    ask "{\"op\":\"withdraw\",\"id\":\"r1\",\"call\":$call}" '{"ok":' || [ "$line" = '{"error":"not-queued","number":18}' ]
+done
 ask '{"op":"exec","id":"r1","action":"stop"}' '{"call":'
 await '{"action":"stop"'
 exec 3>&-

@@ -4,7 +4,7 @@ use crate::turns::id;
 use anyhow::{Context, Result, ensure};
 use exec_state::State;
 use ocf_types::{
-    AgentType, Command, CommandOf, Level, Millis, Moment, Params, Provider, RECURRING_LIMIT,
+    AgentType, Check, Command, CommandOf, Millis, Moment, Params, Provider, RECURRING_LIMIT,
     RESOURCES_LIMIT, Registration, StateView,
 };
 use std::alloc::Global;
@@ -34,7 +34,7 @@ fn add_monitors(state: &mut State<Global>, n: usize) -> Result<()> {
             id: id(n)?,
             interval: Millis::new(1 + interval as u32).context("an interval")?,
             timeout: Millis::new(20_000).context("a timeout")?,
-            level: Level::Zero,
+            check: Check::plain(),
         };
         add(state, command)?;
     }

@@ -5,8 +5,8 @@ use ocf_types::{Layout, RESOURCES_LIMIT, StateParts, StateView};
 use std::alloc::{AllocError, Global};
 
 // A queued monitor of level 10.
-const EXEC: [u8; 26] =
-    *b"\x04\x00\x00\x00\x00\x00\x00\x00\x07\x02r1\x00\x00\x00\x00\x00\x00\x00\x01\x03\x0a\x00\x00N\x20";
+const EXEC: [u8; 27] =
+    *b"\x04\x00\x00\x00\x00\x00\x00\x00\x07\x02r1\x00\x00\x00\x00\x00\x00\x00\x01\x03\x0a\x00\x00\x00N\x20";
 
 /// How many times an event was read, and written over what was read.
 pub fn events(alloc: Global) -> Result<u64> {
@@ -44,7 +44,7 @@ pub fn is_written_again(alloc: Global, bytes: &[u8], state: &StateParts) -> Resu
     Ok(state.len() == RESOURCES_LIMIT && again.as_slice() == bytes)
 }
 
-/// The spelling of a state as large as there may be: 4,563,226 bytes.
+/// The spelling of a state as large as there may be: 5,063,194 bytes.
 pub fn largest_state(alloc: Global) -> Result<Vec<u8>, AllocError> {
     let mut bytes = Vec::new(alloc);
     for _ in 0..3 {
@@ -88,25 +88,32 @@ fn push_params(bytes: &mut Vec<u8>) -> Result<(), AllocError> {
 fn push_actions(bytes: &mut Vec<u8>) -> Result<(), AllocError> {
     bytes.push(32)?;
     for call in 1..33 {
-        bytes.extend_from_slice(&[0, 0, 0, 0, 0, 0, 0, call, 7, 0, 0, 0, 0, 1])?;
+        bytes.extend_from_slice(&[0, 0, 0, 0, 0, 0, 0, call, 7, 0, 0, 0, 0, 0, 1])?;
     }
     bytes.extend_from_slice(b"\x01\0\0\0\0\0\0\0\x01\0\0\0\0\0\0\0\x01")?;
-    bytes.extend_from_slice(b"\x03\x14\0\0\0\x01\0\0\0\x01\0\0\0\0\0\0\0\x01")?;
+    bytes.extend_from_slice(b"\x03\x14\0\0\0\0\x01\0\0\0\x01\0\0\0\0\0\0\0\x01")?;
     Ok(())
 }
 
-// As many recurring monitors and results as there may be.
+// A result of this call.
+fn push_result(bytes: &mut Vec<u8>, call: u8) -> Result<(), AllocError> {
+    bytes.extend_from_slice(&[0, 0, 0, 0, 0, 0, 0, call, 0, 0, 0, 0, 0, 0, 0, 1])?;
+    bytes.extend_from_slice(&[1, 0, 0, 0, 0])?;
+    bytes.extend_from_slice(b"\0\0\0\0\0\0\0\x01\0\0\0\0\0\0\0\x01\x01\0")?;
+    Ok(())
+}
+
+// As many recurring monitors and results as there may be, and one that failed last.
 fn push_others(bytes: &mut Vec<u8>) -> Result<(), AllocError> {
     bytes.push(8)?;
     for call in 1..9 {
         bytes.extend_from_slice(&[0, 0, 0, 0, 0, 0, 0, call])?;
-        bytes.extend_from_slice(&[0, 0, 0, call, 0, 0, 0, 1, 0])?;
+        bytes.extend_from_slice(&[0, 0, 0, call, 0, 0, 0, 1, 0, 0])?;
     }
-    bytes.push(16)?;
-    for call in 1..17 {
-        bytes.extend_from_slice(&[0, 0, 0, 0, 0, 0, 0, call, 0, 0, 0, 0, 0, 0, 0, 1])?;
-        bytes.extend_from_slice(&[1, 0, 0, 0, 0])?;
-        bytes.extend_from_slice(b"\0\0\0\0\0\0\0\x01\0\0\0\0\0\0\0\x01\x01\0")?;
+    bytes.push(64)?;
+    for call in 1..65 {
+        push_result(bytes, call)?;
     }
-    Ok(())
+    bytes.push(1)?;
+    push_result(bytes, 1)
 }

@@ -5,7 +5,7 @@ use disk_model::MemDisk;
 use executor::{Executor, Input, InputOf};
 use ocf_env::{Site, Text};
 use ocf_types::{
-    AgentType, CommandOf, Level, Millis, Params, Provider, QUEUE_LIMIT, RECURRING_LIMIT,
+    AgentType, Check, CommandOf, Millis, Params, Provider, QUEUE_LIMIT, RECURRING_LIMIT,
     RESOURCES_LIMIT, Registration, Reply, ReplyOf, RequestOf, RscId, Task, TurnEnd,
 };
 use std::alloc::Global;
@@ -83,7 +83,7 @@ fn recur(n: usize, interval: u32) -> Result<Input> {
         id: id(n)?,
         interval: Millis::new(interval).context("an interval")?,
         timeout: Millis::new(20_000).context("a timeout")?,
-        level: Level::Zero,
+        check: Check::plain(),
     }))
 }
 

@@ -6,10 +6,12 @@ use Rattle.serde_json.specs.Written.{has_float, items_have_float, members_have_f
 use Rattle.ocf_types.specs.Params.{ParamList}
 use Rattle.ocf_types.specs.Kinds.{Info, Reply}
 use Rattle.ocf_types.specs.declared.operation.Running.{Running}
+use Rattle.ocf_types.specs.declared.operation.Ended.{Ended}
 use Rattle.ocf_types.specs.declared.reply.Notice.{Notice}
 use Rattle.ocf_types.specs.declared.reply.ReplyOf.TheVariants as reply
 use Rattle.exec_commands.specs.Objects.{natural_data, param_members}
-use Rattle.exec_commands.specs.Replies.{recur_data, running_data, info_data, ended_data, notice_data, timed_notice_data, request_data, reply_data, fault_data}
+use Rattle.exec_commands.specs.Replies.{recur_data, running_data, failed_data, info_data, ended_data, notice_data, timed_notice_data, request_data}
+use Rattle.exec_commands.specs.Replies.{reply_data, fault_data}
 use Rattle.ocf_types.specs.declared.outcome.MetaFault.{MetaFault}
 use Rattle.ocf_types.specs.declared.outcome.MetaFault.TheVariants as fault
 use Rattle.exec_commands.specs.declared.reply.LineReply.{LineReply}
@@ -29,9 +31,14 @@ running_no_float : (id : List ℕ) (r : Option Running) → has_float (running_d
 running_no_float id None = refl
 running_no_float id (Some x) = refl
 
+failed_no_float : (last : Option Ended) → has_float (failed_data last) ≡ false
+failed_no_float None = refl
+failed_no_float (Some e) = refl
+
 info_no_float : (i : Info) → has_float (info_data i) ≡ false
 info_no_float i =
     rw (
+      failed_no_float i.failed,
       params_no_float i.params,
       items_no_float natural_data (λ n. refl) i.queued.items,
       items_no_float recur_data (λ m. refl) i.recurring.items,

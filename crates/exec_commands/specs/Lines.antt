@@ -16,7 +16,7 @@ use Rattle.ocf_types.specs.declared.command.RequestOf.TheVariants as request
 use Rattle.ocf_types.specs.declared.refusal.Refusal.{Refusal}
 use Rattle.ocf_types.specs.declared.refusal.Refusal.TheVariants.{UnknownOp}
 use Rattle.exec_commands.specs.Keys.{given, typed, text_at, number_at, number_or, params_at, params_if_there}
-use Rattle.exec_commands.specs.Values.{named, params_of, level_of, task_named, millis_of, limit_of}
+use Rattle.exec_commands.specs.Values.{named, params_of, check_of, task_named, millis_of, call_of, limit_of}
 use Rattle.exec_commands.specs.Values.{default_limit, default_meta_limit}
 use Rattle.exec_commands.specs.declared.line.Line.{Line}
 use Rattle.exec_commands.specs.declared.line.Line.TheVariants as line
@@ -46,17 +46,19 @@ abbrev pub exec_in : Data → Result Command Refusal
 exec_in d =
     given (text_at (codes "id") d) (λ id. given (text_at (codes "action") d) (λ word.
     given (number_or default_timeout (codes "timeout") d) (λ timeout. given (number_or 0 (codes "level") d) (λ level.
+    given (number_or 0 (codes "expect") d) (λ code.
     given (named is_rsc_id id) (λ id.
-    given (task_named word level) (λ task. given (millis_of timeout) (λ timeout.
-    Ok (command.Exec id task timeout))))))))
+    given (task_named word level code) (λ task. given (millis_of timeout) (λ timeout.
+    Ok (command.Exec id task timeout)))))))))
 
 abbrev pub recur_in : Data → Result Command Refusal
 recur_in d =
     given (text_at (codes "id") d) (λ id. given (number_at (codes "interval") d) (λ interval.
     given (number_or default_timeout (codes "timeout") d) (λ timeout. given (number_or 0 (codes "level") d) (λ level.
+    given (number_or 0 (codes "expect") d) (λ code.
     given (named is_rsc_id id) (λ id.
-    given (millis_of interval) (λ interval. given (millis_of timeout) (λ timeout. given (level_of level) (λ level.
-    Ok (command.Recur id interval timeout level)))))))))
+    given (millis_of interval) (λ interval. given (millis_of timeout) (λ timeout. given (check_of level code) (λ check.
+    Ok (command.Recur id interval timeout check))))))))))
 
 abbrev pub cancel_in : Data → Result Command Refusal
 cancel_in d =
@@ -64,6 +66,13 @@ cancel_in d =
     given (named is_rsc_id id) (λ id.
     given (millis_of interval) (λ interval.
     Ok (command.Cancel id interval)))))
+
+abbrev pub withdraw_in : Data → Result Command Refusal
+withdraw_in d =
+    given (text_at (codes "id") d) (λ id. given (number_at (codes "call") d) (λ call.
+    given (named is_rsc_id id) (λ id.
+    given (call_of call) (λ call.
+    Ok (command.Withdraw id call)))))
 
 -- a drain that names no limit has 60,000 milliseconds
 abbrev pub drain_in : Data → Result Line Refusal
@@ -94,7 +103,7 @@ abbrev pub command_words : List (List ℕ × Operation)
 command_words =
     (codes "register", operation.Register) ∷ (codes "unregister", operation.Unregister) ∷ (codes "params", operation.SetParams)
     ∷ (codes "exec", operation.Exec) ∷ (codes "recur", operation.Recur) ∷ (codes "cancel", operation.Cancel)
-    ∷ (codes "forget", operation.Forget) ∷ []
+    ∷ (codes "withdraw", operation.Withdraw) ∷ (codes "forget", operation.Forget) ∷ []
 
 abbrev pub other_words : List (List ℕ × Operation)
 other_words =
@@ -118,6 +127,7 @@ line_for operation.SetParams d = commanded (set_params_in d)
 line_for operation.Exec d = commanded (exec_in d)
 line_for operation.Recur d = commanded (recur_in d)
 line_for operation.Cancel d = commanded (cancel_in d)
+line_for operation.Withdraw d = commanded (withdraw_in d)
 line_for operation.Forget d = commanded (given (id_in d) (λ id. Ok (command.Forget id)))
 line_for operation.List d = asked (Ok question.List)
 line_for operation.Info d = asked (given (id_in d) (λ id. Ok (question.Info id)))

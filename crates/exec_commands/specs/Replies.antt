@@ -3,6 +3,7 @@ use Rattle.std.specs.Prelude.{ℕ, List, [], ◌∷◌, ◌++◌, length, true, 
 use Rattle.serde_json.specs.Data.{Data, null, boolean, string, object}
 use Rattle.serde_json.specs.Written.{compact_text}
 use Rattle.ocf_types.specs.Actions.{action_word, action_of, level_number}
+use Rattle.ocf_types.specs.Expected.{expect_code}
 use Rattle.ocf_types.specs.Outcomes.{outcome_word}
 use Rattle.ocf_types.specs.Refusals.{refusal_row}
 use Rattle.ocf_types.specs.Kinds.{Info, Reply}
@@ -91,8 +92,9 @@ list_data ids = object_from ((codes "ok", boolean true) ∷ (codes "resources", 
 -- a recurring monitor
 abbrev pub recur_data : Recur → Data
 recur_data m = object_from (
-    (codes "call", natural_data m.call) ∷ (codes "interval", natural_data m.interval)
-    ∷ (codes "level", natural_data (level_number m.level)) ∷ (codes "timeout", natural_data m.timeout) ∷ [])
+    (codes "call", natural_data m.call) ∷ (codes "expect", natural_data (expect_code m.check.expect))
+    ∷ (codes "interval", natural_data m.interval) ∷ (codes "level", natural_data (level_number m.check.level))
+    ∷ (codes "timeout", natural_data m.timeout) ∷ [])
 
 -- what the resource of an id runs, under the key of the operation
 abbrev pub running_data : List ℕ → Option Running → Data
@@ -101,13 +103,6 @@ running_data id (Some x) = object_from (
     (codes "call", natural_data x.call) ∷ (codes "key", string (key_text id (action_of x.task) x.interval))
     ∷ (codes "run", natural_data x.run) ∷ [])
 
-abbrev pub info_data : Info → Data
-info_data i = object_from (
-    (codes "id", string i.id) ∷ (codes "ok", boolean true) ∷ (codes "params", object (param_members i.params))
-    ∷ (codes "provider", string i.provider) ∷ (codes "queued", array_from natural_data i.queued.items)
-    ∷ (codes "recurring", array_from recur_data i.recurring.items) ∷ (codes "running", running_data i.id i.running)
-    ∷ (codes "type", string i.agent) ∷ [])
-
 -- a result in a history; its code and name are those of its outcome
 abbrev pub ended_data : Ended → Data
 ended_data e = object_from (
@@ -115,6 +110,18 @@ ended_data e = object_from (
     ∷ (codes "code", natural_data (outcome_code e.outcome)) ∷ (codes "interval", natural_data e.interval)
     ∷ (codes "name", string (name_read (outcome_code e.outcome))) ∷ (codes "outcome", string (outcome_word e.outcome))
     ∷ (codes "run", natural_data e.run) ∷ (codes "since", natural_data e.since) ∷ [])
+
+-- what failed last
+abbrev pub failed_data : Option Ended → Data
+failed_data None = null
+failed_data (Some e) = ended_data e
+
+abbrev pub info_data : Info → Data
+info_data i = object_from (
+    (codes "failed", failed_data i.failed) ∷ (codes "id", string i.id) ∷ (codes "ok", boolean true)
+    ∷ (codes "params", object (param_members i.params)) ∷ (codes "provider", string i.provider)
+    ∷ (codes "queued", array_from natural_data i.queued.items) ∷ (codes "recurring", array_from recur_data i.recurring.items)
+    ∷ (codes "running", running_data i.id i.running) ∷ (codes "type", string i.agent) ∷ [])
 
 abbrev pub history_data : List Ended → Data
 history_data results = object_from ((codes "ok", boolean true) ∷ (codes "results", array_from ended_data results) ∷ [])

@@ -1,13 +1,14 @@
 -- Names and values of a line. A text that is no name is bad-name; a value outside its range is bad-value.
-use Rattle.std.specs.Prelude.{ℕ, ◌&&◌, ◌^◌, nat_le, nat_lt, List, length, Bool, Option, option_and_then, Result, Ok, Err, if◌then◌else◌}
+use Rattle.std.specs.Prelude.{ℕ, ◌&&◌, ◌^◌, nat_le, nat_lt, List, length, Bool, Option, option_and_then, option_map, Result, Ok, Err, if◌then◌else◌}
 use Rattle.std.specs.Option.{ok_or}
 use Rattle.std.specs.List.{list_all}
-use Rattle.ocf_types.specs.Limits.{params_limit}
+use Rattle.ocf_types.specs.Limits.{num_max, params_limit}
 use Rattle.ocf_types.specs.Names.{is_param_name}
 use Rattle.ocf_types.specs.Params.{ParamList}
 use Rattle.ocf_types.specs.Values.{is_param_value}
 use Rattle.ocf_types.specs.Actions.{action_named, level_numbered, task_of}
-use Rattle.ocf_types.specs.declared.action.Level.{Level}
+use Rattle.ocf_types.specs.Expected.{expect_of_code}
+use Rattle.ocf_types.specs.declared.action.Check.{Check}
 use Rattle.ocf_types.specs.declared.action.Task.{Task}
 use Rattle.ocf_types.specs.declared.refusal.Refusal.{Refusal}
 use Rattle.ocf_types.specs.declared.refusal.Refusal.TheVariants.{BadName, BadValue}
@@ -36,17 +37,25 @@ valued_params ps = if nat_le (length ps) params_limit && list_all (λ p. is_para
 abbrev pub params_of : ParamList → Result ParamList Refusal
 params_of ps = given (named_params ps) valued_params
 
--- the level of a number
-abbrev pub level_of : ℕ → Result Level Refusal
-level_of n = valued (level_numbered n)
+-- the check of a level's number and an exit code that is expected
+abbrev pub check_numbered : ℕ → ℕ → Option Check
+check_numbered level code =
+    option_and_then (λ l. option_map (λ x. record { level = l; expect = x }) (expect_of_code code)) (level_numbered level)
 
--- the task of an action's word and a level's number: only a monitor has a level other than 0
-abbrev pub task_named : List ℕ → ℕ → Result Task Refusal
-task_named word n = valued (option_and_then (λ a. option_and_then (task_of a) (level_numbered n)) (action_named word))
+abbrev pub check_of : ℕ → ℕ → Result Check Refusal
+check_of level code = valued (check_numbered level code)
+
+-- the task of an action's word, a level's number and an exit code that is expected: only a monitor has ones other than 0
+abbrev pub task_named : List ℕ → ℕ → ℕ → Result Task Refusal
+task_named word level code = valued (option_and_then (λ a. option_and_then (task_of a) (check_numbered level code)) (action_named word))
 
 -- from 1 to 4,294,967,295 milliseconds
 abbrev pub millis_of : ℕ → Result ℕ Refusal
 millis_of n = if nat_le 1 n && nat_lt n (2 ^ 32) then Ok n else Err BadValue
+
+-- a call id, from 1 to 9,007,199,254,740,991
+abbrev pub call_of : ℕ → Result ℕ Refusal
+call_of n = if nat_le 1 n && nat_le n num_max then Ok n else Err BadValue
 
 -- how long a drain, and an agent that is asked for its metadata, takes at most where the line names no limit, in
 -- milliseconds; and the longest that it may name, a day

@@ -3,11 +3,12 @@ ghost use Rattle.std.specs.Prelude.{◌≡◌, ◌≢◌, Ok, Err, IfOk, IfErr};
 ghost use Rattle.serde_json.specs.View.{view};
 ghost use Rattle.ocf_types.specs.declared.refusal.Refusal.TheVariants.{Memory};
 ghost use Rattle.exec_commands.specs.Lines.{id_in, register_in, set_params_in, exec_in, recur_in, cancel_in};
+ghost use Rattle.exec_commands.specs.Lines.{withdraw_in};
 
 use crate::keys::{number_at, number_or, text_at};
 use crate::params::params_of;
 use crate::texts::{params_at, params_if_there};
-use crate::values::{agent_type, level, millis, provider, rsc_id, task};
+use crate::values::{agent_type, call_id, check, millis, provider, rsc_id, task};
 use ocf_types::{Command, DEFAULT_TIMEOUT, Refusal, Registration, RscId};
 use serde_json::Value;
 use std::alloc::Global;
@@ -60,8 +61,9 @@ pub fn exec_in(line: &Value) -> Result<Command, Refusal>
     let word = text_at(line, "action")?;
     let timeout = number_or(line, "timeout", u64::from(DEFAULT_TIMEOUT))?;
     let level = number_or(line, "level", 0)?;
+    let expected = number_or(line, "expect", 0)?;
     let id = rsc_id(id)?;
-    let task = task(word, level)?;
+    let task = task(word, level, expected)?;
     let timeout = millis(timeout)?;
     Ok(Command::Exec { id, task, timeout })
 }
@@ -73,16 +75,17 @@ pub fn recur_in(line: &Value) -> Result<Command, Refusal>
     let id = text_at(line, "id")?;
     let interval = number_at(line, "interval")?;
     let timeout = number_or(line, "timeout", u64::from(DEFAULT_TIMEOUT))?;
-    let depth = number_or(line, "level", 0)?;
+    let level = number_or(line, "level", 0)?;
+    let expected = number_or(line, "expect", 0)?;
     let id = rsc_id(id)?;
     let interval = millis(interval)?;
     let timeout = millis(timeout)?;
-    let level = level(depth)?;
+    let check = check(level, expected)?;
     Ok(Command::Recur {
         id,
         interval,
         timeout,
-        level,
+        check,
     })
 }
 
@@ -95,4 +98,15 @@ pub fn cancel_in(line: &Value) -> Result<Command, Refusal>
     let id = rsc_id(id)?;
     let interval = millis(interval)?;
     Ok(Command::Cancel { id, interval })
+}
+
+/// The withdrawal of a queued action.
+pub fn withdraw_in(line: &Value) -> Result<Command, Refusal>
+    ensures { result ≡ withdraw_in (view line.now) }
+{
+    let id = text_at(line, "id")?;
+    let call = number_at(line, "call")?;
+    let id = rsc_id(id)?;
+    let call = call_id(call)?;
+    Ok(Command::Withdraw { id, call })
 }

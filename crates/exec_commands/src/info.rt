@@ -5,6 +5,7 @@ ghost use Rattle.exec_commands.specs.Objects.{natural_data, param_members};
 ghost use Rattle.exec_commands.specs.Replies.{recur_data, running_data, info_data};
 
 use crate::names::{agent_text, id_text, param_text, provider_text};
+use crate::results::failed_value;
 use ocf_env::op_key;
 use ocf_types::{CallId, Info, Params, Recur, RscId, Running};
 use serde_json::{Map, Value, json, put};
@@ -37,9 +38,12 @@ fn recur_value(alloc: Global, monitor: Recur) -> Result<Value, AllocError>
 {
     let call = monitor.call.get();
     let interval = monitor.interval.get();
-    let level = monitor.level.number();
+    let expect = monitor.check.expect.code();
+    let level = monitor.check.level.number();
     let timeout = monitor.timeout.get();
-    json!(in alloc; {"call": call, "interval": interval, "level": level, "timeout": timeout})
+    json!(in alloc; {
+        "call": call, "expect": expect, "interval": interval, "level": level, "timeout": timeout
+    })
 }
 
 fn recur_values(alloc: Global, monitors: &[Recur]) -> Result<Vec<Value>, AllocError>
@@ -69,6 +73,7 @@ fn running_value(alloc: Global, id: &RscId, running: Option<Running>) -> Result<
 pub fn info_value(alloc: Global, info: &Info) -> Result<Value, AllocError>
     ensures { IfOk result (λ v. view v ≡ info_data info.now) }
 {
+    let failed = failed_value(alloc, info.failed)?;
     let id = id_text(&info.id);
     let params = params_value(alloc, &info.params)?;
     let provider = provider_text(&info.provider);
@@ -77,7 +82,7 @@ pub fn info_value(alloc: Global, info: &Info) -> Result<Value, AllocError>
     let running = running_value(alloc, &info.id, info.running)?;
     let agent = agent_text(&info.agent);
     json!(in alloc; {
-        "id": id, "ok": true, "params": params, "provider": provider, "queued": queued,
-        "recurring": recurring, "running": running, "type": agent
+        "failed": failed, "id": id, "ok": true, "params": params, "provider": provider,
+        "queued": queued, "recurring": recurring, "running": running, "type": agent
     })
 }

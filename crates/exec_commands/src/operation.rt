@@ -11,6 +11,7 @@ pub enum Operation {
     Exec,
     Recur,
     Cancel,
+    Withdraw,
     Forget,
     List,
     Info,
@@ -36,6 +37,8 @@ fn command_named(word: &str) -> Option<Operation>
         Some(Operation::Recur)
     } else if word == "cancel" {
         Some(Operation::Cancel)
+    } else if word == "withdraw" {
+        Some(Operation::Withdraw)
     } else if word == "forget" {
         Some(Operation::Forget)
     } else {

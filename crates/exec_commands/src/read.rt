@@ -4,7 +4,9 @@ ghost use Rattle.serde_json.specs.View.{view};
 ghost use Rattle.ocf_types.specs.declared.refusal.Refusal.TheVariants.{Syntax, Memory};
 ghost use Rattle.exec_commands.specs.Lines.{drain_in, watch_in, meta_in, line_for, line_of, value_of, line_read, commanded, asked};
 
-use crate::commands::{cancel_in, exec_in, id_in, recur_in, register_in, set_params_in};
+use crate::commands::{
+    cancel_in, exec_in, id_in, recur_in, register_in, set_params_in, withdraw_in,
+};
 use crate::keys::{number_at, number_or, text_at};
 use crate::line::Line;
 use crate::operation::{Operation, operation_named};
@@ -90,6 +92,7 @@ fn line_for(alloc: Global, operation: Operation, line: &Value) -> Result<Line, R
         Operation::Exec => commanded(exec_in(line)),
         Operation::Recur => commanded(recur_in(line)),
         Operation::Cancel => commanded(cancel_in(line)),
+        Operation::Withdraw => commanded(withdraw_in(line)),
         Operation::Forget => commanded(forget_in(line)),
         Operation::List => asked(Ok(Question::List)),
         Operation::Info => asked(info_in(line)),

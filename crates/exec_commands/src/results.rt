@@ -1,9 +1,9 @@
-//! Results, as they stand in histories.
+//! Results, as they stand in histories, and what failed last.
 ghost use Rattle.std.specs.Prelude.{◌≡◌, map, IfOk};
 ghost use Rattle.ocf_codes.specs.ExitCodes.{name_read};
 ghost use Rattle.ocf_codes.specs.OutcomeCodes.{outcome_code};
 ghost use Rattle.serde_json.specs.View.{view};
-ghost use Rattle.exec_commands.specs.Replies.{ended_data};
+ghost use Rattle.exec_commands.specs.Replies.{ended_data, failed_data};
 
 use ocf_codes::{code_of, name, read_code};
 use ocf_types::{Ended, Outcome};
@@ -33,6 +33,16 @@ fn ended_value(alloc: Global, ended: Ended) -> Result<Value, AllocError>
         "action": action, "at": at, "call": call, "code": code, "interval": interval,
         "name": name, "outcome": outcome, "run": run, "since": since
     })
+}
+
+/// The result that failed last.
+pub fn failed_value(alloc: Global, failed: Option<Ended>) -> Result<Value, AllocError>
+    ensures { IfOk result (λ v. view v ≡ failed_data failed) }
+{
+    match failed {
+        Some(ended) => ended_value(alloc, ended),
+        None => Ok(Value::Null),
+    }
 }
 
 /// The results of a history, in order.

@@ -1,9 +1,11 @@
 //! Names and values of a line.
 ghost use Rattle.std.specs.Prelude.{◌≡◌};
 ghost use Rattle.ocf_types.specs.Names.{is_rsc_id, is_provider, is_agent_type};
-ghost use Rattle.exec_commands.specs.Values.{named, level_of, task_named, millis_of, limit_of};
+ghost use Rattle.exec_commands.specs.Values.{named, check_numbered, check_of, task_named, millis_of, call_of, limit_of};
 
-use ocf_types::{Action, AgentType, Level, Millis, Provider, Refusal, RscId, Task};
+use ocf_types::{
+    Action, AgentType, CallId, Check, Expect, Level, Millis, Provider, Refusal, RscId, Task,
+};
 
 /// The id of a resource.
 pub fn rsc_id(text: &str) -> Result<RscId, Refusal>
@@ -35,24 +37,34 @@ pub fn agent_type(text: &str) -> Result<AgentType, Refusal>
     }
 }
 
-/// The level of a monitor.
-pub fn level(number: u64) -> Result<Level, Refusal>
-    ensures { result ≡ level_of number }
+/// The check of a level's number and an exit code.
+fn check_numbered(level: u64, code: u64) -> Option<Check>
+    ensures { result ≡ check_numbered level code }
 {
-    match Level::numbered(number) {
-        Some(level) => Ok(level),
+    let (Some(level), Some(expect)) = (Level::numbered(level), Expect::from_code(code)) else {
+        return None;
+    };
+    Some(Check { level, expect })
+}
+
+/// The check of a recurring monitor, of a level's number and the exit code that is expected.
+pub fn check(level: u64, code: u64) -> Result<Check, Refusal>
+    ensures { result ≡ check_of level code }
+{
+    match check_numbered(level, code) {
+        Some(check) => Ok(check),
         None => Err(Refusal::BadValue),
     }
 }
 
-/// The task of an action's word and a level's number.
-pub fn task(word: &str, number: u64) -> Result<Task, Refusal>
-    ensures { result ≡ task_named word.now number }
+/// The task of an action's word, a level's number and the exit code that is expected.
+pub fn task(word: &str, level: u64, code: u64) -> Result<Task, Refusal>
+    ensures { result ≡ task_named word.now level code }
 {
-    let (Some(action), Some(level)) = (Action::named(word), Level::numbered(number)) else {
+    let (Some(action), Some(check)) = (Action::named(word), check_numbered(level, code)) else {
         return Err(Refusal::BadValue);
     };
-    match Task::new(action, level) {
+    match Task::new(action, check) {
         Some(task) => Ok(task),
         None => Err(Refusal::BadValue),
     }
@@ -67,6 +79,16 @@ pub fn millis(number: u64) -> Result<Millis, Refusal>
     };
     match Millis::new(number) {
         Some(millis) => Ok(millis),
+        None => Err(Refusal::BadValue),
+    }
+}
+
+/// The call id of an action.
+pub fn call_id(number: u64) -> Result<CallId, Refusal>
+    ensures { result ≡ call_of number }
+{
+    match CallId::new(number) {
+        Some(call) => Ok(call),
         None => Err(Refusal::BadValue),
     }
 }

@@ -6,21 +6,22 @@ pub const VERSION: &str = "0.1.0";
 /// What stands behind the help of the whole program: the commands that `run` and `serve` read, and where all is said.
 pub const COMMANDS: &str =
     "Commands that run and serve read, a JSON object a line, and answer in a line each:
-  op          needed keys         other keys      it
-  register    id, provider, type  params          adds a resource
-  unregister  id                                  removes a resource
-  params      id, params                          replaces a resource's parameters
-  exec        id, action          timeout, level  queues an action
-  recur       id, interval        timeout, level  adds a recurring monitor
-  cancel      id, interval                        removes a recurring monitor
-  forget      id                                  empties a resource's history
-  list                                            names the resources
-  info        id                                  tells what a resource is and does
-  history     id                                  tells a resource's last results
-  drain                           limit           makes turns until nothing is queued or running
-  watch       limit                               makes turns, so that recurring monitors run, until its limit
-  meta        provider, type      limit           gives an agent's metadata
-  tidy                                            writes the whole state as the journal's snapshot
+  op          needed keys         other keys              it
+  register    id, provider, type  params                  adds a resource
+  unregister  id                                          removes a resource
+  params      id, params                                  replaces a resource's parameters
+  exec        id, action          timeout, level, expect  queues an action
+  recur       id, interval        timeout, level, expect  adds a recurring monitor
+  cancel      id, interval                                removes a recurring monitor
+  withdraw    id, call                                    takes a queued action out of the queue
+  forget      id                                          empties a resource's history
+  list                                                    names the resources
+  info        id                                          tells what a resource is and does, and what failed last
+  history     id                                          tells a resource's last results
+  drain                           limit                   makes turns until nothing is queued or running
+  watch       limit                                       makes turns, so that recurring monitors run, until its limit
+  meta        provider, type      limit                   gives an agent's metadata
+  tidy                                                    writes the whole state as the journal's snapshot
 
 Example:
   echo '{\"op\":\"list\"}' | ocfexec run --memory

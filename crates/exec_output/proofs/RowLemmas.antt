@@ -10,18 +10,20 @@ use Rattle.disk_model.specs.Image.{Image}
 use Rattle.exec_journal.specs.Found.{FoundAs}
 use Rattle.exec_output.specs.declared.fault.Fault.{Fault}
 use Rattle.exec_output.specs.declared.fault.Fault.TheVariants as fault
-use Rattle.exec_output.specs.Tables.{AreRows, IsRow, IsToldAs, TellsAs, asked_entries, is_asked_for}
+use Rattle.exec_output.specs.Told.{told}
+use Rattle.exec_output.specs.Tables.{agent_text, AreRows, gap, IsRow, IsToldAs, TellsAs, asked_entries, is_asked_for}
 
 abbrev Entry : Type 0
 Entry = List ℕ × Resource
 
 -- a row behind others
-pub and_row : (es : List Entry) (e : Entry) (text row : List ℕ) → AreRows es text → IsRow e row → AreRows (es ++ e ∷ []) (text ++ row)
-and_row [] e text row none is = (row, [], ap (λ t. t ++ row) none ∙ sym (append-nil row), is, refl)
-and_row (x ∷ xs) e text row rows is =
+pub and_row : (look : Look) (es : List Entry) (e : Entry) (text row : List ℕ) → AreRows look es text → IsRow look e row
+    → AreRows look (es ++ e ∷ []) (text ++ row)
+and_row look [] e text row none is = (row, [], ap (λ t. t ++ row) none ∙ sym (append-nil row), is, refl)
+and_row look (x ∷ xs) e text row rows is =
     let first = rows.0 in
     let more = rows.1 in
-    (first, more ++ row, ap (λ t. t ++ row) rows.2 ∙ append_assoc first more row, rows.3, and_row xs e more row rows.4 is)
+    (first, more ++ row, ap (λ t. t ++ row) rows.2 ∙ append_assoc first more row, rows.3, and_row look xs e more row rows.4 is)
 
 first_asked : (look : Look) (s : State) (i : ℕ) → i < length s.resources
     → asked_entries look (take (i + 1) s.resources) ≡ asked_entries look (take i s.resources) ++ asked_entries look (entry_at s i ∷ [])
@@ -37,36 +39,47 @@ none_asked look e is = rw is refl
 
 -- one resource more, which is asked for
 pub asked_more : (look : Look) (s : State) (i : ℕ) (text row : List ℕ) → i < length s.resources
-    → is_asked_for look (entry_at s i).0 ≡ true → AreRows (asked_entries look (take i s.resources)) text → IsRow (entry_at s i) row
-    → AreRows (asked_entries look (take (i + 1) s.resources)) (text ++ row)
+    → is_asked_for look (entry_at s i).0 ≡ true → AreRows look (asked_entries look (take i s.resources)) text → IsRow look (entry_at s i) row
+    → AreRows look (asked_entries look (take (i + 1) s.resources)) (text ++ row)
 asked_more look s i text row lt asked rows is =
-    subst (λ es. AreRows es (text ++ row))
+    subst (λ es. AreRows look es (text ++ row))
     (sym (first_asked look s i lt ∙ ap (λ es. asked_entries look (take i s.resources) ++ es) (one_asked look (entry_at s i) asked)))
-    (and_row (asked_entries look (take i s.resources)) (entry_at s i) text row rows is)
+    (and_row look (asked_entries look (take i s.resources)) (entry_at s i) text row rows is)
 
 -- one resource more, which is not asked for
 pub asked_same : (look : Look) (s : State) (i : ℕ) (text : List ℕ) → i < length s.resources
-    → is_asked_for look (entry_at s i).0 ≡ false → AreRows (asked_entries look (take i s.resources)) text
-    → AreRows (asked_entries look (take (i + 1) s.resources)) text
+    → is_asked_for look (entry_at s i).0 ≡ false → AreRows look (asked_entries look (take i s.resources)) text
+    → AreRows look (asked_entries look (take (i + 1) s.resources)) text
 asked_same look s i text lt asked rows =
-    subst (λ es. AreRows es text)
+    subst (λ es. AreRows look es text)
     (sym (first_asked look s i lt ∙ ap (λ es. asked_entries look (take i s.resources) ++ es) (none_asked look (entry_at s i) asked)
     ∙ append-nil (asked_entries look (take i s.resources)))) rows
 
-no_agent : (front provider agent told : List ℕ) → [] ≡ (front ++ (provider ++ 58 ∷ agent)) ++ told → ⊥
-no_agent [] [] agent told e = let bad : [] ≡ 58 ∷ (agent ++ told) = e in cc
-no_agent [] (p ∷ ps) agent told e = let bad : [] ≡ p ∷ ((ps ++ 58 ∷ agent) ++ told) = e in cc
-no_agent (f ∷ fs) provider agent told e = let bad : [] ≡ f ∷ ((fs ++ (provider ++ 58 ∷ agent)) ++ told) = e in cc
+no_first : (f : ℕ) (more : List ℕ) → [] ≡ f ∷ more → ⊥
+no_first f more e = cc
 
-no_row : (e : Entry) (row more : List ℕ) → [] ≡ row ++ more → IsRow e row → ⊥
-no_row e [] more empty is = no_agent (e.0 ++ is.0) e.1.provider e.1.agent is.1 is.2
-no_row e (b ∷ bs) more empty is = let bad : [] ≡ b ∷ (bs ++ more) = empty in cc
+-- the parts of a text of no bytes have none
+left_none : (front more : List ℕ) → [] ≡ front ++ more → [] ≡ front
+left_none [] more e = refl
+left_none (f ∷ fs) more e = let bad : [] ≡ f ∷ (fs ++ more) = e in absurd (no_first f (fs ++ more) bad)
+
+right_none : (front more : List ℕ) → [] ≡ front ++ more → [] ≡ more
+right_none [] more e = e
+right_none (f ∷ fs) more e = let bad : [] ≡ f ∷ (fs ++ more) = e in absurd (no_first f (fs ++ more) bad)
+
+-- a row is not empty: it has the colon of its agent
+no_row : (look : Look) (e : Entry) (row more : List ℕ) → [] ≡ row ++ more → IsRow look e row → ⊥
+no_row look e row more empty is =
+    let front = (e.0 ++ gap is.0) ++ agent_text e.1 in
+    let whole : [] ≡ (front ++ gap is.1) ++ told look e.1 = left_none row more empty ∙ is.2 in
+    let agent = right_none (e.0 ++ gap is.0) (agent_text e.1) (left_none front (gap is.1) (left_none (front ++ gap is.1) (told look e.1) whole)) in
+    no_first 58 e.1.agent (right_none e.1.provider (58 ∷ e.1.agent) agent)
 
 -- no rows are those of no resources
-pub no_rows : (es : List Entry) (text : List ℕ) → length text ≡ 0 → AreRows es text → es ≡ []
-no_rows [] text empty rows = refl
-no_rows (e ∷ es) [] empty rows = absurd (no_row e rows.0 rows.1 rows.2 rows.3)
-no_rows (e ∷ es) (b ∷ bs) empty rows = absurd (let bad : length (b ∷ bs) ≡ 0 = empty in cc)
+pub no_rows : (look : Look) (es : List Entry) (text : List ℕ) → length text ≡ 0 → AreRows look es text → es ≡ []
+no_rows look [] text empty rows = refl
+no_rows look (e ∷ es) [] empty rows = absurd (no_row look e rows.0 rows.1 rows.2 rows.3)
+no_rows look (e ∷ es) (b ∷ bs) empty rows = absurd (let bad : length (b ∷ bs) ≡ 0 = empty in cc)
 
 -- what is told of a state that is found on these parts
 pub tells : {T : Type 0} (reads : Image) (look : Look) (old new : Option (List ℕ)) (s : State) (ended : Result T Fault)

@@ -3,7 +3,7 @@ use Rattle.std.specs.Prelude.{ℕ, List, codes}
 use Rattle.ocf_types.specs.declared.action.Action.{Action}
 use Rattle.ocf_types.specs.declared.action.Action.TheVariants.{Monitor}
 use Rattle.ocf_types.specs.declared.outcome.Outcome.{Outcome}
-use Rattle.ocf_types.specs.declared.outcome.Outcome.TheVariants.{Run, Interrupted, Dropped}
+use Rattle.ocf_types.specs.declared.outcome.Outcome.TheVariants.{Run, Interrupted, Dropped, Cancelled}
 use Rattle.ocf_types.specs.declared.outcome.RunEnd.TheVariants.{Done, TimedOut, Signaled, Lost, NotStarted}
 use Rattle.ocf_types.specs.declared.outcome.StartFault.TheVariants as start
 use Rattle.ocf_codes.specs.ExitCodes.{code_read}
@@ -40,6 +40,7 @@ meaning action (Run (NotStarted start.Denied)) = codes "failed: the agent's file
 meaning action (Run (NotStarted start.Other)) = codes "failed: the agent could not be started"
 meaning action Interrupted = codes "interrupted: the executor stopped while it ran; it may be done or not"
 meaning action Dropped = codes "dropped: the executor stopped before it began"
+meaning action Cancelled = codes "cancelled: it was withdrawn before it began"
 
 -- how an exit code is to be taken
 abbrev pub code_tone : Code → Tone
@@ -53,4 +54,5 @@ code_tone _ = Bad
 -- how a result is to be taken
 abbrev pub tone_of : Outcome → Tone
 tone_of (Run (Done n)) = code_tone (code_read n)
+tone_of Cancelled = Notable
 tone_of _ = Bad

@@ -1,5 +1,5 @@
 -- A journal's state as a table for a person.
-use Rattle.std.specs.Prelude.{◌≡◌, ℕ, ⊤, Bool, true, List, [], ◌∷◌, ◌++◌, filter, Option, Result, Ok, Err}
+use Rattle.std.specs.Prelude.{◌≡◌, ℕ, ⊤, Bool, true, List, [], ◌∷◌, ◌++◌, filter, replicate, codes, Option, Result, Ok, Err}
 use Rattle.std.specs.Option.{option_map_or}
 use Rattle.std.specs.Str.{bytes_eq}
 use Rattle.std.specs.Io.KnownBytes.{Appends}
@@ -7,6 +7,7 @@ use Rattle.ocf_types.specs.Resource.{Resource}
 use Rattle.ocf_types.specs.State.{State}
 use Rattle.disk_model.specs.Image.{Image}
 use Rattle.exec_journal.specs.Found.{Damaged, FoundAs, IsFound}
+use Rattle.exec_output.specs.Told.{told}
 use Rattle.exec_output.specs.declared.look.Look.{Look}
 use Rattle.exec_output.specs.declared.fault.Fault.{Fault}
 use Rattle.exec_output.specs.declared.fault.Fault.TheVariants as fault
@@ -23,25 +24,44 @@ is_asked_for look id = option_map_or (λ only. bytes_eq only.now id) look.only t
 abbrev pub asked_entries : Look → List (List ℕ × Resource) → List (List ℕ × Resource)
 asked_entries look es = filter (λ e. is_asked_for look e.0) es
 
--- a resource's row: its id, a gap and its agent, and then what is told of it
-abbrev pub IsRow : List ℕ × Resource → List ℕ → Type 0
-IsRow e row = (gap : List ℕ) × (told : List ℕ) × (row ≡ ((e.0 ++ gap) ++ agent_text e.1) ++ told)
+-- spaces up to a column, two at least
+abbrev pub gap : ℕ → List ℕ
+gap n = replicate n 32 ++ codes "  "
+
+-- a resource's row: its id and its agent, a gap behind each, and then what is told of it
+abbrev pub IsRow : Look → List ℕ × Resource → List ℕ → Type 0
+IsRow look e row = (n : ℕ) × (m : ℕ) × (row ≡ (((e.0 ++ gap n) ++ agent_text e.1) ++ gap m) ++ told look e.1)
 
 -- a row of each of these resources, just once, in their order
-abbrev pub AreRows : List (List ℕ × Resource) → List ℕ → Type 0
-AreRows [] text = text ≡ []
-AreRows (e ∷ es) text = (row : List ℕ) × (more : List ℕ) × (text ≡ row ++ more) × IsRow e row × AreRows es more
+abbrev pub AreRows : Look → List (List ℕ × Resource) → List ℕ → Type 0
+AreRows look [] text = text ≡ []
+AreRows look (e ∷ es) text = (row : List ℕ) × (more : List ℕ) × (text ≡ row ++ more) × IsRow look e row × AreRows look es more
+
+-- the line above the rows
+abbrev pub IsHead : List ℕ → Type 0
+IsHead head = (n : ℕ) × (m : ℕ) × (head ≡ (((codes "RESOURCE" ++ gap n) ++ codes "AGENT") ++ gap m) ++ codes "NOW\n")
 
 -- a head, and then the rows of the resources that are asked for
 abbrev pub IsTable : Look → State → List ℕ → Type 0
-IsTable look s text = (head : List ℕ) × (rows : List ℕ) × (text ≡ head ++ rows) × AreRows (asked_entries look s.resources) rows
+IsTable look s text =
+    (head : List ℕ) × (rows : List ℕ) × (text ≡ head ++ rows) × IsHead head × AreRows look (asked_entries look s.resources) rows
 
--- what is told of a state, by how it ended: its table, or nothing where no such resource is registered
+-- a table is written, or output failed
+abbrev pub IsWritten : {T : Type 0} → Option (List ℕ) → Option (List ℕ) → List ℕ → Result T Fault → Type 0
+IsWritten old new text (Ok done) = Appends old new text
+IsWritten old new text (Err fault.InputOrOutput) = ⊤
+IsWritten old new text (Err _) = ⊥
+
+-- there is no table for this reason, and nothing is written
+abbrev pub NotWritten : {T : Type 0} → Option (List ℕ) → Option (List ℕ) → Fault → Result T Fault → Type 0
+NotWritten old new why ended = (ended ≡ Err why) × (new ≡ old)
+
+-- what is told of a state, by how it ended: its table, or nothing where no such resource is registered or memory is refused
 abbrev pub IsToldAs : {T : Type 0} → Look → State → Option (List ℕ) → Option (List ℕ) → Result T Fault → Type 0
 IsToldAs look s old new (Ok done) = (text : List ℕ) × IsTable look s text × Appends old new text
 IsToldAs look s old new (Err fault.NoResource) = (asked_entries look s.resources ≡ []) × (new ≡ old)
+IsToldAs look s old new (Err fault.ReplyMemory) = new ≡ old
 IsToldAs look s old new (Err fault.InputOrOutput) = ⊤
-IsToldAs look s old new (Err fault.ReplyMemory) = ⊤
 IsToldAs look s old new (Err _) = ⊥
 
 -- what is written, by how it ended: what is told of the state that is found on these parts, or nothing where the pair is not

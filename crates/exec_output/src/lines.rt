@@ -1,71 +1,96 @@
-//! What stands below a resource's row: its last results, its monitors and its history, a line each.
-ghost use Rattle.std.specs.Prelude.{◌<◌, length};
+//! What stands below a resource's row: its last results, its monitors, what failed last and its history, a line each.
+ghost use Rattle.std.specs.Prelude.{◌≡◌, ◌<◌, ◌-◌, ◌++◌, length, replicate, OnOk};
+ghost use Rattle.std.specs.List.{flat_map};
+ghost use Rattle.ocf_types.specs.Places.{at_place};
+ghost use Rattle.exec_output.specs.Told.{action_line, colour_of, failure_line, history_text, is_asked, is_run, last_of, lines_text, monitor_line, monitor_text};
+ghost use Rattle.exec_output.specs.Told.{painted, past_line, result_text, set_in, told_actions};
 
 use crate::look::Look;
 use crate::meanings::{Tone, meaning, tone_of};
 use crate::spans::{add, add_ago, add_due, add_exactly, add_number, add_span};
 use exec_state::State;
 use ocf_types::{Action, CallId, Ended, Recur, StateView};
-use std::alloc::AllocError;
+use std::alloc::{AllocError, Global};
 
-// In the order in which they are told.
-const ACTIONS: [Action; 7] = [
-    Action::Monitor,
-    Action::Start,
-    Action::Promote,
-    Action::Demote,
-    Action::Stop,
-    Action::ReloadAgent,
-    Action::ValidateAll,
-];
-
-// The columns in front of what is told: those of the longest action, with a gap on both sides.
-const COLUMNS: usize = 14;
-
-// A newline and two spaces, which every line begins with.
-const INDENT: usize = 3;
+// The columns of what a line is of: those of the longest action, and one more. Behind them stands a space.
+const COLUMNS: usize = 13;
 
 /// Adds spaces up to a column, behind so many bytes that stand before it.
-pub fn pad(text: &mut Vec<u8>, taken: usize, columns: usize) -> Result<(), AllocError> {
-    for _ in taken..columns {
+pub fn pad(text: &mut Vec<u8>, taken: usize, columns: usize) -> Result<(), AllocError>
+    ensures { OnOk result (text.new.items ≡ text.old.items ++ replicate (columns - taken) 32) }
+{
+    for _ in 0..columns.saturating_sub(taken) {
         add(text, " ")?;
     }
     Ok(())
 }
 
-// Begins the line of an action.
-fn begin(text: &mut Vec<u8>, action: Action) -> Result<(), AllocError> {
+// Begins the line of an action or of a monitor.
+fn begin(text: &mut Vec<u8>, name: &[u8]) -> Result<(), AllocError>
+    ensures { OnOk result (text.new.items ≡ text.old.items ++ set_in name.now) }
+{
     add(text, "\n  ")?;
-    add(text, action.word())?;
-    pad(text, action.word().len(), COLUMNS)
+    text.extend_from_slice(name)?;
+    pad(text, name.len(), COLUMNS)?;
+    add(text, " ")
 }
 
-// What a result means, in its colour, and how long ago that was.
-fn add_result(text: &mut Vec<u8>, look: &Look, ended: &Ended) -> Result<(), AllocError> {
-    let colour = match tone_of(ended.outcome) {
+// The code of terminals for a colour.
+fn colour_of(tone: Tone) -> &'static str
+    ensures { result.now ≡ colour_of tone }
+{
+    match tone {
         Tone::Good => "\x1b[32m",
         Tone::Notable => "\x1b[33m",
         Tone::Bad => "\x1b[31m",
-    };
-    if look.colours {
-        add(text, colour)?;
     }
-    add(text, meaning(ended.action, ended.outcome))?;
-    if look.colours {
-        add(text, "\x1b[0m")?;
+}
+
+// A text in its colour, where colours are wanted.
+fn add_painted(text: &mut Vec<u8>, colours: bool, tone: Tone, more: &str) -> Result<(), AllocError>
+    ensures { OnOk result (text.new.items ≡ text.old.items ++ painted colours tone more.now) }
+{
+    if !colours {
+        return add(text, more);
     }
+    add(text, colour_of(tone))?;
+    add(text, more)?;
+    add(text, "\x1b[0m")
+}
+
+// What a result means, in its colour, and how long ago that was.
+fn add_result(text: &mut Vec<u8>, look: &Look, ended: &Ended) -> Result<(), AllocError>
+    ensures { OnOk result (text.new.items ≡ text.old.items ++ result_text look.now ended.now) }
+{
+    let meant = meaning(ended.action, ended.outcome);
+    add_painted(text, look.colours, tone_of(ended.outcome), meant)?;
     add(text, ", ")?;
     add_ago(text, look.moment.get(), ended.at.get())
 }
 
+// Whether a result is of this action, asked for once.
+fn is_asked(action: Action, ended: &Ended) -> bool
+    ensures { result ≡ is_asked action ended.now }
+{
+    ended.action.word().as_bytes() == action.word().as_bytes() && ended.interval == 0
+}
+
+// Whether a result is of the recurring monitor of this call.
+fn is_run(call: CallId, ended: &Ended) -> bool
+    ensures { result ≡ is_run call ended.now }
+{
+    ended.call == call && ended.interval != 0
+}
+
 // The last result of an action that was asked for once.
-fn last_of(state: &State, place: usize, action: Action) -> Option<Ended>
+fn last_asked(state: &State, place: usize, action: Action) -> Option<Ended>
     requires { place < length state.now.state.resources }
+    ensures { result ≡ last_of (is_asked action) (at_place state.now.state place).history.ended }
 {
     let mut last = None;
     for at in 0..state.ended_len(place) {
         let ended = state.ended_at(place, at);
-        if ended.action == action && ended.interval == 0 {
+        if is_asked(action, &ended) {
             last = Some(ended);
         }
     }
@@ -75,15 +100,36 @@ fn last_of(state: &State, place: usize, action: Action) -> Option<Ended>
 // The last result of a recurring monitor.
 fn last_run(state: &State, place: usize, call: CallId) -> Option<Ended>
     requires { place < length state.now.state.resources }
+    ensures { result ≡ last_of (is_run call) (at_place state.now.state place).history.ended }
 {
     let mut last = None;
     for at in 0..state.ended_len(place) {
         let ended = state.ended_at(place, at);
-        if ended.call == call && ended.interval != 0 {
+        if is_run(call, &ended) {
             last = Some(ended);
         }
     }
     last
+}
+
+// The line of an action, where it has a result.
+fn add_action(
+    text: &mut Vec<u8>,
+    look: &Look,
+    state: &State,
+    place: usize,
+    action: Action,
+) -> Result<(), AllocError>
+    requires { place < length state.now.state.resources }
+    ensures { OnOk result (text.new.items ≡ text.old.items ++ action_line look.now (at_place state.now.state place).history.ended action) }
+{
+    match last_asked(state, place, action) {
+        Some(ended) => {
+            begin(text, action.word().as_bytes())?;
+            add_result(text, look, &ended)
+        }
+        None => Ok(()),
+    }
 }
 
 // The last result of each action that was asked for once.
@@ -94,28 +140,26 @@ fn add_actions(
     place: usize,
 ) -> Result<(), AllocError>
     requires { place < length state.now.state.resources }
+    ensures { OnOk result (text.new.items ≡ text.old.items ++ flat_map (action_line look.now (at_place state.now.state place).history.ended) told_actions) }
 {
-    for action in ACTIONS {
-        if let Some(ended) = last_of(state, place, action) {
-            begin(text, action)?;
-            add_result(text, look, &ended)?;
-        }
-    }
-    Ok(())
+    add_action(text, look, state, place, Action::Monitor)?;
+    add_action(text, look, state, place, Action::Start)?;
+    add_action(text, look, state, place, Action::Promote)?;
+    add_action(text, look, state, place, Action::Demote)?;
+    add_action(text, look, state, place, Action::Stop)?;
+    add_action(text, look, state, place, Action::ReloadAgent)?;
+    add_action(text, look, state, place, Action::ValidateAll)
 }
 
-// A recurring monitor: its last result, and when it is due again, an interval behind that.
-fn add_monitor(
+// What is told of a recurring monitor: its last result, and when it is due again, an interval behind that.
+fn add_last(
     text: &mut Vec<u8>,
     look: &Look,
     recur: &Recur,
     last: Option<Ended>,
-) -> Result<(), AllocError> {
-    let start = text.len();
-    add(text, "\n  every ")?;
-    add_exactly(text, u64::from(recur.interval.get()))?;
-    let taken = text.len().saturating_sub(start);
-    pad(text, taken, INDENT + COLUMNS)?;
+) -> Result<(), AllocError>
+    ensures { OnOk result (text.new.items ≡ text.old.items ++ monitor_text look.now recur.now last) }
+{
     match last {
         Some(ended) => {
             add_result(text, look, &ended)?;
@@ -127,23 +171,58 @@ fn add_monitor(
     }
 }
 
+// The line of a recurring monitor.
+fn add_monitor(
+    alloc: Global,
+    text: &mut Vec<u8>,
+    look: &Look,
+    state: &State,
+    place: usize,
+    recur: &Recur,
+) -> Result<(), AllocError>
+    requires { place < length state.now.state.resources }
+    ensures { OnOk result (text.new.items ≡ text.old.items ++ monitor_line look.now (at_place state.now.state place).history.ended recur.now) }
+{
+    let mut name = Vec::from_slice(alloc, b"every ")?;
+    add_exactly(&mut name, u64::from(recur.interval.get()))?;
+    begin(text, name.as_slice())?;
+    add_last(text, look, recur, last_run(state, place, recur.call))
+}
+
 fn add_monitors(
+    alloc: Global,
     text: &mut Vec<u8>,
     look: &Look,
     state: &State,
     place: usize,
 ) -> Result<(), AllocError>
     requires { place < length state.now.state.resources }
+    ensures { OnOk result (text.new.items ≡ text.old.items ++ flat_map (monitor_line look.now (at_place state.now.state place).history.ended) (at_place state.now.state place).recurring) }
 {
     for at in 0..state.recurring_len(place) {
         let recur = state.recurring_at(place, at);
-        add_monitor(text, look, &recur, last_run(state, place, recur.call))?;
+        add_monitor(alloc, text, look, state, place, &recur)?;
     }
     Ok(())
 }
 
+// What failed last, and no line where nothing has.
+fn add_failure(text: &mut Vec<u8>, look: &Look, failed: &Option<Ended>) -> Result<(), AllocError>
+    ensures { OnOk result (text.new.items ≡ text.old.items ++ failure_line look.now failed.now) }
+{
+    let Some(ended) = failed else {
+        return Ok(());
+    };
+    begin(text, b"last failure")?;
+    add(text, ended.action.word())?;
+    add(text, ": ")?;
+    add_result(text, look, ended)
+}
+
 // A line of the history.
-fn add_past(text: &mut Vec<u8>, look: &Look, ended: &Ended) -> Result<(), AllocError> {
+fn add_past(text: &mut Vec<u8>, look: &Look, ended: &Ended) -> Result<(), AllocError>
+    ensures { OnOk result (text.new.items ≡ text.old.items ++ past_line look.now ended.now) }
+{
     add(text, "\n  call ")?;
     add_number(text, ended.call.get())?;
     add(text, ", ")?;
@@ -155,6 +234,22 @@ fn add_past(text: &mut Vec<u8>, look: &Look, ended: &Ended) -> Result<(), AllocE
 }
 
 // All results, oldest first.
+fn add_results(
+    text: &mut Vec<u8>,
+    look: &Look,
+    state: &State,
+    place: usize,
+) -> Result<(), AllocError>
+    requires { place < length state.now.state.resources }
+    ensures { OnOk result (text.new.items ≡ text.old.items ++ flat_map (past_line look.now) (at_place state.now.state place).history.ended) }
+{
+    for at in 0..state.ended_len(place) {
+        add_past(text, look, &state.ended_at(place, at))?;
+    }
+    Ok(())
+}
+
+// The history, only where one resource is asked for.
 fn add_history(
     text: &mut Vec<u8>,
     look: &Look,
@@ -162,27 +257,30 @@ fn add_history(
     place: usize,
 ) -> Result<(), AllocError>
     requires { place < length state.now.state.resources }
+    ensures { OnOk result (text.new.items ≡ text.old.items ++ history_text look.now (at_place state.now.state place).history.ended) }
 {
-    add(text, "\n  history, oldest first:")?;
-    for at in 0..state.ended_len(place) {
-        add_past(text, look, &state.ended_at(place, at))?;
+    match look.only {
+        Some(_) => {
+            add(text, "\n  history, oldest first:")?;
+            add_results(text, look, state, place)
+        }
+        None => Ok(()),
     }
-    Ok(())
 }
 
-/// Adds the lines below the row of a resource, each behind a newline; the history only where one resource is asked for.
+/// Adds the lines below the row of a resource, each behind a newline.
 pub fn add_lines(
+    alloc: Global,
     text: &mut Vec<u8>,
     look: &Look,
     state: &State,
     place: usize,
 ) -> Result<(), AllocError>
     requires { place < length state.now.state.resources }
+    ensures { OnOk result (text.new.items ≡ text.old.items ++ lines_text look.now (at_place state.now.state place)) }
 {
     add_actions(text, look, state, place)?;
-    add_monitors(text, look, state, place)?;
-    if look.only.is_some() {
-        add_history(text, look, state, place)?;
-    }
-    Ok(())
+    add_monitors(alloc, text, look, state, place)?;
+    add_failure(text, look, &state.failed_at(place))?;
+    add_history(text, look, state, place)
 }

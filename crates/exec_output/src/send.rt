@@ -1,8 +1,11 @@
 //! Replies and notices, as they go out.
-ghost use Rattle.std.specs.Prelude.{OnOk};
+ghost use Rattle.std.specs.Prelude.{◌≡◌, OnOk, IfOk, IfErr, Err};
 ghost use Rattle.std.specs.Io.KnownBytes.{Appends};
 ghost use Rattle.std.specs.List.{flat_map};
+ghost use Rattle.std.specs.IoError.{error_kind};
 ghost use Rattle.exec_commands.specs.Replies.{formed_line, reply_line};
+ghost use Rattle.exec_output.specs.Stops.{stop_of};
+ghost use Rattle.exec_output.specs.declared.send.Stopped.TheVariants.{Memory};
 
 use exec_commands::{LineReply, NoticeForm, write_notice, write_reply};
 use exec_lines::write_flushed;
@@ -20,6 +23,8 @@ pub enum Stopped {
 }
 
 impl From<io::Error> for Stopped {
+    ghost from_gives = { λ error stopped. stopped ≡ stop_of (error_kind error) };
+
     fn from(error: io::Error) -> Stopped {
         match error.kind() {
             ErrorKind::OutOfMemory => Stopped::Memory,
@@ -29,18 +34,28 @@ impl From<io::Error> for Stopped {
 }
 
 impl From<AllocError> for Stopped {
+    ghost from_gives = { λ _ stopped. stopped ≡ Memory };
+
     fn from(_: AllocError) -> Stopped {
         Stopped::Memory
     }
+}
+
+// Writes a line that was made, and flushes it. Where memory for it was refused nothing is written.
+fn send_line<W: Write>(writer: &mut W, line: Result<Vec<u8>, AllocError>) -> Result<(), Stopped>
+    ensures sent { IfOk line (λ bytes. OnOk result (Appends (W.contents writer.old) (W.contents writer.new) bytes.items)) }
+    ensures memory { IfErr line (λ _. result ≡ Err Memory) }
+    ensures unwritten { IfErr line (λ _. W.contents writer.new ≡ W.contents writer.old) }
+{
+    write_flushed(writer, line?.as_slice())?;
+    Ok(())
 }
 
 /// Writes a reply's line, and flushes it.
 pub fn send_reply<W: Write>(alloc: Global, writer: &mut W, reply: &LineReply) -> Result<(), Stopped>
     ensures { OnOk result (Appends (W.contents writer.old) (W.contents writer.new) (reply_line reply.now)) }
 {
-    let bytes = write_reply(alloc, reply)?;
-    write_flushed(writer, bytes.as_slice())?;
-    Ok(())
+    send_line(writer, write_reply(alloc, reply))
 }
 
 fn send_notice<W: Write>(
@@ -51,9 +66,7 @@ fn send_notice<W: Write>(
 ) -> Result<(), Stopped>
     ensures { OnOk result (Appends (W.contents writer.old) (W.contents writer.new) (formed_line form notice.now)) }
 {
-    let bytes = write_notice(alloc, form, notice)?;
-    write_flushed(writer, bytes.as_slice())?;
-    Ok(())
+    send_line(writer, write_notice(alloc, form, notice))
 }
 
 /// Writes notices in this form, a line each, and flushes each line.

@@ -1,9 +1,9 @@
 //! What a journal holds, for a person.
-ghost use Rattle.std.specs.Prelude.{IsErrOf};
+ghost use Rattle.std.specs.Prelude.{IsErrOf, IfOk, IfErr, IfSome, IfNone};
 ghost use Rattle.disk_model.specs.View.{Grew};
 ghost use Rattle.exec_journal.specs.Opening.{Opens};
 ghost use Rattle.exec_output.specs.Faults.{IsRunEnd};
-ghost use Rattle.exec_output.specs.Tables.{IsToldAs, TellsAs};
+ghost use Rattle.exec_output.specs.Tables.{IsToldAs, IsWritten, NotWritten, TellsAs};
 
 use crate::fault::Fault;
 use crate::look::Look;
@@ -13,8 +13,27 @@ use disk_model::Disk;
 use exec_journal::Journal;
 use exec_lines::write_flushed;
 use exec_state::State;
-use std::alloc::Global;
+use std::alloc::{AllocError, Global};
 use std::io::Write;
+
+// Writes a table that was made, or tells why there is none: want of memory as that, and output that fails as that.
+fn write_made<W: Write>(
+    writer: &mut W,
+    made: Result<Option<Vec<u8>>, AllocError>,
+) -> Result<(), Fault>
+    ensures memory { IfErr made (λ _. NotWritten (W.contents writer.old) (W.contents writer.new) Fault.ReplyMemory result) }
+    ensures none { IfOk made (λ found. IfNone found (NotWritten (W.contents writer.old) (W.contents writer.new) Fault.NoResource result)) }
+    ensures table { IfOk made (λ found. IfSome found (λ text. IsWritten (W.contents writer.old) (W.contents writer.new) text.items result)) }
+{
+    match made {
+        Ok(Some(text)) => match write_flushed(writer, text.as_slice()) {
+            Ok(()) => Ok(()),
+            Err(_) => Err(Fault::InputOrOutput),
+        },
+        Ok(None) => Err(Fault::NoResource),
+        Err(_) => Err(Fault::ReplyMemory),
+    }
+}
 
 // Writes the table of a state.
 fn write_table<W: Write>(
@@ -25,14 +44,7 @@ fn write_table<W: Write>(
 ) -> Result<(), Fault>
     ensures { IsToldAs look.now state.now.state (W.contents writer.old) (W.contents writer.new) result }
 {
-    match table_of(alloc, look, state) {
-        Ok(Some(text)) => match write_flushed(writer, text.as_slice()) {
-            Ok(()) => Ok(()),
-            Err(_) => Err(Fault::InputOrOutput),
-        },
-        Ok(None) => Err(Fault::NoResource),
-        Err(_) => Err(Fault::ReplyMemory),
-    }
+    write_made(writer, table_of(alloc, look, state))
 }
 
 /// Opens a journal without a boot and writes what it holds as a table for a person: a line of heads, and then a row of each

@@ -1,22 +1,23 @@
 //! A journal's state as a table for a person: a row of each resource, with lines below it.
-ghost use Rattle.std.specs.Prelude.{◌≡◌, ◌<◌, [], length, IfOk, IfSome, IfNone};
+ghost use Rattle.std.specs.Prelude.{◌≡◌, ◌<◌, ◌-◌, ◌++◌, [], length, OnOk, IfOk, IfSome, IfNone};
 ghost use Rattle.ocf_types.specs.Places.{entry_at, at_place};
-ghost use Rattle.exec_output.specs.Tables.{agent_text, AreRows, IsRow, IsTable, asked_entries};
+ghost use Rattle.exec_output.specs.Tables.{agent_text, AreRows, gap, IsHead, IsRow, IsTable, asked_entries};
+ghost use Rattle.exec_output.specs.Told.{now_text, queued_text, running_text, told};
 
 use crate::lines::{add_lines, pad};
 use crate::look::Look;
 use crate::spans::{add, add_number, add_span};
 use exec_state::State;
-use ocf_types::StateView;
+use ocf_types::{Running, StateView};
 use std::alloc::{AllocError, Global};
 use std::str::from_utf8;
 use unicode_width::UnicodeWidthStr;
 
-// Where the columns of a table begin.
+// How wide the columns of a table are, without the gap behind them.
 #[derive(Clone, Copy, Debug, PartialEq, Eq)]
 struct Columns {
+    id: usize,
     agent: usize,
-    now: usize,
 }
 
 // The columns that a text takes on a terminal.
@@ -48,59 +49,61 @@ fn columns_of(alloc: Global, look: &Look, state: &State) -> Result<Columns, Allo
             agents = agents.max(width(agent_of(alloc, state, place)?.as_slice()));
         }
     }
-    let agent = ids.saturating_add(2);
     Ok(Columns {
-        agent,
-        now: agents.saturating_add(2),
+        id: ids,
+        agent: agents,
     })
 }
 
-// What a resource does now: what runs, since when, and how much is queued.
-fn add_now(text: &mut Vec<u8>, look: &Look, state: &State, place: usize) -> Result<(), AllocError>
-    requires { place < length state.now.state.resources }
+// The gap behind what stands in a column.
+fn add_gap(text: &mut Vec<u8>, taken: usize, column: usize) -> Result<(), AllocError>
+    ensures { OnOk result (text.new.items ≡ text.old.items ++ gap (column - taken)) }
 {
-    match state.running_at(place) {
+    pad(text, taken, column)?;
+    add(text, "  ")
+}
+
+// What runs, and since when.
+fn add_running(text: &mut Vec<u8>, look: &Look, running: Option<Running>) -> Result<(), AllocError>
+    ensures { OnOk result (text.new.items ≡ text.old.items ++ running_text look.now.moment running) }
+{
+    match running {
         Some(running) => {
             add(text, running.task.action().word())?;
             add(text, " since ")?;
-            add_span(text, look.moment.get().saturating_sub(running.since.get()))?;
+            add_span(text, look.moment.get().saturating_sub(running.since.get()))
         }
-        None => add(text, "idle")?,
+        None => add(text, "idle"),
     }
-    match state.queue_len(place) {
-        0 => Ok(()),
-        queued => {
-            add(text, ", ")?;
-            add_number(text, queued as u64)?;
-            add(text, " queued")
-        }
+}
+
+// How many actions are queued.
+fn add_queued(text: &mut Vec<u8>, queued: usize) -> Result<(), AllocError>
+    ensures { OnOk result (text.new.items ≡ text.old.items ++ queued_text queued) }
+{
+    if queued == 0 {
+        return Ok(());
     }
+    add(text, ", ")?;
+    add_number(text, queued as u64)?;
+    add(text, " queued")
 }
 
 // What stands behind the agent in a row, and the lines below it.
-fn rest_of(
+fn add_told(
     alloc: Global,
+    text: &mut Vec<u8>,
     look: &Look,
     state: &State,
     place: usize,
-    taken: usize,
-    columns: Columns,
-) -> Result<Vec<u8>, AllocError>
+) -> Result<(), AllocError>
     requires { place < length state.now.state.resources }
+    ensures { OnOk result (text.new.items ≡ text.old.items ++ told look.now (at_place state.now.state place)) }
 {
-    let mut text = Vec::new(alloc);
-    pad(&mut text, taken, columns.now)?;
-    add_now(&mut text, look, state, place)?;
-    add_lines(&mut text, look, state, place)?;
-    add(&mut text, "\n")?;
-    Ok(text)
-}
-
-// The gap behind an id.
-fn gap_of(alloc: Global, taken: usize, columns: Columns) -> Result<Vec<u8>, AllocError> {
-    let mut text = Vec::new(alloc);
-    pad(&mut text, taken, columns.agent)?;
-    Ok(text)
+    add_running(text, look, state.running_at(place))?;
+    add_queued(text, state.queue_len(place))?;
+    add_lines(alloc, text, look, state, place)?;
+    add(text, "\n")
 }
 
 // A row, with the lines below it.
@@ -112,16 +115,15 @@ fn row_of(
     columns: Columns,
 ) -> Result<Vec<u8>, AllocError>
     requires { place < length state.now.state.resources }
-    ensures { IfOk result (λ row. IsRow (entry_at state.now.state place) row.items) }
+    ensures { IfOk result (λ row. IsRow look.now (entry_at state.now.state place) row.items) }
 {
     let id = state.id_at(place).as_bytes();
     let agent = agent_of(alloc, state, place)?;
-    let gap = gap_of(alloc, width(id), columns)?;
-    let rest = rest_of(alloc, look, state, place, width(agent.as_slice()), columns)?;
     let mut row = Vec::from_slice(alloc, id)?;
-    row.extend_from_slice(gap.as_slice())?;
+    add_gap(&mut row, width(id), columns.id)?;
     row.extend_from_slice(agent.as_slice())?;
-    row.extend_from_slice(rest.as_slice())?;
+    add_gap(&mut row, width(agent.as_slice()), columns.agent)?;
+    add_told(alloc, &mut row, look, state, place)?;
     Ok(row)
 }
 
@@ -132,7 +134,7 @@ fn rows_of(
     state: &State,
     columns: Columns,
 ) -> Result<Vec<u8>, AllocError>
-    ensures { IfOk result (λ rows. AreRows (asked_entries look.now state.now.state.resources) rows.items) }
+    ensures { IfOk result (λ rows. AreRows look.now (asked_entries look.now state.now.state.resources) rows.items) }
 {
     let mut rows = Vec::new(alloc);
     for place in 0..state.len() {
@@ -145,11 +147,13 @@ fn rows_of(
 }
 
 // The line above the rows.
-fn head_of(alloc: Global, columns: Columns) -> Result<Vec<u8>, AllocError> {
+fn head_of(alloc: Global, columns: Columns) -> Result<Vec<u8>, AllocError>
+    ensures { IfOk result (λ head. IsHead head.items) }
+{
     let mut head = Vec::from_slice(alloc, b"RESOURCE")?;
-    pad(&mut head, "RESOURCE".len(), columns.agent)?;
+    add_gap(&mut head, "RESOURCE".len(), columns.id)?;
     add(&mut head, "AGENT")?;
-    pad(&mut head, "AGENT".len(), columns.now)?;
+    add_gap(&mut head, "AGENT".len(), columns.agent)?;
     add(&mut head, "NOW\n")?;
     Ok(head)
 }

@@ -108,12 +108,16 @@ fn make_own_turn<W: Output, D: Disk + Drop, C: Children + Drop, K: Clock, M>(
 }
 
 // How long may be waited for a line behind a turn, in microseconds: not at all behind one in which something happened, and
-// while nothing is queued or runs until the next monitor is due.
+// while nothing is queued or runs until the next monitor is due. Behind a disk fault there is nothing but a line to wait for.
 fn wait_micros<D: Disk + Drop, C: Children + Drop, K: Clock, M>(
     setting: &Setting<K, M>,
     executor: &Executor<D, C>,
     pause: &mut Pause,
 ) -> u64 {
+    let is_open = executor.is_open();
+    if !is_open {
+        return 1_000 * u64::from(LONGEST_IDLE);
+    }
     let micros = pause.behind_turn(setting.clock, executor);
     if micros == 0 || !executor.idle() {
         return micros;

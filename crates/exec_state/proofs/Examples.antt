@@ -1,7 +1,7 @@
 -- Due moments, replies and the room that is needed, computed on a small state.
 use Rattle.std.proofs.Common.{◌≡◌, ℕ, List, [], ◌∷◌, Some, None, false, refl}
 use Rattle.std.specs.Prelude.{codes}
-use Rattle.ocf_types.specs.declared.action.Level.TheVariants.{Zero}
+use Rattle.ocf_types.specs.Actions.{plain}
 use Rattle.ocf_types.specs.declared.operation.Recur.{Recur}
 use Rattle.ocf_types.specs.declared.command.Question.TheVariants as question
 use Rattle.ocf_types.specs.declared.refusal.Refusal.TheVariants.{UnknownResource, Memory}
@@ -15,7 +15,7 @@ abbrev r1 : List ℕ
 r1 = codes "r1"
 
 abbrev monitor : Recur
-monitor = record { call = 1; interval = 10000; timeout = 20000; level = Zero }
+monitor = record { call = 1; interval = 10000; timeout = 20000; check = plain }
 
 -- r1 with one recurring monitor, which is due at 40
 abbrev small : Store

@@ -64,6 +64,7 @@ impl<A: Allocator + Copy> Registered<A> {
             queued: queued(&self.ops),
             running: self.ops.running(),
             recurring: recurring(&self.monitors),
+            failed: self.ops.failed(),
         })
     }
 }

@@ -6,8 +6,8 @@ ghost use Rattle.ocf_types.specs.declared.command.CommandOf.TheVariants as comma
 
 use crate::state::State;
 use ocf_types::{
-    Change, Command, CommandOf, EVENT_LIMIT, Event, EventOf, Level, Millis, NUM_MAX, Op, Params,
-    QUEUE_LIMIT, Recur, Refusal, Registration, RscId, Step, Task,
+    CallId, Change, Check, Command, CommandOf, EVENT_LIMIT, Event, EventOf, Millis, NUM_MAX, Op,
+    Params, QUEUE_LIMIT, Recur, Refusal, Registration, RscId, Step, Task,
 };
 use std::alloc::Allocator;
 
@@ -36,10 +36,11 @@ impl<A: Allocator + Copy> State<A> {
                 id,
                 interval,
                 timeout,
-                level,
-            } => self.check_recur(now, id, interval, timeout, level),
+                check,
+            } => self.check_recur(now, id, interval, timeout, check),
             CommandOf::Cancel { id, interval } => self.check_cancel(now, id, interval),
             CommandOf::Forget(id) => self.check_forget(now, id),
+            CommandOf::Withdraw { id, call } => self.check_withdraw(now, id, call),
         }
     }
 
@@ -121,9 +122,9 @@ impl<A: Allocator + Copy> State<A> {
         id: RscId,
         interval: Millis,
         timeout: Millis,
-        level: Level,
+        check: Check,
     ) -> Result<Event<A>, Refusal>
-        ensures { result ≡ event_of self.now.state now (command.Recur id interval timeout level) }
+        ensures { result ≡ event_of self.now.state now (command.Recur id interval timeout check) }
     {
         let Some(resource) = self.registry.get(&id) else {
             return Err(Refusal::UnknownResource);
@@ -143,7 +144,7 @@ impl<A: Allocator + Copy> State<A> {
             call,
             interval,
             timeout,
-            level,
+            check,
         };
         let change = Change::Step(id, Step::Recur(recur));
         Ok(EventOf { at, change })
@@ -171,6 +172,20 @@ impl<A: Allocator + Copy> State<A> {
         }
         let at = self.moment(now);
         let change = Change::Step(id, Step::Forget);
+        Ok(EventOf { at, change })
+    }
+
+    fn check_withdraw(&self, now: u64, id: RscId, call: CallId) -> Result<Event<A>, Refusal>
+        ensures { result ≡ event_of self.now.state now (command.Withdraw id call) }
+    {
+        let Some(resource) = self.registry.get(&id) else {
+            return Err(Refusal::UnknownResource);
+        };
+        if resource.ops.queued_of(call).is_none() {
+            return Err(Refusal::NotQueued);
+        }
+        let at = self.moment(now);
+        let change = Change::Step(id, Step::Withdraw(call));
         Ok(EventOf { at, change })
     }
 }

@@ -5,9 +5,10 @@ ghost use Rattle.std.specs.Map.{keys_of, lookup};
 ghost use Rattle.std.specs.List.{flat_map, list_any, AllByRecursion, IsDistinct};
 ghost use Rattle.std.specs.Str.{bytes_eq};
 ghost use Rattle.indexmap.specs.IndexMap.{values, spare};
-ghost use Rattle.ocf_types.specs.Resource.{booted, is_busy};
+ghost use Rattle.ocf_types.specs.Resource.{booted, history_in, is_busy};
 ghost use Rattle.ocf_types.specs.State.{at_id, others, on_history, stepped, registered};
 ghost use Rattle.ocf_types.specs.Places.{no_entry};
+ghost use Rattle.ocf_types.specs.declared.layout.Layout.TheVariants.{First};
 ghost use Rattle.recurring.specs.Monitors.{all_due_at, pairs, IsFirstMoment};
 ghost use Rattle.exec_state.specs.Seen.{seen, seen_all, monitors_of, monitors_all, CanTake, FitsRoom};
 ghost use Rattle.exec_state.specs.MonitorsAfter.{monitors_stepped};
@@ -232,6 +233,20 @@ impl<A: Allocator + Copy> Registry<A> {
         for place in 0..resources.len() {
             let resource = &mut resources[place];
             resource.boot(at);
+        }
+    }
+
+    /// Drops what a journal's first layout does not keep of each resource.
+    #[tactic(auto, using(crate::proofs::Resting::rest_before_0))]
+    pub(crate) fn in_first(&mut self)
+        ensures resources { self.new.resources ≡ map (λ e. (e.0, on_history (history_in First) e.1)) self.old.resources }
+        ensures monitors { self.new.monitors ≡ self.old.monitors }
+    {
+        self.rests_until = 0;
+        let resources = &mut self.resources;
+        for place in 0..resources.len() {
+            let resource = &mut resources[place];
+            resource.in_first();
         }
     }
 

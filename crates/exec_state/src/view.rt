@@ -69,4 +69,8 @@ impl<A: Allocator + Copy> StateView for State<A> {
     fn ended_at(&self, place: usize, at: usize) -> Ended {
         self.registry.entry(place).1.ops.ended_at(at)
     }
+
+    fn failed_at(&self, place: usize) -> Option<Ended> {
+        self.registry.entry(place).1.ops.failed()
+    }
 }

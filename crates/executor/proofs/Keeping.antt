@@ -35,6 +35,7 @@ asked_keeps s now (command.Exec id t timeout) = tt
 asked_keeps s now (command.Recur id interval timeout level) = tt
 asked_keeps s now (command.Cancel id interval) = tt
 asked_keeps s now (command.Forget id) = tt
+asked_keeps s now (command.Withdraw id call) = tt
 
 pub command_keeps : (s : State) (now : ℕ) (c : Command) (e : Event) → event_of s now c ≡ Ok e → KeepsRunning e.change
 command_keeps s now c e is =
@@ -50,6 +51,7 @@ step_keeps at id (step.Cancel interval) r keeps = refl
 step_keeps at id step.Forget r keeps = refl
 step_keeps at id (step.Begin call run) r keeps = absurd keeps
 step_keeps at id (step.Result run end) r keeps = absurd keeps
+step_keeps at id (step.Withdraw call) r keeps = refl
 
 steps_same : (at : ℕ) (id : List ℕ) (what : Step) → KeepsRunning (change.Step id what) → (rs : Registry)
     → all_in (at_id id (stepped at what) rs) ≡ all_in rs
@@ -114,6 +116,7 @@ draws_none (change.Step id (step.Cancel interval)) keeps = refl
 draws_none (change.Step id step.Forget) keeps = refl
 draws_none (change.Step id (step.Begin call run)) keeps = absurd keeps
 draws_none (change.Step id (step.Result run end)) keeps = absurd keeps
+draws_none (change.Step id (step.Withdraw call)) keeps = refl
 draws_none change.Boot keeps = absurd keeps
 
 -- so the agents of all that runs still live

@@ -1,5 +1,5 @@
 -- Whole lives: what is found behind them.
-use Rattle.std.proofs.Common.{◌≡◌, inl, inr, ℕ, Bool, true, false, List, [], ◌∷◌, ◌++◌, Some, None, refl, sym, ap, subst, ◌∙◌, append_assoc}
+use Rattle.std.proofs.Common.{◌≡◌, inl, inr, ℕ, Bool, true, false, List, [], ◌∷◌, ◌++◌, Option, Some, None, refl, sym, ap, subst, ◌∙◌, append_assoc}
 use Rattle.std.specs.Prelude.{if◌then◌else◌, option_to_list}
 use Rattle.ocf_types.specs.Answer.{moment}
 use Rattle.ocf_types.specs.Boot.{any_busy, boot_at}
@@ -14,8 +14,9 @@ use Rattle.two_parts.specs.declared.choice.Choice.{Choice}
 use Rattle.two_parts.specs.declared.damage.Damage.{Damage}
 use Rattle.exec_journal.specs.Found.{Damaged, Finding, Finds, FoundAs, IsFirstPart, IsFound, IsFreshPair, IsToWrite, Whole}
 use Rattle.exec_journal.specs.Laws.{same_whole}
+use Rattle.exec_journal.specs.Opening.{OpensLike}
 use Rattle.exec_journal.specs.Room.{Roomy}
-use Rattle.executor.specs.Lives.{BeginsAs, GoesOnFrom, InOpening, InService, IsLife, LifeLeaves, Lived, OpensBehind, Sitting, boots}
+use Rattle.executor.specs.Lives.{BeginsAs, EndsOpening, GoesOnFrom, MayBoot, InOpening, InService, IsLife, LifeLeaves, Lived, OpensBehind, Sat, Sitting, boots}
 use Rattle.executor.specs.Openings.{NotOpened, Opened, StartsLike, booted}
 use Rattle.executor.specs.Reports.{dropped, interrupted}
 use Rattle.executor.specs.Sights.{Sight}
@@ -69,34 +70,54 @@ module _ {D : Type 0} (look : D → View) (law : WhatStands) (once : OneFinding)
   abbrev Behind : List (Sitting D) → Image → Type 0
   Behind life c = (zs : List Event) × Lived start life zs × FoundAs (after_all start zs) c
 
-  -- behind an opening that was refused or stopped
-  in_opening : (old new : D) (now : ℕ) (older : List (Sitting D)) → ((d : Image) → (look old).now d → Behind older d)
-      → (look old).honest → (c : Image) → StartsLike (look old) now c → Behind (InOpening old new now ∷ older) c
-  in_opening old new now older from honest c (inl (inl was)) =
+  -- behind an opening that was refused or stopped: as before it
+  unbooted : (old new : D) (now : ℕ) (end : Option OpenError) (older : List (Sitting D)) → ((d : Image) → (look old).now d → Behind older d)
+      → (look old).honest → (c : Image) → OpensLike (look old) c → Behind (InOpening old new now end ∷ older) c
+  unbooted old new now end older from honest c (inl was) =
       let b = from c was in (b.0, (b.0, b.1, inl refl), b.2)
-  in_opening old new now older from honest c (inl (inr (s, reads, found))) =
+  unbooted old new now end older from honest c (inr (s, reads, found)) =
       let b = from (look old).reads (lawful old honest).reads_now in
       let same = one_state s (after_all start b.0) (look old).reads reads b.2 in
       (b.0, (b.0, b.1, inl refl), subst (λ (t : State). FoundAs t c) same found)
-  in_opening old new now older from honest c (inr (s, reads, inl found)) =
-      let b = from (look old).reads (lawful old honest).reads_now in
-      let same = one_state s (after_all start b.0) (look old).reads reads b.2 in
-      (b.0, (b.0, b.1, inl refl), subst (λ (t : State). FoundAs t c) same found)
-  in_opening old new now older from honest c (inr (s, reads, inr found)) =
+
+  -- or with its boot
+  may_boot : (old new : D) (now : ℕ) (end : Option OpenError) (older : List (Sitting D)) → ((d : Image) → (look old).now d → Behind older d)
+      → (look old).honest → MayBoot end → (c : Image) → StartsLike (look old) now c → Behind (InOpening old new now end ∷ older) c
+  may_boot old new now end older from honest may c (inl like) = unbooted old new now end older from honest c like
+  may_boot old new now end older from honest may c (inr (s, reads, inl found)) =
+      unbooted old new now end older from honest c (inr (s, reads, found))
+  may_boot old new now end older from honest may c (inr (s, reads, inr found)) =
       let b = from (look old).reads (lawful old honest).reads_now in
       let same = one_state s (after_all start b.0) (look old).reads reads b.2 in (
         b.0 ++ boots (after_all start b.0) now,
-        (b.0, b.1, inr refl),
+        (b.0, b.1, inr (may, refl)),
         subst (λ (t : State). FoundAs t c) (sym (behind_boots b.0 s now same)) found,
       )
+
+  -- by how it ended
+  in_opening : (old new : D) (now : ℕ) (end : Option OpenError) (older : List (Sitting D)) → ((d : Image) → (look old).now d → Behind older d)
+      → (look new).honest → (look old).honest → EndsOpening (look old) (look new) now end → (c : Image) → (look new).since (look old).clock c
+      → Behind (InOpening old new now end ∷ older) c
+  in_opening old new now None older from honest was ends c left =
+      may_boot old new now None older from was (tt {0}) c (ends.did.goes.from_start honest c left)
+  in_opening old new now (Some why.Disk) older from honest was ends c left =
+      may_boot old new now (Some why.Disk) older from was (tt {0}) c (ends.did.goes.from_start honest c left)
+  in_opening old new now (Some (why.Damaged d)) older from honest was ends c left =
+      unbooted old new now (Some (why.Damaged d)) older from was c ((ends.unbooted (λ none. none)).from_start honest c left)
+  in_opening old new now (Some why.Memory) older from honest was ends c left =
+      unbooted old new now (Some why.Memory) older from was c ((ends.unbooted (λ none. none)).from_start honest c left)
+  in_opening old new now (Some why.Foreign) older from honest was ends c left =
+      unbooted old new now (Some why.Foreign) older from was c ((ends.unbooted (λ none. none)).from_start honest c left)
+  in_opening old new now (Some why.Full) older from honest was ends c left =
+      unbooted old new now (Some why.Full) older from was c ((ends.unbooted (λ none. none)).from_start honest c left)
 
   -- every pair that a life may leave is found so, and has room for its boot
   pub life_leaves : (life : List (Sitting D)) → IsLife look start life → (c : Image) → LifeLeaves look start life c → Behind life c × Roomy c
   life_leaves [] is c left = (([], refl, left.0), left.1)
-  life_leaves (InOpening old new now ∷ older) (is, from, did, honest) c left =
+  life_leaves (InOpening old new now end ∷ older) (is, from, ends, honest) c left =
+      let did = ends.did in
       let was_honest = did.goes.passed.honest honest in (
-        in_opening old new now older (λ d d_now. (life_leaves older is d (from d d_now)).0) was_honest c
-            (did.goes.from_start honest c left),
+        in_opening old new now end older (λ d d_now. (life_leaves older is d (from d d_now)).0) honest was_honest ends c left,
         (did.roomy (λ _ d d_now. (life_leaves older is d (from d d_now)).1)).from_start honest c left,
       )
   life_leaves (InService x ∷ older) (is, from, serves, honest) c left =
@@ -147,3 +168,11 @@ module _ {D : Type 0} (look : D → View) (law : WhatStands) (once : OneFinding)
             once (look old).reads (Damaged d) (Whole (after_all start reads.0)) (fails.damaged honest d bad) reads.2 in
             let none : ⊥ = cc in absurd none,
       )
+
+-- an opening that was refused is a sitting
+pub refused_sits : {D : Type 0} (look : D → View) (old new : D) (from to : ChildrenView) (now : ℕ) (fault : OpenError)
+    → NotOpened (look old) (look new) from to now fault → Sat look (InOpening old new now (Some fault))
+refused_sits look old new from to now fault fails = record {
+  did = fails.did;
+  unbooted = λ never. fails.unbooted (λ is. never (subst (λ (f : OpenError). MayBoot (Some f)) (sym is) (tt {0})));
+}

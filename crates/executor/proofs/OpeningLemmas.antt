@@ -68,8 +68,9 @@ module _ (old new : View) (from : ChildrenView) (now : ℕ) where
     damaged = λ h d is. fails.damaged h d (as_damaged fault d is);
     cause = λ is. fails.cause (as_disk fault is);
     full = λ h is. absurd (never_full fault is);
+    not_foreign = λ h is. absurd (never_full fault is);
     never_full = λ roomy h is. never_full fault is;
-    memory = λ is. fails.opens.goes;
+    unbooted = λ _. fails.opens.goes;
   }
     where
       as_damaged : (f : JournalFault) (d : Damage) → told_fault f ≡ why.Damaged d → f ≡ journal.Damaged d
@@ -103,8 +104,9 @@ unready_memory old new from to now opens kids = record {
   damaged = λ h x is. let none : ⊥ = cc in absurd none;
   cause = λ is. let none : ⊥ = cc in absurd none;
   full = λ h is. let none : ⊥ = cc in absurd none;
+  not_foreign = λ h is. let none : ⊥ = cc in absurd none;
   never_full = λ roomy h is. cc;
-  memory = λ is. opens.goes;
+  unbooted = λ _. opens.goes;
 }
 
 -- the children are another journal's
@@ -118,8 +120,9 @@ unready_foreign old new p s from to now opens kids later = record {
   damaged = λ h x is. let none : ⊥ = cc in absurd none;
   cause = λ is. let none : ⊥ = cc in absurd none;
   full = λ h is. let none : ⊥ = cc in absurd none;
+  not_foreign = λ h is. let none : ⊥ = cc in absurd none;
   never_full = λ roomy h is. cc;
-  memory = λ is. opens.opens.goes;
+  unbooted = λ _. opens.opens.goes;
 }
 
 pub unready : (old new : View) (p : Place) (s : State) (from to : ChildrenView) (now : ℕ) (fault : OpenError) → OpensAt p s old new
@@ -248,7 +251,14 @@ module _ {D : Type 0} (look : D → View) (law : WhatStands) (once : (c : Image)
           let room = opens.room roomy (boots.goes.passed.honest h) lacks.0 in
           let short = lacks.1 in
           omega (arith, room, short);
-      memory = λ is. absurd (no_memory fault is);
+      not_foreign = λ h _ foreign.
+          let same = once old.reads foreign.state mid.state foreign.found (opens.found (boots.goes.passed.honest h)) in
+          let next = ap (λ (s : State). s.next_run) same in
+          let low = over.rising in
+          let later = foreign.later in
+          omega (arith, next, low, later);
+      unbooted = λ not_disk.
+          subst (λ (x : D). Goes old (look x) (OpensLike old)) (sym (boots.unwritten (ap Err (else_full fault not_disk)))) opens.opens.goes;
     })
       where
         no_damage : (f : SlotFault) (x : Damage) → told_slot f ≡ why.Damaged x → ⊥
@@ -267,9 +277,9 @@ module _ {D : Type 0} (look : D → View) (law : WhatStands) (once : (c : Image)
         no_foreign slot.Disk is = cc
         no_foreign slot.Full is = cc
 
-        no_memory : (f : SlotFault) → told_slot f ≡ why.Memory → ⊥
-        no_memory slot.Disk is = cc
-        no_memory slot.Full is = cc
+        else_full : (f : SlotFault) → (told_slot f ≡ why.Disk → ⊥) → f ≡ slot.Full
+        else_full slot.Disk not = absurd (not refl)
+        else_full slot.Full not = refl
 
 -- what holds of a fault that is handed on holds of the answer
 pub if_err : {T E : Type 0} (r : Result T E) (f : E) (P : E → Type 0) → IsErrAnd r (λ e. e ≡ f) → P f → IfErr r P

@@ -1,5 +1,5 @@
 -- Whole lives: an executor is opened, called, and stopped at any moment, again and again.
-use Rattle.std.specs.Prelude.{◌≡◌, ◌⊎◌, ◌≤◌, ℕ, ⊤, List, [], ◌∷◌, ◌++◌, option_to_list}
+use Rattle.std.specs.Prelude.{◌≡◌, ◌⊎◌, ◌≤◌, ℕ, ⊤, List, [], ◌∷◌, ◌++◌, Option, Some, None, option_to_list}
 use Rattle.ocf_types.specs.Answer.{moment}
 use Rattle.ocf_types.specs.Boot.{boot_event}
 use Rattle.ocf_types.specs.Kinds.{Event, Reply}
@@ -7,12 +7,16 @@ use Rattle.ocf_types.specs.State.{State, after_all}
 use Rattle.ocf_types.specs.declared.reply.Notice.{Notice}
 use Rattle.ocf_types.specs.declared.reply.TidyEnd.{TidyEnd}
 use Rattle.disk_model.specs.Image.{Image}
+use Rattle.disk_model.specs.Runs.{Goes}
 use Rattle.disk_model.specs.View.{View}
 use Rattle.child_keeper.specs.Children.{Asked, ChildrenView}
 use Rattle.exec_journal.specs.Found.{FoundAs}
+use Rattle.exec_journal.specs.Opening.{OpensLike}
 use Rattle.exec_journal.specs.Room.{Roomy}
 use Rattle.exec_turn.specs.Pieces.{HasBegin}
 use Rattle.executor.specs.Openings.{Opened, OpensDisk, booted}
+use Rattle.executor.specs.declared.opening.OpenError.{OpenError}
+use Rattle.executor.specs.declared.opening.OpenError.TheVariants.{Disk}
 use Rattle.executor.specs.Reports.{dropped, interrupted}
 use Rattle.executor.specs.Sessions.{Deeds, Input, Takes, both, no_deeds}
 use Rattle.executor.specs.Sights.{Sight}
@@ -70,28 +74,39 @@ pub record Serves {D : Type 0} (look : D → View) (x : Service D) : Type 0 wher
   pub goes_on : Calls look x.returned begun x.last x.under_way
   pub behind : (look x.returned.disk).clock ≤ x.stop
 
--- a sitting: an opening that was refused, or in which the stop came, from one disk to another; or a service
+-- a sitting: an opening that was refused for a fault, or in which the stop came, from one disk to another; or a service
 pub data Sitting (D : Type 0) : Type 0 where
-  InOpening : D → D → ℕ → Sitting D
+  InOpening : D → D → ℕ → Option OpenError → Sitting D
   InService : Service D → Sitting D
+
+-- an opening that ended so may have recorded its boot: the stop came in it, or the device failed
+abbrev pub MayBoot : Option OpenError → Type 0
+MayBoot None = ⊤
+MayBoot (Some Disk) = ⊤
+MayBoot (Some _) = ⊥
+
+-- An opening that was refused or stopped, at this moment: what it did to the disk, and no boot but where one may be.
+pub record EndsOpening (old new : View) (now : ℕ) (end : Option OpenError) : Type 0 where
+  pub did : OpensDisk old new now
+  pub unbooted : (MayBoot end → ⊥) → Goes old new (OpensLike old)
 
 -- the disk that its opening was handed, and the one that it worked on at its end
 abbrev pub first_disk : {D : Type 0} → Sitting D → D
-first_disk (InOpening old new now) = old
+first_disk (InOpening old new now end) = old
 first_disk (InService x) = x.disk
 
 abbrev pub last_disk : {D : Type 0} → Sitting D → D
-last_disk (InOpening old new now) = new
+last_disk (InOpening old new now end) = new
 last_disk (InService x) = x.last.disk
 
 -- what was done in it
 abbrev pub Sat : {D : Type 0} → (D → View) → Sitting D → Type 0
-Sat look (InOpening old new now) = OpensDisk (look old) (look new) now
+Sat look (InOpening old new now end) = EndsOpening (look old) (look new) now end
 Sat look (InService x) = Serves look x
 
 -- what its stop may have left
 abbrev pub StopLeaves : {D : Type 0} → (D → View) → Sitting D → Image → Type 0
-StopLeaves look (InOpening old new now) c = (look new).since (look old).clock c
+StopLeaves look (InOpening old new now end) c = (look new).since (look old).clock c
 StopLeaves look (InService x) c = (look x.last.disk).since x.stop c
 
 -- a life can begin on this pair: it is found as this state, and has room for its boot
@@ -127,11 +142,11 @@ pub record Stands {D : Type 0} (x : Service D) (p : List Event) : Type 0 where
   pub begins : (run clock : ℕ) → Asked (both x.done x.under_way).entries run clock → clock ≤ x.stop → HasBegin run p
 
 -- The events of a life that stand, from the state on with which it began: of each sitting its boot, which stands once the
--- opening was done, and so much of what its calls did.
+-- opening was done and may where it was stopped or its device failed, and so much of what its calls did.
 abbrev pub Lived : {D : Type 0} → State → List (Sitting D) → List Event → Type 0
 Lived start [] zs = zs ≡ []
-Lived {D} start (InOpening old new now ∷ older) zs =
-    (ys : List Event) × Lived start older ys × ((zs ≡ ys) ⊎ (zs ≡ ys ++ boots (after_all start ys) now))
+Lived {D} start (InOpening old new now end ∷ older) zs =
+    (ys : List Event) × Lived start older ys × ((zs ≡ ys) ⊎ (MayBoot end × (zs ≡ ys ++ boots (after_all start ys) now)))
 Lived {D} start (InService x ∷ older) zs =
     (ys : List Event) × (p : List Event) × Lived start older ys × Stands x p × (zs ≡ ys ++ (boots (after_all start ys) x.now ++ p))
 

@@ -47,7 +47,9 @@ pub record Boots {D : Type 0} (look : D → View) (now : ℕ) (old new : Sight D
   pub roomy : HasRoom old.place.tail old.state → Goes (look old.disk) (look new.disk) Roomy
   -- where nothing is queued or running nothing is written
   pub quiet : any_busy old.state ≡ false → new ≡ old
+  -- nor where it does not fit
   pub full : IsErrOf result slot.Full ↔ LacksBoot old.place.tail old.state
+  pub unwritten : IsErrOf result slot.Full → new.disk ≡ old.disk
   pub cause : IsErrOf result slot.Disk → Grew (look old.disk).failures (look new.disk).failures
 
 -- An opening at this moment of what is found on these parts: the state after its boot, all recurring monitors due at that
@@ -124,11 +126,13 @@ pub record NotOpened (old new : View) (from to : ChildrenView) (now : ℕ) (faul
   -- damage is what was found, and a disk fault has a cause
   pub damaged : new.honest → (d : Damage) → fault ≡ why.Damaged d → IsFound old.reads (Damaged d)
   pub cause : fault ≡ why.Disk → Grew old.failures new.failures
-  -- full where a boot is needed and does not fit: never where all that a stop might have left before has room
+  -- full where a boot is needed and does not fit, and the children are this journal's: never where all that a stop might have
+  -- left before has room
   pub full : new.honest → fault ≡ why.Full → LacksRoom old.reads
+  pub not_foreign : new.honest → fault ≡ why.Full → IsForeign old.reads from → ⊥
   pub never_full : (old.honest → AllRoomy old) → new.honest → fault ≡ why.Full → ⊥
-  -- want of memory comes before the boot's record
-  pub memory : fault ≡ why.Memory → Goes old new (OpensLike old)
+  -- a boot may be recorded only where the device failed
+  pub unbooted : (fault ≡ why.Disk → ⊥) → Goes old new (OpensLike old)
 
 -- why the journal was not opened, as the executor tells it
 abbrev pub told_fault : JournalFault → OpenError

@@ -29,6 +29,7 @@ commanded (command.Exec id task timeout) = id
 commanded (command.Recur id interval timeout level) = id
 commanded (command.Cancel id interval) = id
 commanded (command.Forget id) = id
+commanded (command.Withdraw id call) = id
 
 abbrev pub is_about : List ℕ → Request → Bool
 is_about id (asked.Command c) = bytes_eq id (commanded c)

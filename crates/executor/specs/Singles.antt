@@ -7,7 +7,7 @@ use Rattle.ocf_types.specs.Answer.{change_of, first_of, info_of}
 use Rattle.ocf_types.specs.Due.{IsPick, or_else, step_sets}
 use Rattle.ocf_types.specs.Kinds.{Change, Command, Event, Reply}
 use Rattle.ocf_types.specs.Limits.{event_limit, num_max, queue_limit, recurring_limit}
-use Rattle.ocf_types.specs.Resource.{Resource, is_busy, of_call, of_interval}
+use Rattle.ocf_types.specs.Resource.{Resource, is_busy, of_call, of_interval, queued_of}
 use Rattle.ocf_types.specs.Spelling.{spelled_event}
 use Rattle.ocf_types.specs.State.{registered, resource_at, stepped}
 use Rattle.ocf_types.specs.declared.command.CommandOf.TheVariants as command
@@ -19,7 +19,7 @@ use Rattle.ocf_types.specs.declared.event.Step.TheVariants as step
 use Rattle.ocf_types.specs.declared.operation.Running.{Running}
 use Rattle.ocf_types.specs.declared.outcome.StartFault.{StartFault}
 use Rattle.ocf_types.specs.declared.refusal.Refusal.{Refusal}
-use Rattle.ocf_types.specs.declared.refusal.Refusal.TheVariants.{Busy, Exists, NoSuchRecurring, QueueFull, RecurringFull, TooLarge}
+use Rattle.ocf_types.specs.declared.refusal.Refusal.TheVariants.{Busy, Exists, NoSuchRecurring, NotQueued, QueueFull, RecurringFull, TooLarge}
 use Rattle.ocf_types.specs.declared.refusal.Refusal.TheVariants.{UnknownResource}
 use Rattle.ocf_types.specs.declared.reply.ReplyOf.TheVariants as reply
 use Rattle.ocf_types.specs.declared.reply.TurnEnd.TheVariants.{Done}
@@ -107,6 +107,8 @@ single_tests resource (command.Recur id interval timeout level) size =
 single_tests resource (command.Cancel id interval) size =
     (UnknownResource, is_none resource) ∷ (NoSuchRecurring, holds resource (λ r. is_none (of_interval interval r.recurring))) ∷ []
 single_tests resource (command.Forget id) size = (UnknownResource, is_none resource) ∷ []
+single_tests resource (command.Withdraw id call) size =
+    (UnknownResource, is_none resource) ∷ (NotQueued, holds resource (λ r. is_none (queued_of call r.history.queue))) ∷ []
 
 -- the event that a command asks for, or the first refusal
 abbrev pub single_event : Option Resource → Event → Command → Result Event Refusal

@@ -1,5 +1,5 @@
 //! Laws of sessions and of whole lives, each the contract of a function that does nothing.
-ghost use Rattle.std.specs.Prelude.{◌≢◌, ℕ, List};
+ghost use Rattle.std.specs.Prelude.{◌≢◌, ℕ, List, Some};
 ghost use Rattle.std.specs.List.{AllByRecursion};
 ghost use Rattle.ocf_types.specs.Kinds.{Event, Reply};
 ghost use Rattle.ocf_types.specs.LawfulState.{IsLawfulState};
@@ -11,7 +11,7 @@ ghost use Rattle.child_keeper.specs.Children.{ChildrenView};
 ghost use Rattle.exec_journal.specs.Found.{FoundAs, IsFirstPart, IsFreshPair};
 ghost use Rattle.exec_journal.specs.Room.{Roomy};
 ghost use Rattle.exec_turn.specs.Lives.{Tends};
-ghost use Rattle.executor.specs.Lives.{BeginsAs, GoesOnFrom, IsLife, LifeLeaves, Lived, OpensBehind, Sitting};
+ghost use Rattle.executor.specs.Lives.{BeginsAs, GoesOnFrom, InOpening, IsLife, LifeLeaves, Lived, OpensBehind, Sat, Sitting};
 ghost use Rattle.executor.specs.Openings.{NotOpened, Opened};
 ghost use Rattle.executor.specs.Parts.{Apart, AreRising, IsPlain, entries_of_runs, events_of, own_runs, part};
 ghost use Rattle.executor.specs.Sessions.{Deeds, Input, Session};
@@ -48,6 +48,9 @@ pub fn tended_apart()
 /// opening behind a life gives the state after what stands, with what ran told as interrupted, and is never told of damage or
 /// of a full journal.
 ///
+/// An opening that was refused is such a sitting. Its boot may stand only where the device failed: want of memory, foreign
+/// children, a full journal and damage come before it.
+///
 /// A life begins on any pair that is found as a state and has room for its boot: so does a fresh pair, with the empty state,
 /// and a journal of the first layout, with what it leads to.
 pub fn whole_life<D: Disk>()
@@ -64,6 +67,8 @@ pub fn whole_life<D: Disk>()
         → IsLife D.view start life
         → GoesOnFrom D.view start life old → NotOpened (D.view old) (D.view new) from to now fault → (D.view new).honest
         → (fault ≢ why.Full) × ((d : Damage) → fault ≢ why.Damaged d) }
+    ensures refused { (old new : D) (from to : ChildrenView) (now : ℕ) (fault : OpenError)
+        → NotOpened (D.view old) (D.view new) from to now fault → Sat D.view (InOpening old new now (Some fault)) }
 {
     found_once();
     what_stands();

@@ -3,8 +3,8 @@ use crate::heaps::{Ended, done, grows, refused};
 use linked_list_allocator::LocalHeap;
 use ocf_env::{Instance, Site, Text, launch, launch_meta};
 use ocf_types::{
-    AgentType, CallId, Level, Millis, Moment, ParamName, ParamValue, Params, Provider, RscId,
-    RunId, Running, Task,
+    AgentType, CallId, Check, Expect, Level, Millis, Moment, ParamName, ParamValue, Params,
+    Provider, RscId, RunId, Running, Task,
 };
 use std::alloc::Global;
 
@@ -29,7 +29,10 @@ fn launched(site: &Site, instance: &Instance<'_, Params>, heap: &LocalHeap) -> O
     let running = Running {
         call: CallId::new(3)?,
         run: RunId::new(7)?,
-        task: Task::Monitor(Level::Ten),
+        task: Task::Monitor(Check {
+            level: Level::Ten,
+            expect: Expect::Success,
+        }),
         timeout: Millis::new(20_000)?,
         interval: 10_000,
         since: Moment::new(0)?,

@@ -29,8 +29,10 @@ fn ops(_: Global, heap: &LocalHeap) -> Option<Ended> {
     };
     let used = heap.used();
     ops.accept(op);
+    let withdrawn = ops.withdraw(op.call, Moment::cut(7)).is_ok();
+    ops.accept(op);
     ops.drop_all(Moment::cut(8));
-    Some(done(ops.ended_len() == 1 && heap.used() == used))
+    Some(done(withdrawn && ops.ended_len() == 2 && heap.used() == used))
 }
 
 fn from_parts(_: Global, heap: &LocalHeap) -> Option<Ended> {

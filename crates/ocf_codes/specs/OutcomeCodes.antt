@@ -3,7 +3,7 @@ use Rattle.std.specs.Prelude.{ℕ}
 use Rattle.ocf_types.specs.declared.outcome.StartFault.TheVariants.{Missing, Denied, Other}
 use Rattle.ocf_types.specs.declared.outcome.RunEnd.TheVariants.{Done, TimedOut, Signaled, Lost, NotStarted}
 use Rattle.ocf_types.specs.declared.outcome.Outcome.{Outcome}
-use Rattle.ocf_types.specs.declared.outcome.Outcome.TheVariants.{Run, Interrupted, Dropped}
+use Rattle.ocf_types.specs.declared.outcome.Outcome.TheVariants.{Run, Interrupted, Dropped, Cancelled}
 
 -- the agent's own code, or that of why there is none: OCF Resource Agent API 1.1, exit codes
 abbrev pub outcome_code : Outcome → ℕ
@@ -16,3 +16,4 @@ outcome_code (Run Signaled) = 1
 outcome_code (Run Lost) = 1
 outcome_code Interrupted = 1
 outcome_code Dropped = 1
+outcome_code Cancelled = 1

@@ -1,9 +1,28 @@
-//! Laws of the table, each the contract of a function that does nothing.
-ghost use Rattle.std.specs.Prelude.{◌≡◌, Contains};
+//! Laws of the tables, each the contract of a function that does nothing.
+ghost use Rattle.std.specs.Prelude.{◌≡◌, ℕ, Contains, true, not};
+ghost use Rattle.ocf_types.specs.Expected.{expect_code, has_failed, is_expected};
+ghost use Rattle.ocf_types.specs.declared.action.Action.{Action};
+ghost use Rattle.ocf_types.specs.declared.action.Action.TheVariants.{Monitor};
+ghost use Rattle.ocf_types.specs.declared.expect.Expect.{Expect};
+ghost use Rattle.ocf_types.specs.declared.outcome.RunEnd.{RunEnd};
+ghost use Rattle.ocf_types.specs.declared.outcome.Outcome.TheVariants.{Run};
 ghost use Rattle.ocf_codes.specs.ExitCodes.{Row, exit_codes, code_read, name_read};
+ghost use Rattle.ocf_codes.specs.OutcomeCodes.{outcome_code};
 
 /// Each row of the table is what is read at its number: no number has two rows.
 pub fn rows_are_read()
     ensures code { (row : Row) → Contains exit_codes row → code_read row.0 ≡ row.1 }
     ensures name { (row : Row) → Contains exit_codes row → name_read row.0 ≡ row.2 }
+{}
+
+/// A monitor may end with the code that is expected of it, and no code is expected by two expectations.
+pub fn one_expectation()
+    ensures own { (x : Expect) → is_expected Monitor x (expect_code x) ≡ true }
+    ensures one { (x y : Expect) (code : ℕ) → is_expected Monitor x code ≡ true → is_expected Monitor y code ≡ true → x ≡ y }
+{}
+
+/// A run has failed just where the code that stands for its end is not expected: one that gave no code by itself, too.
+pub fn failures_by_code()
+    ensures { (action : Action) (x : Expect) (end : RunEnd)
+        → has_failed action x (Run end) ≡ not (is_expected action x (outcome_code (Run end))) }
 {}

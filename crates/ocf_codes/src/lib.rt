@@ -1,9 +1,11 @@
-//! Exit codes of OCF resource agents, and the codes of outcomes.
+//! Exit codes of OCF resource agents, the codes of outcomes, and which ends have failed.
 #![tactic(auto)]
 
 mod exit_code;
+mod expectation;
 pub mod laws;
 mod outcome_code;
 
 pub use exit_code::{Code, name, read_code};
+pub use expectation::{expected, failed};
 pub use outcome_code::code_of;

@@ -20,5 +20,6 @@ pub fn code_of(outcome: Outcome) -> u8
         Outcome::Run(RunEnd::Lost) => 1,
         Outcome::Interrupted => 1,
         Outcome::Dropped => 1,
+        Outcome::Cancelled => 1,
     }
 }

@@ -4,7 +4,7 @@ use Rattle.std.specs.List.{Contains}
 use Rattle.ocf_types.specs.Params.{ParamList}
 use Rattle.ocf_types.specs.Actions.{level_number}
 use Rattle.ocf_types.specs.Kinds.{Registration}
-use Rattle.ocf_types.specs.declared.action.Level.{Level}
+use Rattle.ocf_types.specs.declared.action.Check.{Check}
 use Rattle.ocf_types.specs.declared.action.Task.{Task}
 use Rattle.ocf_types.specs.declared.action.Task.TheVariants as task
 use Rattle.ocf_env.specs.Places.{Place, Pair}
@@ -104,15 +104,15 @@ from_parts : (site : Place) (r : Registration) (t : Task) (x : Pair) → Among x
 from_parts site r t x (inl a) = from_version site r t x a
 from_parts site r t x (inr a) = from_behind site r t x (inr a)
 
-level_among : (t : Task) (depth : Level) → t ≡ task.Monitor depth
-    → Among (codes "OCF_CHECK_LEVEL", decimal (level_number depth)) (level_pairs t)
-level_among t depth e = rw e (inl refl)
+level_among : (t : Task) (check : Check) → t ≡ task.Monitor check
+    → Among (codes "OCF_CHECK_LEVEL", decimal (level_number check.level)) (level_pairs t)
+level_among t check e = rw e (inl refl)
 
 listed : (site : Place) (r : Registration) (t : Task) (name value : List ℕ) → IsVariable site r t name value
     → Among (name, value) (action_pairs site r t)
 listed site r t name value (of_agent v) = from_parts site r t (name, value) (in_parts site r.provider r.agent name value v).here
-listed site r t name value (level {depth} e) =
-    from_level site r t (codes "OCF_CHECK_LEVEL", decimal (level_number depth)) (level_among t depth e)
+listed site r t name value (level {check} e) =
+    from_level site r t (codes "OCF_CHECK_LEVEL", decimal (level_number check.level)) (level_among t check e)
 listed site r t name value instance = from_behind site r t (codes "OCF_RESOURCE_INSTANCE", r.id) (inl refl)
 listed site r t name value (parameter {name = p} {value = v} h) =
     from_rest site r t (reskey p, v)
@@ -120,8 +120,8 @@ listed site r t name value (parameter {name = p} {value = v} h) =
 
 -- what is in a part of the list is a variable
 level_only : (site : Place) (r : Registration) (t : Task) (x : Pair) → Among x (level_pairs t) → IsVariable site r t x.0 x.1
-level_only site r (task.Monitor depth) x (inl e) = subst (λ (p : Pair). IsVariable site r (task.Monitor depth) p.0 p.1) e (level refl)
-level_only site r (task.Monitor depth) x (inr a) = absurd a
+level_only site r (task.Monitor check) x (inl e) = subst (λ (p : Pair). IsVariable site r (task.Monitor check) p.0 p.1) e (level refl)
+level_only site r (task.Monitor check) x (inr a) = absurd a
 level_only site r task.Start x a = absurd a
 level_only site r task.Stop x a = absurd a
 level_only site r task.Promote x a = absurd a

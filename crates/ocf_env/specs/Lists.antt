@@ -12,7 +12,7 @@ use Rattle.ocf_env.specs.Variables.{reskey}
 
 -- OCF Resource Agent API 1.1, OCF_CHECK_LEVEL: of a monitor only
 abbrev pub level_pairs : Task → List Pair
-level_pairs (Monitor depth) = (codes "OCF_CHECK_LEVEL", decimal (level_number depth)) ∷ []
+level_pairs (Monitor check) = (codes "OCF_CHECK_LEVEL", decimal (level_number check.level)) ∷ []
 level_pairs _ = []
 
 -- OCF Resource Agent API 1.1, OCF_RA_VERSION_MAJOR and OCF_RA_VERSION_MINOR

@@ -3,7 +3,7 @@ use Rattle.std.specs.Prelude.{◌≡◌, ℕ, ◌&&◌, Bool, true, List, [], �
 use Rattle.ocf_types.specs.Params.{is_after}
 use Rattle.ocf_types.specs.Actions.{level_number}
 use Rattle.ocf_types.specs.Kinds.{Registration}
-use Rattle.ocf_types.specs.declared.action.Level.{Level}
+use Rattle.ocf_types.specs.declared.action.Check.{Check}
 use Rattle.ocf_types.specs.declared.action.Task.{Task}
 use Rattle.ocf_types.specs.declared.action.Task.TheVariants.{Monitor}
 use Rattle.ocf_env.specs.Places.{Place, Pair}
@@ -24,7 +24,7 @@ pub data IsAgentVariable (site : Place) (provider agent : List ℕ) : List ℕ �
 -- what an action has: the same, the level of a monitor, the instance, and each parameter
 pub data IsVariable (site : Place) (r : Registration) (task : Task) : List ℕ → List ℕ → Type 0 where
   of_agent : {name value : List ℕ} → IsAgentVariable site r.provider r.agent name value → IsVariable site r task name value
-  level : {depth : Level} → task ≡ Monitor depth → IsVariable site r task (codes "OCF_CHECK_LEVEL") (decimal (level_number depth))
+  level : {check : Check} → task ≡ Monitor check → IsVariable site r task (codes "OCF_CHECK_LEVEL") (decimal (level_number check.level))
   instance : IsVariable site r task (codes "OCF_RESOURCE_INSTANCE") r.id
   parameter : {name value : List ℕ} → Contains r.params (name, value) → IsVariable site r task (reskey name) value
 

@@ -46,8 +46,8 @@ pub fn push_level<A: Allocator + Copy>(
     ensures { OnOk result (pairs.new.items ≡ pairs.old.items ++ level_pairs task) }
 {
     match task {
-        Task::Monitor(level) => {
-            push_pair(alloc, pairs, "OCF_CHECK_LEVEL", level_text(level))?;
+        Task::Monitor(check) => {
+            push_pair(alloc, pairs, "OCF_CHECK_LEVEL", level_text(check.level))?;
             Ok(())
         },
         _ => Ok(()),

@@ -13,7 +13,7 @@ use Rattle.ocf_types.specs.Kinds.{Change, Event, Command}
 use Rattle.ocf_types.specs.Numbers.{IsMoment}
 use Rattle.ocf_types.specs.Lawful.{IsLawfulChange, IsLawfulCommand}
 use Rattle.ocf_types.specs.Spelling.{spelled_event, HasNoParams}
-use Rattle.ocf_types.specs.Resource.{Resource, is_busy, of_interval}
+use Rattle.ocf_types.specs.Resource.{Resource, is_busy, of_interval, queued_of}
 use Rattle.ocf_types.specs.State.{State, resource_at, IsRegistration}
 use Rattle.ocf_types.specs.Applies.{Applies, ChangeApplies, StepApplies, IsNext}
 use Rattle.ocf_types.specs.Boot.{any_busy, boot_at}
@@ -89,9 +89,9 @@ asked_applies s now (command.Exec id t timeout) h l p =
     let has_room = λ (r : Resource). leb 32 (length r.history.queue) ≡ false in
     let there = weaker_of (resource_at s id) has_room (StepApplies s.next_call s.next_run (step.Exec o))
     (λ r q. (leb-false _ _ q, next)) room in
-    applies_small s now (change.Step id (step.Exec o)) h (l.0, (h.next_call, l.1)) tt there
-asked_applies s now (command.Recur id interval timeout level) h l p =
-    let m : Recur = record { call = s.next_call; interval = interval; timeout = timeout; level = level } in
+    applies_small s now (change.Step id (step.Exec o)) h (l.0, (h.next_call, l.1, tt)) tt there
+asked_applies s now (command.Recur id interval timeout check) h l p =
+    let m : Recur = record { call = s.next_call; interval = interval; timeout = timeout; check = check } in
     let next : IsNext s.next_call s.next_call = next_is s h (eqb-false _ _ p.1.1.1.0) in
     let is_fresh = λ (r : Resource). is_some (of_interval interval r.recurring) ≡ false in
     let has_room = λ (r : Resource). leb 8 (length r.recurring) ≡ false in
@@ -100,7 +100,7 @@ asked_applies s now (command.Recur id interval timeout level) h l p =
     let there = weaker_of (resource_at s id) (λ r. is_fresh r × has_room r) (StepApplies s.next_call s.next_run (step.Recur m))
     (λ r q. (leb-false _ _ q.1, none_is (of_interval interval r.recurring) q.0, next))
     (both_of (resource_at s id) is_fresh has_room fresh room) in
-    applies_small s now (change.Step id (step.Recur m)) h (l.0, (h.next_call, l.1, l.2)) tt there
+    applies_small s now (change.Step id (step.Recur m)) h (l.0, (h.next_call, l.1, l.2, tt)) tt there
 asked_applies s now (command.Cancel id interval) h l p =
     let is_there = λ (r : Resource). is_none (of_interval interval r.recurring) ≡ false in
     let found = fails_at (resource_at s id) (λ r. is_none (of_interval interval r.recurring)) p.0 p.1.0 in
@@ -109,6 +109,12 @@ asked_applies s now (command.Cancel id interval) h l p =
     applies_small s now (change.Step id (step.Cancel interval)) h l tt there
 asked_applies s now (command.Forget id) h l p =
     applies_small s now (change.Step id step.Forget) h (l, tt) tt (holds_of (resource_at s id) (λ r. Unit {0}) p.0 (λ r. tt))
+asked_applies s now (command.Withdraw id call) h l p =
+    let is_there = λ (r : Resource). is_none (queued_of call r.history.queue) ≡ false in
+    let found = fails_at (resource_at s id) (λ r. is_none (queued_of call r.history.queue)) p.0 p.1.0 in
+    let there = weaker_of (resource_at s id) is_there (StepApplies s.next_call s.next_run (step.Withdraw call))
+    (λ r q. some_is (queued_of call r.history.queue) q) found in
+    applies_small s now (change.Step id (step.Withdraw call)) h (l.0, (l.1, tt)) tt there
 
 -- the event that a lawful command is at a lawful state applies there
 pub event_applies : (s : State) (now : ℕ) (c : Command) (e : Event) → IsLawfulState s → IsLawfulCommand c → event_of s now c ≡ Ok e

@@ -1,84 +1,114 @@
 -- Parts of a lawful resource: they stay lawful later, and with one more.
 use Rattle.std.proofs.Common.{◌≡◌, ◌≢◌, nat_eq, ℕ, ◌-◌, ◌≤◌, ◌<◌, ◌==◌, Bool, true, false, cond, List, [], ◌∷◌, ◌++◌, map, length, find}
-use Rattle.std.proofs.Common.{Option, Some, None, option_map, option_to_list, refl, ◌∙◌, arith, length-drop}
+use Rattle.std.proofs.Common.{Option, Some, None, option_map, option_and_then, option_to_list, refl, ◌∙◌, arith, length-drop}
 use Rattle.std.specs.List.{AllByRecursion, IsDistinct, list_any}
+use Rattle.std.specs.Option.{option_or}
 use Rattle.std.proofs.lemmas.Cmp.{nat_eq_equiv}
 use Rattle.std.proofs.lemmas.List.{map-append}
 use Rattle.std.proofs.lemmas.Map.Keys.{IsDistinct-push}
+use Rattle.ocf_types.specs.declared.layout.Layout.{Layout}
 use Rattle.ocf_types.specs.declared.operation.Op.{Op}
 use Rattle.ocf_types.specs.declared.operation.Recur.{Recur}
 use Rattle.ocf_types.specs.declared.operation.Running.{Running}
 use Rattle.ocf_types.specs.declared.operation.Ended.{Ended}
 use Rattle.ocf_types.specs.declared.outcome.Outcome.{Outcome}
-use Rattle.ocf_types.specs.declared.outcome.Outcome.TheVariants.{Dropped}
+use Rattle.ocf_types.specs.declared.outcome.RunEnd.{RunEnd}
+use Rattle.ocf_types.specs.declared.outcome.Outcome.TheVariants.{Run, Dropped, Cancelled}
+use Rattle.ocf_types.specs.Limits.{event_limit}
 use Rattle.ocf_types.specs.Numbers.{IsDrawn}
-use Rattle.ocf_types.specs.Lawful.{IsLawfulOp, IsLawfulRecur, IsLawfulRegistration}
+use Rattle.ocf_types.specs.Lawful.{IsLawfulOpIn, IsLawfulRecurIn, IsLawfulRegistration, IsRunEnd}
 use Rattle.ocf_types.specs.Kinds.{Registration}
 use Rattle.ocf_types.specs.Spelling.{spelled_params}
 use Rattle.ocf_types.specs.State.{Registry, registered}
-use Rattle.ocf_types.specs.Resource.{Resource, kept, last_ended, ended_of, dropped_of, run_of_op, run_of_monitor, of_interval}
-use Rattle.ocf_types.specs.LawfulState.{IsLawfulRunning, IsLawfulEnded, IsLawfulResource, IsOutcome}
+use Rattle.ocf_types.specs.Layouts.{kept_in, failed_in, CanEnd, KnowsWithdrawal}
+use Rattle.ocf_types.specs.Expected.{has_failed}
+use Rattle.ocf_types.specs.Actions.{action_of, expect_of}
+use Rattle.ocf_types.specs.declared.layout.Layout.TheVariants.{First, Second}
+use Rattle.ocf_types.specs.Resource.{History, Resource, last_in, ended_of, dropped_of, failed_of, failed_after, run_of_op, run_of_monitor, of_interval}
+use Rattle.ocf_types.specs.Resource.{cancelled_of, queued_of}
+use Rattle.ocf_types.specs.LawfulState.{IsLawfulRunningIn, IsLawfulEndedIn, IsLawfulFailed, IsLawfulResourceIn, IsOutcome, NeverBegan}
 use Rattle.ocf_types.specs.Laws.{distinct_none, each_append, each_weaken}
 use Rattle.ocf_types.proofs.Lists.{each_drop}
 
 -- a queued action, with a call below a number
-abbrev pub IsQueued : ℕ → Op → Type 0
-IsQueued n o = IsLawfulOp o × (o.call < n)
+abbrev pub IsQueued : Layout → ℕ → Op → Type 0
+IsQueued layout n o = IsLawfulOpIn layout o × (o.call < n)
 
 -- a recurring monitor, with a call below a number
-abbrev pub IsRecurring : ℕ → Recur → Type 0
-IsRecurring n m = IsLawfulRecur m × (m.call < n)
+abbrev pub IsRecurring : Layout → ℕ → Recur → Type 0
+IsRecurring layout n m = IsLawfulRecurIn layout m × (m.call < n)
 
 module _ (n k clock n' k' clock' : ℕ) (calls : n ≤ n') (runs : k ≤ k') (moments : clock ≤ clock') where
   -- results stay lawful later
-  pub ended_weaken : (xs : List Ended) → AllByRecursion (IsLawfulEnded n k clock) xs → AllByRecursion (IsLawfulEnded n' k' clock') xs
-  ended_weaken xs h = each_weaken (IsLawfulEnded n k clock) (IsLawfulEnded n' k' clock')
+  pub ended_weaken : (layout : Layout) (xs : List Ended) → AllByRecursion (IsLawfulEndedIn layout n k clock) xs
+      → AllByRecursion (IsLawfulEndedIn layout n' k' clock') xs
+  ended_weaken layout xs h = each_weaken (IsLawfulEndedIn layout n k clock) (IsLawfulEndedIn layout n' k' clock')
       (λ x p. record {
         drawn = p.drawn;
         call = omega (arith, p.call);
         run = omega (arith, p.run);
-        dropped = p.dropped;
+        unbegun = p.unbegun;
         interval = p.interval;
         since = omega (arith, p.since);
         at = omega (arith, p.at);
         outcome = p.outcome;
+        known = p.known;
       })
       xs h
 
-  -- what runs stays lawful later
-  pub running_weaken : (o : Option Running) → IsLawfulRunning n k clock o → IsLawfulRunning n' k' clock' o
-  running_weaken None h = tt
-  running_weaken (Some x) h = (h.0, omega (arith, h.1), h.2, omega (arith, h.3), h.4, h.5, omega (arith, h.6))
+  -- what failed last stays lawful later
+  pub failed_weaken : (o : Option Ended) → IsLawfulFailed n k clock o → IsLawfulFailed n' k' clock' o
+  failed_weaken None h = tt
+  failed_weaken (Some x) h = ((ended_weaken Second (x ∷ []) (h.0, tt)).0, h.1)
 
+  -- what runs stays lawful later
+  pub running_weaken : (layout : Layout) (o : Option Running) → IsLawfulRunningIn layout n k clock o → IsLawfulRunningIn layout n' k' clock' o
+  running_weaken layout None h = tt
+  running_weaken layout (Some x) h = (h.0, omega (arith, h.1), h.2, omega (arith, h.3), h.4, h.5, omega (arith, h.6), h.7)
+
+module _ (layout : Layout) (n k clock n' k' clock' : ℕ) (calls : n ≤ n') (runs : k ≤ k') (moments : clock ≤ clock') where
   -- a resource stays lawful later
-  pub lawful_weaken : (r : Resource) → IsLawfulResource n k clock r → IsLawfulResource n' k' clock' r
+  pub lawful_weaken : (r : Resource) → IsLawfulResourceIn layout n k clock r → IsLawfulResourceIn layout n' k' clock' r
   lawful_weaken r h = record {
     provider = h.provider;
     agent = h.agent;
     are_params = h.are_params;
     params_len = h.params_len;
     queue_len = h.queue_len;
-    queue = each_weaken (IsQueued n) (IsQueued n') (λ o p. (p.0, omega (arith, p.1))) r.history.queue h.queue;
+    queue = each_weaken (IsQueued layout n) (IsQueued layout n') (λ o p. (p.0, omega (arith, p.1))) r.history.queue h.queue;
     queue_ascends = h.queue_ascends;
-    running = running_weaken r.history.running h.running;
+    running = running_weaken n k clock n' k' clock' calls runs moments layout r.history.running h.running;
     recurring_len = h.recurring_len;
-    recurring = each_weaken (IsRecurring n) (IsRecurring n') (λ m p. (p.0, omega (arith, p.1))) r.recurring h.recurring;
+    recurring = each_weaken (IsRecurring layout n) (IsRecurring layout n') (λ m p. (p.0, omega (arith, p.1))) r.recurring h.recurring;
     recurring_ascends = h.recurring_ascends;
     intervals = h.intervals;
     ended_len = h.ended_len;
-    ended = ended_weaken r.history.ended h.ended;
+    ended = ended_weaken n k clock n' k' clock' calls runs moments layout r.history.ended h.ended;
+    failed = failed_weaken n k clock n' k' clock' calls runs moments r.history.failed h.failed;
+    known = h.known;
   }
 
   -- resources stay lawful later
-  pub resources_weaken : (rs : Registry) → AllByRecursion (λ e. IsLawfulResource n k clock e.1) rs
-      → AllByRecursion (λ e. IsLawfulResource n' k' clock' e.1) rs
+  pub resources_weaken : (rs : Registry) → AllByRecursion (λ e. IsLawfulResourceIn layout n k clock e.1) rs
+      → AllByRecursion (λ e. IsLawfulResourceIn layout n' k' clock' e.1) rs
   resources_weaken rs h =
-      each_weaken (λ e. IsLawfulResource n k clock e.1) (λ e. IsLawfulResource n' k' clock' e.1) (λ e l. lawful_weaken e.1 l) rs h
+      each_weaken (λ e. IsLawfulResourceIn layout n k clock e.1) (λ e. IsLawfulResourceIn layout n' k' clock' e.1)
+      (λ e l. lawful_weaken e.1 l) rs h
+
+-- no layout knows of a failure where there is none
+pub none_known : (layout : Layout) → failed_in layout None ≡ None
+none_known First = refl
+none_known Second = refl
+
+-- what a layout knows, it knows again
+pub known_again : (layout : Layout) (o : Option Ended) → failed_in layout (failed_in layout o) ≡ failed_in layout o
+known_again First o = refl
+known_again Second o = refl
 
 -- a resource is lawful as it is registered
-pub lawful_registered : (n k at : ℕ) (r : Registration) → IsLawfulRegistration r → length (spelled_params r.params) ≤ 16384
-    → IsLawfulResource n k at (registered r).1
-lawful_registered n k at r w short = record {
+pub lawful_registered : (layout : Layout) (n k at : ℕ) (r : Registration) → IsLawfulRegistration r
+    → length (spelled_params r.params) ≤ event_limit → IsLawfulResourceIn layout n k at (registered r).1
+lawful_registered layout n k at r w short = record {
   provider = w.provider;
   agent = w.agent;
   are_params = w.params;
@@ -93,68 +123,118 @@ lawful_registered n k at r w short = record {
   intervals = distinct_none nat_eq;
   ended_len = omega arith;
   ended = tt;
+  failed = tt;
+  known = none_known layout;
 }
 
--- at most sixteen results are kept
-pub length-last : (xs : List Ended) → length (last_ended xs) ≤ kept
-length-last xs = omega (arith, length-drop (length xs - 16) xs)
+-- no more results are kept than a layout keeps
+pub length-last : (layout : Layout) (xs : List Ended) → length (last_in layout xs) ≤ kept_in layout
+length-last layout xs = omega (arith, length-drop (length xs - kept_in layout) xs)
 
 -- the results that are kept of two lists of lawful ones
-pub ended_push : (n k clock : ℕ) (xs ys : List Ended) → AllByRecursion (IsLawfulEnded n k clock) xs
-    → AllByRecursion (IsLawfulEnded n k clock) ys
-    → AllByRecursion (IsLawfulEnded n k clock) (last_ended (xs ++ ys))
-ended_push n k clock xs ys h g =
-    each_drop (IsLawfulEnded n k clock) (length (xs ++ ys) - 16) (xs ++ ys) (each_append (IsLawfulEnded n k clock) xs ys h g)
+pub ended_push : (layout : Layout) (n k clock : ℕ) (xs ys : List Ended) → AllByRecursion (IsLawfulEndedIn layout n k clock) xs
+    → AllByRecursion (IsLawfulEndedIn layout n k clock) ys
+    → AllByRecursion (IsLawfulEndedIn layout n k clock) (last_in layout (xs ++ ys))
+ended_push layout n k clock xs ys h g =
+    each_drop (IsLawfulEndedIn layout n k clock) (length (xs ++ ys) - kept_in layout) (xs ++ ys)
+    (each_append (IsLawfulEndedIn layout n k clock) xs ys h g)
 
--- the result of what ran, unless it was dropped
-pub ended_running : (n k at : ℕ) (outcome : Outcome) (o : Option Running) → IsOutcome outcome → outcome ≢ Dropped → IsLawfulRunning n k at o
-    → AllByRecursion (IsLawfulEnded n k at) (map (ended_of outcome at) (option_to_list o))
-ended_running n k at outcome None is other h = tt
-ended_running n k at outcome (Some x) is other h = (
+-- the result of what ran, by an outcome of what began
+pub ended_running : (layout : Layout) (n k at : ℕ) (outcome : Outcome) (o : Option Running) → IsOutcome outcome → (NeverBegan outcome → ⊥)
+    → CanEnd layout outcome → IsLawfulRunningIn layout n k at o
+    → AllByRecursion (IsLawfulEndedIn layout n k at) (map (ended_of outcome at) (option_to_list o))
+ended_running layout n k at outcome None is other known h = tt
+ended_running layout n k at outcome (Some x) is other known h = (
   record {
     drawn = h.0;
     call = h.1;
     run = h.3;
-    dropped = (λ z. absurd (omega (arith, h.2.0)), λ e. absurd (other e));
+    unbegun = (λ z. absurd (omega (arith, h.2.0)), λ e. absurd (other e));
     interval = h.5;
     since = h.6;
     at = omega arith;
     outcome = is;
+    known = known;
   },
   tt,
 )
 
+-- what failed last, once what ran has ended
+pub failed_push : (layout : Layout) (n k at : ℕ) (end : RunEnd) (h : History) → IsRunEnd end → IsLawfulRunningIn layout n k at h.running
+    → IsLawfulFailed n k at h.failed → IsLawfulFailed n k at (failed_in layout (failed_after (Run end) at h))
+failed_push First n k at end h is l f = tt
+failed_push Second n k at end h is l f = by h.running l
+  where
+    by : (o : Option Running) → IsLawfulRunningIn Second n k at o
+        → IsLawfulFailed n k at (option_or (option_and_then (failed_of (Run end) at) o) h.failed)
+    by None r = f
+    by (Some x) r = last (has_failed (action_of x.task) (expect_of x.task) (Run end))
+      where
+        last : (b : Bool) → IsLawfulFailed n k at (option_or (cond b (Some (ended_of (Run end) at x)) None) h.failed)
+        last true = ((ended_running Second n k at (Run end) (Some x) is (λ e. e) tt r).0, tt)
+        last false = f
+
 -- the results of what was queued
-pub ended_dropped : (n k at : ℕ) (os : List Op) → 1 ≤ k → AllByRecursion (IsQueued n) os
-    → AllByRecursion (IsLawfulEnded n k at) (map (dropped_of at) os)
-ended_dropped n k at [] one h = tt
-ended_dropped n k at (o ∷ os) one h = (
+pub ended_dropped : (layout : Layout) (n k at : ℕ) (os : List Op) → 1 ≤ k → AllByRecursion (IsQueued layout n) os
+    → AllByRecursion (IsLawfulEndedIn layout n k at) (map (dropped_of at) os)
+ended_dropped layout n k at [] one h = tt
+ended_dropped layout n k at (o ∷ os) one h = (
   record {
     drawn = h.0.0.0;
     call = h.0.1;
     run = one;
-    dropped = (λ z. refl, λ e. refl);
+    unbegun = (λ z. tt, λ e. refl);
     interval = (omega arith, λ p. absurd (omega arith));
     since = omega arith;
     at = omega arith;
     outcome = tt;
+    known = tt;
   },
-  ended_dropped n k at os one h.1,
+  ended_dropped layout n k at os one h.1,
 )
 
+-- the result of the queued action of a call
+pub ended_cancelled : (layout : Layout) (n k at call : ℕ) (os : List Op) → 1 ≤ k → KnowsWithdrawal layout
+    → AllByRecursion (IsQueued layout n) os
+    → AllByRecursion (IsLawfulEndedIn layout n k at) (map (cancelled_of at) (option_to_list (queued_of call os)))
+ended_cancelled layout n k at call [] one knows h = tt
+ended_cancelled layout n k at call (o ∷ os) one knows h = by (o.call == call) (ended_cancelled layout n k at call os one knows h.1)
+  where
+    results : Bool → List Ended
+    results b = map (cancelled_of at) (option_to_list (cond b (Some o) (queued_of call os)))
+
+    by : (b : Bool) → AllByRecursion (IsLawfulEndedIn layout n k at) (results false)
+        → AllByRecursion (IsLawfulEndedIn layout n k at) (results b)
+    by true rest = (
+      record {
+        drawn = h.0.0.0;
+        call = h.0.1;
+        run = one;
+        unbegun = (λ z. tt, λ e. refl);
+        interval = (omega arith, λ p. absurd (omega arith));
+        since = omega arith;
+        at = omega arith;
+        outcome = tt;
+        known = knows;
+      },
+      tt,
+    )
+    by false rest = rest
+
 -- the run of a queued action
-pub running_op : (n k at run : ℕ) (o : Op) → IsDrawn run → run < k → IsQueued n o → IsLawfulRunning n k at (Some (run_of_op run at o))
-running_op n k at run o drawn lt h = (h.0.0, h.1, drawn, lt, h.0.1, (omega arith, λ p. absurd (omega arith)), omega arith)
+pub running_op : (layout : Layout) (n k at run : ℕ) (o : Op) → IsDrawn run → run < k → IsQueued layout n o
+    → IsLawfulRunningIn layout n k at (Some (run_of_op run at o))
+running_op layout n k at run o drawn lt h = (h.0.0, h.1, drawn, lt, h.0.1, (omega arith, λ p. absurd (omega arith)), omega arith, h.0.2)
 
 -- the run of a monitor that is there
-pub running_monitor : (n k at run : ℕ) (test : Recur → Bool) (ms : List Recur) → IsDrawn run → run < k → AllByRecursion (IsRecurring n) ms
-    → IsLawfulRunning n k at (option_map (run_of_monitor run at) (find test ms))
-running_monitor n k at run test [] drawn lt h = tt
-running_monitor n k at run test (m ∷ ms) drawn lt h = by (test m) (running_monitor n k at run test ms drawn lt h.1)
+pub running_monitor : (layout : Layout) (n k at run : ℕ) (test : Recur → Bool) (ms : List Recur) → IsDrawn run → run < k
+    → AllByRecursion (IsRecurring layout n) ms → IsLawfulRunningIn layout n k at (option_map (run_of_monitor run at) (find test ms))
+running_monitor layout n k at run test [] drawn lt h = tt
+running_monitor layout n k at run test (m ∷ ms) drawn lt h = by (test m) (running_monitor layout n k at run test ms drawn lt h.1)
   where
-    by : (b : Bool) → IsLawfulRunning n k at (option_map (run_of_monitor run at) (find test ms))
-        → IsLawfulRunning n k at (option_map (run_of_monitor run at) (cond b (Some m) (find test ms)))
-    by true rest = (h.0.0.0, h.0.1, drawn, lt, h.0.0.2, (h.0.0.1.1, λ p. refl), omega arith)
+    by : (b : Bool) → IsLawfulRunningIn layout n k at (option_map (run_of_monitor run at) (find test ms))
+        → IsLawfulRunningIn layout n k at (option_map (run_of_monitor run at) (cond b (Some m) (find test ms)))
+    by true rest = (h.0.0.0, h.0.1, drawn, lt, h.0.0.2, (h.0.0.1.1, λ p. refl), omega arith, h.0.0.3)
     by false rest = rest
 
 -- an interval that is not found is that of no monitor

@@ -6,6 +6,8 @@ pub mod InsertLemmas
 pub mod SpellingExamples
 pub mod StateExamples
 pub mod RuleExamples
+pub mod FailureExamples
+pub mod WithdrawExamples
 pub mod Lengths
 pub mod StateLengths
 pub mod Lists

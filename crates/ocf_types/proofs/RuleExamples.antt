@@ -2,7 +2,7 @@
 use Rattle.std.proofs.Common.{◌≡◌, ℕ, ◌-◌, ◌*◌, min, ◌≤◌, ◌<◌, List, [], ◌∷◌, Option, Some, None, Ok, Err, refl, arith, inl, inr}
 use Rattle.std.specs.Prelude.{codes, replicate, option_map, IsSomeAnd, All}
 use Rattle.std.proofs.lemmas.List.Elements.{All-from_recursion}
-use Rattle.ocf_types.specs.declared.action.Level.TheVariants.{Zero}
+use Rattle.ocf_types.specs.Actions.{plain}
 use Rattle.ocf_types.specs.declared.action.Action.TheVariants as action
 use Rattle.ocf_types.specs.declared.action.Task.{Task}
 use Rattle.ocf_types.specs.declared.action.Task.TheVariants as task
@@ -36,7 +36,7 @@ abbrev op : ℕ → Task → Op
 op call what = record { call = call; task = what; timeout = 20000 }
 
 abbrev monitor : ℕ → ℕ → Recur
-monitor call interval = record { call = call; interval = interval; timeout = 20000; level = Zero }
+monitor call interval = record { call = call; interval = interval; timeout = 20000; check = plain }
 
 abbrev registered : State
 registered = after empty (at 0 (change.Register dummy))
@@ -107,11 +107,11 @@ queue_full = refl
 abbrev eight : List Recur
 eight = monitor 1 1 ∷ monitor 2 2 ∷ monitor 3 3 ∷ monitor 4 4 ∷ monitor 5 5 ∷ monitor 6 6 ∷ monitor 7 7 ∷ monitor 8 8 ∷ []
 
-recurring_full : event_of (with_resource 9 [] eight) 0 (command.Recur r1 9 20000 Zero) ≡ Err RecurringFull
+recurring_full : event_of (with_resource 9 [] eight) 0 (command.Recur r1 9 20000 plain) ≡ Err RecurringFull
 unfolding two_bytes four_bytes eight_bytes spelled_event_in
 recurring_full = refl
 
-same_interval : event_of (with_resource 9 [] eight) 0 (command.Recur r1 8 20000 Zero) ≡ Err Exists
+same_interval : event_of (with_resource 9 [] eight) 0 (command.Recur r1 8 20000 plain) ≡ Err Exists
 unfolding two_bytes four_bytes eight_bytes spelled_event_in
 same_interval = refl
 

@@ -1,4 +1,4 @@
--- Actions, their words, and the levels of monitors.
+-- Actions, their words, and the checks of monitors.
 use Rattle.std.specs.Prelude.{ℕ, ◌==◌, List, [], ◌∷◌, Option, Some, None, codes}
 use Rattle.std.specs.List.{find}
 use Rattle.std.specs.Str.{bytes_eq}
@@ -6,8 +6,11 @@ use Rattle.ocf_types.specs.declared.action.Action.{Action}
 use Rattle.ocf_types.specs.declared.action.Action.TheVariants as action
 use Rattle.ocf_types.specs.declared.action.Level.{Level}
 use Rattle.ocf_types.specs.declared.action.Level.TheVariants.{Zero, Ten, Twenty}
+use Rattle.ocf_types.specs.declared.action.Check.{Check}
 use Rattle.ocf_types.specs.declared.action.Task.{Task}
 use Rattle.ocf_types.specs.declared.action.Task.TheVariants as task
+use Rattle.ocf_types.specs.declared.expect.Expect.{Expect}
+use Rattle.ocf_types.specs.declared.expect.Expect.TheVariants.{Success}
 
 -- the agent's argument: OCF Resource Agent API 1.1, actions
 abbrev pub action_word : Action → List ℕ
@@ -40,28 +43,36 @@ level_numbered n = find (λ l. n == level_number l) (Zero ∷ Ten ∷ Twenty ∷
 abbrev pub action_of : Task → Action
 action_of task.Start = action.Start
 action_of task.Stop = action.Stop
-action_of (task.Monitor level) = action.Monitor
+action_of (task.Monitor check) = action.Monitor
 action_of task.Promote = action.Promote
 action_of task.Demote = action.Demote
 action_of task.ReloadAgent = action.ReloadAgent
 action_of task.ValidateAll = action.ValidateAll
 
--- the level of a task, which is 0 unless it is a monitor
-abbrev pub level_of : Task → Level
-level_of (task.Monitor level) = level
-level_of _ = Zero
+-- the check of every action but a monitor: its level is 0, and it is to succeed
+abbrev pub plain : Check
+plain = record { level = Zero; expect = Success }
 
--- an action other than a monitor has the level 0
-abbrev pub plain_task : Task → Level → Option Task
-plain_task t Zero = Some t
-plain_task t _ = None
+-- the check of a task
+abbrev pub check_of : Task → Check
+check_of (task.Monitor check) = check
+check_of _ = plain
 
--- the task of an action and a level
-abbrev pub task_of : Action → Level → Option Task
-task_of action.Start level = plain_task task.Start level
-task_of action.Stop level = plain_task task.Stop level
-task_of action.Monitor level = Some (task.Monitor level)
-task_of action.Promote level = plain_task task.Promote level
-task_of action.Demote level = plain_task task.Demote level
-task_of action.ReloadAgent level = plain_task task.ReloadAgent level
-task_of action.ValidateAll level = plain_task task.ValidateAll level
+-- what a task is expected to find
+abbrev pub expect_of : Task → Expect
+expect_of t = (check_of t).expect
+
+-- an action other than a monitor has the plain check
+abbrev pub plain_task : Task → Level → Expect → Option Task
+plain_task t Zero Success = Some t
+plain_task t _ _ = None
+
+-- the task of an action and a check
+abbrev pub task_of : Action → Check → Option Task
+task_of action.Start check = plain_task task.Start check.level check.expect
+task_of action.Stop check = plain_task task.Stop check.level check.expect
+task_of action.Monitor check = Some (task.Monitor check)
+task_of action.Promote check = plain_task task.Promote check.level check.expect
+task_of action.Demote check = plain_task task.Demote check.level check.expect
+task_of action.ReloadAgent check = plain_task task.ReloadAgent check.level check.expect
+task_of action.ValidateAll check = plain_task task.ValidateAll check.level check.expect

@@ -5,7 +5,7 @@ use Rattle.std.specs.Option.{option_map_or}
 use Rattle.ocf_types.specs.Limits.{num_max, event_limit, resources_limit, queue_limit, recurring_limit}
 use Rattle.ocf_types.specs.Kinds.{Change, Event, Command, Info, Reply}
 use Rattle.ocf_types.specs.Spelling.{spelled_event}
-use Rattle.ocf_types.specs.Resource.{Resource, is_busy, of_interval}
+use Rattle.ocf_types.specs.Resource.{Resource, is_busy, of_interval, queued_of}
 use Rattle.ocf_types.specs.State.{State, resource_at}
 use Rattle.ocf_types.specs.declared.command.CommandOf.TheVariants as command
 use Rattle.ocf_types.specs.declared.command.Question.{Question}
@@ -14,7 +14,7 @@ use Rattle.ocf_types.specs.declared.event.Step.TheVariants as step
 use Rattle.ocf_types.specs.declared.event.Change.TheVariants as change
 use Rattle.ocf_types.specs.declared.refusal.Refusal.{Refusal}
 use Rattle.ocf_types.specs.declared.refusal.Refusal.TheVariants.{UnknownResource, Exists, Busy, QueueFull, RecurringFull, NoSuchRecurring}
-use Rattle.ocf_types.specs.declared.refusal.Refusal.TheVariants.{TooManyResources, TooLarge, CallsSpent}
+use Rattle.ocf_types.specs.declared.refusal.Refusal.TheVariants.{NotQueued, TooManyResources, TooLarge, CallsSpent}
 use Rattle.ocf_types.specs.declared.reply.ReplyOf.TheVariants as reply
 
 -- the moment of what happens now: a clock that is handed in is cut at the greatest moment, and never goes back
@@ -27,10 +27,11 @@ change_of call (command.Register r) = change.Register r
 change_of call (command.Unregister id) = change.Unregister id
 change_of call (command.SetParams id ps) = change.Step id (step.SetParams ps)
 change_of call (command.Exec id t timeout) = change.Step id (step.Exec (record { call = call; task = t; timeout = timeout }))
-change_of call (command.Recur id interval timeout level) =
-    change.Step id (step.Recur (record { call = call; interval = interval; timeout = timeout; level = level }))
+change_of call (command.Recur id interval timeout check) =
+    change.Step id (step.Recur (record { call = call; interval = interval; timeout = timeout; check = check }))
 change_of call (command.Cancel id interval) = change.Step id (step.Cancel interval)
 change_of call (command.Forget id) = change.Step id step.Forget
+change_of call (command.Withdraw id queued) = change.Step id (step.Withdraw queued)
 
 -- the command asks for a registration
 abbrev pub IsRegister : Command → Type 0
@@ -55,12 +56,14 @@ tests s (command.SetParams id ps) size = (UnknownResource, is_none (resource_at 
 tests s (command.Exec id t timeout) size =
     (UnknownResource, is_none (resource_at s id)) ∷ (QueueFull, holds_at s id (λ r. nat_le queue_limit (length r.history.queue)))
     ∷ (CallsSpent, s.next_call == num_max) ∷ []
-tests s (command.Recur id interval timeout level) size =
+tests s (command.Recur id interval timeout check) size =
     (UnknownResource, is_none (resource_at s id)) ∷ (Exists, holds_at s id (λ r. is_some (of_interval interval r.recurring)))
     ∷ (RecurringFull, holds_at s id (λ r. nat_le recurring_limit (length r.recurring))) ∷ (CallsSpent, s.next_call == num_max) ∷ []
 tests s (command.Cancel id interval) size =
     (UnknownResource, is_none (resource_at s id)) ∷ (NoSuchRecurring, holds_at s id (λ r. is_none (of_interval interval r.recurring))) ∷ []
 tests s (command.Forget id) size = (UnknownResource, is_none (resource_at s id)) ∷ []
+tests s (command.Withdraw id call) size =
+    (UnknownResource, is_none (resource_at s id)) ∷ (NotQueued, holds_at s id (λ r. is_none (queued_of call r.history.queue))) ∷ []
 
 -- the first refusal whose test holds, else the event
 abbrev pub first_of : List (Refusal × Bool) → Event → Result Event Refusal
@@ -81,6 +84,7 @@ info_of id r = record {
   queued = record { items = map (λ o. o.call) r.history.queue };
   running = r.history.running;
   recurring = record { items = r.recurring };
+  failed = r.history.failed;
 }
 
 -- what is said of the resource of an id, or that there is none

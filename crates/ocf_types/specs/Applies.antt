@@ -3,7 +3,7 @@ use Rattle.std.specs.Prelude.{◌≡◌, ℕ, ◌<◌, ◌≤◌, List, [], ◌�
 use Rattle.ocf_types.specs.Limits.{num_max, resources_limit, queue_limit, recurring_limit}
 use Rattle.ocf_types.specs.Kinds.{Step, Change, Event}
 use Rattle.ocf_types.specs.Lawful.{HasSpellingIn}
-use Rattle.ocf_types.specs.Resource.{Resource, is_busy, of_call, of_interval}
+use Rattle.ocf_types.specs.Resource.{Resource, is_busy, of_call, of_interval, queued_of}
 use Rattle.ocf_types.specs.State.{State, resource_at}
 use Rattle.ocf_types.specs.Boot.{any_busy}
 use Rattle.ocf_types.specs.declared.layout.Layout.{Layout}
@@ -33,6 +33,7 @@ StepApplies next_call next_run step.Forget r = ⊤
 StepApplies next_call next_run (step.Begin call run) r =
     (r.history.running ≡ None) × IsReady r.history.queue r.recurring call × IsNext run next_run
 StepApplies next_call next_run (step.Result run end) r = IsSomeAnd r.history.running (λ x. x.run ≡ run)
+StepApplies next_call next_run (step.Withdraw call) r = IsSome (queued_of call r.history.queue)
 
 -- where a change applies
 abbrev pub ChangeApplies : State → Change → Type 0

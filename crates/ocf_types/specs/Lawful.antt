@@ -1,10 +1,13 @@
--- Lawful events and commands: a clause that ranges over all of them ranges over all numbers and lists.
+-- Lawful events and commands: a clause that ranges over all of them ranges over all numbers and lists. What a layout can't
+-- say is not lawful in it; the name without a layout is that of the second.
 use Rattle.std.specs.Prelude.{◌≡◌, ℕ, ◌≤◌, ◌<◌, IsTrue, List, ◌++◌, length, ⊤}
 use Rattle.ocf_types.specs.Limits.{event_limit}
 use Rattle.ocf_types.specs.Names.{is_rsc_id, is_provider, is_agent_type}
 use Rattle.ocf_types.specs.Numbers.{IsMoment, IsDrawn, IsMillis}
 use Rattle.ocf_types.specs.Params.{AreParams}
 use Rattle.ocf_types.specs.Kinds.{Registration, Step, Change, Event, Command}
+use Rattle.ocf_types.specs.Actions.{expect_of}
+use Rattle.ocf_types.specs.Layouts.{CanExpect, KnowsWithdrawal}
 use Rattle.ocf_types.specs.Spelling.{spelled_event_in}
 use Rattle.ocf_types.specs.declared.layout.Layout.{Layout}
 use Rattle.ocf_types.specs.declared.layout.Layout.TheVariants.{Second}
@@ -25,41 +28,57 @@ pub record IsLawfulRegistration (r : Registration) : Type 0 where
   pub agent : IsTrue (is_agent_type r.agent)
   pub params : AreParams r.params
 
--- an accepted action has a call id and a timeout
-abbrev pub IsLawfulOp : Op → Type 0
-IsLawfulOp o = IsDrawn o.call × IsMillis o.timeout
+-- an accepted action has a call id, a timeout, and an expectation that the layout can say
+abbrev pub IsLawfulOpIn : Layout → Op → Type 0
+IsLawfulOpIn layout o = IsDrawn o.call × IsMillis o.timeout × CanExpect layout (expect_of o.task)
 
--- a recurring monitor has a call id, an interval and a timeout
+abbrev pub IsLawfulOp : Op → Type 0
+IsLawfulOp o = IsLawfulOpIn Second o
+
+-- a recurring monitor has a call id, an interval, a timeout, and an expectation that the layout can say
+abbrev pub IsLawfulRecurIn : Layout → Recur → Type 0
+IsLawfulRecurIn layout m = IsDrawn m.call × IsMillis m.interval × IsMillis m.timeout × CanExpect layout m.check.expect
+
 abbrev pub IsLawfulRecur : Recur → Type 0
-IsLawfulRecur m = IsDrawn m.call × IsMillis m.interval × IsMillis m.timeout
+IsLawfulRecur m = IsLawfulRecurIn Second m
 
 -- an exit code is a byte
 abbrev pub IsRunEnd : RunEnd → Type 0
 IsRunEnd (Done code) = code < 256
 IsRunEnd _ = ⊤
 
+abbrev pub IsLawfulStepIn : Layout → Step → Type 0
+IsLawfulStepIn layout (step.SetParams ps) = AreParams ps
+IsLawfulStepIn layout (step.Exec o) = IsLawfulOpIn layout o
+IsLawfulStepIn layout (step.Recur m) = IsLawfulRecurIn layout m
+IsLawfulStepIn layout (step.Cancel interval) = IsMillis interval
+IsLawfulStepIn layout step.Forget = ⊤
+IsLawfulStepIn layout (step.Begin call run) = IsDrawn call × IsDrawn run
+IsLawfulStepIn layout (step.Result run end) = IsDrawn run × IsRunEnd end
+IsLawfulStepIn layout (step.Withdraw call) = IsDrawn call × KnowsWithdrawal layout
+
 abbrev pub IsLawfulStep : Step → Type 0
-IsLawfulStep (step.SetParams ps) = AreParams ps
-IsLawfulStep (step.Exec o) = IsLawfulOp o
-IsLawfulStep (step.Recur m) = IsLawfulRecur m
-IsLawfulStep (step.Cancel interval) = IsMillis interval
-IsLawfulStep step.Forget = ⊤
-IsLawfulStep (step.Begin call run) = IsDrawn call × IsDrawn run
-IsLawfulStep (step.Result run end) = IsDrawn run × IsRunEnd end
+IsLawfulStep s = IsLawfulStepIn Second s
+
+abbrev pub IsLawfulChangeIn : Layout → Change → Type 0
+IsLawfulChangeIn layout (change.Register r) = IsLawfulRegistration r
+IsLawfulChangeIn layout (change.Unregister id) = IsId id
+IsLawfulChangeIn layout (change.Step id s) = IsId id × IsLawfulStepIn layout s
+IsLawfulChangeIn layout change.Boot = ⊤
 
 abbrev pub IsLawfulChange : Change → Type 0
-IsLawfulChange (change.Register r) = IsLawfulRegistration r
-IsLawfulChange (change.Unregister id) = IsId id
-IsLawfulChange (change.Step id s) = IsId id × IsLawfulStep s
-IsLawfulChange change.Boot = ⊤
+IsLawfulChange c = IsLawfulChangeIn Second c
 
-pub record IsLawfulEvent (e : Event) : Type 0 where
+pub record IsLawfulEventIn (layout : Layout) (e : Event) : Type 0 where
   pub at : IsMoment e.at
-  pub change : IsLawfulChange e.change
+  pub change : IsLawfulChangeIn layout e.change
+
+abbrev pub IsLawfulEvent : Event → Type 0
+IsLawfulEvent e = IsLawfulEventIn Second e
 
 -- what has a spelling in a layout: a lawful event of at most 16,384 bytes
 pub record HasSpellingIn (layout : Layout) (e : Event) : Type 0 where
-  pub lawful : IsLawfulEvent e
+  pub lawful : IsLawfulEventIn layout e
   pub short : length (spelled_event_in layout e) ≤ event_limit
 
 abbrev pub HasSpelling : Event → Type 0
@@ -79,6 +98,7 @@ IsLawfulCommand (command.Register r) = IsLawfulRegistration r
 IsLawfulCommand (command.Unregister id) = IsId id
 IsLawfulCommand (command.SetParams id ps) = IsId id × AreParams ps
 IsLawfulCommand (command.Exec id t timeout) = IsId id × IsMillis timeout
-IsLawfulCommand (command.Recur id interval timeout level) = IsId id × IsMillis interval × IsMillis timeout
+IsLawfulCommand (command.Recur id interval timeout check) = IsId id × IsMillis interval × IsMillis timeout
 IsLawfulCommand (command.Cancel id interval) = IsId id × IsMillis interval
 IsLawfulCommand (command.Forget id) = IsId id
+IsLawfulCommand (command.Withdraw id call) = IsId id × IsDrawn call

@@ -7,11 +7,11 @@ use Rattle.ocf_types.specs.Limits.{event_limit, resources_limit, queue_limit, re
 use Rattle.ocf_types.specs.Names.{is_rsc_id, is_provider, is_agent_type}
 use Rattle.ocf_types.specs.Numbers.{IsMoment, IsDrawn, IsMillis}
 use Rattle.ocf_types.specs.Params.{AreParams}
-use Rattle.ocf_types.specs.Actions.{action_of}
+use Rattle.ocf_types.specs.Actions.{action_of, expect_of}
 use Rattle.ocf_types.specs.Spelling.{spelled_params}
 use Rattle.ocf_types.specs.StateSpelling.{spelled_state_in}
-use Rattle.ocf_types.specs.Lawful.{IsLawfulOp, IsLawfulRecur, IsRunEnd}
-use Rattle.ocf_types.specs.Layouts.{kept_in}
+use Rattle.ocf_types.specs.Lawful.{IsLawfulOpIn, IsLawfulRecurIn, IsRunEnd}
+use Rattle.ocf_types.specs.Layouts.{kept_in, CanExpect, CanEnd, failed_in}
 use Rattle.ocf_types.specs.Resource.{Resource}
 use Rattle.ocf_types.specs.State.{State}
 use Rattle.ocf_types.specs.declared.layout.Layout.{Layout}
@@ -21,7 +21,7 @@ use Rattle.ocf_types.specs.declared.action.Action.TheVariants.{Monitor}
 use Rattle.ocf_types.specs.declared.operation.Running.{Running}
 use Rattle.ocf_types.specs.declared.operation.Ended.{Ended}
 use Rattle.ocf_types.specs.declared.outcome.Outcome.{Outcome}
-use Rattle.ocf_types.specs.declared.outcome.Outcome.TheVariants.{Run, Dropped}
+use Rattle.ocf_types.specs.declared.outcome.Outcome.TheVariants.{Run, Dropped, Cancelled}
 
 -- numbers that strictly ascend
 abbrev pub IsAscending : List ℕ → Type 0
@@ -33,26 +33,49 @@ abbrev pub IsIntervalOf : ℕ → Action → Type 0
 IsIntervalOf interval action = (interval < 2 ^ 32) × (0 < interval → action ≡ Monitor)
 
 -- what runs, below the next numbers and not after the clock
-abbrev pub IsLawfulRunning : ℕ → ℕ → ℕ → Option Running → Type 0
-IsLawfulRunning next_call next_run clock None = ⊤
-IsLawfulRunning next_call next_run clock (Some x) =
+abbrev pub IsLawfulRunningIn : Layout → ℕ → ℕ → ℕ → Option Running → Type 0
+IsLawfulRunningIn layout next_call next_run clock None = ⊤
+IsLawfulRunningIn layout next_call next_run clock (Some x) =
     IsDrawn x.call × (x.call < next_call) × IsDrawn x.run × (x.run < next_run) × IsMillis x.timeout
-    × IsIntervalOf x.interval (action_of x.task) × (x.since ≤ clock)
+    × IsIntervalOf x.interval (action_of x.task) × (x.since ≤ clock) × CanExpect layout (expect_of x.task)
+
+abbrev pub IsLawfulRunning : ℕ → ℕ → ℕ → Option Running → Type 0
+IsLawfulRunning next_call next_run clock x = IsLawfulRunningIn Second next_call next_run clock x
 
 abbrev pub IsOutcome : Outcome → Type 0
 IsOutcome (Run end) = IsRunEnd end
 IsOutcome _ = ⊤
 
--- a result, below the next numbers and not after the clock; its run is 0 just where it was dropped
-pub record IsLawfulEnded (next_call next_run clock : ℕ) (e : Ended) : Type 0 where
+-- an outcome of what never began
+abbrev pub NeverBegan : Outcome → Type 0
+NeverBegan Dropped = ⊤
+NeverBegan Cancelled = ⊤
+NeverBegan _ = ⊥
+
+-- a result, below the next numbers and not after the clock, that the layout can say; its run is 0 just where it never began
+pub record IsLawfulEndedIn (layout : Layout) (next_call next_run clock : ℕ) (e : Ended) : Type 0 where
   pub drawn : IsDrawn e.call
   pub call : e.call < next_call
   pub run : e.run < next_run
-  pub dropped : (e.run ≡ 0) ↔ (e.outcome ≡ Dropped)
+  pub unbegun : (e.run ≡ 0) ↔ NeverBegan e.outcome
   pub interval : IsIntervalOf e.interval e.action
   pub since : e.since ≤ clock
   pub at : e.at ≤ clock
   pub outcome : IsOutcome e.outcome
+  pub known : CanEnd layout e.outcome
+
+abbrev pub IsLawfulEnded : ℕ → ℕ → ℕ → Ended → Type 0
+IsLawfulEnded next_call next_run clock e = IsLawfulEndedIn Second next_call next_run clock e
+
+-- an outcome that is the end of a run
+abbrev pub IsEndOfRun : Outcome → Type 0
+IsEndOfRun (Run end) = ⊤
+IsEndOfRun _ = ⊥
+
+-- what failed last: the result of a run
+abbrev pub IsLawfulFailed : ℕ → ℕ → ℕ → Option Ended → Type 0
+IsLawfulFailed next_call next_run clock None = ⊤
+IsLawfulFailed next_call next_run clock (Some e) = IsLawfulEnded next_call next_run clock e × IsEndOfRun e.outcome
 
 -- a resource in a layout, in a state with these next numbers and this clock
 pub record IsLawfulResourceIn (layout : Layout) (next_call next_run clock : ℕ) (r : Resource) : Type 0 where
@@ -61,15 +84,17 @@ pub record IsLawfulResourceIn (layout : Layout) (next_call next_run clock : ℕ)
   pub are_params : AreParams r.params
   pub params_len : length (spelled_params r.params) ≤ event_limit
   pub queue_len : length r.history.queue ≤ queue_limit
-  pub queue : AllByRecursion (λ o. IsLawfulOp o × (o.call < next_call)) r.history.queue
+  pub queue : AllByRecursion (λ o. IsLawfulOpIn layout o × (o.call < next_call)) r.history.queue
   pub queue_ascends : IsAscending (map (λ o. o.call) r.history.queue)
-  pub running : IsLawfulRunning next_call next_run clock r.history.running
+  pub running : IsLawfulRunningIn layout next_call next_run clock r.history.running
   pub recurring_len : length r.recurring ≤ recurring_limit
-  pub recurring : AllByRecursion (λ m. IsLawfulRecur m × (m.call < next_call)) r.recurring
+  pub recurring : AllByRecursion (λ m. IsLawfulRecurIn layout m × (m.call < next_call)) r.recurring
   pub recurring_ascends : IsAscending (map (λ m. m.call) r.recurring)
   pub intervals : IsDistinct nat_eq (map (λ m. m.interval) r.recurring)
   pub ended_len : length r.history.ended ≤ kept_in layout
-  pub ended : AllByRecursion (IsLawfulEnded next_call next_run clock) r.history.ended
+  pub ended : AllByRecursion (IsLawfulEndedIn layout next_call next_run clock) r.history.ended
+  pub failed : IsLawfulFailed next_call next_run clock r.history.failed
+  pub known : failed_in layout r.history.failed ≡ r.history.failed
 
 abbrev pub IsLawfulResource : ℕ → ℕ → ℕ → Resource → Type 0
 IsLawfulResource next_call next_run clock r = IsLawfulResourceIn Second next_call next_run clock r

@@ -6,6 +6,7 @@ pub mod Params
 pub mod Actions
 pub mod Layouts
 pub mod Outcomes
+pub mod Expected
 pub mod Refusals
 pub mod Kinds
 pub mod Spelling

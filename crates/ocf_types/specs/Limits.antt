@@ -3,6 +3,8 @@ use Rattle.std.specs.Prelude.{ℕ, ◌+◌, ◌*◌}
 use Rattle.ocf_types.specs.declared.limits.TheConstants.{NUM_MAX, NAME_LIMIT, VALUE_LIMIT, PARAMS_LIMIT, RESOURCES_LIMIT, QUEUE_LIMIT}
 use Rattle.ocf_types.specs.declared.limits.TheConstants.{RECURRING_LIMIT, ENDED_KEPT, KEY_LIMIT, EVENT_LIMIT, BODY_LIMIT, PART_LIMIT}
 use Rattle.ocf_types.specs.declared.limits.TheConstants.{RESERVE, LINE_LIMIT, METADATA_LIMIT, DEFAULT_TIMEOUT, HEAD_LEN, CREATED_LEN}
+use Rattle.ocf_types.specs.declared.limits.TheConstants.{BARE_HEAD, SLOT_FRAME, EVENT_FRAME, OPERATION_LEN, MONITOR_LEN, RUNNING_LEN}
+use Rattle.ocf_types.specs.declared.limits.TheConstants.{ENDED_LEN, BARE_STATE}
 
 -- the greatest moment, call id and run number
 abbrev pub num_max : ℕ
@@ -59,7 +61,10 @@ metadata_limit = METADATA_LIMIT
 abbrev pub default_timeout : ℕ
 default_timeout = DEFAULT_TIMEOUT
 
--- a part's first gate and its head, and a part as a creation leaves it, in bytes
+-- a head, a part's first gate and its head, and a part as a creation leaves it, in bytes
+abbrev pub bare_head : ℕ
+bare_head = BARE_HEAD
+
 abbrev pub head_len : ℕ
 head_len = HEAD_LEN
 
@@ -68,11 +73,28 @@ created_len = CREATED_LEN
 
 -- what a slot adds in front of its body: a gate and a length
 abbrev pub slot_frame : ℕ
-slot_frame = 5
+slot_frame = SLOT_FRAME
+
+-- what an event adds in front of its fields: a kind and a moment
+abbrev pub event_frame : ℕ
+event_frame = EVENT_FRAME
+
+-- the spellings of an accepted action, a recurring monitor, what runs, and a result that is kept, in bytes
+abbrev pub operation_len : ℕ
+operation_len = OPERATION_LEN
+
+abbrev pub monitor_len : ℕ
+monitor_len = MONITOR_LEN
+
+abbrev pub running_len : ℕ
+running_len = RUNNING_LEN
+
+abbrev pub ended_len : ℕ
+ended_len = ENDED_LEN
 
 -- the spelling of a boot, and the longest ones of a result, of a begin, and of an event without parameters, in bytes
 abbrev pub boot_len : ℕ
-boot_len = 9
+boot_len = event_frame
 
 abbrev pub longest_result : ℕ
 longest_result = 84
@@ -81,7 +103,7 @@ abbrev pub longest_begin : ℕ
 longest_begin = 90
 
 abbrev pub longest_small : ℕ
-longest_small = 91
+longest_small = 92
 
 -- the longest slot of a result: 89 bytes
 abbrev pub result_room : ℕ
@@ -100,12 +122,15 @@ longest_params = 1 + params_limit * longest_param
 
 -- the spelling of a state without its resources: 26 bytes
 abbrev pub bare_state : ℕ
-bare_state = 26
+bare_state = BARE_STATE
 
--- the longest spelling of a resource: names, parameters, queue, what runs, recurring monitors and results; 17,825 bytes
+-- the longest spelling of a resource: names, parameters, queue, what runs, recurring monitors, results and what
+-- failed last; 19,778 bytes
 abbrev pub longest_resource : ℕ
-longest_resource = 3 * (1 + name_limit) + event_limit + (1 + 14 * queue_limit) + 35 + (1 + 17 * recurring_limit) + (1 + 39 * ended_kept)
+longest_resource =
+    3 * (1 + name_limit) + event_limit + (1 + operation_len * queue_limit) + running_len + (1 + monitor_len * recurring_limit)
+    + (1 + ended_len * ended_kept) + (1 + ended_len)
 
--- the longest spelling of a state: 4,563,226 bytes
+-- the longest spelling of a state: 5,063,194 bytes
 abbrev pub longest_state : ℕ
 longest_state = bare_state + longest_resource * resources_limit

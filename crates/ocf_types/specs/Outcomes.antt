@@ -2,7 +2,7 @@
 use Rattle.std.specs.Prelude.{ℕ, List, codes}
 use Rattle.ocf_types.specs.declared.outcome.RunEnd.TheVariants.{Done, TimedOut, Signaled, Lost, NotStarted}
 use Rattle.ocf_types.specs.declared.outcome.Outcome.{Outcome}
-use Rattle.ocf_types.specs.declared.outcome.Outcome.TheVariants.{Run, Interrupted, Dropped}
+use Rattle.ocf_types.specs.declared.outcome.Outcome.TheVariants.{Run, Interrupted, Dropped, Cancelled}
 
 -- the word of an outcome
 abbrev pub outcome_word : Outcome → List ℕ
@@ -13,3 +13,4 @@ outcome_word (Run Lost) = codes "lost"
 outcome_word (Run (NotStarted fault)) = codes "not-started"
 outcome_word Interrupted = codes "interrupted"
 outcome_word Dropped = codes "dropped"
+outcome_word Cancelled = codes "cancelled"

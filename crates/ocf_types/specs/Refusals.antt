@@ -3,7 +3,7 @@ use Rattle.std.specs.Prelude.{ℕ, List, codes}
 use Rattle.ocf_types.specs.declared.refusal.Refusal.{Refusal}
 use Rattle.ocf_types.specs.declared.refusal.Refusal.TheVariants.{Syntax, UnknownOp, BadName, BadValue, UnknownResource, Exists, Busy}
 use Rattle.ocf_types.specs.declared.refusal.Refusal.TheVariants.{QueueFull, RecurringFull, NoSuchRecurring, TooManyResources, TooLarge}
-use Rattle.ocf_types.specs.declared.refusal.Refusal.TheVariants.{CallsSpent, JournalFull, Memory, Disk, Closed}
+use Rattle.ocf_types.specs.declared.refusal.Refusal.TheVariants.{CallsSpent, JournalFull, Memory, Disk, Closed, NotQueued}
 
 -- the number and the word of a refusal
 abbrev pub refusal_row : Refusal → ℕ × List ℕ
@@ -24,3 +24,4 @@ refusal_row JournalFull = (14, codes "journal-full")
 refusal_row Memory = (15, codes "memory")
 refusal_row Disk = (16, codes "disk")
 refusal_row Closed = (17, codes "closed")
+refusal_row NotQueued = (18, codes "not-queued")

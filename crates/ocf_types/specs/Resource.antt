@@ -1,10 +1,12 @@
 -- One resource, as plain lists, and what happens to it. Pacemaker Explained, resource operations; how many results
 -- are kept, and what a boot does, is this executor's own.
 use Rattle.std.specs.Prelude.{ℕ, ◌-◌, ◌==◌, Bool, ◌||◌, List, [], ◌∷◌, ◌++◌, map, length, drop, find, filter, not, nat_lt, Option, Some}
-use Rattle.std.specs.Prelude.{None, option_map, option_to_list, is_some}
-use Rattle.ocf_types.specs.Layouts.{kept_in}
+use Rattle.std.specs.Prelude.{None, option_map, option_and_then, option_to_list, is_some, if◌then◌else◌}
+use Rattle.std.specs.Option.{option_or}
+use Rattle.ocf_types.specs.Layouts.{kept_in, failed_in}
+use Rattle.ocf_types.specs.Expected.{has_failed}
 use Rattle.ocf_types.specs.Params.{ParamList}
-use Rattle.ocf_types.specs.Actions.{action_of}
+use Rattle.ocf_types.specs.Actions.{action_of, expect_of}
 use Rattle.ocf_types.specs.declared.action.Task.TheVariants.{Monitor}
 use Rattle.ocf_types.specs.declared.layout.Layout.{Layout}
 use Rattle.ocf_types.specs.declared.layout.Layout.TheVariants.{Second}
@@ -13,13 +15,14 @@ use Rattle.ocf_types.specs.declared.operation.Recur.{Recur}
 use Rattle.ocf_types.specs.declared.operation.Running.{Running}
 use Rattle.ocf_types.specs.declared.operation.Ended.{Ended}
 use Rattle.ocf_types.specs.declared.outcome.Outcome.{Outcome}
-use Rattle.ocf_types.specs.declared.outcome.Outcome.TheVariants.{Interrupted, Dropped}
+use Rattle.ocf_types.specs.declared.outcome.Outcome.TheVariants.{Interrupted, Dropped, Cancelled}
 
--- what is queued, what runs, and what has ended, oldest first
+-- what is queued, what runs, what has ended, oldest first, and what failed last
 pub record History : Type 0 where
   pub queue : List Op
   pub running : Option Running
   pub ended : List Ended
+  pub failed : Option Ended
 
 -- a registered resource: an instance of an agent, with its operations
 pub record Resource : Type 0 where
@@ -47,7 +50,7 @@ run_of_op run at o = record { call = o.call; run = run; task = o.task; timeout =
 -- the run of a recurring monitor, begun at a moment
 abbrev pub run_of_monitor : ℕ → ℕ → Recur → Running
 run_of_monitor run at m =
-    record { call = m.call; run = run; task = Monitor m.level; timeout = m.timeout; interval = m.interval; since = at }
+    record { call = m.call; run = run; task = Monitor m.check; timeout = m.timeout; interval = m.interval; since = at }
 
 -- the result of a run that ended at a moment
 abbrev pub ended_of : Outcome → ℕ → Running → Ended
@@ -58,8 +61,12 @@ ended_of outcome at x =
 abbrev pub dropped_of : ℕ → Op → Ended
 dropped_of at o = record { call = o.call; run = 0; action = action_of o.task; interval = 0; since = at; at = at; outcome = Dropped }
 
+-- the result of a queued action that was withdrawn
+abbrev pub cancelled_of : ℕ → Op → Ended
+cancelled_of at o = record { call = o.call; run = 0; action = action_of o.task; interval = 0; since = at; at = at; outcome = Cancelled }
+
 abbrev pub no_history : History
-no_history = record { queue = []; running = None; ended = [] }
+no_history = record { queue = []; running = None; ended = []; failed = None }
 
 -- something is queued or running
 abbrev pub is_busy : History → Bool
@@ -77,17 +84,28 @@ begun_from (o ∷ os) monitor run at h = record h { queue = os; running = Some (
 abbrev pub begun : Option Recur → ℕ → ℕ → History → History
 begun monitor run at h = begun_from h.queue monitor run at h
 
+-- the result of what ran, where it has failed
+abbrev pub failed_of : Outcome → ℕ → Running → Option Ended
+failed_of outcome at x = if has_failed (action_of x.task) (expect_of x.task) outcome then Some (ended_of outcome at x) else None
+
+-- what failed last, once what ran has ended: its result, or where it has not failed what did before
+abbrev pub failed_after : Outcome → ℕ → History → Option Ended
+failed_after outcome at h = option_or (option_and_then (failed_of outcome at) h.running) h.failed
+
 -- what ran has ended
 abbrev pub ended_in : Layout → Outcome → ℕ → History → History
-ended_in layout outcome at h =
-    record h { running = None; ended = last_in layout (h.ended ++ map (ended_of outcome at) (option_to_list h.running)) }
+ended_in layout outcome at h = record h {
+  running = None;
+  ended = last_in layout (h.ended ++ map (ended_of outcome at) (option_to_list h.running));
+  failed = failed_in layout (failed_after outcome at h);
+}
 
 abbrev pub ended : Outcome → ℕ → History → History
 ended outcome at h = ended_in Second outcome at h
 
--- what was queued is dropped, in order, and then what ran is interrupted
+-- what was queued is dropped, in order, and then what ran is interrupted; neither has failed
 abbrev pub booted_in : Layout → ℕ → History → History
-booted_in layout at h = record {
+booted_in layout at h = record h {
   queue = [];
   running = None;
   ended = last_in layout (h.ended ++ map (dropped_of at) h.queue ++ map (ended_of Interrupted at) (option_to_list h.running));
@@ -96,12 +114,30 @@ booted_in layout at h = record {
 abbrev pub booted : ℕ → History → History
 booted at h = booted_in Second at h
 
-abbrev pub forgotten : History → History
-forgotten h = record h { ended = [] }
+-- the queued action of a call
+abbrev pub queued_of : ℕ → List Op → Option Op
+queued_of call queue = find (λ o. o.call == call) queue
 
--- a history with the results alone that a layout keeps
+-- the queued actions but that of a call
+abbrev pub without_call : ℕ → List Op → List Op
+without_call call queue = filter (λ o. not (o.call == call)) queue
+
+-- the queued action of a call is withdrawn: it leaves the queue, and is a result
+abbrev pub withdrawn_in : Layout → ℕ → ℕ → History → History
+withdrawn_in layout call at h = record h {
+  queue = without_call call h.queue;
+  ended = last_in layout (h.ended ++ map (cancelled_of at) (option_to_list (queued_of call h.queue)));
+}
+
+abbrev pub withdrawn : ℕ → ℕ → History → History
+withdrawn call at h = withdrawn_in Second call at h
+
+abbrev pub forgotten : History → History
+forgotten h = record h { ended = []; failed = None }
+
+-- a history with what a layout knows alone
 abbrev pub history_in : Layout → History → History
-history_in layout h = record h { ended = last_in layout h.ended }
+history_in layout h = record h { ended = last_in layout h.ended; failed = failed_in layout h.failed }
 
 -- the monitor of a call, and that of an interval
 abbrev pub of_call : ℕ → List Recur → Option Recur

@@ -4,7 +4,7 @@ use Rattle.std.specs.Prelude.{ℕ, ◌+◌, List, [], ◌∷◌, ◌++◌, map, 
 use Rattle.std.specs.Map.{lookup}
 use Rattle.std.specs.Str.{bytes_eq}
 use Rattle.ocf_types.specs.Kinds.{Registration, Step, Change, Event}
-use Rattle.ocf_types.specs.Resource.{History, Resource, no_history, accepted, begun, ended_in, booted_in, forgotten, history_in, of_call}
+use Rattle.ocf_types.specs.Resource.{History, Resource, no_history, accepted, begun, ended_in, booted_in, forgotten, history_in, of_call, withdrawn_in}
 use Rattle.ocf_types.specs.Resource.{without_interval}
 use Rattle.ocf_types.specs.declared.layout.Layout.{Layout}
 use Rattle.ocf_types.specs.declared.layout.Layout.TheVariants.{First, Second}
@@ -59,6 +59,7 @@ stepped_in layout at (step.Cancel interval) r = on_recurring (without_interval i
 stepped_in layout at step.Forget r = on_history forgotten r
 stepped_in layout at (step.Begin call run) r = on_history (begun (of_call call r.recurring) run at) r
 stepped_in layout at (step.Result run end) r = on_history (ended_in layout (Run end) at) r
+stepped_in layout at (step.Withdraw call) r = on_history (withdrawn_in layout call at) r
 
 abbrev pub stepped : ℕ → Step → Resource → Resource
 stepped at what r = stepped_in Second at what r
@@ -110,7 +111,7 @@ after_all_in layout s es = fold (after_in layout) s es
 abbrev pub after_all : State → List Event → State
 after_all s es = fold after s es
 
--- a state without what the first layout does not know: each resource's results but the last ones
+-- a state without what the first layout does not know: what failed last, and each resource's results but the last ones
 abbrev pub in_first : State → State
 in_first s = record s { resources = map (λ e. (e.0, on_history (history_in First) e.1)) s.resources }
 

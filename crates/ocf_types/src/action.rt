@@ -1,8 +1,10 @@
 //! Actions of agents.
 ghost use Rattle.std.specs.Prelude.{◌≡◌, ◌≢◌, IfSome, IfNone};
 ghost use Rattle.ocf_types.specs.Actions.{action_word, action_named, level_number, level_numbered};
-ghost use Rattle.ocf_types.specs.Actions.{action_of, level_of, task_of};
+ghost use Rattle.ocf_types.specs.Actions.{action_of, check_of, plain, task_of};
 ghost use Rattle.ocf_types.specs.declared.action.Action.{Action};
+
+use crate::expect::Expect;
 
 /// What an agent is asked to do. OCF Resource Agent API 1.1, actions; `promote` and `demote` are of promotable
 /// agents.
@@ -92,12 +94,31 @@ impl Level {
     }
 }
 
-/// An action, with its level where it is a monitor: no other action has one.
+/// What a monitor looks at, and what it is expected to find.
+#[derive(Clone, Copy, Debug, PartialEq, Eq)]
+pub struct Check {
+    pub level: Level,
+    pub expect: Expect,
+}
+
+impl Check {
+    /// The check of every action but a monitor: its level is 0, and it is to succeed.
+    pub fn plain() -> Check
+        ensures { result ≡ plain }
+    {
+        Check {
+            level: Level::Zero,
+            expect: Expect::Success,
+        }
+    }
+}
+
+/// An action, with its check where it is a monitor: no other action has one.
 #[derive(Clone, Copy, Debug, PartialEq, Eq)]
 pub enum Task {
     Start,
     Stop,
-    Monitor(Level),
+    Monitor(Check),
     Promote,
     Demote,
     ReloadAgent,
@@ -105,18 +126,19 @@ pub enum Task {
 }
 
 impl Task {
-    /// The task of an action and a level: `None` just where another action than a monitor has a level other than 0.
-    pub fn new(action: Action, level: Level) -> Option<Task>
-        ensures { result ≡ task_of action level }
+    /// The task of an action and a check: `None` just where another action than a monitor has a level other than 0, or is
+    /// expected to end with another code than 0.
+    pub fn new(action: Action, check: Check) -> Option<Task>
+        ensures { result ≡ task_of action check }
     {
-        match (action, level) {
-            (Action::Monitor, level) => Some(Task::Monitor(level)),
-            (Action::Start, Level::Zero) => Some(Task::Start),
-            (Action::Stop, Level::Zero) => Some(Task::Stop),
-            (Action::Promote, Level::Zero) => Some(Task::Promote),
-            (Action::Demote, Level::Zero) => Some(Task::Demote),
-            (Action::ReloadAgent, Level::Zero) => Some(Task::ReloadAgent),
-            (Action::ValidateAll, Level::Zero) => Some(Task::ValidateAll),
+        match (action, check.level, check.expect) {
+            (Action::Monitor, _, _) => Some(Task::Monitor(check)),
+            (Action::Start, Level::Zero, Expect::Success) => Some(Task::Start),
+            (Action::Stop, Level::Zero, Expect::Success) => Some(Task::Stop),
+            (Action::Promote, Level::Zero, Expect::Success) => Some(Task::Promote),
+            (Action::Demote, Level::Zero, Expect::Success) => Some(Task::Demote),
+            (Action::ReloadAgent, Level::Zero, Expect::Success) => Some(Task::ReloadAgent),
+            (Action::ValidateAll, Level::Zero, Expect::Success) => Some(Task::ValidateAll),
             _ => None,
         }
     }
@@ -136,13 +158,13 @@ impl Task {
         }
     }
 
-    /// The level, which is 0 unless the action is a monitor.
-    pub fn level(self) -> Level
-        ensures { result ≡ level_of self }
+    /// The check, which is the plain one unless the action is a monitor.
+    pub fn check(self) -> Check
+        ensures { result ≡ check_of self }
     {
         match self {
-            Task::Monitor(level) => level,
-            _ => Level::Zero,
+            Task::Monitor(check) => check,
+            _ => Check::plain(),
         }
     }
 }

@@ -1,7 +1,7 @@
 //! Commands and questions. `P` is the type of parameters.
-use crate::action::{Level, Task};
+use crate::action::{Check, Task};
 use crate::event::Registration;
-use crate::numbers::Millis;
+use crate::numbers::{CallId, Millis};
 use crate::params::Params;
 use crate::rsc_id::RscId;
 use std::alloc::Global;
@@ -29,7 +29,7 @@ pub enum CommandOf<P> {
         id: RscId,
         interval: Millis,
         timeout: Millis,
-        level: Level,
+        check: Check,
     },
     /// Remove the recurring monitor of an interval.
     Cancel {
@@ -38,6 +38,11 @@ pub enum CommandOf<P> {
     },
     /// Forget the results of a resource.
     Forget(RscId),
+    /// Take an action out of the queue.
+    Withdraw {
+        id: RscId,
+        call: CallId,
+    },
 }
 
 /// What changes nothing.

@@ -65,6 +65,9 @@ impl<A: Allocator> Step<Params<A>> {
                 let _ = run.get();
                 end.known();
             }
+            Step::Withdraw(call) => {
+                let _ = call.get();
+            }
         }
     }
 }
@@ -129,6 +132,10 @@ impl<A: Allocator> CommandOf<Params<A>> {
             CommandOf::Cancel { id, interval } => {
                 let _ = id.as_bytes();
                 let _ = interval.get();
+            }
+            CommandOf::Withdraw { id, call } => {
+                let _ = id.as_bytes();
+                let _ = call.get();
             }
         }
     }

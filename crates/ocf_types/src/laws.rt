@@ -71,7 +71,8 @@ pub fn lengths()
 {}
 
 /// What the first layout has, the second has too, with the same meaning: so what stands in a part of the first is a state
-/// of today's, and today's events on a state, without what the first layout does not know, are those of the first.
+/// of today's, and today's events on a state, without what the first layout does not know, are those of the first. Such an
+/// event leaves what is lawful in the first layout so.
 pub fn layouts()
     ensures lawful { (s : State) → IsLawfulStateIn First s → IsLawfulState s }
     ensures whole { (s : State) → IsLawfulStateIn First s → in_first s ≡ s }
@@ -80,4 +81,6 @@ pub fn layouts()
     ensures after { (s : State) (e : Event) → HasSpellingIn First e → in_first (after s e) ≡ after_in First (in_first s) e }
     ensures after_all { (s : State) (es : List Event) → AllByRecursion (HasSpellingIn First) es
         → in_first (after_all s es) ≡ after_all_in First (in_first s) es }
+    ensures stays { (s : State) (e : Event) → IsLawfulStateIn First s → AppliesIn First s e
+        → IsLawfulStateIn First (after_in First s e) }
 {}

@@ -5,6 +5,7 @@ mod action;
 mod agent;
 mod command;
 mod event;
+mod expect;
 mod items;
 mod key;
 mod known;
@@ -27,17 +28,19 @@ mod state_parts;
 mod state_view;
 mod values;
 
-pub use action::{Action, Level, Task};
+pub use action::{Action, Check, Level, Task};
 pub use agent::{AgentType, Provider};
 pub use command::{Command, CommandOf, Question, Request, RequestOf};
 pub use event::{Change, Event, EventOf, Registration, Step};
+pub use expect::Expect;
 pub use items::Items;
 pub use key::OpKey;
 pub use layout::Layout;
 pub use limits::{
-    BODY_LIMIT, CREATED_LEN, DEFAULT_TIMEOUT, ENDED_KEPT, EVENT_LIMIT, HEAD_LEN, KEY_LIMIT,
-    LINE_LIMIT, METADATA_LIMIT, NAME_LIMIT, NUM_MAX, PARAMS_LIMIT, PART_LIMIT, QUEUE_LIMIT,
-    RECURRING_LIMIT, RESERVE, RESOURCES_LIMIT, VALUE_LIMIT,
+    BARE_HEAD, BARE_STATE, BODY_LIMIT, CREATED_LEN, DEFAULT_TIMEOUT, ENDED_KEPT, ENDED_LEN,
+    EVENT_FRAME, EVENT_LIMIT, HEAD_LEN, KEY_LIMIT, LINE_LIMIT, METADATA_LIMIT, MONITOR_LEN,
+    NAME_LIMIT, NUM_MAX, OPERATION_LEN, PARAMS_LIMIT, PART_LIMIT, QUEUE_LIMIT, RECURRING_LIMIT,
+    RESERVE, RESOURCES_LIMIT, RUNNING_LEN, SLOT_FRAME, VALUE_LIMIT,
 };
 pub use names::BadName;
 pub use numbers::{CallId, Millis, Moment, RunId};

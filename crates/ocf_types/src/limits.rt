@@ -25,7 +25,7 @@ pub const QUEUE_LIMIT: usize = 32;
 pub const RECURRING_LIMIT: usize = 8;
 
 /// How many results of one resource are kept: the last ones.
-pub const ENDED_KEPT: usize = 16;
+pub const ENDED_KEPT: usize = 64;
 
 /// The greatest length of an operation's key, in bytes.
 pub const KEY_LIMIT: usize = 88;
@@ -42,8 +42,34 @@ pub const PART_LIMIT: u64 = 8_388_608;
 /// What stays free in a part after each slot but those of results and boots, in bytes.
 pub const RESERVE: u64 = 32_768;
 
+/// The length of a head without the gate before it, in bytes: magic, version, epoch, and the length of the snapshot.
+pub const BARE_HEAD: usize = 17;
+
 /// The length of a part's first gate and head, in bytes: here its snapshot begins.
 pub const HEAD_LEN: u64 = 18;
+
+/// What a slot adds to its body, in bytes: a gate, and the length of the body. That length and the next gate are as many.
+pub const SLOT_FRAME: u64 = 5;
+
+/// What an event adds to its fields, in bytes: a kind and a moment. A boot is no more than that.
+pub const EVENT_FRAME: usize = 9;
+
+/// The length of an accepted action's spelling, in bytes: its call, its action, its check and its timeout.
+pub const OPERATION_LEN: usize = 15;
+
+/// The length of a recurring monitor's spelling, in bytes: its call, its interval, its timeout and its check.
+pub const MONITOR_LEN: usize = 18;
+
+/// The length of the spelling of what runs, in bytes: a flag, its call, its run, its action, its check, its timeout, its
+/// interval, and since when it runs.
+pub const RUNNING_LEN: usize = 36;
+
+/// The length of a kept result's spelling, in bytes: its call, its run, its action, its interval, two moments, and how it
+/// ended.
+pub const ENDED_LEN: usize = 39;
+
+/// The length of a state's spelling without its resources, in bytes: the next numbers, the clock and a count.
+pub const BARE_STATE: usize = 26;
 
 /// The length of a part as a creation leaves it, in bytes: the head, the empty state and a gate.
 pub const CREATED_LEN: u64 = 45;

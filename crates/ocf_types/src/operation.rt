@@ -1,5 +1,5 @@
 //! Operations of a resource: queued, recurring, running and ended. Pacemaker Explained, resource operations.
-use crate::action::{Action, Level, Task};
+use crate::action::{Action, Check, Task};
 use crate::numbers::{CallId, Millis, Moment, RunId};
 use crate::outcome::Outcome;
 use std::default::MadeWith;
@@ -18,7 +18,7 @@ pub struct Recur {
     pub call: CallId,
     pub interval: Millis,
     pub timeout: Millis,
-    pub level: Level,
+    pub check: Check,
 }
 
 /// Stands in an unused place of a list of fixed room, where nobody sees it.
@@ -31,7 +31,7 @@ impl MadeWith<()> for Recur {
             call,
             interval,
             timeout: interval,
-            level: Level::Zero,
+            check: Check::plain(),
         }
     }
 }
@@ -53,12 +53,12 @@ pub struct Running {
 #[derive(Clone, Copy, Debug, PartialEq, Eq)]
 pub struct Ended {
     pub call: CallId,
-    /// The run number; 0 just where the action was dropped.
+    /// The run number; 0 just where the action was dropped or cancelled: it never began.
     pub run: u64,
     pub action: Action,
     /// In milliseconds; 0 for a one-time action.
     pub interval: u32,
-    /// When it began.
+    /// When it began; where it never did, the same as its end.
     pub since: Moment,
     /// When it ended.
     pub at: Moment,

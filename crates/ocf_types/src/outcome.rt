@@ -54,6 +54,8 @@ pub enum Outcome {
     Interrupted,
     /// It was queued when the executor stopped, and was never begun.
     Dropped,
+    /// It was withdrawn while it was queued, and was never begun.
+    Cancelled,
 }
 
 impl Outcome {
@@ -69,6 +71,7 @@ impl Outcome {
             Outcome::Run(RunEnd::NotStarted(_)) => "not-started",
             Outcome::Interrupted => "interrupted",
             Outcome::Dropped => "dropped",
+            Outcome::Cancelled => "cancelled",
         }
     }
 }

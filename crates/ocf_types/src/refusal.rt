@@ -27,6 +27,8 @@ pub enum Refusal {
     RecurringFull,
     #[error("the resource has no recurring monitor of this interval")]
     NoSuchRecurring,
+    #[error("no action of this call is queued")]
+    NotQueued,
     #[error("256 resources are registered already")]
     TooManyResources,
     #[error("the parameters are too large to be recorded")]
@@ -60,6 +62,7 @@ impl Refusal {
             Refusal::QueueFull => (8, "queue-full"),
             Refusal::RecurringFull => (9, "recurring-full"),
             Refusal::NoSuchRecurring => (10, "no-such-recurring"),
+            Refusal::NotQueued => (18, "not-queued"),
             Refusal::TooManyResources => (11, "too-many-resources"),
             Refusal::TooLarge => (12, "too-large"),
             Refusal::CallsSpent => (13, "calls-spent"),
@@ -70,7 +73,7 @@ impl Refusal {
         }
     }
 
-    /// The number that a reply gives, from 1 to 17.
+    /// The number that a reply gives, from 1 to 18.
     pub fn number(self) -> u8
         ensures { result ≡ (refusal_row self).0 }
     {

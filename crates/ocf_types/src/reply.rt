@@ -23,6 +23,8 @@ pub struct InfoOf<P> {
     pub queued: ArrayVec<CallId, { QUEUE_LIMIT }>,
     pub running: Option<Running>,
     pub recurring: ArrayVec<Recur, { RECURRING_LIMIT }>,
+    /// The result that failed last.
+    pub failed: Option<Ended>,
 }
 
 /// How a turn ended.

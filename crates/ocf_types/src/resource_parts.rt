@@ -8,12 +8,13 @@ use crate::params::Params;
 use std::alloc::{Allocator, Global};
 use std::marker::Model;
 
-/// What is queued, what runs and what has ended, in vectors.
+/// What is queued, what runs, what has ended and what failed last, in vectors.
 #[derive(Drop)]
 pub struct HistoryParts<A: Allocator = Global> {
     queue: Vec<Op, A>,
     running: Option<Running>,
     ended: Vec<Ended, A>,
+    failed: Option<Ended>,
 }
 
 impl<A: Allocator> Model for HistoryParts<A> {
@@ -21,18 +22,24 @@ impl<A: Allocator> Model for HistoryParts<A> {
 
     ghost Value = { History };
 
-    ghost view = { λ h. record { queue = h.queue.items; running = h.running; ended = h.ended.items } };
+    ghost view = { λ h. record { queue = h.queue.items; running = h.running; ended = h.ended.items; failed = h.failed } };
 }
 
 impl<A: Allocator> HistoryParts<A> {
-    /// A history of these: queued actions in order, what runs, and results, oldest first.
-    pub fn new(queue: Vec<Op, A>, running: Option<Running>, ended: Vec<Ended, A>) -> Self
-        ensures { result ≡ record { queue = queue.items; running = running; ended = ended.items } }
+    /// A history of these: queued actions in order, what runs, results, oldest first, and what failed last.
+    pub fn new(
+        queue: Vec<Op, A>,
+        running: Option<Running>,
+        ended: Vec<Ended, A>,
+        failed: Option<Ended>,
+    ) -> Self
+        ensures { result ≡ record { queue = queue.items; running = running; ended = ended.items; failed = failed } }
     {
         HistoryParts {
             queue,
             running,
             ended,
+            failed,
         }
     }
 
@@ -55,6 +62,13 @@ impl<A: Allocator> HistoryParts<A> {
         ensures { result.now ≡ self.now.ended }
     {
         self.ended.as_slice()
+    }
+
+    /// The result that failed last.
+    pub fn failed(&self) -> Option<Ended>
+        ensures { result ≡ self.now.failed }
+    {
+        self.failed
     }
 }
 

@@ -134,4 +134,8 @@ impl<A: Allocator> StateView for StateParts<A> {
     fn ended_at(&self, place: usize, at: usize) -> Ended {
         self.resources[place].history().ended()[at]
     }
+
+    fn failed_at(&self, place: usize) -> Option<Ended> {
+        self.resources[place].history().failed()
+    }
 }

@@ -92,4 +92,9 @@ pub trait StateView {
         requires resource { place < length (plain self.now).resources }
         requires item { at < length (at_place (plain self.now) place).history.ended }
         ensures { slice_get (at_place (plain self.now) place).history.ended at ≡ Some result };
+
+    /// The result of a resource that failed last.
+    fn failed_at(&self, place: usize) -> Option<Ended>
+        requires { place < length (plain self.now).resources }
+        ensures { result ≡ (at_place (plain self.now) place).history.failed };
 }

@@ -1,7 +1,8 @@
 //! What is noted of an operation as it begins, and as it ends.
 ghost use Rattle.std.specs.Prelude.{◌≡◌};
-ghost use Rattle.ocf_types.specs.Resource.{run_of_op, run_of_monitor, ended_of, dropped_of};
+ghost use Rattle.ocf_types.specs.Resource.{run_of_op, run_of_monitor, ended_of, dropped_of, cancelled_of, failed_of};
 
+use ocf_codes::failed;
 use ocf_types::{Ended, Moment, Op, Outcome, Recur, RunId, Running, Task};
 
 /// The run of a queued action that begins at that moment.
@@ -25,7 +26,7 @@ pub(crate) fn run_of_monitor(monitor: Recur, run: RunId, at: Moment) -> Running
     Running {
         call: monitor.call,
         run,
-        task: Task::Monitor(monitor.level),
+        task: Task::Monitor(monitor.check),
         timeout: monitor.timeout,
         interval: monitor.interval.get(),
         since: at,
@@ -47,6 +48,17 @@ pub fn ended_of(running: Running, outcome: Outcome, at: Moment) -> Ended
     }
 }
 
+/// The result of a run that ended at that moment, where it has failed.
+pub(crate) fn failed_of(running: Running, outcome: Outcome, at: Moment) -> Option<Ended>
+    ensures { result ≡ failed_of outcome at running }
+{
+    let task = running.task;
+    if !failed(task.action(), task.check().expect, outcome) {
+        return None;
+    }
+    Some(ended_of(running, outcome, at))
+}
+
 /// The result of a queued action that is dropped at that moment: it has run number 0.
 pub fn dropped_of(op: Op, at: Moment) -> Ended
     ensures { result ≡ dropped_of at op }
@@ -59,5 +71,15 @@ pub fn dropped_of(op: Op, at: Moment) -> Ended
         since: at,
         at,
         outcome: Outcome::Dropped,
+    }
+}
+
+/// The result of a queued action that is withdrawn at that moment: it has run number 0.
+pub(crate) fn cancelled_of(op: Op, at: Moment) -> Ended
+    ensures { result ≡ cancelled_of at op }
+{
+    Ended {
+        outcome: Outcome::Cancelled,
+        ..dropped_of(op, at)
     }
 }

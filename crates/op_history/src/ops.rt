@@ -1,24 +1,34 @@
 //! The operations of one resource.
-ghost use Rattle.std.specs.Prelude.{◌≡◌, ◌<◌, ◌≤◌, length, slice_get, IfOk};
+ghost use Rattle.std.specs.Prelude.{◌≡◌, ◌↔◌, ◌<◌, ◌≤◌, length, slice_get, IfOk, IsErr, OnOk, OnErr};
 ghost use Rattle.ocf_types.specs.Resource.{kept, no_history, is_busy, accepted, begun, ended, booted, forgotten};
+ghost use Rattle.ocf_types.specs.Resource.{failed_after, history_in, queued_of, withdrawn};
+ghost use Rattle.ocf_types.specs.declared.layout.Layout.TheVariants.{First};
 
-use crate::entries::{run_of_monitor, run_of_op};
+use crate::entries::{cancelled_of, failed_of, run_of_monitor, run_of_op};
 use crate::queued::{Queued, queue_of};
 use crate::results::Results;
 use arrayvec::ArrayVec;
 use ocf_types::{
-    Ended, HistoryParts, Moment, Op, Outcome, QUEUE_LIMIT, Recur, RunEnd, RunId, Running,
+    CallId, Ended, HistoryParts, Layout, Moment, Op, Outcome, QUEUE_LIMIT, Recur, RunEnd, RunId,
+    Running,
 };
 use std::alloc::{AllocError, Allocator, Global};
 use std::marker::Model;
+use thiserror::Error;
 
-/// The operations of one resource: at most 32 queued actions, the one that runs, and the last 16 results. All its
-/// memory is taken as it is made.
+/// No action of that call is queued.
+#[derive(Clone, Copy, Debug, PartialEq, Eq, Error)]
+#[error("no action of this call is queued")]
+pub struct NotQueued;
+
+/// The operations of one resource: at most 32 queued actions, the one that runs, the last 64 results, and the one that
+/// failed last, kept or not. All its memory is taken as it is made.
 #[derive(Drop)]
 pub struct Ops<A: Allocator = Global> {
     queue: ArrayVec<Queued, { QUEUE_LIMIT }>,
     running: Option<Running>,
     ended: Results<A>,
+    failed: Option<Ended>,
 }
 
 impl<A: Allocator> Model for Ops<A> {
@@ -26,7 +36,7 @@ impl<A: Allocator> Model for Ops<A> {
 
     ghost Value = { History };
 
-    ghost view = { λ o. record { queue = o.queue.items; running = o.running; ended = o.ended } };
+    ghost view = { λ o. record { queue = o.queue.items; running = o.running; ended = o.ended; failed = o.failed } };
 }
 
 impl<A: Allocator> Ops<A> {
@@ -38,6 +48,7 @@ impl<A: Allocator> Ops<A> {
             queue: ArrayVec::new(),
             running: None,
             ended: Results::new(alloc)?,
+            failed: None,
         })
     }
 
@@ -54,6 +65,7 @@ impl<A: Allocator> Ops<A> {
             queue: queue_of(parts.queue()),
             running: parts.running(),
             ended,
+            failed: parts.failed(),
         })
     }
 
@@ -73,6 +85,17 @@ impl<A: Allocator> Ops<A> {
         self.queue.as_slice()[at].op()
     }
 
+    /// The queued action of that call.
+    pub fn queued_of(&self, call: CallId) -> Option<Op>
+        ensures { result ≡ queued_of call self.now.queue }
+    {
+        self.queue
+            .as_slice()
+            .iter()
+            .map(|queued| queued.op())
+            .find(|op| op.call == call)
+    }
+
     /// The action that runs.
     pub fn running(&self) -> Option<Running>
         ensures { result ≡ self.now.running }
@@ -80,7 +103,7 @@ impl<A: Allocator> Ops<A> {
         self.running
     }
 
-    /// How many results there are, at most 16.
+    /// How many results there are, at most 64.
     pub fn ended_len(&self) -> usize
         ensures value { result ≡ length self.now.ended }
         ensures limit { result ≤ kept }
@@ -94,6 +117,13 @@ impl<A: Allocator> Ops<A> {
         ensures { slice_get self.now.ended at ≡ Some result }
     {
         self.ended.at(at)
+    }
+
+    /// The result that failed last, whether it is still kept among the others or not.
+    pub fn failed(&self) -> Option<Ended>
+        ensures { result ≡ self.now.failed }
+    {
+        self.failed
     }
 
     /// Whether something is queued or runs.
@@ -132,15 +162,41 @@ impl<A: Allocator> Ops<A> {
         }
     }
 
-    /// Puts what runs behind the results: it ended so at that moment. Where nothing runs, nothing changes.
+    /// Puts what runs behind the results: it ended so at that moment, and where that is a failure it is what failed last.
+    /// Where nothing runs, nothing changes.
     pub fn end(&mut self, run_end: RunEnd, at: Moment)
         ensures { self.new ≡ ended (Outcome.Run run_end) at self.old }
     {
-        self.ended.push_run(self.running, Outcome::Run(run_end), at);
+        let outcome = Outcome::Run(run_end);
+        self.failed = self.failed_after(outcome, at);
+        self.ended.push_run(self.running, outcome, at);
         self.running = None;
     }
 
-    /// Drops what is queued, in order, and then interrupts what runs, so that its result is kept.
+    /// What failed last once what runs has ended so at that moment.
+    fn failed_after(&self, outcome: Outcome, at: Moment) -> Option<Ended>
+        ensures { result ≡ failed_after outcome at self.now }
+    {
+        let Some(running) = self.running else {
+            return self.failed;
+        };
+        failed_of(running, outcome, at).or(self.failed)
+    }
+
+    /// Takes the queued action of that call out of the queue, whose order stays, and puts it behind the results as
+    /// cancelled. Where no queued action has that call, nothing changes.
+    pub fn withdraw(&mut self, call: CallId, at: Moment) -> Result<(), NotQueued>
+        ensures refused { IsErr result ↔ (queued_of call self.old.queue ≡ None) }
+        ensures unchanged { OnErr result (self.new ≡ self.old) }
+        ensures withdrawn { OnOk result (self.new ≡ withdrawn call at self.old) }
+    {
+        let op = self.queued_of(call).ok_or(NotQueued)?;
+        self.queue.retain(|queued| queued.op().call != call);
+        self.ended.push(cancelled_of(op, at));
+        Ok(())
+    }
+
+    /// Drops what is queued, in order, and then interrupts what runs, so that its result is kept. Neither is a failure.
     pub fn drop_all(&mut self, at: Moment)
         ensures { self.new ≡ booted at self.old }
     {
@@ -150,10 +206,19 @@ impl<A: Allocator> Ops<A> {
         self.running = None;
     }
 
-    /// Takes all results away.
+    /// Takes all results away, and what failed last.
     pub fn forget(&mut self)
         ensures { self.new ≡ forgotten self.old }
     {
         self.ended.clear();
+        self.failed = None;
+    }
+
+    /// Drops what a journal's first layout does not keep: what failed last, and all results but the last 16.
+    pub fn in_first(&mut self)
+        ensures { self.new ≡ history_in First self.old }
+    {
+        self.ended.cut(Layout::First);
+        self.failed = None;
     }
 }

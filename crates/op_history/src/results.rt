@@ -1,12 +1,12 @@
 //! The results that are kept.
-ghost use Rattle.std.specs.Prelude.{◌≡◌, ◌<◌, ◌≤◌, [], ◌++◌, length, map, slice_get, IfOk};
+ghost use Rattle.std.specs.Prelude.{◌≡◌, ◌<◌, ◌≤◌, [], ◌∷◌, ◌++◌, length, map, slice_get, IfOk};
 ghost use Rattle.std.specs.Prelude.{option_to_list};
-ghost use Rattle.ocf_types.specs.Resource.{kept, last_ended, ended_of, dropped_of};
+ghost use Rattle.ocf_types.specs.Resource.{kept, last_in, last_ended, ended_of, dropped_of};
 
 use crate::entries::{dropped_of, ended_of};
 use crate::queued::Queued;
 use circular_buffer::HeapCircularBuffer;
-use ocf_types::{ENDED_KEPT, Ended, Moment, Outcome, Running};
+use ocf_types::{ENDED_KEPT, Ended, Layout, Moment, Outcome, Running};
 use std::alloc::{AllocError, Allocator, Global};
 use std::marker::Model;
 
@@ -84,6 +84,20 @@ impl<A: Allocator> Results<A> {
         for result in results {
             ring.push_back(*result);
         }
+    }
+
+    /// Puts a result behind the others. Where there is no room the oldest goes.
+    pub(crate) fn push(&mut self, ended: Ended)
+        ensures { self.new ≡ last_ended (self.old ++ ended ∷ []) }
+    {
+        self.ring.push_back(ended);
+    }
+
+    /// Keeps the last results alone, as many as that layout keeps.
+    pub(crate) fn cut(&mut self, layout: Layout)
+        ensures { self.new ≡ last_in layout self.old }
+    {
+        self.ring.truncate_front(layout.kept());
     }
 
     /// Takes all results away.

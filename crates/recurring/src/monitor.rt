@@ -3,7 +3,7 @@ ghost use Rattle.std.specs.Prelude.{◌≡◌, ◌≤◌, ◌↔◌, ◌⊎◌, 
 ghost use Rattle.ocf_types.specs.Due.{IsBefore};
 ghost use Rattle.recurring.specs.Monitors.{pair, settled_one, due_at, IsFirstDue, IsFirstMoment};
 
-use ocf_types::{CallId, Level, Millis, Moment, Recur};
+use ocf_types::{CallId, Check, Millis, Moment, Recur};
 use std::default::MadeWith;
 
 /// A recurring monitor, and when it is due.
@@ -94,7 +94,7 @@ impl MadeWith<()> for Monitor {
             call,
             interval,
             timeout: interval,
-            level: Level::Zero,
+            check: Check::plain(),
         };
         Monitor { recur, due: 0 }
     }

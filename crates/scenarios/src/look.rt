@@ -1,10 +1,9 @@
 //! Looks at a world.
 use crate::fill::Filling;
 use crate::finding::found_on;
-use crate::print::{
-    hex_text, print_codes, print_launch, print_line, print_part, print_rows, push_reply,
-};
+use crate::print::{hex_text, print_launch, print_line, print_part, print_rows, push_reply};
 use crate::step::Look;
+use crate::tables::{print_codes, print_expected};
 use crate::world::World;
 use anyhow::{Context, Result};
 use event_wire::{StateReader, decode_event, decode_state, encode_event, encode_state};
@@ -65,10 +64,11 @@ impl World {
             Look::Parts => self.show_parts(writer),
             Look::Found => self.show_found(writer),
             Look::Stops(fillings) => self.show_all_stops(fillings.as_slice(), writer),
-            Look::Event(bytes) => show_event(self.alloc, bytes.as_slice(), writer),
-            Look::State(bytes) => show_state(self.alloc, bytes.as_slice(), writer),
+            Look::Event(layout, bytes) => show_event(self.alloc, *layout, bytes.as_slice(), writer),
+            Look::State(layout, bytes) => show_state(self.alloc, *layout, bytes.as_slice(), writer),
             Look::Launch(id, task) => self.show_launch(id, *task, writer),
             Look::Codes => print_codes(writer),
+            Look::Expected(expect) => print_expected(writer, *expect),
         }
     }
 }
@@ -115,8 +115,8 @@ fn event_text(alloc: Global, event: &Event) -> Result<String> {
     Ok(hex_text(alloc, bytes.as_slice())?)
 }
 
-fn show_event<W: Write>(alloc: Global, bytes: &[u8], writer: &mut W) -> Result<()> {
-    match decode_event(alloc, Layout::Second, bytes)? {
+fn show_event<W: Write>(alloc: Global, layout: Layout, bytes: &[u8], writer: &mut W) -> Result<()> {
+    match decode_event(alloc, layout, bytes)? {
         None => print_line(writer, "no event"),
         Some((event, len)) => {
             let text = event_text(alloc, &event)?;
@@ -127,33 +127,44 @@ fn show_event<W: Write>(alloc: Global, bytes: &[u8], writer: &mut W) -> Result<(
 }
 
 // Whether a reader that is fed so many bytes at a time finds a state.
-fn is_read_by_pieces(alloc: Global, bytes: &[u8], size: usize) -> Result<bool> {
-    let mut reader = StateReader::new(alloc, Layout::Second);
+fn is_read_by_pieces(alloc: Global, layout: Layout, bytes: &[u8], size: usize) -> Result<bool> {
+    let mut reader = StateReader::new(alloc, layout);
     for piece in bytes.chunks(size.max(1)) {
         reader.feed(piece)?;
     }
     Ok(reader.finish().is_some())
 }
 
-// What bytes are as a state, read at once and in pieces of one byte and of seven.
-fn state_word(alloc: Global, bytes: &[u8]) -> Result<&'static str> {
-    let found = decode_state(alloc, Layout::Second, bytes)?;
-    for size in [1, 7] {
-        if is_read_by_pieces(alloc, bytes, size)? != found.is_some() {
-            return Ok("state differs in pieces");
+// The spelling of the state that bytes are, which is of the second layout.
+fn print_spelling<W: Write>(
+    alloc: Global,
+    layout: Layout,
+    bytes: &[u8],
+    spelled: &[u8],
+    writer: &mut W,
+) -> Result<()> {
+    match layout {
+        Layout::First => {
+            let text = hex_text(alloc, spelled)?;
+            writeln!(writer, "state {text}")?;
+            Ok(())
         }
-    }
-    let Some(state) = found else {
-        return Ok("no state");
-    };
-    let spelled = encode_state(alloc, &state)?;
-    if spelled.as_slice() == bytes {
-        Ok("state")
-    } else {
-        Ok("state differs")
+        Layout::Second if spelled == bytes => print_line(writer, "state"),
+        Layout::Second => print_line(writer, "state differs"),
     }
 }
 
-fn show_state<W: Write>(alloc: Global, bytes: &[u8], writer: &mut W) -> Result<()> {
-    print_line(writer, state_word(alloc, bytes)?)
+// What bytes are as a state of a layout, read at once and in pieces of one byte and of seven.
+fn show_state<W: Write>(alloc: Global, layout: Layout, bytes: &[u8], writer: &mut W) -> Result<()> {
+    let found = decode_state(alloc, layout, bytes)?;
+    for size in [1, 7] {
+        if is_read_by_pieces(alloc, layout, bytes, size)? != found.is_some() {
+            return print_line(writer, "state differs in pieces");
+        }
+    }
+    let Some(state) = found else {
+        return print_line(writer, "no state");
+    };
+    let spelled = encode_state(alloc, &state)?;
+    print_spelling(alloc, layout, bytes, spelled.as_slice(), writer)
 }

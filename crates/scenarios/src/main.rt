@@ -15,6 +15,7 @@ mod session;
 mod site;
 mod step;
 mod sweep;
+mod tables;
 mod words;
 mod world;
 

@@ -4,7 +4,7 @@ use crate::fill::Filling;
 use crate::site::SiteWords;
 use crate::words::{BadLine, Words, named, text_of};
 use child_keeper::{KillFault, Poll};
-use ocf_types::{Action, Level, Part, RscId, StartFault, Task};
+use ocf_types::{Action, Check, Expect, Layout, Level, Part, RscId, StartFault, Task};
 use std::alloc::{AllocError, Global};
 use std::collections::VecDeque;
 
@@ -60,14 +60,16 @@ pub enum Look {
     Found,
     /// What is found on each image of the disk.
     Stops(Vec<Filling>),
-    /// The event that these bytes begin with.
-    Event(Vec<u8>),
-    /// The state that these bytes spell.
-    State(Vec<u8>),
+    /// The event of a layout that these bytes begin with.
+    Event(Layout, Vec<u8>),
+    /// The state of a layout that these bytes spell.
+    State(Layout, Vec<u8>),
     /// What starts this action of a resource.
     Launch(RscId, Task),
     /// The names of all exit codes.
     Codes,
+    /// The exit codes that each action may end with where this is expected, and the ends by which it has failed.
+    Expected(Expect),
 }
 
 /// A step that plays all acts before it again and again, each time with another call planned to fail.
@@ -79,6 +81,8 @@ pub enum Sweep {
     ChildFaults,
     /// Each call of the disk is the last one.
     Stopped(Vec<Filling>),
+    /// Each call of the disk in a sitting is its last one, for each sitting in turn, which an image ends.
+    Lives(Vec<Filling>),
 }
 
 /// What a line of the input asks for.
@@ -119,15 +123,17 @@ enum Verb {
     Parts,
     Found,
     Stops,
-    Event,
-    State,
+    Event(Layout),
+    State(Layout),
     Launch,
     Codes,
+    Expected,
     Faults,
     Stopped,
+    Lives,
 }
 
-const VERBS: [(&str, Verb); 29] = [
+const VERBS: [(&str, Verb); 33] = [
     ("scenario", Verb::Scenario),
     ("part", Verb::Part),
     ("starts", Verb::Starts),
@@ -151,12 +157,16 @@ const VERBS: [(&str, Verb); 29] = [
     ("parts", Verb::Parts),
     ("found", Verb::Found),
     ("stops", Verb::Stops),
-    ("event", Verb::Event),
-    ("state", Verb::State),
+    ("event", Verb::Event(Layout::Second)),
+    ("state", Verb::State(Layout::Second)),
+    ("event-1", Verb::Event(Layout::First)),
+    ("state-1", Verb::State(Layout::First)),
     ("launch", Verb::Launch),
     ("codes", Verb::Codes),
+    ("expected", Verb::Expected),
     ("faults", Verb::Faults),
     ("stopped", Verb::Stopped),
+    ("lives", Verb::Lives),
 ];
 
 const PARTS: [(&str, Part); 2] = [("A", Part::A), ("B", Part::B)];
@@ -188,7 +198,8 @@ fn read_line(alloc: Global, verb: Verb, words: &mut Words) -> Result<Line, BadLi
         Verb::Book | Verb::Open | Verb::Turn | Verb::Stop | Verb::Fault | Verb::ChildFault =>
             read_counted_act(verb, words).map(Line::Act),
         Verb::Faults => read_faults(words).map(Line::Sweep),
-        Verb::Stopped => read_stopped(alloc, words).map(Line::Sweep),
+        Verb::Stopped => read_fillings(alloc, words).map(|f| Line::Sweep(Sweep::Stopped(f))),
+        Verb::Lives => read_fillings(alloc, words).map(|f| Line::Sweep(Sweep::Lives(f))),
         _ => read_look(alloc, verb, words).map(Line::Look),
     }
 }
@@ -248,15 +259,12 @@ fn read_look(alloc: Global, verb: Verb, words: &mut Words) -> Result<Look, BadLi
         Verb::Parts => Ok(Look::Parts),
         Verb::Found => Ok(Look::Found),
         Verb::Stops => read_fillings(alloc, words).map(Look::Stops),
-        Verb::Event => words.bytes(alloc).map(Look::Event),
-        Verb::State => words.bytes(alloc).map(Look::State),
+        Verb::Event(layout) => Ok(Look::Event(layout, words.bytes(alloc)?)),
+        Verb::State(layout) => Ok(Look::State(layout, words.bytes(alloc)?)),
         Verb::Launch => read_launch(words),
+        Verb::Expected => read_expect(words).map(Look::Expected),
         _ => Ok(Look::Codes),
     }
-}
-
-fn read_stopped(alloc: Global, words: &mut Words) -> Result<Sweep, BadLine> {
-    read_fillings(alloc, words).map(Sweep::Stopped)
 }
 
 fn read_name(alloc: Global, words: &mut Words) -> Result<String, BadLine> {
@@ -309,7 +317,12 @@ fn read_id(words: &mut Words) -> Result<RscId, BadLine> {
 fn read_task(words: &mut Words) -> Result<Task, BadLine> {
     let action = Action::named(words.text()?).ok_or(BadLine::NoStep)?;
     let level = Level::numbered(words.number()?).ok_or(BadLine::NoStep)?;
-    Task::new(action, level).ok_or(BadLine::NoStep)
+    let expect = Expect::Success;
+    Task::new(action, Check { level, expect }).ok_or(BadLine::NoStep)
+}
+
+fn read_expect(words: &mut Words) -> Result<Expect, BadLine> {
+    Expect::from_code(words.number()?).ok_or(BadLine::NoStep)
 }
 
 fn read_faults(words: &mut Words) -> Result<Sweep, BadLine> {

@@ -80,37 +80,73 @@ fn finding_in(world: &mut World, acts: &[Act], failing: Failing, call: u64) -> R
     Ok(Some(failing.finding(world, call)?))
 }
 
-fn finding_after(alloc: Global, acts: &[Act], failing: Failing, call: u64) -> Result<Option<u64>> {
-    let mut world = World::new(alloc)?;
-    finding_in(&mut world, acts, failing, call)
+// One sitting of a life: the acts up to the disk that it begins with, its own, and those behind the image that ends it.
+#[derive(Clone, Copy)]
+struct Sitting<'a> {
+    before: &'a [Act],
+    within: &'a [Act],
+    behind: &'a [Act],
 }
 
-// What is found for each call in turn.
-fn push_findings(
-    alloc: Global,
-    acts: &[Act],
-    failing: Failing,
-    findings: &mut Vec<u64>,
-) -> Result<()> {
-    for call in 1..u64::MAX {
-        match finding_after(alloc, acts, failing, call)? {
-            Some(finding) => findings.push(finding)?,
-            None => return Ok(()),
+impl<'a> Sitting<'a> {
+    // The sitting that the image at this place ends.
+    fn ending_at(acts: &'a [Act], place: usize) -> Sitting<'a> {
+        let (life, ending) = acts.split_at(place.min(acts.len()));
+        let (before, within) = Failing::DiskFault.split(life);
+        let (_, behind) = ending.split_at(ending.len().min(1));
+        Sitting {
+            before,
+            within,
+            behind,
         }
     }
-    Ok(())
+
+    // What is found at the end of the life, where this call of the sitting is its last one, if it came.
+    fn finding_in(&self, world: &mut World, filling: Filling, call: u64) -> Result<Option<u64>> {
+        world.play_all(self.before, &mut io::sink())?;
+        world.plan_stop(call)?;
+        world.play_all(self.within, &mut io::sink())?;
+        if world.call_count()? < call {
+            return Ok(None);
+        }
+        world.play(&Act::Image(call, filling), &mut io::sink())?;
+        world.play_all(self.behind, &mut io::sink())?;
+        Ok(Some(world.finding()?))
+    }
 }
 
-fn print_swept<W: Write>(
-    alloc: Global,
-    acts: &[Act],
-    failing: Failing,
-    label: &impl Display,
-    writer: &mut W,
-) -> Result<()> {
-    let mut findings = Vec::new(alloc);
-    push_findings(alloc, acts, failing, &mut findings)?;
-    print_rows(writer, label, findings.as_slice())
+// What is played again and again, each time with another call that fails.
+#[derive(Clone, Copy)]
+enum Played<'a> {
+    Once(&'a [Act], Failing),
+    Life(Sitting<'a>, Filling),
+}
+
+impl Played<'_> {
+    fn finding_after(&self, alloc: Global, call: u64) -> Result<Option<u64>> {
+        let mut world = World::new(alloc)?;
+        match self {
+            Played::Once(acts, failing) => finding_in(&mut world, acts, *failing, call),
+            Played::Life(sitting, filling) => sitting.finding_in(&mut world, *filling, call),
+        }
+    }
+
+    // What is found for each call in turn.
+    fn push_findings(&self, alloc: Global, findings: &mut Vec<u64>) -> Result<()> {
+        for call in 1..u64::MAX {
+            match self.finding_after(alloc, call)? {
+                Some(finding) => findings.push(finding)?,
+                None => return Ok(()),
+            }
+        }
+        Ok(())
+    }
+
+    fn print<W: Write>(&self, alloc: Global, label: &impl Display, writer: &mut W) -> Result<()> {
+        let mut findings = Vec::new(alloc);
+        self.push_findings(alloc, &mut findings)?;
+        print_rows(writer, label, findings.as_slice())
+    }
 }
 
 fn print_stopped<W: Write>(
@@ -121,7 +157,44 @@ fn print_stopped<W: Write>(
 ) -> Result<()> {
     for filling in fillings {
         let label = format_args!("stopped {filling}");
-        print_swept(alloc, acts, Failing::Stop(*filling), &label, writer)?;
+        Played::Once(acts, Failing::Stop(*filling)).print(alloc, &label, writer)?;
+    }
+    Ok(())
+}
+
+// The sitting that the image at this place ends, the N-th of its life, stopped with each of these fillings.
+fn print_sitting<W: Write>(
+    alloc: Global,
+    sitting: Sitting,
+    number: usize,
+    fillings: &[Filling],
+    writer: &mut W,
+) -> Result<()> {
+    for filling in fillings {
+        let label = format_args!("lives {number} {filling}");
+        Played::Life(sitting, *filling).print(alloc, &label, writer)?;
+    }
+    Ok(())
+}
+
+fn print_lives<W: Write>(
+    alloc: Global,
+    acts: &[Act],
+    fillings: &[Filling],
+    writer: &mut W,
+) -> Result<()> {
+    let mut number = 0;
+    for (place, act) in acts.iter().enumerate() {
+        if matches!(act, Act::Image(..)) {
+            number += 1;
+            print_sitting(
+                alloc,
+                Sitting::ending_at(acts, place),
+                number,
+                fillings,
+                writer,
+            )?;
+        }
     }
     Ok(())
 }
@@ -131,12 +204,13 @@ impl Sweep {
     pub fn play<W: Write>(&self, alloc: Global, acts: &[Act], writer: &mut W) -> Result<()> {
         match self {
             Sweep::DiskFaults => {
-                print_swept(alloc, acts, Failing::DiskFault, &"faults disk", writer)
+                Played::Once(acts, Failing::DiskFault).print(alloc, &"faults disk", writer)
             }
             Sweep::ChildFaults => {
-                print_swept(alloc, acts, Failing::ChildFault, &"faults children", writer)
+                Played::Once(acts, Failing::ChildFault).print(alloc, &"faults children", writer)
             }
             Sweep::Stopped(fillings) => print_stopped(alloc, acts, fillings.as_slice(), writer),
+            Sweep::Lives(fillings) => print_lives(alloc, acts, fillings.as_slice(), writer),
         }
     }
 }

@@ -14,11 +14,11 @@ loop-place-preserved c =
       | then-asks_for+in_ok-row+in_ok-extend_from_slice w ↦
           let asked : is_asked_for look (entry_at s c.loop-place.place).0 ≡ true = search rules in
           let same : c.if-asks_for.rows.items ≡ c.loop-place.rows.items ++ w.in_ok-row.row.items = search rules in
-          subst (λ text. AreRows (asked_entries look (take (c.loop-place.place + 1) s.resources)) text) (sym same)
+          subst (λ text. AreRows look (asked_entries look (take (c.loop-place.place + 1) s.resources)) text) (sym same)
           (asked_more look s c.loop-place.place c.loop-place.rows.items w.in_ok-row.row.items lt asked c.loop-place.invariant w.in_ok-row.ensures)
       | else-asks_for w ↦
           let asked : is_asked_for look (entry_at s c.loop-place.place).0 ≡ false = search rules in
           let same : c.if-asks_for.rows.items ≡ c.loop-place.rows.items = search rules in
-          subst (λ text. AreRows (asked_entries look (take (c.loop-place.place + 1) s.resources)) text) (sym same)
+          subst (λ text. AreRows look (asked_entries look (take (c.loop-place.place + 1) s.resources)) text) (sym same)
           (asked_same look s c.loop-place.place c.loop-place.rows.items lt asked c.loop-place.invariant)
     ]

@@ -1,5 +1,5 @@
 use Rattle.executor.proofs.Journaling.{WhatStands}
-use Rattle.executor.proofs.Lives.{OneFinding, first_begins, fresh_begins, life_leaves, opened_behind, opens_behind}
+use Rattle.executor.proofs.Lives.{OneFinding, first_begins, fresh_begins, life_leaves, opened_behind, opens_behind, refused_sits}
 use Rattle.executor.proofs.laws.whole_life.Goals as goal
 
 pub returns : goal.returns
@@ -14,4 +14,5 @@ returns g c =
       roomy = λ start life is image left. (life_leaves g.D.Disk.view law once g.met.D.Disk.lawful start life is image left).1;
       opened = opened_behind g.D.Disk.view law once g.met.D.Disk.lawful;
       not_refused = opens_behind g.D.Disk.view law once g.met.D.Disk.lawful;
+      refused = refused_sits g.D.Disk.view;
     }

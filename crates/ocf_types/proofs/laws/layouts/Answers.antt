@@ -1,3 +1,5 @@
+use Rattle.ocf_types.specs.declared.layout.Layout.TheVariants.{First}
+use Rattle.ocf_types.proofs.LawfulLaw.{lawful_after}
 use Rattle.ocf_types.proofs.LayoutLemmas.{state_carried, state_whole, spelling_carried, applies_cut, after_cut, after_all_cut}
 use Rattle.ocf_types.proofs.laws.layouts.Goals as goal
 
@@ -18,3 +20,6 @@ returns-clause-after c s e h = after_cut s e
 
 pub returns-clause-after_all : goal.returns-clause-after_all
 returns-clause-after_all c s es h = after_all_cut es s
+
+pub returns-clause-stays : goal.returns-clause-stays
+returns-clause-stays c s e h a = lawful_after First s e h a

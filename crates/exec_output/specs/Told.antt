@@ -1,0 +1,127 @@
+-- What a table tells of a resource: what it does now, its last results, its monitors, what failed last and its history.
+use Rattle.std.specs.Prelude.{ℕ, ◌+◌, ◌-◌, ◌/◌, ◌%◌, ◌==◌, Bool, true, false, ◌&&◌, not, if◌then◌else◌, nat_lt, List, [], ◌∷◌, ◌++◌, length, filter}
+use Rattle.std.specs.Prelude.{replicate, Option, Some, None, codes, decimal}
+use Rattle.std.specs.List.{flat_map, last_or}
+use Rattle.std.specs.Option.{option_map_or}
+use Rattle.std.specs.Str.{bytes_eq}
+use Rattle.ocf_types.specs.Actions.{action_of, action_word}
+use Rattle.ocf_types.specs.Resource.{History, Resource}
+use Rattle.ocf_types.specs.declared.action.Action.{Action}
+use Rattle.ocf_types.specs.declared.action.Action.TheVariants as action
+use Rattle.ocf_types.specs.declared.operation.Ended.{Ended}
+use Rattle.ocf_types.specs.declared.operation.Op.{Op}
+use Rattle.ocf_types.specs.declared.operation.Recur.{Recur}
+use Rattle.ocf_types.specs.declared.operation.Running.{Running}
+use Rattle.exec_output.specs.Meanings.{meaning, tone_of}
+use Rattle.exec_output.specs.declared.look.Look.{Look}
+use Rattle.exec_output.specs.declared.meanings.Tone.{Tone}
+use Rattle.exec_output.specs.declared.meanings.Tone.TheVariants.{Good, Notable, Bad}
+
+-- a length of time in whole units, rounded down: seconds, or else the greatest unit of which there are two at least
+abbrev pub span_text : ℕ → List ℕ
+span_text millis =
+    if nat_lt millis 1000 then decimal millis ++ codes " ms" else
+    (if nat_lt millis 120000 then decimal (millis / 1000) ++ codes " s" else
+    (if nat_lt millis 7200000 then decimal (millis / 60000) ++ codes " min" else
+    (if nat_lt millis 172800000 then decimal (millis / 3600000) ++ codes " h" else decimal (millis / 86400000) ++ codes " days")))
+
+-- a length of time as it is
+abbrev pub exact_text : ℕ → List ℕ
+exact_text millis =
+    if millis % 60000 == 0 then decimal (millis / 60000) ++ codes " min" else
+    (if millis % 1000 == 0 then decimal (millis / 1000) ++ codes " s" else decimal millis ++ codes " ms")
+
+-- how long ago a moment was; one that is not yet was just now
+abbrev pub ago_text : ℕ → ℕ → List ℕ
+ago_text now moment = span_text (now - moment) ++ codes " ago"
+
+-- when something is due
+abbrev pub due_text : ℕ → ℕ → List ℕ
+due_text now due = if nat_lt now due then codes "due in " ++ span_text (due - now) else codes "due " ++ ago_text now due
+
+-- what runs, and since when
+abbrev pub running_text : ℕ → Option Running → List ℕ
+running_text now None = codes "idle"
+running_text now (Some x) = action_word (action_of x.task) ++ codes " since " ++ span_text (now - x.since)
+
+-- how many actions are queued
+abbrev pub queued_text : ℕ → List ℕ
+queued_text n = if n == 0 then [] else codes ", " ++ decimal n ++ codes " queued"
+
+-- what a resource does now
+abbrev pub now_text : Look → History → List ℕ
+now_text look h = running_text look.moment h.running ++ queued_text (length h.queue)
+
+-- green, yellow and red: ECMA-48, SGR
+abbrev pub colour_of : Tone → List ℕ
+colour_of Good = 27 ∷ codes "[32m"
+colour_of Notable = 27 ∷ codes "[33m"
+colour_of Bad = 27 ∷ codes "[31m"
+
+-- a text in its colour, where colours are wanted
+abbrev pub painted : Bool → Tone → List ℕ → List ℕ
+painted true tone text = colour_of tone ++ text ++ 27 ∷ codes "[0m"
+painted false tone text = text
+
+-- what a result means, and how long ago it ended
+abbrev pub result_text : Look → Ended → List ℕ
+result_text look e = painted look.colours (tone_of e.outcome) (meaning e.action e.outcome) ++ codes ", " ++ ago_text look.moment e.at
+
+-- a line's beginning: what it is of, set in, up to the column of what is told of it, and a space at least
+abbrev pub set_in : List ℕ → List ℕ
+set_in name = codes "\n  " ++ name ++ replicate (13 - length name) 32 ++ codes " "
+
+-- the result of an action that was asked for once; the result of a recurring monitor's run
+abbrev pub is_asked : Action → Ended → Bool
+is_asked what e = bytes_eq (action_word e.action) (action_word what) && (e.interval == 0)
+
+abbrev pub is_run : ℕ → Ended → Bool
+is_run call e = (e.call == call) && not (e.interval == 0)
+
+-- the last of the results of which this holds
+abbrev pub last_of : (Ended → Bool) → List Ended → Option Ended
+last_of is es = last_or None (filter is es)
+
+-- the actions, in the order in which they are told
+abbrev pub told_actions : List Action
+told_actions =
+    action.Monitor ∷ action.Start ∷ action.Promote ∷ action.Demote ∷ action.Stop ∷ action.ReloadAgent ∷ action.ValidateAll ∷ []
+
+-- the line of an action: the last result of it that was asked for once, and no line where there is none
+abbrev pub action_line : Look → List Ended → Action → List ℕ
+action_line look es what =
+    option_map_or (λ e. set_in (action_word what) ++ result_text look e) (last_of (is_asked what) es) []
+
+-- what is told of a recurring monitor: its last result, and when it is due again, an interval behind that
+abbrev pub monitor_text : Look → Recur → Option Ended → List ℕ
+monitor_text look m None = codes "no result yet"
+monitor_text look m (Some e) = result_text look e ++ codes "; " ++ due_text look.moment (e.at + m.interval)
+
+abbrev pub monitor_line : Look → List Ended → Recur → List ℕ
+monitor_line look es m =
+    set_in (codes "every " ++ exact_text m.interval) ++ monitor_text look m (last_of (is_run m.call) es)
+
+-- the line of what failed last, and no line where nothing has
+abbrev pub failure_line : Look → Option Ended → List ℕ
+failure_line look None = []
+failure_line look (Some e) = set_in (codes "last failure") ++ action_word e.action ++ codes ": " ++ result_text look e
+
+-- the line of a result in the history
+abbrev pub past_line : Look → Ended → List ℕ
+past_line look e =
+    codes "\n  call " ++ decimal e.call ++ codes ", " ++ action_word e.action ++ codes " of " ++ span_text (e.at - e.since)
+    ++ codes ": " ++ result_text look e
+
+-- all results, oldest first; only where one resource is asked for
+abbrev pub history_text : Look → List Ended → List ℕ
+history_text look es = option_map_or (λ id. codes "\n  history, oldest first:" ++ flat_map (past_line look) es) look.only []
+
+-- the lines below a resource's row
+abbrev pub lines_text : Look → Resource → List ℕ
+lines_text look r =
+    flat_map (action_line look r.history.ended) told_actions ++ flat_map (monitor_line look r.history.ended) r.recurring
+    ++ failure_line look r.history.failed ++ history_text look r.history.ended
+
+-- all that is told of a resource behind its agent
+abbrev pub told : Look → Resource → List ℕ
+told look r = now_text look r.history ++ lines_text look r ++ 10 ∷ []

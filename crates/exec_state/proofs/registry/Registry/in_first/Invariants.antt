@@ -1,0 +1,15 @@
+use Rattle.std.proofs.Common.{◌≡◌, ◌++◌, map, take, drop, length}
+use Rattle.ocf_types.specs.Resource.{history_in}
+use Rattle.ocf_types.specs.State.{on_history}
+use Rattle.ocf_types.specs.declared.layout.Layout.TheVariants.{First}
+use Rattle.exec_state.specs.Seen.{seen_all, monitors_all}
+use Rattle.exec_state.proofs.Entries.{on_value}
+use Rattle.exec_state.proofs.registry.Registry.in_first.Given as goal
+
+abbrev pub invariant-loop-place : goal.invariant-loop-place
+invariant-loop-place g l =
+    let es = seen_all l.initial.resources.entries in record {
+      len : length l.resources.entries ≡ length l.initial.resources.entries;
+      state : seen_all l.resources.entries ≡ map (on_value (on_history (history_in First))) (take l.place es) ++ drop l.place es;
+      monitors : monitors_all l.resources.entries ≡ monitors_all l.initial.resources.entries;
+    }

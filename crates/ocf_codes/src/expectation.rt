@@ -1,0 +1,31 @@
+//! Which exit codes are expected, and which ends have failed.
+ghost use Rattle.std.specs.Prelude.{◌≡◌};
+ghost use Rattle.ocf_types.specs.Expected.{has_failed, is_expected};
+
+use ocf_types::{Action, Expect, Outcome, RunEnd};
+
+/// Whether an action of which this is expected may end with this exit code. A monitor may also tell that what is
+/// expected is degraded; every other action is to succeed. OCF Resource Agent API 1.1 and Pacemaker Administration, exit
+/// codes.
+pub fn expected(action: Action, expect: Expect, code: u8) -> bool
+    ensures { result ≡ is_expected action expect code }
+{
+    match (action, expect) {
+        (Action::Monitor, Expect::Success) => matches!(code, 0 | 190),
+        (Action::Monitor, Expect::NotRunning) => code == 7,
+        (Action::Monitor, Expect::RunningPromoted) => matches!(code, 8 | 191),
+        _ => code == 0,
+    }
+}
+
+/// Whether an action of which this is expected has failed by this outcome: its code is not expected, or its agent gave
+/// none. What was interrupted, dropped or cancelled has not failed.
+pub fn failed(action: Action, expect: Expect, outcome: Outcome) -> bool
+    ensures { result ≡ has_failed action expect outcome }
+{
+    match outcome {
+        Outcome::Run(RunEnd::Done(code)) => !expected(action, expect, code),
+        Outcome::Run(_) => true,
+        Outcome::Interrupted | Outcome::Dropped | Outcome::Cancelled => false,
+    }
+}

@@ -1,0 +1,43 @@
+-- Which exit codes are expected of an action, and which of its ends have failed.
+use Rattle.std.specs.Prelude.{ℕ, ◌==◌, ◌||◌, not, Bool, true, false, [], ◌∷◌, Option}
+use Rattle.std.specs.List.{find}
+use Rattle.ocf_types.specs.declared.action.Action.{Action}
+use Rattle.ocf_types.specs.declared.action.Action.TheVariants.{Monitor}
+use Rattle.ocf_types.specs.declared.expect.Expect.{Expect}
+use Rattle.ocf_types.specs.declared.expect.Expect.TheVariants.{Success, NotRunning, RunningPromoted}
+use Rattle.ocf_types.specs.declared.outcome.RunEnd.TheVariants.{Done, TimedOut, Signaled, Lost, NotStarted}
+use Rattle.ocf_types.specs.declared.outcome.Outcome.{Outcome}
+use Rattle.ocf_types.specs.declared.outcome.Outcome.TheVariants.{Run, Interrupted, Dropped, Cancelled}
+
+-- OCF Resource Agent API 1.1, exit codes: OCF_SUCCESS, OCF_NOT_RUNNING, OCF_RUNNING_PROMOTED
+abbrev pub expect_code : Expect → ℕ
+expect_code Success = 0
+expect_code NotRunning = 7
+expect_code RunningPromoted = 8
+
+-- what is expected by a code
+abbrev pub expect_of_code : ℕ → Option Expect
+expect_of_code n = find (λ x. n == expect_code x) (Success ∷ NotRunning ∷ RunningPromoted ∷ [])
+
+-- what is expected was found, but degraded: Pacemaker Administration, exit codes: OCF_DEGRADED, OCF_DEGRADED_PROMOTED
+abbrev pub is_degraded : Expect → ℕ → Bool
+is_degraded Success code = code == 190
+is_degraded NotRunning code = false
+is_degraded RunningPromoted code = code == 191
+
+-- a monitor is to find what is expected, degraded or not; every other action is to succeed
+abbrev pub is_expected : Action → Expect → ℕ → Bool
+is_expected Monitor x code = (code == expect_code x) || is_degraded x code
+is_expected _ x code = code == 0
+
+-- an end has failed by a code that is not expected, or where the agent gave none; it is not known of what was
+-- interrupted, and what was dropped or cancelled never began
+abbrev pub has_failed : Action → Expect → Outcome → Bool
+has_failed action x (Run (Done code)) = not (is_expected action x code)
+has_failed action x (Run TimedOut) = true
+has_failed action x (Run Signaled) = true
+has_failed action x (Run Lost) = true
+has_failed action x (Run (NotStarted fault)) = true
+has_failed action x Interrupted = false
+has_failed action x Dropped = false
+has_failed action x Cancelled = false
