@@ -1,0 +1,62 @@
+//! Trials. With the name of a reader, `command`, `event`, `state`, `pair`, `words` or `lines`, it hands that reader the bytes of
+//! standard input, and fails where what was read does not spell them again, where a damaged pair of parts was written, or where
+//! what a run left does not open. With `life` it plays the sittings that standard input plans, one behind the other, over a disk
+//! in memory, scripted children and a clock that it moves itself, and prints what each of them says.
+#![tactic(auto)]
+
+mod agents;
+mod client;
+mod clock;
+mod commands;
+mod life;
+mod pairs;
+mod plan;
+mod runs;
+mod sitting;
+mod spellings;
+mod watched;
+
+use crate::commands::{command, words};
+use crate::life::live;
+use crate::pairs::pair;
+use crate::runs::lines;
+use crate::spellings::{event, state};
+use anyhow::{Context, Result, bail};
+use std::alloc::Global;
+use std::env;
+use std::io::{self, BufReader, BufWriter, Read, Write};
+use std::rt::Env;
+
+const READ_SIZE: usize = 65_536;
+
+// Hands these bytes to the reader of this name.
+fn read(alloc: Global, name: &str, bytes: &[u8]) -> Result<()> {
+    match name {
+        "command" => command(alloc, bytes),
+        "event" => event(alloc, bytes),
+        "state" => state(alloc, bytes),
+        "pair" => pair(alloc, bytes),
+        "words" => words(alloc, bytes),
+        "lines" => lines(alloc, bytes),
+        _ => bail!("no reader is called {name}"),
+    }
+}
+
+fn run(rt: &(impl AllocGlobal + Input + Print + Env)) -> Result<()> {
+    let alloc = rt.alloc();
+    let mut words = env::args(rt)?;
+    let _program = words.next();
+    let name = words.next().context("the name of a trial is wanted")?;
+    let mut reader = BufReader::with_capacity(alloc, READ_SIZE, rt.reader())?;
+    if name.as_str() == "life" {
+        let mut writer = BufWriter::with_capacity(alloc, READ_SIZE, io::writer(rt))?;
+        return live(alloc, &mut reader, &mut writer);
+    }
+    let mut bytes = Vec::new(alloc);
+    reader.read_to_end(&mut bytes)?;
+    read(alloc, name.as_str(), bytes.as_slice())
+}
+
+fn main(rt: HostRuntime) -> Result<()> {
+    run(&rt)
+}

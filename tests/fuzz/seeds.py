@@ -1,0 +1,74 @@
+#!/usr/bin/env python3
+"""Writes what fuzzers begin with, one file each, into a folder for each reader: the events, states, parts, lines and runs of the
+scenarios, and words of the program's command line.
+Use: seeds.py FOLDER"""
+import hashlib
+import json
+import os
+import sys
+
+import wordlists
+
+TOP = os.path.dirname(os.path.dirname(os.path.dirname(os.path.abspath(__file__))))
+# the longest input that is worth its time
+LONGEST = 4_096
+
+
+def keep(folder, reader, text):
+    if 0 < len(text) <= LONGEST:
+        os.makedirs(os.path.join(folder, reader), exist_ok=True)
+        with open(os.path.join(folder, reader, hashlib.sha256(text).hexdigest()[:12]), "wb") as file:
+            file.write(text)
+
+
+def bytes_of(words):
+    """The bytes that words of hex spell; N*hex is that N times, and - is none."""
+    text = b""
+    for word in words:
+        times, found, digits = word.rpartition("*")
+        text += b"" if digits == "-" else bytes.fromhex(digits) * (int(times) if found else 1)
+        if len(text) > LONGEST:
+            break
+    return text
+
+
+def scenarios():
+    with open(os.path.join(TOP, "crates/scenarios/stdin"), encoding="utf-8") as file:
+        for text in file.read().split("\nscenario "):
+            yield [line.split(" ") for line in text.split("\n") if line and not line.startswith("#")]
+
+
+def keep_pair(folder, a, b):
+    if len(a) + len(b) < LONGEST:
+        keep(folder, "pair", len(a).to_bytes(2, "big") + a + b)
+
+
+def write_scenario(folder, steps):
+    parts, lines = {"A": b"", "B": b""}, []
+    for word, *more in steps:
+        if word == "part" and more:
+            parts[more[0]] = bytes_of(more[1:])
+            keep_pair(folder, parts["A"], parts["B"])
+        elif word == "event":
+            keep(folder, "event", bytes_of(more))
+        elif word == "state":
+            keep(folder, "state", b"\7" + bytes_of(more))
+        elif word == "at":
+            line = " ".join(more[1:]).encode()
+            keep(folder, "command", line)
+            lines.append(line)
+    keep(folder, "lines", b"".join(line + b"\n" for line in lines))
+
+
+def main():
+    folder = sys.argv[1]
+    for steps in scenarios():
+        write_scenario(folder, steps)
+    for words in wordlists.WORDS:
+        keep(folder, "words", "\n".join(words).encode())
+    for op in wordlists.LINES:
+        keep(folder, "command", json.dumps(op).encode())
+        keep(folder, "lines", json.dumps(op).encode() + b"\n")
+
+
+main()
