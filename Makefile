@@ -3,7 +3,7 @@ PREFIX ?= /usr/local
 PROGRAM := crates/ocfexec/out/ocfexec
 AGENTS := crates/ocf_agents/out/ocf_agents
 
-.PHONY: run test check mutants bench install deb clean
+.PHONY: run test check mutants bench soak fuzz install deb guide clean
 
 # Compiles every crate, proves nothing, and answers the example's commands, with the example's agent.
 run:
@@ -25,6 +25,14 @@ mutants:
 bench:
 	cd crates/bench && rt run -- appends 20 && rt run -- events 20 && rt run -- state-reads 20 && rt run -- state-writes 20 && rt run -- triples 20 && rt run -- openings 1 && rt run -- tidies 4 && rt run -- waiting-turns 20 && rt run -- busy-turns 5 && rt run -- resting-turns 20 && rt run -- lone-turns 20 && rt run -- due-turns 20 && rt run -- scans 20
 
+# A life of thirty days on a simulated clock; `make check` has one of a day.
+soak:
+	@DAYS=30 tests/soak.py
+
+# Fuzzes each reader of bytes from outside for five minutes, two at a time. It needs the package afl++.
+fuzz:
+	@tests/fuzz/run.sh 300
+
 # Installs the programs that the gate proved and built, or proves and builds them first; with them the manual page, the two
 # clients and the unit.
 install: $(PROGRAM) $(AGENTS)
@@ -39,6 +47,10 @@ install: $(PROGRAM) $(AGENTS)
 # Builds a Debian package of the programs that the gate proved, and of no others.
 deb:
 	@package/deb.sh
+
+# The first hour in one go, on this machine: builds that package, installs it, runs each command of docs/GUIDE.md, and removes it.
+guide:
+	@tests/guide.sh $(PROGRAM) /
 
 $(PROGRAM): $(shell find crates -name out -prune -o -type f -print)
 	cd crates/ocfexec && rt run -- --help > /dev/null

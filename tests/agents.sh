@@ -243,19 +243,6 @@ SHOWN
     is_wanted 'what an agent inherits' "$here/shown"
 }
 
-# A program that was started with SIGCHLD ignored says so, and makes no journal.
-unseen() {
-    local status=0
-    mkdir "$here/unseen"
-    python3 -c 'import os, signal, sys
-signal.signal(signal.SIGCHLD, signal.SIG_IGN)
-os.execv(sys.argv[1], sys.argv[1:])' "$program" run --journal "$here/unseen" < /dev/null > "$here/out" 2> "$here/err" || status=$?
-    same 'the status where SIGCHLD is ignored' 8 "$status"
-    same 'the line where SIGCHLD is ignored' 'ocfexec: SIGCHLD is ignored' "$(head -n 1 "$here/err")"
-    same 'the advice where SIGCHLD is ignored' 2 "$(wc -l < "$here/err")"
-    same 'a journal where SIGCHLD is ignored' '' "$(ls "$here/unseen")"
-}
-
 # 256 agents at once, which are killed at their timeout; then one that lasts, so that the killed ones are waited for.
 crowd() {
     printf 'exec sleep 60\n' > "$agents/Sleeps"
@@ -308,7 +295,5 @@ stubborn
 checked "an agent that ignores signals"
 inherited
 checked "what an agent inherits"
-unseen
-checked "SIGCHLD ignored"
 crowd
 finish "256 agents at once"

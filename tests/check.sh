@@ -5,11 +5,15 @@ set -u
 cd "$(dirname "$0")/.."
 export PROGRAM=$PWD/crates/ocfexec/out/ocfexec
 export AGENTS=$PWD/crates/ocf_agents/out/ocf_agents
+export TRIALS=$PWD/crates/trials/out/trials
 if [ ! -x "$PROGRAM" ]; then
     (cd crates/ocfexec && rt run -- --help > /dev/null) || exit 1
 fi
 if [ ! -x "$AGENTS" ]; then
     (cd crates/ocf_agents && OCF_RESOURCE_TYPE=Dummy rt run -- meta-data > /dev/null) || exit 1
+fi
+if [ ! -x "$TRIALS" ]; then
+    (cd crates/trials && rt run -- life < stdin > /dev/null) || exit 1
 fi
 said=$(mktemp)
 trap 'rm -f "$said"' EXIT
@@ -20,10 +24,11 @@ count() {
     grep -c "^$1 .* s  " "$said"
 }
 
-for check in words.sh status.sh lines.sh random_lines.sh speed.sh drains.sh time.sh ends.py serve.sh agents.sh agents_alone.sh agent_log.sh meta_variables.sh \
-    files.sh memory.sh journals.sh layouts.py durable.sh kills.py orphans.sh tidies.sh clients.sh cluster.sh package.sh completions.sh real_agents.sh; do
+for check in words.sh status.sh lines.sh random_lines.py speed.sh drains.sh clock.py ends.py serve.py agents.sh agents_alone.sh agent_log.sh \
+    meta_variables.sh files.sh memory.py growths.py journals.py layouts.py durable.sh kills.py orphans.py tidies.py soak.py fuzz.py clients.sh cluster.sh \
+    package.sh completions.sh real_agents.sh guide.sh; do
     status=0
-    timeout 170 "tests/$check" "$PROGRAM" < /dev/null > "$said" 2>&1 || status=$?
+    timeout 300 "tests/$check" "$PROGRAM" < /dev/null > "$said" 2>&1 || status=$?
     cat "$said"
     passed=$((passed + $(count ok)))
     failed=$((failed + $(count failed)))

@@ -1,9 +1,13 @@
 #!/usr/bin/env python3
 """The two ends of a run: a reader that goes away ends a drain, a watch and a run that serves within a second, with its agents, and
-descriptors that do not block are waited for; and words that are refused for the folder of agents.
+descriptors that do not block are waited for; behind a device that fails a run waits, too; and starts that are refused: with SIGCHLD
+ignored, and with a root that is not absolute.
 Use: ends.py PROGRAM"""
 import fcntl
+import json
 import os
+import resource
+import signal
 import subprocess
 import time
 
@@ -79,6 +83,41 @@ class Ends(helper.Check):
     def test_serve_not_blocking(self):
         """serve where neither end blocks"""
         self.not_blocking("serve")
+
+    def test_children_ignored(self):
+        """a program that was started with SIGCHLD ignored says so, and makes no journal"""
+        folder = self.journal()
+        done = helper.run("run", "--journal", folder, preexec_fn=lambda: signal.signal(signal.SIGCHLD, signal.SIG_IGN))
+        first, *advice = done.stderr.splitlines()
+        self.assertEqual((done.returncode, first, len(advice)), (8, b"ocfexec: SIGCHLD is ignored", 1))
+        self.assertEqual(os.listdir(folder), [])
+
+    def test_fault(self):
+        """a device that fails in a turn, and a run that waits for lines behind it"""
+        self.agent("Brief", "sleep 1\n")
+        folder = self.journal()
+        run = subprocess.Popen([PROGRAM, "serve", "--journal", folder, "--root", self.here], restore_signals=False,
+                               stdin=subprocess.PIPE, stdout=subprocess.PIPE, stderr=subprocess.PIPE)
+        self.addCleanup(run.kill)
+        run.stdin.write(helper.lines(helper.register("r1", "Brief"), helper.action("r1", "start")))
+        run.stdin.flush()
+        run.stdout.readline(), run.stdout.readline()
+        time.sleep(0.5)
+        # no file of it may grow any more, so the record of the agent's end is refused
+        size = os.path.getsize(os.path.join(folder, "part-a"))
+        resource.prlimit(run.pid, resource.RLIMIT_FSIZE, (size, size))
+        time.sleep(1.5)
+        states = []
+        for _ in range(20):
+            time.sleep(0.02)
+            states.append(helper.state(run.pid))
+        self.assertGreater(states.count("S"), 16, f"it takes a whole core: {states}")
+        run.stdin.write(helper.lines({"op": "list"}))
+        run.stdin.flush()
+        self.assertEqual(json.loads(run.stdout.readline()), {"error": "closed", "number": 17})
+        run.stdin.close()
+        self.assertEqual(run.wait(5), 5)
+        run.stdout.close(), run.stderr.close()
 
     def test_root(self):
         """a root that is not absolute"""

@@ -84,9 +84,7 @@ def state(folder):
 class Growths(helper.Check):
     def setUp(self):
         super().setUp()
-        self.shim, self.counts, self.gate = self.place("growths.so"), self.place("counts"), self.place("gate")
-        source = os.path.join(helper.TOP, "tests/growths.c")
-        subprocess.run(["cc", "-O1", "-shared", "-fPIC", "-o", self.shim, source], check=True)
+        self.shim, self.counts, self.gate = helper.shim("growths.c", self.here), self.place("counts"), self.place("gate")
 
     # A run.
 
@@ -339,6 +337,14 @@ class Growths(helper.Check):
         steps = [Step(helper.register("r1", "Dummy")), Step({"op": "recur", **monitor}, awaits=True), Step({"op": "cancel", **monitor}),
                  Step({"op": "cancel", **monitor}), Step({"op": "history", "id": "r1"})]
         self.sweep(self.words("serve", "--via", "echo"), steps, opens=False)
+
+    def test_withdraw(self):
+        """an action that is withdrawn"""
+        withdraw = Step({"op": "withdraw", "id": "r1", "call": 2})
+        steps = [Step(helper.register("r1", "Dummy")), Step(helper.action("r1", "start")), Step(helper.action("r1", "stop")), withdraw,
+                 withdraw, Step({"op": "history", "id": "r1"})]
+        base = self.sweep(self.words("run"), steps, opens=False)
+        self.assertEqual([values[0] for values in base.answers[3:5]], [{"ok": True}, {"error": "not-queued", "number": 18}])
 
     def test_meta(self):
         """metadata"""

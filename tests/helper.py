@@ -11,6 +11,7 @@ import time
 import unittest
 
 PROGRAM = os.path.realpath(sys.argv[1]) if len(sys.argv) > 1 else ""
+PARTS = ("part-a", "part-b")
 TOP = os.path.dirname(os.path.dirname(os.path.abspath(__file__)))
 
 
@@ -37,14 +38,20 @@ def replies(out):
     return [json.loads(line) for line in out.split(b"\n")[:-1]]
 
 
-def is_notice(value):
-    return "outcome" in value
+def is_notice(value, **wanted):
+    """Whether a value is a notice, with these keys as wanted."""
+    return "outcome" in value and all(value[key] == part for key, part in wanted.items())
+
+
+def run(*words, told=b"", **how):
+    """A whole run, which is told all its input at once."""
+    return subprocess.run([PROGRAM, *words], input=told, capture_output=True, **{"timeout": 120, **how})
 
 
 def parts(folder):
     """The bytes of a journal's two parts."""
     found = []
-    for name in ("part-a", "part-b"):
+    for name in PARTS:
         with open(os.path.join(folder, name), "rb") as part:
             found.append(part.read())
     return found
@@ -52,7 +59,7 @@ def parts(folder):
 
 def shown(folder):
     """What `show` prints of a journal."""
-    done = subprocess.run([PROGRAM, "show", "--journal", folder], capture_output=True, timeout=60)
+    done = run("show", "--journal", folder)
     assert done.returncode == 0, done.stderr
     return done.stdout
 
@@ -61,6 +68,32 @@ def results(folder):
     """The results of each resource of a journal, by its id."""
     found = replies(shown(folder))
     return {name: found[2 + 2 * place]["results"] for place, name in enumerate(found[0]["resources"])}
+
+
+def processor_time(pid):
+    """What a process has taken of the processor, in seconds."""
+    with open(f"/proc/{pid}/stat", encoding="ascii") as stat:
+        fields = stat.read().rsplit(")", 1)[1].split()
+    return (int(fields[11]) + int(fields[12])) / os.sysconf("SC_CLK_TCK")
+
+
+def kib(pid, name):
+    """The resident memory of a process in KiB: now, as VmRSS, or the greatest that it ever was, as VmHWM."""
+    with open(f"/proc/{pid}/status", encoding="ascii") as status:
+        return next(int(line.split()[1]) for line in status if line.startswith(name + ":"))
+
+
+def shim(source, folder):
+    """A library of this source in C, to be loaded before the C library's."""
+    built = os.path.join(folder, source.removesuffix(".c") + ".so")
+    subprocess.run(["cc", "-O1", "-shared", "-fPIC", "-o", built, os.path.join(TOP, "tests", source), "-ldl"], check=True)
+    return built
+
+
+def state(pid):
+    """What a process does: R where it runs or would, S where it waits."""
+    with open(f"/proc/{pid}/stat", encoding="ascii") as file:
+        return file.read().rpartition(")")[2].split()[0]
 
 
 def is_alive(pid):
@@ -73,10 +106,11 @@ def is_alive(pid):
 
 
 class Heard:
-    """A program that runs, whose lines are kept with the moments at which they came."""
+    """A program that runs, whose lines are kept with the moments at which they came; its standard error goes to a file."""
 
-    def __init__(self, *words):
-        self.run = subprocess.Popen([PROGRAM, *words], stdin=subprocess.PIPE, stdout=subprocess.PIPE, stderr=subprocess.DEVNULL)
+    def __init__(self, *words, err=os.devnull, **how):
+        with open(err, "wb") as file:
+            self.run = subprocess.Popen([PROGRAM, *words], stdin=subprocess.PIPE, stdout=subprocess.PIPE, stderr=file, **how)
         self.lines, self.came = [], threading.Condition()
         self.reader = threading.Thread(target=self.read, daemon=True)
         self.reader.start()
@@ -94,6 +128,15 @@ class Heard:
         self.run.stdin.write(text)
         self.run.stdin.flush()
 
+    def values(self):
+        """The values of all whole lines that have come."""
+        with self.came:
+            return [json.loads(line) for _, line in self.lines if line.endswith("\n")]
+
+    def told(self):
+        """The notices that have come."""
+        return [value for value in self.values() if is_notice(value)]
+
     def awaits(self, holds, seconds=10):
         """The moment and the value of the first line of which this holds; two None where none came."""
         until, at = time.monotonic() + seconds, 0
@@ -107,10 +150,10 @@ class Heard:
                 if not self.came.wait(max(0, until - time.monotonic())):
                     return None, None
 
-    def ends(self):
+    def ends(self, seconds=10):
         """The exit status, behind the end of its input."""
         self.run.stdin.close()
-        status = self.run.wait(10)
+        status = self.run.wait(seconds)
         self.reader.join()
         return status
 
@@ -119,6 +162,7 @@ class Heard:
         self.run.wait()
         self.reader.join()
         self.run.stdin.close()
+        self.run.stdout.close()
 
 
 class Check(unittest.TestCase):
@@ -149,6 +193,20 @@ class Check(unittest.TestCase):
         with open(path, "w", encoding="utf-8") as file:
             file.write("#!/bin/sh\n" + text)
         os.chmod(path, 0o755)
+
+    def heard(self, *words, **how):
+        """A program that runs, and is gone at the end of the check."""
+        run = Heard(*words, **how)
+        self.addCleanup(run.killed)
+        return run
+
+    def spelled(self, name, *found):
+        """The folder of a journal whose parts are these bytes."""
+        folder = self.journal(name)
+        for file, text in zip(PARTS, found):
+            with open(os.path.join(folder, file), "wb") as part:
+                part.write(text)
+        return folder
 
     def journal(self, name="journal"):
         os.mkdir(self.place(name))
@@ -184,9 +242,10 @@ class Told(unittest.TestResult):
         super().stopTest(test)
 
 
-def main():
+def main(failfast=False):
     suite = unittest.defaultTestLoader.loadTestsFromModule(sys.modules["__main__"])
     told = Told()
+    told.failfast = failfast
     suite.run(told)
     for test, trace in told.failures + told.errors:
         print(f"{test.id()}:\n{trace}", file=sys.stderr)

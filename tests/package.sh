@@ -1,6 +1,6 @@
 #!/usr/bin/env bash
-# Builds the Debian package, installs it into a folder of its own, runs what is in it, and removes it. Without a gate that
-# passed on these programs, or without dpkg, it is skipped.
+# Builds the Debian package, in which lintian, where it is installed, finds nothing wrong; installs it into a folder of its own, runs
+# what is in it, and removes it. Without a gate that passed on these programs, or without dpkg, it is skipped.
 # Use: package.sh PROGRAM
 set -u
 . "$(dirname "$0")/common.sh" "$@"
@@ -14,6 +14,9 @@ if [ ! -f "$top/crates/ocfexec/out/gate" ]; then
     exit 77
 fi
 deb=$("$top/package/deb.sh" "$here") || exit 1
+if command -v lintian > /dev/null; then
+    same "what lintian finds" "" "$(lintian --allow-root --fail-on error,warning "$deb" 2>&1)"
+fi
 root=$here/root
 mkdir -p "$root/var/lib/dpkg/info" "$root/var/lib/dpkg/updates"
 touch "$root/var/lib/dpkg/status"

@@ -1,5 +1,5 @@
 #!/usr/bin/env bash
-# A journal as a table for a person: of nothing, of what has ended, of what runs and is queued under an executor that holds the
+# A journal as a table for a person: of nothing, of what has ended or was withdrawn, of what runs and is queued under an executor that holds the
 # journal, of one resource, as JSON, and in colour on a terminal alone. Nothing is changed by a look.
 # Use: status.sh PROGRAM
 set -u
@@ -32,12 +32,13 @@ checked "nothing"
 run "$here/journal" '{"op":"register","id":"a-longer-name","provider":"test","type":"Slow","params":{"time":""}}' \
     '{"op":"register","id":"b","provider":"test","type":"None"}' '{"op":"exec","id":"b","action":"start"}' \
     '{"op":"exec","id":"a-longer-name","action":"start"}' '{"op":"exec","id":"a-longer-name","action":"monitor"}' \
-    '{"op":"exec","id":"a-longer-name","action":"promote"}' '{"op":"drain"}'
+    '{"op":"exec","id":"a-longer-name","action":"promote"}' '{"op":"exec","id":"b","action":"stop"}' \
+    '{"op":"withdraw","id":"b","call":5}' '{"op":"drain"}'
 feed "$here/replies" serve --journal "$here/journal" --root "$here"
-printf '%s\n' '{"op":"params","id":"a-longer-name","params":{"time":"60"}}' '{"op":"recur","id":"b","interval":90000}' \
+printf '%s\n' '{"op":"params","id":"a-longer-name","params":{"time":"60"}}' '{"op":"recur","id":"b","interval":90001}' \
     '{"op":"exec","id":"a-longer-name","action":"monitor"}' '{"op":"exec","id":"a-longer-name","action":"promote"}' >&3
 awaits 1 '"outcome":"signaled"' "$here/replies"
-awaits 1 '"interval":90000' "$here/replies"
+awaits 1 '"interval":90001' "$here/replies"
 printf '%s\n' '{"op":"exec","id":"a-longer-name","action":"start","timeout":90000}' '{"op":"exec","id":"a-longer-name","action":"stop"}' >&3
 until "$program" show --journal "$here/journal" | grep '_start_0"' > "$here/running"; do sleep 0.05; done
 cp -r "$here/journal" "$here/before"
@@ -48,9 +49,12 @@ a-longer-name  test:Slow  start since TIME, 1 queued
   monitor       not running, TIME ago
   start         failed: the agent's file is missing, TIME ago
   promote       failed: a signal ended the agent, TIME ago
+  last failure  promote: failed: a signal ended the agent, TIME ago
 b              test:None  idle
   start         failed: the agent's file is missing, TIME ago
-  every TIME    failed: the agent's file is missing, TIME ago; due
+  stop          cancelled: it was withdrawn before it began, TIME ago
+  every TIME failed: the agent's file is missing, TIME ago; due
+  last failure  monitor: failed: the agent's file is missing, TIME ago
 TABLE
 sed -E -i 's/  +/  /g' "$here/wanted" "$here/out"
 is_wanted "a journal in use" "$here/out"
@@ -62,8 +66,11 @@ cat > "$here/wanted" <<'TABLE'
 RESOURCE  AGENT  NOW
 b  test:None  idle
   start  failed: the agent's file is missing, TIME ago
-  every TIME  failed: the agent's file is missing, TIME ago; due
+  stop  cancelled: it was withdrawn before it began, TIME ago
+  every TIME failed: the agent's file is missing, TIME ago; due
+  last failure  monitor: failed: the agent's file is missing, TIME ago
   history, oldest first:
+  call N, stop of TIME: cancelled: it was withdrawn before it began, TIME ago
   call N, start of TIME: failed: the agent's file is missing, TIME ago
   call N, monitor of TIME: failed: the agent's file is missing, TIME ago
 TABLE

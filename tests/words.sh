@@ -65,7 +65,7 @@ $check_output"
 # What is asked for
 ends 0 "" --help
 holds --help "Usage: ocfexec" "run " "show " --version Example: "ocfexec run --memory" README.md docs/FORMAT.md
-for command in register unregister params exec recur cancel forget list info history drain watch meta tidy; do
+for command in register unregister params exec recur cancel withdraw forget list info history drain watch meta tidy; do
     grep -q -e "^  $command " "$here/out" || differs "--help" "a line of $command" "$(cat "$here/out")"
 done
 ends 0 "" run --help
