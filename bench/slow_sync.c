@@ -3,23 +3,17 @@
 #include <dlfcn.h>
 #include <time.h>
 
-static void sleep_first(void) {
-    struct timespec t = {0, 5000000};
-    nanosleep(&t, NULL);
-}
+static const struct timespec more = {0, 5000000};
 
-int fdatasync(int file) {
-    static int (*real)(int);
-    if (!real)
-        real = (int (*)(int))dlsym(RTLD_NEXT, "fdatasync");
-    sleep_first();
-    return real(file);
-}
+/* a sync of the C library that takes so much more */
+#define SLOW(name)                                           \
+    int name(int file) {                                     \
+        static int (*real)(int);                             \
+        if (!real)                                           \
+            real = (int (*)(int))dlsym(RTLD_NEXT, #name);    \
+        nanosleep(&more, NULL);                              \
+        return real(file);                                   \
+    }
 
-int fsync(int file) {
-    static int (*real)(int);
-    if (!real)
-        real = (int (*)(int))dlsym(RTLD_NEXT, "fsync");
-    sleep_first();
-    return real(file);
-}
+SLOW(fdatasync)
+SLOW(fsync)
