@@ -1,5 +1,5 @@
 -- What a request does, and what it is answered.
-use Rattle.std.proofs.Common.{◌≡◌, ◌⊎◌, inl, inr, ℕ, ◌≤◌, false, List, [], ◌∷◌, length, Some, Result, Ok, Err, le_of_eq, refl, sym, ap}
+use Rattle.std.proofs.Common.{◌≡◌, ◌⊎◌, inl, inr, ℕ, ◌≤◌, true, false, List, [], ◌∷◌, length, Some, Result, Ok, Err, le_of_eq, refl, sym, ap}
 use Rattle.std.proofs.Common.{subst, ◌∙◌}
 use Rattle.std.proofs.Math.Nat.{max-eq_right}
 use Rattle.std.specs.List.{AllByRecursion}
@@ -21,6 +21,7 @@ use Rattle.exec_turn.specs.Turn.{due_after_all}
 use Rattle.executor.specs.Commands.{Obeys, Records}
 use Rattle.executor.specs.Parts.{IsPlain, commanded}
 use Rattle.executor.specs.Replies.{IsReplyTo, acknowledged, due_left, recorded}
+use Rattle.executor.specs.RowCalls.{Adds, moved, row_deeds}
 use Rattle.executor.specs.Sessions.{Deeds, TakesRequest, command_deeds}
 use Rattle.executor.specs.Sights.{Sight}
 use Rattle.executor.specs.Singles.{Follows, cut}
@@ -79,6 +80,23 @@ asked_names call _ = refl
 abbrev pub AllName : List ℕ → List Event → Type 0
 AllName id es = AllByRecursion (λ e. named e.change ≡ Some id) es
 
+-- the event that a command is names its resource, is new, and stands at the moment that is handed in
+one_names : (s : State) (now : ℕ) (c : Command) (e : Event) → event_of s now c ≡ Ok e → AllName (commanded c) (e ∷ [])
+one_names s now c e is =
+    let went = passed (tests s c (length (spelled_event (asked_event s now c)))) (asked_event s now c) e is in
+    subst (λ (f : Event). AllName (commanded c) (f ∷ [])) went.0 (asked_names s.next_call c, tt)
+
+one_fresh : (s : State) (now : ℕ) (c : Command) (e : Event) → event_of s now c ≡ Ok e → AreFresh s (e ∷ [])
+one_fresh s now c e is =
+    let size = length (spelled_event (asked_event s now c)) in
+    let went = passed (tests s c size) (asked_event s now c) e is in
+    subst (λ (f : Event). AreFresh s (f ∷ [])) went.0 (asked_fresh s c size went.1, tt)
+
+one_clock : (s : State) (now : ℕ) (c : Command) (e : Event) → event_of s now c ≡ Ok e → s.clock ≤ cut now → e.at ≤ cut now
+one_clock s now c e is clock =
+    let went = passed (tests s c (length (spelled_event (asked_event s now c)))) (asked_event s now c) e is in
+    subst (λ (f : Event). f.at ≤ cut now) went.0 (le_of_eq (moment_is s now clock))
+
 -- What a command does, and what it is answered where that is plain.
 pub record Commands {D : Type 0} (now : ℕ) (c : Command) (old new : Sight D) (reply : Reply) (deeds : Deeds) : Type 0 where
   pub no_entries : deeds.entries ≡ []
@@ -92,31 +110,21 @@ pub commands : {D : Type 0} (look : D → View) (now : ℕ) (c : Command) (old n
 commands {D} look now c old new reply deeds clock takes =
     subst (λ (x : Deeds). Commands now c old new reply x) (sym takes.does) (by (event_of old.state now c) refl takes.serves)
   where
-    size : ℕ
-    size = length (spelled_event (asked_event old.state now c))
-
     by_reply : (e : Event) → event_of old.state now c ≡ Ok e → Records look e old new reply
         → (reply ≡ acknowledged e.change) ⊎ IsRefused reply → Commands now c old new reply (command_deeds (Ok e) reply)
     by_reply e is serves (inl told) =
-        let went = passed (tests old.state c size) (asked_event old.state now c) e is in
         let done = told_done old.state e e.change old.due in
         let row : recorded e reply ≡ e ∷ [] = ap (recorded e) told ∙ done.0 in
         let after_one : new.state ≡ after old.state e = serves.leaves.state ∙ ap (after_all old.state) row in record {
           no_entries = refl;
-          names =
-              subst (AllName (commanded c)) (sym row)
-              (subst (λ (f : Event). AllName (commanded c) (f ∷ [])) went.0 (asked_names old.state.next_call c, tt));
+          names = subst (AllName (commanded c)) (sym row) (one_names old.state now c e is);
           does = record {
             state = serves.leaves.state;
             due =
                 serves.due ∙ ap (λ (r : Reply). due_left old.state e r old.due) told ∙ done.1
                 ∙ ap (due_after_all old.state old.due) (sym row);
-            next =
-                subst (AreFresh old.state) (sym row)
-                (subst (λ (f : Event). AreFresh old.state (f ∷ [])) went.0 (asked_fresh old.state c size went.1, tt));
-            clock =
-                subst (λ (x : State). x.clock ≤ cut now) (sym after_one)
-                (subst (λ (f : Event). f.at ≤ cut now) went.0 (le_of_eq (moment_is old.state now clock)));
+            next = subst (AreFresh old.state) (sym row) (one_fresh old.state now c e is);
+            clock = subst (λ (x : State). x.clock ≤ cut now) (sym after_one) (one_clock old.state now c e is clock);
           };
           follows = λ plain. subst (λ (w : Result Event Refusal). Follows w reply (recorded e reply)) (sym is) (told, row);
         }
@@ -143,3 +151,39 @@ commands {D} look now c old new reply deeds clock takes =
       follows = λ plain. subst (λ (w : Result Event Refusal). Follows w reply []) (sym is) (serves.0, refl);
     }
     by (Ok e) is serves = by_reply e is serves (told_or_refused e reply serves.told)
+
+-- the same of a command in a row
+pub added : {D : Type 0} (now : ℕ) (c : Command) (old : Sight D) (reply : Reply) (first : List Event) → old.state.clock ≤ cut now
+    → Adds (event_of old.state now c) reply first → Commands now c old (moved old first) reply (row_deeds true first)
+added {D} now c old reply first clock adds = by (event_of old.state now c) refl adds
+  where
+    none_added : (found : Result Event Refusal) → event_of old.state now c ≡ found → first ≡ [] → (IsPlain reply → Follows found reply first)
+        → Commands now c old (moved old first) reply (row_deeds true first)
+    none_added found is none follows = record {
+      no_entries = refl;
+      names = subst (AllName (commanded c)) (sym none) tt;
+      does = record {
+        state = refl;
+        due = refl;
+        next = subst (AreFresh old.state) (sym none) tt;
+        clock = subst (λ (es : List Event). (after_all old.state es).clock ≤ cut now) (sym none) clock;
+      };
+      follows = λ plain. subst (λ (w : Result Event Refusal). Follows w reply first) (sym is) (follows plain);
+    }
+
+    by : (found : Result Event Refusal) → event_of old.state now c ≡ found → Adds found reply first
+        → Commands now c old (moved old first) reply (row_deeds true first)
+    by (Err why) is refused = none_added (Err why) is refused.1 (λ plain. refused)
+    by (Ok e) is (inr memory) = none_added (Ok e) is memory.2 (λ plain. absurd (subst IsPlain memory.0 plain))
+    by (Ok e) is (inl told) = record {
+      no_entries = refl;
+      names = subst (AllName (commanded c)) (sym told.1) (one_names old.state now c e is);
+      does = record {
+        state = refl;
+        due = refl;
+        next = subst (AreFresh old.state) (sym told.1) (one_fresh old.state now c e is);
+        clock =
+            subst (λ (es : List Event). (after_all old.state es).clock ≤ cut now) (sym told.1) (one_clock old.state now c e is clock);
+      };
+      follows = λ plain. subst (λ (w : Result Event Refusal). Follows w reply first) (sym is) told;
+    }

@@ -18,7 +18,8 @@ use Rattle.disk_model.specs.View.{View}
 use Rattle.child_keeper.specs.declared.answer.Entry.{Entry}
 use Rattle.exec_state.specs.Answers.{IsReplyOrMemory}
 use Rattle.exec_turn.specs.Actives.{active}
-use Rattle.executor.specs.Parts.{Apart, AreRising, IsPlain, commanded, concerns, entries_of_runs, events_of, is_about, own_runs, part}
+use Rattle.executor.specs.Parts.{Apart, AreRising, IsPlain, commanded, concerns, entries_of_runs, events_of, inputs_at, is_about, own_runs, part}
+use Rattle.executor.specs.RowCalls.{Answered, moved, row_deeds}
 use Rattle.executor.specs.Sessions.{Deeds, Input, Session, TakesWhile, closed_reply, no_deeds}
 use Rattle.executor.specs.Sights.{Sight}
 use Rattle.executor.specs.Singles.{Alone, Single, SingleCommand, SingleTakes, cut, single_after_all, single_of}
@@ -26,7 +27,7 @@ use Rattle.executor.specs.declared.session.InputOf.TheVariants as input
 use Rattle.executor.proofs.AloneChanges.{AreFresh, Stands, stands_all}
 use Rattle.executor.proofs.AloneLists.{each_first, each_last, filter_alike}
 use Rattle.executor.proofs.AloneReplies.{single_command, single_question}
-use Rattle.executor.proofs.AloneRequests.{Commands, Does, commands, rested}
+use Rattle.executor.proofs.AloneRequests.{Commands, Does, added, commands, rested}
 use Rattle.executor.proofs.AloneRows.{AreOwn, names_it}
 use Rattle.executor.proofs.AloneRuns.{is_mine, own_stays, runs_own}
 use Rattle.executor.proofs.AloneTurns.{AllBeginOwn, AreApart, BeginsOwn, fresh-append, ids_stay, turn_does, turn_done, turn_single}
@@ -193,6 +194,38 @@ module _ {D : Type 0} (look : D → View) (mine : ℕ → Bool) (id : List ℕ) 
       subst (λ (k : Deeds). AreFresh x.state k.events) (sym all)
       (fresh-append x.state first.events later.events did.next (subst (λ (s : State). AreFresh s later.events) did.state later_fresh))
 
+  -- commands in a row at one moment
+  alone_row : (now : ℕ) (y : Single) (x : Sight D) (cs : List Command) (rs : List Reply) (es : List Event) → x.state.clock ≤ cut now
+      → AllByRecursion (λ p. IsPlain p.1) (part id (inputs_at now cs) rs) → Stands y x.state x.due id → Answered now x.state cs rs es
+      → Alone id y (part id (inputs_at now cs) rs) [] (events_of id es)
+  unfolding own_entries
+  alone_row now y x [] [] es clock plain stands is = (refl, ap (events_of id) is)
+  alone_row now y x [] (r ∷ rs) es clock plain stands bad = absurd bad
+  alone_row now y x (c ∷ cs) [] es clock plain stands bad = absurd bad
+  alone_row now y x (c ∷ cs) (r ∷ rs) es clock plain stands (first, later, adds, rest, all) =
+      let i = input.Request now (asked.Command c) in
+      let plain2 = plain_parts id i r (part id (inputs_at now cs) rs) plain in
+      let did = added now c x r first clock adds in
+      let y2 = single_after_all y (events_of id first) in
+      let later_alone = alone_row now y2 (moved x first) cs rs later did.does.clock plain2.1
+      (stands_all y x.state x.due id first stands did.does.next) rest in
+      let one = own_command (bytes_eq id (commanded c)) y now c x (moved x first) r (row_deeds true first) refl clock plain2.0 stands did in
+      subst (λ (l : List Event). Alone id y (part id (i ∷ inputs_at now cs) (r ∷ rs)) [] (events_of id l)) (sym all)
+      (subst (λ (l : List Event). Alone id y (part id (i ∷ inputs_at now cs) (r ∷ rs)) [] l)
+      (sym (filter-append (names_it id) first later))
+      (goes (bytes_eq id (commanded c)) y i r (part id (inputs_at now cs) rs) [] [] (events_of id first) (events_of id later) one later_alone))
+
+-- each resource by itself, as it stands in an executor
+here : {D : Type 0} (x : Sight D) (id : List ℕ) → Stands (single_of x id) x.state x.due id
+here x id = record { resource = refl; due = λ call there. refl; calls = le_refl x.state.next_call; runs = le_refl x.state.next_run }
+
+-- the law of a row
+pub row_alone : {D : Type 0} (look : D → View) (now : ℕ) (x : Sight D) (commands : List Command) (replies : List Reply) (es : List Event)
+    (id : List ℕ) → Answered now x.state commands replies es → AllByRecursion (λ p. IsPlain p.1) (part id (inputs_at now commands) replies)
+    → x.state.clock ≤ cut now → Alone id (single_of x id) (part id (inputs_at now commands) replies) [] (events_of id es)
+row_alone look now x commands replies es id answered plain clock =
+    alone_row look (λ run. false) id now (single_of x id) x commands replies es clock plain (here x id) answered
+
 -- the law
 pub each_alone : {D : Type 0} (look : D → View) (x z : Sight D) (inputs : List Input) (replies : List Reply) (d : Deeds) (id : List ℕ)
     → Apart x.state → Session look x inputs replies z d
@@ -203,7 +236,5 @@ each_alone look x z inputs replies d id apart session plain rises =
     let mine : ℕ → Bool = is_mine id x.state d.events in
     let fresh = session_fresh look mine id x.state.clock x z inputs replies d (le_refl x.state.clock) rises plain session in
     let own = runs_own id x.state d.events apart fresh in
-    let here : Stands (single_of x id) x.state x.due id =
-    record { resource = refl; due = λ call there. refl; calls = le_refl x.state.next_call; runs = le_refl x.state.next_run } in
     alone look mine id x.state.clock (single_of x id) x z inputs replies d
-    (le_refl x.state.clock) rises plain here apart.ids own.0 own.1 session
+    (le_refl x.state.clock) rises plain (here x id) apart.ids own.0 own.1 session

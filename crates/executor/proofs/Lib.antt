@@ -20,3 +20,7 @@ pub mod LifeCalls
 pub mod LifeFronts
 pub mod LifeServices
 pub mod Lives
+pub mod RowLists
+pub mod RowRecords
+pub mod RowGrowing
+pub mod RowGathers

@@ -65,7 +65,7 @@ module _ {D : Type 0} (look : D → View) (law : WhatStands) (lawful : (d : D) �
                   ∙ ap (λ (l : List Event). (d ++ u.events) ++ (l ++ u.pending)) (sym none);
               found =
                   subst (λ (t : State). FoundAs t c)
-                  (ap (λ (s : State). after_all s q) returned_leads.leaves.state ∙ sym (after_all-append x.opened.state d q)) stands.3;
+                  (ap (λ (s : State). after_all s q) (returned_leads.state is_open) ∙ sym (after_all-append x.opened.state d q)) stands.3;
             },
             (q, refl),
           )
@@ -90,13 +90,13 @@ module _ {D : Type 0} (look : D → View) (law : WhatStands) (lawful : (d : D) �
               (λ k. (d ++ (none.nothing k).events) ++ (x.done.pending ++ (none.nothing k).pending))
               ∙ (λ k. append-nil d k ++ append-nil x.done.pending k)
 
-          by : EitherSide x.returned.state x.done.pending c → Base
+          by : EitherSide (after_all x.opened.state x.done.events) x.done.pending c → Base
           by (inl found) = (
             d,
             record {
               others = x.done.pending;
               front = sym all_is;
-              found = subst (λ (t : State). FoundAs t c) returned_leads.leaves.state found;
+              found = found;
             },
             ([], sym (append-nil d)),
           )
@@ -106,9 +106,7 @@ module _ {D : Type 0} (look : D → View) (law : WhatStands) (lawful : (d : D) �
               others = [];
               front = append-nil (d ++ x.done.pending) ∙ sym all_is;
               found =
-                  subst (λ (t : State). FoundAs t c)
-                  (ap (λ (s : State). after_all s x.done.pending) returned_leads.leaves.state
-                  ∙ sym (after_all-append x.opened.state d x.done.pending)) found;
+                  subst (λ (t : State). FoundAs t c) (sym (after_all-append x.opened.state d x.done.pending)) found;
             },
             (x.done.pending, refl),
           )

@@ -3,6 +3,7 @@ use Rattle.std.proofs.Common.{◌≡◌, ◌↔◌, ℕ, Bool, true, false, true
 use Rattle.std.proofs.Common.{subst, append_assoc, ⊎_elim}
 use Rattle.std.proofs.lemmas.List.{append-nil}
 use Rattle.ocf_types.specs.Kinds.{Event, Reply, Request}
+use Rattle.ocf_types.specs.Laws.{after_all-append}
 use Rattle.ocf_types.specs.State.{State, after_all}
 use Rattle.ocf_types.specs.Due.{Due}
 use Rattle.ocf_types.specs.declared.refusal.Refusal.TheVariants.{Disk}
@@ -70,14 +71,27 @@ leads_start look law x lawful keeps = record {
   whole = λ is_open. refl;
 }
 
--- What calls leave, whatever became of the children's book: from one sight of an executor to another.
+-- What calls leave, whatever became of the children's book: from one sight of an executor to another. What a disk fault closed may
+-- have gone on to a state that is not recorded.
 pub record Onward {D : Type 0} (look : D → View) (old new : Sight D) (deeds : Deeds) : Type 0 where
-  pub leaves : Leaves (look old.disk) (look new.disk) old.state new.state deeds.entries deeds.events deeds.pending
+  pub leaves : Leaves (look old.disk) (look new.disk) old.state (after_all old.state deeds.events) deeds.entries deeds.events deeds.pending
+  pub state : new.is_open ≡ true → new.state ≡ after_all old.state deeds.events
   pub roomy : Goes (look old.disk) (look new.disk) Roomy
   pub whole : new.is_open ≡ true → deeds.pending ≡ []
 
+-- where the state is the one that is recorded
+pub onward_at : {D : Type 0} (look : D → View) (x y : Sight D) (d : Deeds)
+    → Leaves (look x.disk) (look y.disk) x.state y.state d.entries d.events d.pending → Goes (look x.disk) (look y.disk) Roomy
+    → (y.is_open ≡ true → d.pending ≡ []) → Onward look x y d
+onward_at look x y d leaves roomy whole = record {
+  leaves = subst (λ (t : State). Leaves (look x.disk) (look y.disk) x.state t d.entries d.events d.pending) leaves.state leaves;
+  state = λ _. leaves.state;
+  roomy = roomy;
+  whole = whole;
+}
+
 pub onward : {D : Type 0} (look : D → View) (x y : Sight D) (d : Deeds) → Leads look x y d → Onward look x y d
-onward look x y d leads = record { leaves = leads.leaves; roomy = leads.roomy; whole = leads.whole }
+onward look x y d leads = onward_at look x y d leads.leaves leads.roomy leads.whole
 
 -- where calls left it open, nothing is left but what they left
 pub leads_still : {D : Type 0} (look : D → View) (w x : Sight D) (a : Deeds) → ((look x.disk).honest → Lawful (look x.disk))
@@ -85,7 +99,8 @@ pub leads_still : {D : Type 0} (look : D → View) (w x : Sight D) (a : Deeds) �
 leads_still look w x a lawful is_open so_far = record {
   leaves = told (look x.disk) x.state [] lawful
       (λ h c now. ⊎_elim (λ here. here) (λ here. here)
-      (subst (λ (p : List Event). EitherSide x.state p c) (so_far.whole is_open) (so_far.leaves.now h c now))) asked_none;
+      (subst (λ (p : List Event). EitherSide x.state p c) (so_far.whole is_open)
+      (subst (λ (s : State). EitherSide s a.pending c) (sym (so_far.state is_open)) (so_far.leaves.now h c now)))) asked_none;
   book = sym (append-nil x.children.book);
   due = refl;
   roomy = started (look x.disk) Roomy (left_now (look w.disk) (look x.disk) Roomy so_far.roomy lawful) lawful;
@@ -148,13 +163,21 @@ leads_open look (input.Turn now) x y reply d still takes =
 pub onward_joined : {D : Type 0} (look : D → View) (x y z : Sight D) (a b : Deeds) → y.is_open ≡ true → Onward look x y a
     → Onward look y z b → Onward look x z (both a b)
 onward_joined look x y z a b is_open one two =
-    let nothing : a.pending ≡ [] = one.whole is_open in record {
+    let nothing : a.pending ≡ [] = one.whole is_open in
+    let t : State = after_all x.state a.events in
+    let all : after_all x.state (a.events ++ b.events) ≡ after_all t b.events = after_all-append x.state a.events b.events in
+    let later : Leaves (look y.disk) (look z.disk) t (after_all t b.events) b.entries b.events b.pending =
+    subst (λ (s : State). Leaves (look y.disk) (look z.disk) s (after_all s b.events) b.entries b.events b.pending) (one.state is_open)
+    two.leaves in
+    let joined_at : Leaves (look x.disk) (look z.disk) x.state (after_all t b.events) (a.entries ++ b.entries) (a.events ++ b.events) b.pending =
+    joined (look x.disk) (look y.disk) (look z.disk) x.state t (after_all t b.events) a.entries b.entries a.events b.events b.pending
+    (subst (λ (p : List Event). Leaves (look x.disk) (look y.disk) x.state t a.entries a.events p) nothing one.leaves) later in record {
       leaves =
-          subst (λ (p : List Event). Leaves (look x.disk) (look z.disk) x.state z.state (a.entries ++ b.entries) (a.events ++ b.events)
-          (p ++ b.pending)) (sym nothing)
-          (joined (look x.disk) (look y.disk) (look z.disk) x.state y.state z.state a.entries b.entries a.events b.events b.pending
-          (subst (λ (p : List Event). Leaves (look x.disk)
-          (look y.disk) x.state y.state a.entries a.events p) nothing one.leaves) two.leaves);
+          subst (λ (p : List Event). Leaves (look x.disk) (look z.disk) x.state (after_all x.state (a.events ++ b.events)) (a.entries ++ b.entries)
+          (a.events ++ b.events) (p ++ b.pending)) (sym nothing)
+          (subst (λ (s : State). Leaves (look x.disk) (look z.disk) x.state s (a.entries ++ b.entries) (a.events ++ b.events) b.pending)
+          (sym all) joined_at);
+      state = λ still. two.state still ∙ ap (λ (s : State). after_all s b.events) (one.state is_open) ∙ sym all;
       roomy = runs_joined (look x.disk) (look y.disk) (look z.disk) Roomy one.roomy two.roomy;
       whole = λ still. ap (λ (p : List Event). p ++ b.pending) nothing ∙ two.whole still;
     }
@@ -162,8 +185,12 @@ onward_joined look x y z a b is_open one two =
 leads_joined : {D : Type 0} (look : D → View) (x y z : Sight D) (a b : Deeds) → y.is_open ≡ true → Leads look x y a → Leads look y z b
     → Leads look x z (both a b)
 leads_joined look x y z a b is_open one two =
-    let on = onward_joined look x y z a b is_open (onward look x y a one) (onward look y z b two) in record {
-      leaves = on.leaves;
+    let on = onward_joined look x y z a b is_open (onward look x y a one) (onward look y z b two) in
+    let reached : z.state ≡ after_all x.state (a.events ++ b.events) = two.leaves.state
+    ∙ ap (λ (s : State). after_all s b.events) one.leaves.state ∙ sym (after_all-append x.state a.events b.events) in record {
+      leaves =
+          subst (λ (s : State). Leaves (look x.disk) (look z.disk) x.state s (a.entries ++ b.entries) (a.events ++ b.events)
+          (a.pending ++ b.pending)) (sym reached) on.leaves;
       book = two.book ∙ ap (λ (es : List Entry). es ++ b.entries) one.book ∙ append_assoc x.children.book a.entries b.entries;
       due =
           two.due ∙ ap (λ (s : State). due_after_all s y.due b.events) one.leaves.state

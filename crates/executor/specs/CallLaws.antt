@@ -53,7 +53,7 @@ both_none a =
 
 module _ {D : Type 0} (look : D → View) where
   -- calls behind others
-  calls_behind : (x y z : Sight D) (es fs : List Exchange) (a b : Deeds) → Calls look x es y a → Calls look y fs z b
+  pub calls_behind : (x y z : Sight D) (es fs : List Exchange) (a b : Deeds) → Calls look x es y a → Calls look y fs z b
       → Calls look x (es ++ fs) z (both a b)
   calls_behind x y z [] fs a b (same, none) later =
       subst (λ (d : Deeds). Calls look x fs z d) (sym (ap (λ (d : Deeds). both d b) none))

@@ -6,7 +6,10 @@ pub mod Openings
 pub mod TurnCalls
 pub mod TidyCalls
 pub mod Sessions
+pub mod RowCalls
 pub mod Singles
 pub mod Parts
 pub mod Lives
+pub mod Rows
+pub mod RowSteps
 pub mod CallLaws

@@ -2,7 +2,7 @@
 use Rattle.std.specs.Prelude.{◌≡◌, ◌⊎◌, ◌≤◌, ℕ, ⊤, List, [], ◌∷◌, ◌++◌, Option, Some, None, option_to_list}
 use Rattle.ocf_types.specs.Answer.{moment}
 use Rattle.ocf_types.specs.Boot.{boot_event}
-use Rattle.ocf_types.specs.Kinds.{Event, Reply}
+use Rattle.ocf_types.specs.Kinds.{Command, Event, Reply}
 use Rattle.ocf_types.specs.State.{State, after_all}
 use Rattle.ocf_types.specs.declared.reply.Notice.{Notice}
 use Rattle.ocf_types.specs.declared.reply.TidyEnd.{TidyEnd}
@@ -18,15 +18,17 @@ use Rattle.executor.specs.Openings.{Opened, OpensDisk, booted}
 use Rattle.executor.specs.declared.opening.OpenError.{OpenError}
 use Rattle.executor.specs.declared.opening.OpenError.TheVariants.{Disk}
 use Rattle.executor.specs.Reports.{dropped, interrupted}
+use Rattle.executor.specs.RowCalls.{TakesRow}
 use Rattle.executor.specs.Sessions.{Deeds, Input, Takes, both, no_deeds}
 use Rattle.executor.specs.Sights.{Sight}
 use Rattle.executor.specs.TidyCalls.{TidiesWhile}
 use Rattle.executor.specs.TurnCalls.{abandoned, with_empty_book}
 
--- what an executor was asked and what it answered: an input with its reply, or a tidy with its end; or it was told to empty
--- its children's book, or to give up its children
+-- what an executor was asked and what it answered: an input with its reply, commands in a row at one moment with their
+-- replies, or a tidy with its end; or it was told to empty its children's book, or to give up its children
 pub data Exchange : Type 0 where
   Took : Input → Reply → Exchange
+  Row : ℕ → List Command → List Reply → Exchange
   Tidied : TidyEnd → Exchange
   Cleared : Exchange
   Abandoned : Exchange
@@ -34,6 +36,7 @@ pub data Exchange : Type 0 where
 -- what a call does, from one sight of the executor to another
 abbrev pub Does : {D : Type 0} → (D → View) → Exchange → Sight D → Sight D → Deeds → Type 0
 Does look (Took i reply) old new deeds = Takes look i old new reply deeds
+Does look (Row now commands replies) old new deeds = TakesRow look now commands old new replies deeds
 Does look (Tidied end) old new deeds = TidiesWhile old.is_open look old new end × (deeds ≡ no_deeds)
 Does look Cleared old new deeds = (new ≡ with_empty_book old) × (deeds ≡ no_deeds)
 Does look Abandoned old new deeds = (new ≡ abandoned old) × (deeds ≡ no_deeds)

@@ -1,5 +1,5 @@
 -- Each resource's part of a session.
-use Rattle.std.specs.Prelude.{◌≡◌, ℕ, ◌<◌, ◌≤◌, Bool, true, false, List, [], ◌∷◌, ◌++◌, filter, nat_eq, if◌then◌else◌, ⊤}
+use Rattle.std.specs.Prelude.{◌≡◌, ℕ, ◌<◌, ◌≤◌, Bool, true, false, List, [], ◌∷◌, ◌++◌, filter, map, nat_eq, if◌then◌else◌, ⊤}
 use Rattle.std.specs.List.{AllByRecursion, IsDistinct, flat_map, list_any}
 use Rattle.std.specs.Option.{option_map_or}
 use Rattle.std.specs.Map.{keys_of}
@@ -46,6 +46,10 @@ concerns id (input.Turn now) = true
 abbrev pub part : List ℕ → List Input → List Reply → List (Input × Reply)
 part id (i ∷ is) (r ∷ rs) = if concerns id i then (i, r) ∷ part id is rs else part id is rs
 part id _ _ = []
+
+-- commands at one moment, as inputs
+abbrev pub inputs_at : ℕ → List Command → List Input
+inputs_at now cs = map (λ c. input.Request now (asked.Command c)) cs
 
 -- the events that name it
 abbrev pub events_of : List ℕ → List Event → List Event

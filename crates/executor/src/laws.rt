@@ -1,7 +1,7 @@
 //! Laws of sessions and of whole lives, each the contract of a function that does nothing.
-ghost use Rattle.std.specs.Prelude.{◌≢◌, ℕ, List, Some};
+ghost use Rattle.std.specs.Prelude.{◌≢◌, ◌≤◌, ℕ, List, [], Some};
 ghost use Rattle.std.specs.List.{AllByRecursion};
-ghost use Rattle.ocf_types.specs.Kinds.{Event, Reply};
+ghost use Rattle.ocf_types.specs.Kinds.{Command, Event, Reply};
 ghost use Rattle.ocf_types.specs.LawfulState.{IsLawfulState};
 ghost use Rattle.ocf_types.specs.State.{State, after_all, empty};
 ghost use Rattle.ocf_types.specs.declared.reply.Notice.{Notice};
@@ -13,10 +13,11 @@ ghost use Rattle.exec_journal.specs.Room.{Roomy};
 ghost use Rattle.exec_turn.specs.Lives.{Tends};
 ghost use Rattle.executor.specs.Lives.{BeginsAs, GoesOnFrom, InOpening, IsLife, LifeLeaves, Lived, OpensBehind, Sat, Sitting};
 ghost use Rattle.executor.specs.Openings.{NotOpened, Opened};
-ghost use Rattle.executor.specs.Parts.{Apart, AreRising, IsPlain, entries_of_runs, events_of, own_runs, part};
+ghost use Rattle.executor.specs.Parts.{Apart, AreRising, IsPlain, entries_of_runs, events_of, inputs_at, own_runs, part};
+ghost use Rattle.executor.specs.RowCalls.{Answered};
 ghost use Rattle.executor.specs.Sessions.{Deeds, Input, Session};
 ghost use Rattle.executor.specs.Sights.{Sight};
-ghost use Rattle.executor.specs.Singles.{Alone, single_of};
+ghost use Rattle.executor.specs.Singles.{Alone, cut, single_of};
 ghost use Rattle.executor.specs.declared.opening.OpenError.{OpenError};
 ghost use Rattle.executor.specs.declared.opening.OpenError.TheVariants as why;
 
@@ -34,6 +35,10 @@ pub fn each_alone<D: Disk>()
         → AreRising x.state.clock inputs
         → Alone id (single_of x id) (part id inputs replies) (entries_of_runs (own_runs id x.state d.events) d.entries)
         (events_of id d.events) }
+    // and so of commands in a row
+    ensures row { (now : ℕ) (x : Sight D) (commands : List Command) (replies : List Reply) (es : List Event) (id : List ℕ)
+        → Answered now x.state commands replies es → AllByRecursion (λ p. IsPlain p.1) (part id (inputs_at now commands) replies)
+        → x.state.clock ≤ cut now → Alone id (single_of x id) (part id (inputs_at now commands) replies) [] (events_of id es) }
 {}
 
 /// A state is apart that is lawful and whose running actions each have an agent of their own: so is each state of an open

@@ -8,6 +8,7 @@ mod opening;
 mod report;
 mod session;
 mod tidies;
+mod together;
 mod turns;
 
 pub use executor::Executor;

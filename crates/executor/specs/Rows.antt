@@ -1,0 +1,37 @@
+-- Commands that arrived together.
+use Rattle.std.specs.Prelude.{◌≡◌, ℕ, List, [], ◌∷◌}
+use Rattle.std.specs.List.{AllByRecursion, flat_map}
+use Rattle.ocf_types.specs.Kinds.{Command, Reply}
+use Rattle.ocf_types.specs.declared.command.RequestOf.TheVariants as asked
+use Rattle.disk_model.specs.View.{View}
+use Rattle.executor.specs.Lives.{Calls, Exchange, Row, Took}
+use Rattle.executor.specs.Sessions.{Deeds}
+use Rattle.executor.specs.Sights.{Sight}
+use Rattle.executor.specs.declared.session.InputOf.TheVariants as input
+
+-- the commands of an exchange, and what they were replied
+abbrev pub commands_of : Exchange → List Command
+commands_of (Took (input.Request now (asked.Command c)) reply) = c ∷ []
+commands_of (Row now commands replies) = commands
+commands_of _ = []
+
+abbrev pub replies_of : Exchange → List Reply
+replies_of (Took i reply) = reply ∷ []
+replies_of (Row now commands replies) = replies
+replies_of _ = []
+
+-- it is a command, or a row of commands, at this moment
+abbrev pub IsAt : ℕ → Exchange → Type 0
+IsAt now (Took (input.Request at (asked.Command c)) reply) = at ≡ now
+IsAt now (Row at commands replies) = at ≡ now
+IsAt now _ = ⊥
+
+-- An executor takes commands one behind the other at this moment, none left out, each with one reply: those that stand in a
+-- row have one record.
+pub record TakesCommands {D : Type 0} (look : D → View) (now : ℕ) (commands : List Command) (old new : Sight D) (given : List Reply) : Type 0 where
+  pub exchanges : List Exchange
+  pub deeds : Deeds
+  pub calls : Calls look old exchanges new deeds
+  pub asked : flat_map commands_of exchanges ≡ commands
+  pub answered : flat_map replies_of exchanges ≡ given
+  pub at_once : AllByRecursion (IsAt now) exchanges
