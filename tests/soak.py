@@ -2,8 +2,8 @@
 """A long life: hours over one journal, on a simulated clock. The program crates/trials plays them through the program's own run,
 with a disk in memory and scripted agents; this plans them, and looks at all that is said. 64 resources have four recurring monitors
 each, a client starts, stops, withdraws and asks by chance, at times a hundred lines at once, the wall clock jumps at each opening, and
-journals are tidied by the run itself. In each hour the disk stops in a random device call, and half of the openings behind that are
-stopped, too; of what was not synced a stop leaves nothing, all, or other bytes.
+journals are tidied by the run itself. In each hour the disk stops in a random device call behind its opening, and half of the openings
+behind that are stopped, too; an hour that ends before its stop is one more. Of what was not synced a stop leaves nothing, all, or other bytes.
 Wanted: what an opening finds holds every acknowledged command and every result that was told, in order, and beyond that at most the
 command that was refused for the disk and a result of each resource that was not told; each action that was queued or ran is told,
 withdrawn, or found as dropped or interrupted, and an opening reports just what it found so; the parts stay below their limit and are
@@ -21,6 +21,8 @@ import helper
 TRIALS = os.environ.get("TRIALS", os.path.join(helper.TOP, "crates/trials/out/trials"))
 HOUR = 3_600_000
 PART_LIMIT = 8_388_608
+# the tail past which a run tidies by itself, as soon as that gains two megabytes
+TIDY_AT = 1_048_576
 KEPT = 64
 IDS = [f"r{n:02}" for n in range(64)]
 INTERVALS = [120_000, 300_000, 600_000, 1_800_000]
@@ -124,7 +126,7 @@ class Life:
     def sit(self, stop, serves, lines):
         """Plays a sitting of an hour: what it printed, by lines, and the numbers of what it left."""
         self.wall += HOUR + self.dice.choice([0, 0, 5, HOUR, -HOUR, -30 * HOUR])
-        head = [self.wall, HOUR, stop, self.dice.randrange(4), self.dice.getrandbits(63), serves, len(lines)]
+        head = [self.wall, HOUR, stop, self.dice.randrange(4), self.dice.getrandbits(63), serves, TIDY_AT, len(lines)]
         text = " ".join(map(str, head)) + "\n" + "".join(f"{at} {json.dumps(line)}\n" for at, line in lines)
         self.program.stdin.write(text.encode())
         self.program.stdin.flush()
@@ -268,7 +270,12 @@ class Life:
 
     def look(self, exact=False):
         """An opening without a stop and without turns, that asks for all."""
+        epochs = self.counts["epochs"]
         out, self.opening = self.sit(0, 0, [(0, line) for line in QUESTIONS])
+        if self.counts["epochs"] > epochs:
+            # it tidied behind its opening: the next opening is of the other part
+            rest, self.opening = self.sit(0, 0, [])
+            assert rest == [], rest
         report = collections.defaultdict(list)
         while "outcome" in out[0]:
             line = out.pop(0)
@@ -297,8 +304,8 @@ class Life:
         stop = self.opening + self.dice.randrange(1, self.hourly) if stops else 0
         out, calls = self.sit(stop, 1, lines)
         self.hear([line for _, line in lines], out)
-        if not stops or calls < stop:
-            self.hourly = max(500, calls - self.opening)
+        # an hour that was stopped does not tell how many calls it would have made: perhaps more than is thought
+        self.hourly = self.hourly * 101 // 100 if 0 < stop <= calls else max(500, calls - self.opening)
         self.counts["hours"] += 1
         self.counts["stops"] += stops and calls >= stop
         if stops and self.dice.random() < 0.5:
@@ -320,16 +327,16 @@ class Soak(helper.Check):
         self.addCleanup(life.program.kill)
         life.hour(False)
         half = 0
-        for hour in range(24 * days):
+        while life.counts["stops"] < 24 * days:
             life.hour(True)
-            if hour == 12 * days:
+            if life.counts["stops"] == 12 * days:
                 half = life.memory()
         life.hour(False)
         late = life.memory()
         self.assertEqual(life.ends(), 0)
         print(f"soak: {days} days in {time.monotonic() - began:.0f} s, seed {seed}: {dict(life.counts)};",
               f"memory at most {half} KiB in its first half, {late} KiB in all")
-        # a part is tidied at 4 MiB, which some two days fill; by then the disk in memory has all the room that it takes
+        # a part is tidied at some 2.2 MiB, which a day fills; by then the disk in memory has all the room that it takes
         self.assertGreater(life.counts["epochs"], days // 3, "tidies by themselves")
         self.assertGreater(life.counts["withdrawn"], 100 * days, "actions that were withdrawn")
         if days >= 8:

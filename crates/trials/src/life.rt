@@ -2,7 +2,7 @@
 use crate::plan::read_plan;
 use crate::sitting::sit;
 use anyhow::Result;
-use disk_model::{Disk, MemDisk};
+use disk_model::MemDisk;
 use ocf_types::Part;
 use std::alloc::Global;
 use std::io::{BufRead, Write};
@@ -45,10 +45,8 @@ pub fn live<R: BufRead, W: Write>(alloc: Global, reader: &mut R, writer: &mut W)
             disk.plan_stop(stop);
         }
         let mut output = Vec::new(alloc);
-        let sat = sit(alloc, disk, plan, &mut output)?;
-        let call = if stop > 0 { stop } else { u64::MAX };
-        let calls = sat.clock();
-        disk = sat.image(alloc, call, fill)?;
+        let (calls, kept) = sit(alloc, disk, plan, &mut output)?;
+        disk = kept.left(fill)?;
         writer.write_all(output.as_slice())?;
         print_left(writer, calls, &disk)?;
     }

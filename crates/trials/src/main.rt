@@ -8,6 +8,7 @@ mod agents;
 mod client;
 mod clock;
 mod commands;
+mod kept;
 mod life;
 mod pairs;
 mod plan;

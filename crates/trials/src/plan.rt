@@ -22,6 +22,8 @@ pub struct Plan {
     pub seed: u64,
     // Whether it serves.
     serves: u64,
+    /// The tail past which the run tidies by itself.
+    pub tidy_at: u64,
     pub lines: VecDeque<TimedLine>,
 }
 
@@ -57,27 +59,28 @@ fn read_line<R: BufRead>(alloc: Global, reader: &mut R) -> Result<TimedLine> {
     })
 }
 
-// The seven numbers of a plan's first line; none where the input is at its end.
-fn read_numbers<R: BufRead>(alloc: Global, reader: &mut R) -> Result<Option<[u64; 7]>> {
+// The eight numbers of a plan's first line; none where the input is at its end.
+fn read_numbers<R: BufRead>(alloc: Global, reader: &mut R) -> Result<Option<[u64; 8]>> {
     let mut line = String::new(alloc);
     if reader.read_line(&mut line)? == 0 {
         return Ok(None);
     }
     let mut words = line.trim_end().split(' ');
-    let mut numbers = [0; 7];
+    let mut numbers = [0; 8];
     for number in &mut numbers {
-        *number = words.next().context("a plan has seven numbers")?.parse()?;
+        *number = words.next().context("a plan has eight numbers")?.parse()?;
     }
     Ok(Some(numbers))
 }
 
 /// The next plan; none where the input is at its end. Its first line has the wall clock's moment and the length in milliseconds,
-/// the call of the stop, what that leaves, the seed, whether it serves, and how many lines of the client follow.
+/// the call of the stop, what that leaves, the seed, whether it serves, the tail past which it tidies, and how many lines of the
+/// client follow.
 pub fn read_plan<R: BufRead>(alloc: Global, reader: &mut R) -> Result<Option<Plan>> {
     let Some(numbers) = read_numbers(alloc, reader)? else {
         return Ok(None);
     };
-    let [wall, millis, stop, fill, seed, serves, count] = numbers;
+    let [wall, millis, stop, fill, seed, serves, tidy_at, count] = numbers;
     let mut lines = VecDeque::new(alloc);
     for _ in 0..count {
         lines.push_back(read_line(alloc, reader)?)?;
@@ -89,6 +92,7 @@ pub fn read_plan<R: BufRead>(alloc: Global, reader: &mut R) -> Result<Option<Pla
         fill,
         seed,
         serves,
+        tidy_at,
         lines,
     }))
 }

@@ -2,7 +2,7 @@
 use crate::agents::{agents, nowhere};
 use crate::clock::MovedClock;
 use crate::pairs::open_pair;
-use crate::sitting::{NoMetadata, TIDY_AT};
+use crate::sitting::NoMetadata;
 use anyhow::{Result, bail, ensure};
 use disk_model::MemDisk;
 use exec_commands::NoticeForm;
@@ -13,6 +13,9 @@ use std::alloc::Global;
 
 // How many turns a drain or a watch makes at most.
 const TURNS: u64 = 64;
+
+// The tail past which a run tidies by itself: half a part.
+const TIDY_AT: u64 = 4_194_304;
 
 // Answers these lines over a fresh disk, and hands it back.
 fn answered(alloc: Global, lines: &[u8], output: &mut Vec<u8>) -> Result<MemDisk> {

@@ -4,10 +4,11 @@ ghost use Rattle.std.specs.Prelude.{⊤};
 use crate::agents::{agents, nowhere};
 use crate::client::Client;
 use crate::clock::MovedClock;
+use crate::kept::Kept;
 use crate::plan::Plan;
 use crate::watched::WatchedDisk;
 use anyhow::{Result, bail};
-use disk_model::MemDisk;
+use disk_model::{Disk, MemDisk};
 use exec_commands::NoticeForm;
 use exec_lines::{RunClock, moment_now};
 use exec_session::{Metadata, Setting, run_lines};
@@ -15,9 +16,6 @@ use executor::{Executor, OpenError};
 use ocf_types::{AgentType, MetaFault, Provider, StartFault};
 use std::alloc::Global;
 use std::cell::Cell;
-
-/// The tail past which a run tidies by itself: half a part.
-pub const TIDY_AT: u64 = 4_194_304;
 
 /// Every agent is missing.
 pub struct NoMetadata;
@@ -36,13 +34,15 @@ impl Metadata for NoMetadata {
     }
 }
 
-/// Opens an executor on a disk, answers the plan's client, and hands the disk back. What the program writes goes into the
-/// output.
-pub fn sit(alloc: Global, disk: MemDisk, plan: Plan, output: &mut Vec<u8>) -> Result<MemDisk> {
+/// Opens an executor on a disk on which all is synced, and answers the plan's client: how many device calls there were, and what the
+/// disk kept. What the program writes goes into the output.
+pub fn sit(alloc: Global, disk: MemDisk, plan: Plan, output: &mut Vec<u8>) -> Result<(u64, Kept)> {
     let (clock, stopped) = (MovedClock::new(plan.wall), Cell::new(false));
+    let kept = Kept::new(alloc, &disk)?;
     let disk = WatchedDisk {
         disk,
         stopped: &stopped,
+        kept,
     };
     let children = agents(alloc, plan.seed)?;
     match Executor::open(
@@ -61,7 +61,7 @@ pub fn sit(alloc: Global, disk: MemDisk, plan: Plan, output: &mut Vec<u8>) -> Re
                 way: plan.way(),
                 form: NoticeForm::Timed,
                 most_turns: u64::MAX,
-                tidy_at: TIDY_AT,
+                tidy_at: plan.tidy_at,
             };
             let mut client = Client {
                 lines: plan.lines,
@@ -70,10 +70,10 @@ pub fn sit(alloc: Global, disk: MemDisk, plan: Plan, output: &mut Vec<u8>) -> Re
                 until: plan.length,
             };
             let run = run_lines(&setting, &mut client, output, executor, &report);
-            Ok(run.disk.disk)
+            Ok((run.disk.clock(), run.disk.kept))
         }
         Err(fault) => match fault.why {
-            OpenError::Disk => Ok(fault.disk.disk),
+            OpenError::Disk => Ok((fault.disk.clock(), fault.disk.kept)),
             why => bail!("not opened: {why}"),
         },
     }

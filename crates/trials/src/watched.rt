@@ -1,15 +1,17 @@
-//! A disk that tells when it has stopped.
+//! A disk that tells when it has stopped, and what that leaves.
 ghost use Rattle.disk_model.specs.MemDisk.{kept_lawful, view_of};
 
+use crate::kept::Kept;
 use disk_model::{Disk, DiskFault, MemDisk};
 use ocf_types::Part;
 use std::cell::Cell;
 
-/// A disk in memory, and whether one of its calls failed.
+/// A disk in memory, whether one of its calls failed, and what it has synced.
 #[derive(Drop)]
 pub struct WatchedDisk<'a> {
     pub disk: MemDisk,
     pub stopped: &'a Cell<bool>,
+    pub kept: Kept,
 }
 
 impl Disk for WatchedDisk<'_> {
@@ -34,6 +36,10 @@ impl Disk for WatchedDisk<'_> {
     }
 
     fn write_at(&mut self, part: Part, at: u64, bytes: &[u8]) -> Result<(), DiskFault> {
+        // a write of the call that stops has begun
+        if !self.stopped.get() {
+            self.kept.begin_write(part, at, bytes);
+        }
         let answer = self.disk.write_at(part, at, bytes);
         if answer.is_err() {
             self.stopped.set(true);
@@ -43,8 +49,9 @@ impl Disk for WatchedDisk<'_> {
 
     fn sync(&mut self, part: Part) -> Result<(), DiskFault> {
         let answer = self.disk.sync(part);
-        if answer.is_err() {
-            self.stopped.set(true);
+        match answer {
+            Ok(()) => self.kept.settle(part),
+            Err(_) => self.stopped.set(true),
         }
         answer
     }
