@@ -27,10 +27,23 @@ DRAIN, LIST = {"op": "drain"}, {"op": "list"}
 
 
 class Step:
-    """A command, how long is waited before it, in seconds, and whether what it asked for is awaited where turns make themselves."""
+    """A command, how long is waited before it, in seconds, whether what it asked for is awaited where turns make themselves, and
+    whether the next one is written with it."""
 
-    def __init__(self, command, pause=0.0, awaits=False):
-        self.command, self.pause, self.awaits = command, pause, awaits
+    def __init__(self, command, pause=0.0, awaits=False, joins=False):
+        self.command, self.pause, self.awaits, self.joins = command, pause, awaits, joins
+
+
+def batches(steps):
+    """The steps that are written at once."""
+    batch = []
+    for step in steps:
+        batch.append(step)
+        if not step.joins:
+            yield batch
+            batch = []
+    if batch:
+        yield batch
 
 
 class Played:
@@ -127,21 +140,22 @@ class Growths(helper.Check):
 
     def talk(self, run, steps, played, serves):
         open_calls = set()
-        for step in steps:
-            if serves and step.command == DRAIN:
+        for batch in batches(steps):
+            if serves and batch[0].command == DRAIN:
                 played.answers.append([])
                 continue
-            time.sleep(step.pause)
+            time.sleep(batch[0].pause)
             try:
-                run.stdin.write(helper.lines(step.command))
+                run.stdin.write(helper.lines(*[step.command for step in batch]))
                 run.stdin.flush()
             except BrokenPipeError:
                 return
-            values, goes_on = self.values(run, step if serves else Step(None), open_calls)
-            if values or goes_on:
-                played.answers.append(values)
-            if not goes_on:
-                return
+            for step in batch:
+                values, goes_on = self.values(run, step if serves else Step(None), open_calls)
+                if values or goes_on:
+                    played.answers.append(values)
+                if not goes_on:
+                    return
 
     def play(self, words, steps, refuse=0):
         """A run of these words, whose steps are asked one after another."""
@@ -176,8 +190,11 @@ class Growths(helper.Check):
         self.assertTrue(found.err.startswith(ENDS[found.status]) or found.status == 0, found.err)
 
     def stands(self, steps, found, folder):
-        # what was acknowledged and told is in the journal
-        shown, last = state(folder), steps[len(found.answers) - 1:len(found.answers) + 1]
+        # what was acknowledged and told is in the journal; what was written at once may be there before it is acknowledged
+        end = len(found.answers) + 1
+        while end < len(steps) and steps[end - 1].joins:
+            end += 1
+        shown, last = state(folder), steps[len(found.answers) - 1:end]
         for step, values in zip(steps, found.answers):
             command, accepted = step.command, any(value.get("ok") for value in values)
             if not accepted or command["op"] not in ("register", "exec", "params"):
@@ -231,6 +248,7 @@ class Growths(helper.Check):
         self.assertEqual(len(found.answers), len(steps))
         refused = [place for place, values in enumerate(found.answers) if MEMORY in values]
         if refused:
+            self.places.update(refused)
             left = self.without(words, steps, refused[0])
             (replies, notices), (wanted, told) = found.seen(), left.seen()
             self.assertEqual((len(refused), replies.pop(refused[0])), (1, [MEMORY]))
@@ -260,7 +278,7 @@ class Growths(helper.Check):
 
     def sweep(self, words, steps, lost=0, before=None, opens=True, stride=1):
         """Each growth of a run refused, or only those from shortly before the first line on, or one of so many, and how each ended."""
-        self.known, self.before, ends = {}, before, collections.Counter()
+        self.known, self.places, self.before, ends = {}, set(), before, collections.Counter()
         folder = self.fresh()
         words = [word.replace("JOURNAL", folder) for word in words]
         refuse = 1 if opens else self.play(words, []).made - 5
@@ -306,6 +324,14 @@ class Growths(helper.Check):
         return [Step(helper.register("r1", "Dummy")), Step({"op": "recur", **monitor}), Step(DRAIN), limited,
                 Step({"op": "cancel", **monitor}), Step(DRAIN), Step({"op": "cancel", **monitor}), Step(DRAIN)]
 
+    def together(self):
+        # registrations, of which the last one but one is refused, with other commands and questions between them, all written at once
+        names = ["r1", "r2", "r3", "r4"]
+        commands = [*[helper.register(name, "Dummy", a="b") for name in names], LIST, {"op": "params", "id": "r2", "params": {"a": "c"}},
+                    helper.register("r5", "Dummy"), {"op": "recur", "id": "r5", "interval": 3_600_000}, {"op": "cancel", "id": "r1", "interval": 1},
+                    helper.register("r1", "Dummy"), helper.register("r6", "Dummy", **{f"a{n}": "x" * 500 for n in range(20)})]
+        return [*[Step(command, joins=True) for command in commands], Step({"op": "info", "id": "r2"})]
+
     def prepared(self, *commands):
         # a journal that was left by a killed run behind these commands
         folder = self.journal("prepared")
@@ -319,6 +345,16 @@ class Growths(helper.Check):
         """a registration and a list"""
         self.sweep(self.words("run"), self.listed())
         self.sweep(self.words("serve"), self.listed(), opens=False)
+
+    def test_together(self):
+        """commands that come together: one of them is refused, and the others go on"""
+        for word in ("run", "serve"):
+            steps = self.together()
+            if word == "run":
+                steps += [Step(DRAIN), Step(DRAIN), Step({"op": "history", "id": "r5"})]
+            base = self.sweep(self.words(word, "--via", "echo"), steps, opens=False)
+            accepted = {place for place, values in enumerate(base.answers) if {"ok": True} in values}
+            self.assertLessEqual({place for place in accepted if steps[place].command["op"] == "register"}, self.places, "each is refused once")
 
     def test_start(self):
         """a start"""
