@@ -231,6 +231,11 @@ def settled(text):
     return values[0], [{key: value.get(key) for key in ("id", "params", "recurring", "queued", "type")} for value in values[1::2]]
 
 
+def plain(commands):
+    """These commands alone."""
+    return commands
+
+
 def asking(commands):
     """These commands, with a question behind each fifth."""
     return [each for place, command in enumerate(commands) for each in [command, *[{"op": "list"}] * (place % 5 == 4)]]
@@ -347,9 +352,9 @@ class Together(helper.Check):
     def test_kills(self):
         """killed with batches under way: what was replied stands, and a front part is found"""
         dice, count, seen = random.Random(self.seed), len(NAMES), []
-        text = helper.lines(*asking(self.batch(count)))
         for number in range(helper.number("ROUNDS", 16)):
             folder = self.journal(f"journal{number}")
+            text = helper.lines(*dice.choice([plain, asking])(self.batch(count)))
             with os.fdopen(filled(text), "rb") as asked:
                 run = subprocess.Popen([PROGRAM, dice.choice(["run", "serve"]), "--journal", folder], stdin=asked, stdout=subprocess.PIPE)
             out = b"".join(run.stdout.readline() for _ in range(dice.randrange(len(text) // 50)))
@@ -401,23 +406,29 @@ class Together(helper.Check):
                 most = SYNCS_OF_A_ROW * (-(-count // ROW) + MORE_ROWS if EXPECT_ROWS else count)
                 self.assertLessEqual(syncs, most, f"{count} registrations")
 
-    def test_each_stop(self):
-        """killed in each device call of a batch"""
-        self.needs_compiler()
-        count, stop, seen = 24, 1, []
-        text = helper.lines(*asking(self.batch(count)))
+    def stopped_in_each(self, count, text):
+        """How many commands were replied and found, for each device call of a batch in which the program was killed."""
+        seen, stop = [], 1
         while True:
             folder = self.journal(f"journal{stop}")
             out, status, *_ = self.counted(["run", "--journal", folder], filled(text), stop)
             if status == 0:
-                break
+                shutil.rmtree(folder)
+                return seen
             with self.subTest(stop=stop):
                 self.assertEqual(status, -9)
                 seen.append(self.stands(folder, count, out))
             shutil.rmtree(folder)
             stop += 1
-        print(f"together: killed in each of {stop - 1} device calls: {sum(found > replied for replied, found in seen)} times more is found "
-              f"than was replied, {max(found - replied for replied, found in seen)} commands at most", flush=True)
+
+    def test_each_stop(self):
+        """killed in each device call of a batch"""
+        self.needs_compiler()
+        for count, among in ((24, plain), (8, asking)):
+            seen = self.stopped_in_each(count, helper.lines(*among(self.batch(count))))
+            more = [found - replied for replied, found in seen]
+            print(f"together: {3 * count} commands, {among.__name__}: killed in each of {len(seen)} device calls: in {sum(map(bool, more))} "
+                  f"of them more is found than was replied, by {max(more)} commands at most", flush=True)
 
 
 if __name__ == "__main__":
