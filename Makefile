@@ -3,7 +3,7 @@ PREFIX ?= /usr/local
 PROGRAM := crates/ocfexec/out/ocfexec
 AGENTS := crates/ocf_agents/out/ocf_agents
 
-.PHONY: run test check mutants bench soak fuzz install deb guide clean
+.PHONY: run test check mutants bench soak fuzz sanitize install deb guide clean
 
 # Compiles every crate, proves nothing, and answers the example's commands, with the example's agent.
 run:
@@ -32,6 +32,10 @@ soak:
 # Fuzzes each reader of bytes from outside for five minutes, two at a time. It needs the package afl++.
 fuzz:
 	@tests/fuzz/run.sh 300
+
+# Refuses each growth of memory of the program, built with AddressSanitizer.
+sanitize:
+	@tests/sanitize.sh
 
 # Installs the programs that the gate proved and built, or proves and builds them first; with them the manual page, the two
 # clients and the unit.

@@ -1,7 +1,7 @@
 /* Refuses one growth of memory, for tests/growths.py: loaded before the C library (LD_PRELOAD), it counts each malloc, calloc and
    realloc from the start of the program on, and answers that of the number $REFUSE as if there were no memory. The file $GROWTHS,
    of 16 bytes, has the count of growths and that of refused ones at any moment, also behind a crash. Children get neither variable,
-   so they are left alone. */
+   so they are left alone. With LINKED it is linked into the program, in front of a sanitizer's own functions (tests/sanitize.sh). */
 #include <errno.h>
 #include <fcntl.h>
 #include <stddef.h>
@@ -9,10 +9,18 @@
 #include <sys/mman.h>
 #include <unistd.h>
 
-/* the C library's own */
-void *__libc_malloc(size_t size);
-void *__libc_calloc(size_t count, size_t size);
-void *__libc_realloc(void *old, size_t size);
+/* what is called in the place of a function of the C library, and that function */
+#ifdef LINKED
+#define CALLED(name) __wrap_##name
+#define OWN(name) __real_##name
+#else
+#define CALLED(name) name
+#define OWN(name) __libc_##name
+#endif
+
+void *OWN(malloc)(size_t size);
+void *OWN(calloc)(size_t count, size_t size);
+void *OWN(realloc)(void *old, size_t size);
 
 struct counts {
     long made, refused;
@@ -44,14 +52,14 @@ static int is_refused(void) {
     return 1;
 }
 
-void *malloc(size_t size) {
-    return is_refused() ? NULL : __libc_malloc(size);
+void *CALLED(malloc)(size_t size) {
+    return is_refused() ? NULL : OWN(malloc)(size);
 }
 
-void *calloc(size_t count, size_t size) {
-    return is_refused() ? NULL : __libc_calloc(count, size);
+void *CALLED(calloc)(size_t count, size_t size) {
+    return is_refused() ? NULL : OWN(calloc)(count, size);
 }
 
-void *realloc(void *old, size_t size) {
-    return is_refused() ? NULL : __libc_realloc(old, size);
+void *CALLED(realloc)(void *old, size_t size) {
+    return is_refused() ? NULL : OWN(realloc)(old, size);
 }

@@ -4,7 +4,7 @@ is no memory (tests/growths.c, loaded before the C library), for K = 1, 2, .. un
 Wanted of each: no signal; an opening that finds no memory ends with status 4, has answered nothing and leaves the files as they were, but for a creation; a command is refused with
 `memory`, and all else is that of a run without it; a turn ends as `memory`, or an agent is not started, and nothing that was asked
 for is lost; a reply or a notice ends the run with status 7, and what was told stands in the journal; else the run is as any other.
-Use: growths.py PROGRAM"""
+Use: growths.py PROGRAM, with LINKED in the environment where tests/growths.c is linked into the program"""
 import collections
 import json
 import os
@@ -97,14 +97,16 @@ def state(folder):
 class Growths(helper.Check):
     def setUp(self):
         super().setUp()
-        self.shim, self.counts, self.gate = helper.shim("growths.c", self.here), self.place("counts"), self.place("gate")
+        self.counts, self.gate = self.place("counts"), self.place("gate")
+        # a sanitized program has the counts in it
+        self.shim = {} if helper.number("LINKED", 0) else {"LD_PRELOAD": helper.shim("growths.c", self.here)}
 
     # A run.
 
     def environment(self, refuse):
         with open(self.counts, "wb") as file:
             file.write(bytes(16))
-        return {"LD_PRELOAD": self.shim, "GROWTHS": self.counts, "REFUSE": str(refuse)}
+        return {**self.shim, "GROWTHS": self.counts, "REFUSE": str(refuse)}
 
     def value(self, run):
         # the next value that is answered; None at the end of the output
