@@ -54,6 +54,25 @@ fn after_a_disk_fault_every_line_is_closed(rt: HostRuntime) {
     assert_eq!(rt; ended, Some(Ok(())));
 }
 
+// Two registrations that arrive together, and a question.
+const TOGETHER: &[u8] =
+    b"{\"op\":\"register\",\"id\":\"r1\",\"provider\":\"p\",\"type\":\"t\"}\n{\"op\":\"register\",\"id\":\"r2\",\"provider\":\"p\",\"type\":\"t\"}\n\
+    {\"op\":\"list\"}\n";
+
+#[test]
+fn commands_that_arrive_together_are_one_record(rt: HostRuntime) {
+    let alloc = rt.alloc();
+    let refused =
+        b"{\"error\":\"disk\",\"number\":16}\n{\"error\":\"disk\",\"number\":16}\n{\"error\":\"closed\",\"number\":17}\n";
+    for call in 1..=4 {
+        let ended = writes(alloc, failing_disk(alloc, call), &[], TOGETHER, refused);
+        assert_eq!(rt; ended, Some(Err(Fault::Disk)));
+    }
+    let done = b"{\"ok\":true}\n{\"ok\":true}\n{\"ok\":true,\"resources\":[\"r1\",\"r2\"]}\n";
+    let ended = writes(alloc, failing_disk(alloc, 5), &[], TOGETHER, done);
+    assert_eq!(rt; ended, Some(Ok(())));
+}
+
 #[test]
 fn a_show_on_a_disk_that_fails_writes_nothing(rt: HostRuntime) {
     let mut disk = MemDisk::new(rt.alloc());

@@ -45,14 +45,14 @@ info_no_float i =
       running_no_float i.id i.running,
     ) refl
 
-request_no_float : (r : Reply) → has_float (request_data r) ≡ false
-request_no_float (reply.Refused e) = refl
-request_no_float reply.Done = refl
-request_no_float (reply.Accepted call key) = refl
-request_no_float (reply.List ids) = rw (items_no_float string (λ t. refl) ids) refl
-request_no_float (reply.Info i) = info_no_float i
-request_no_float (reply.History es) = rw (items_no_float ended_data (λ e. refl) es) refl
-request_no_float (reply.Turn end) = refl
+pub request_has_no_float : (r : Reply) → has_float (request_data r) ≡ false
+request_has_no_float (reply.Refused e) = refl
+request_has_no_float reply.Done = refl
+request_has_no_float (reply.Accepted call key) = refl
+request_has_no_float (reply.List ids) = rw (items_no_float string (λ t. refl) ids) refl
+request_has_no_float (reply.Info i) = info_no_float i
+request_has_no_float (reply.History es) = rw (items_no_float ended_data (λ e. refl) es) refl
+request_has_no_float (reply.Turn end) = refl
 
 fault_no_float : (f : MetaFault) → has_float (fault_data f) ≡ false
 fault_no_float (fault.NotStarted why) = refl
@@ -63,7 +63,7 @@ fault_no_float fault.Limit = refl
 fault_no_float fault.Memory = refl
 
 pub reply_has_no_float : (r : LineReply) → has_float (reply_data r) ≡ false
-reply_has_no_float (line.Request r) = request_no_float r
+reply_has_no_float (line.Request r) = request_has_no_float r
 reply_has_no_float (line.Drain end) = refl
 reply_has_no_float (line.Tidy end) = refl
 reply_has_no_float (line.Meta (Ok metadata)) = refl

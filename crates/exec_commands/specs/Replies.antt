@@ -176,3 +176,7 @@ reply_line reply = compact_text (reply_data reply) ++ 10 ∷ behind reply
 
 abbrev pub formed_line : NoticeForm → Notice → List ℕ
 formed_line form notice = compact_text (formed_data form notice) ++ 10 ∷ []
+
+-- the line of a reply to a request
+abbrev pub request_line : Reply → List ℕ
+request_line reply = reply_line (line.Request reply)

@@ -20,4 +20,4 @@ pub use ends::{DrainEnd, tidy_word, turn_word};
 pub use line::Line;
 pub use notice::{NoticeForm, write_notice};
 pub use read::read_command;
-pub use reply::{LineReply, write_reply};
+pub use reply::{LineReply, write_reply, write_request_reply};

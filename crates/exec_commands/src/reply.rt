@@ -4,7 +4,7 @@ ghost use Rattle.serde_json.specs.Data.{string};
 ghost use Rattle.serde_json.specs.View.{view};
 ghost use Rattle.serde_json.specs.Written.{compact_text, has_float};
 ghost use Rattle.exec_commands.specs.Replies.{refusal_data, done_data, accepted_data, list_data, history_data, length_data, request_data};
-ghost use Rattle.exec_commands.specs.Replies.{reply_data, reply_line, behind};
+ghost use Rattle.exec_commands.specs.Replies.{reply_data, reply_line, request_line, behind};
 
 use crate::ends::{DrainEnd, drain_word, end_value, fault_value, tidy_word, turn_word};
 use crate::info::info_value;
@@ -136,4 +136,12 @@ pub fn write_reply(alloc: Global, reply: &LineReply) -> Result<Vec<u8>, AllocErr
     let mut bytes = write_line(alloc, &value)?;
     push_behind(&mut bytes, reply)?;
     Ok(bytes)
+}
+
+/// The line of a reply to a request.
+#[tactic(auto, using(crate::proofs::FloatLemmas::request_has_no_float))]
+pub fn write_request_reply(alloc: Global, reply: &Reply) -> Result<Vec<u8>, AllocError>
+    ensures line { IfOk result (λ b. b.items ≡ request_line reply.now) }
+{
+    write_line(alloc, &request_value(alloc, reply)?)
 }

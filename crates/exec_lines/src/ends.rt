@@ -10,6 +10,9 @@ pub trait Input: BufRead {
     /// input and a fault are there, too: a read tells them. Nothing is read.
     fn is_ready(&mut self, millis: u32) -> bool
         ensures same { Self.remaining self.new ≡ Self.remaining self.old };
+
+    /// Whether a whole line stands in what was read already, so that the next one is there without a wait.
+    fn has_line(&self) -> bool;
 }
 
 /// Output whose reader may be gone.
@@ -22,6 +25,10 @@ pub trait Output: Write {
 impl Input for &[u8] {
     fn is_ready(&mut self, _millis: u32) -> bool {
         true
+    }
+
+    fn has_line(&self) -> bool {
+        self.contains(&b'\n')
     }
 }
 

@@ -65,4 +65,8 @@ impl<R: Read, A: Allocator> Input for BufReader<Patient<R>, A> {
     fn is_ready(&mut self, millis: u32) -> bool {
         !self.buffer().is_empty() || is_readable(self.get_ref().descriptor, millis)
     }
+
+    fn has_line(&self) -> bool {
+        self.buffer().contains(&b'\n')
+    }
 }

@@ -3,13 +3,13 @@ ghost use Rattle.std.specs.Prelude.{◌≡◌, OnOk, IfOk, IfErr, Err};
 ghost use Rattle.std.specs.Io.KnownBytes.{Appends};
 ghost use Rattle.std.specs.List.{flat_map};
 ghost use Rattle.std.specs.IoError.{error_kind};
-ghost use Rattle.exec_commands.specs.Replies.{formed_line, reply_line};
+ghost use Rattle.exec_commands.specs.Replies.{formed_line, reply_line, request_line};
 ghost use Rattle.exec_output.specs.Stops.{stop_of};
 ghost use Rattle.exec_output.specs.declared.send.Stopped.TheVariants.{Memory};
 
-use exec_commands::{LineReply, NoticeForm, write_notice, write_reply};
+use exec_commands::{LineReply, NoticeForm, write_notice, write_reply, write_request_reply};
 use exec_lines::write_flushed;
-use ocf_types::Notice;
+use ocf_types::{Notice, Reply};
 use std::alloc::{AllocError, Global};
 use std::io::{self, ErrorKind, Write};
 
@@ -56,6 +56,38 @@ pub fn send_reply<W: Write>(alloc: Global, writer: &mut W, reply: &LineReply) ->
     ensures { OnOk result (Appends (W.contents writer.old) (W.contents writer.new) (reply_line reply.now)) }
 {
     send_line(writer, write_reply(alloc, reply))
+}
+
+// Writes the line of a reply to a request.
+fn put_reply<W: Write>(alloc: Global, writer: &mut W, reply: &Reply) -> Result<(), Stopped>
+    ensures { OnOk result (Appends (W.contents writer.old) (W.contents writer.new) (request_line reply.now)) }
+{
+    let line = write_request_reply(alloc, reply)?;
+    writer.write_all(line.as_slice())?;
+    Ok(())
+}
+
+// Writes replies to requests, a line each.
+fn put_replies<W: Write>(alloc: Global, writer: &mut W, replies: &[Reply]) -> Result<(), Stopped>
+    ensures { OnOk result (Appends (W.contents writer.old) (W.contents writer.new) (flat_map request_line replies.now)) }
+{
+    for reply in replies {
+        put_reply(alloc, writer, reply)?;
+    }
+    Ok(())
+}
+
+/// Writes replies to requests, a line each, and flushes them together.
+pub fn send_replies<W: Write>(
+    alloc: Global,
+    writer: &mut W,
+    replies: &[Reply],
+) -> Result<(), Stopped>
+    ensures { OnOk result (Appends (W.contents writer.old) (W.contents writer.new) (flat_map request_line replies.now)) }
+{
+    put_replies(alloc, writer, replies)?;
+    writer.flush()?;
+    Ok(())
 }
 
 fn send_notice<W: Write>(

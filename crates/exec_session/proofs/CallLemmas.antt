@@ -1,5 +1,5 @@
 -- What is done with lines is done by calls of the executor.
-use Rattle.std.proofs.Common.{◌≡◌, ℕ, ◌+◌, Bool, true, false, not, refl, sym, ap, subst, Result, Ok, Err}
+use Rattle.std.proofs.Common.{◌≡◌, ℕ, ◌+◌, Bool, true, false, not, List, ◌∷◌, refl, sym, ap, subst, Result, Ok, Err}
 use Rattle.ocf_types.specs.Boot.{any_busy}
 use Rattle.ocf_types.specs.declared.refusal.Refusal.{Refusal}
 use Rattle.ocf_types.specs.declared.reply.TurnEnd.{TurnEnd}
@@ -15,12 +15,13 @@ use Rattle.exec_commands.specs.declared.ends.DrainEnd.{DrainEnd}
 use Rattle.exec_commands.specs.declared.line.Line.{Line}
 use Rattle.exec_commands.specs.declared.line.Line.TheVariants as line
 use Rattle.exec_commands.specs.declared.reply.LineReply.{LineReply}
-use Rattle.ocf_types.specs.Kinds.{Request}
+use Rattle.ocf_types.specs.Kinds.{Command, Request}
 use Rattle.exec_session.specs.Answers.{IsOpenReply, IsReply, ServesNow, Source}
 use Rattle.exec_session.specs.Drains.{Drains, GoesOn, MakesTurn, Spot, at_start, further}
 use Rattle.exec_session.specs.Limits.{Limits, MakesRoom, is_tidy_due}
 use Rattle.exec_session.specs.Progress.{Place, Takes}
-use Rattle.exec_session.specs.Runs.{Reaches, closed_line, here, line as one_line, turn as one_turn}
+use Rattle.exec_session.specs.Runs.{Reaches, closed_line, here, line as one_line, row, turn as one_turn}
+use Rattle.exec_session.specs.Together.{AnswersTogether}
 use Rattle.exec_session.specs.declared.drain.Terms.{Terms}
 use Rattle.exec_session.specs.declared.lines.Progress.{Progress}
 use Rattle.exec_session.specs.declared.lines.Progress.TheVariants as progress
@@ -53,6 +54,18 @@ module _ {D C M : Type 0} (look : D → View) (tend : C → ChildrenView) (limit
       by true open_still =
           by_command look serves.now request serves.middle (sight_of tend new) serves.given (serves.serves open_still) (λ _. serves.closes)
       by false closed = by_none look serves.middle (sight_of tend new) (serves.fails closed).1
+
+  -- commands that were answered together
+  together_by_calls : (commands : List Command) (p q : Spot (Executor D C M)) → (sight_of tend p.executor).is_open ≡ true
+      → AnswersTogether look tend limits commands p q → Goes p.executor q.executor
+  together_by_calls commands p q is_open answers =
+      by_both look (sight_of tend p.executor) answers.serves.middle (sight_of tend q.executor)
+      (room_by_calls look limits (sight_of tend p.executor) answers.serves.middle is_open answers.serves.room)
+      (by answers.serves.middle.is_open refl)
+    where
+      by : (b : Bool) → answers.serves.middle.is_open ≡ b → ByCalls look answers.serves.middle (sight_of tend q.executor)
+      by true open_still = let takes = answers.serves.takes open_still in (takes.exchanges, takes.deeds, takes.calls)
+      by false closed = by_none look answers.serves.middle (sight_of tend q.executor) (answers.serves.fails closed).1
 
   -- a turn of a drain
   turn_by_calls : (now : ℕ) (p q : Spot (Executor D C M)) (end : TurnEnd) → (sight_of tend p.executor).is_open ≡ true
@@ -140,6 +153,9 @@ module _ {D C M : Type 0} (look : D → View) (tend : C → ChildrenView) (limit
   lines_by_calls source p _ _ (one_line n m q s reaches may takes) =
       by_both look (sight_of tend p.executor) (sight_of tend m.executor) (sight_of tend q.executor) (lines_by_calls source p n m reaches)
       (next_by_calls source m q s takes)
+  lines_by_calls source p _ _ (row n m q first others reaches is_open may answers) =
+      by_both look (sight_of tend p.executor) (sight_of tend m.executor) (sight_of tend q.executor) (lines_by_calls source p n m reaches)
+      (together_by_calls (first ∷ others) _ _ is_open answers.answered)
   lines_by_calls source p _ _ (closed_line n m q s reaches closed takes) =
       by_both look (sight_of tend p.executor) (sight_of tend m.executor) (sight_of tend q.executor) (lines_by_calls source p n m reaches)
       (next_by_calls source m q s takes)

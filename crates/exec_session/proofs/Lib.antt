@@ -1,5 +1,5 @@
 pub mod DrainLemmas
 pub mod LineLemmas
-pub mod RunLemmas
+pub mod WaitLemmas
 pub mod ServeLemmas
 pub mod CallLemmas

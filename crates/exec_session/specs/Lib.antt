@@ -1,6 +1,9 @@
 pub mod Answers
 pub mod Drains
+pub mod Gathered
 pub mod Limits
 pub mod Progress
 pub mod Runs
 pub mod Serving
+pub mod Together
+pub mod Waiting

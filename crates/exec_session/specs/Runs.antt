@@ -1,5 +1,5 @@
 -- Whole runs.
-use Rattle.std.specs.Prelude.{◌≡◌, ℕ, ◌+◌, ◌<◌, ⊤, List, ◌++◌, Option, true, false, Result, Ok, Err}
+use Rattle.std.specs.Prelude.{◌≡◌, ℕ, ◌+◌, ◌<◌, ⊤, List, ◌∷◌, ◌++◌, length, Option, true, false, Result, Ok, Err}
 use Rattle.std.specs.Io.KnownBytes.{Appends}
 use Rattle.std.specs.List.{flat_map}
 use Rattle.disk_model.specs.View.{View}
@@ -8,10 +8,10 @@ use Rattle.executor.specs.Lives.{ByCalls}
 use Rattle.executor.specs.Sights.{Sight, sight_of}
 use Rattle.executor.specs.declared.executor.Executor.{Executor}
 use Rattle.executor.specs.declared.report.Report.{Report}
+use Rattle.ocf_types.specs.Kinds.{Command}
 use Rattle.ocf_types.specs.declared.reply.TurnEnd.{TurnEnd}
 use Rattle.exec_commands.specs.Replies.{formed_line}
 use Rattle.exec_commands.specs.declared.notice.NoticeForm.{NoticeForm}
-use Rattle.exec_lines.specs.Pieces.{IsMidLine}
 use Rattle.exec_output.specs.declared.fault.Fault.{Fault}
 use Rattle.exec_output.specs.declared.fault.Fault.TheVariants.{Disk, Memory, InputOrOutput, ReplyMemory}
 use Rattle.exec_session.specs.declared.lines.Progress.{Progress}
@@ -23,6 +23,7 @@ use Rattle.exec_session.specs.Answers.{Source}
 use Rattle.exec_session.specs.Drains.{MakesTurn, spot}
 use Rattle.exec_session.specs.Limits.{Limits}
 use Rattle.exec_session.specs.Progress.{Place, Takes, place}
+use Rattle.exec_session.specs.Together.{AnswersRow}
 
 -- what the opening's report is written as
 abbrev pub report_text : {M : Type 0} → NoticeForm → Report M → List ℕ
@@ -42,13 +43,16 @@ abbrev pub MakesTurns : Way → Type 0
 MakesTurns Run = ⊥
 MakesTurns Serve = ⊤
 
--- Line after line, in their order, none of them left out; a run that serves makes turns between them, while its executor is
--- open. The number is how many lines an open executor answered since the last turn.
+-- Line after line, in their order, none of them left out, commands that arrived together in a row; a run that serves makes
+-- turns between them, while its executor is open. The number is how many lines an open executor answered since the last turn.
 pub data Reaches {D C M : Type 0} (look : D → View) (tend : C → ChildrenView) (source : Source) (limits : Limits)
     (p : Place (Executor D C M)) : ℕ → Place (Executor D C M) → Type 0 where
   here : Reaches look tend source limits p 0 p
   line : (n : ℕ) (m q : Place (Executor D C M)) (s : Progress) → Reaches look tend source limits p n m → MayTake limits.way n
       → Takes look tend source limits m q s → Reaches look tend source limits p (n + 1) q
+  row : (n : ℕ) (m q : Place (Executor D C M)) (first : Command) (others : List Command) → Reaches look tend source limits p n m
+      → (sight_of tend m.executor).is_open ≡ true → MayTake limits.way (n + length others)
+      → AnswersRow look tend limits (first ∷ others) m q → Reaches look tend source limits p (n + length others + 1) q
   closed_line : (n : ℕ) (m q : Place (Executor D C M)) (s : Progress) → Reaches look tend source limits p n m
       → (sight_of tend m.executor).is_open ≡ false → Takes look tend source limits m q s → Reaches look tend source limits p 0 q
   turn : (n now : ℕ) (m q : Place (Executor D C M)) (end : TurnEnd) → Reaches look tend source limits p n m → MakesTurns limits.way
@@ -63,13 +67,6 @@ pub record ReachesEnd {D C M : Type 0} (look : D → View) (tend : C → Childre
   pub last : Place (Executor D C M)
   pub reached : Reaches look tend source limits p count last
   pub end : Takes look tend source limits last q End
-
--- A run has come from a place to where the front of the next line stands in its buffer.
-pub record HasCome {D C M : Type 0} (look : D → View) (tend : C → ChildrenView) (source : Source) (limits : Limits)
-    (p : Place (Executor D C M)) (count : ℕ) (executor : Executor D C M) (kept : List ℕ) (now written : Option (List ℕ)) : Type 0 where
-  pub left : Option (List ℕ)
-  pub mid : IsMidLine left kept now
-  pub reached : Reaches look tend source limits p count (place executor left written)
 
 -- the report is written first, and then all lines are answered
 pub record Runs {D C M N : Type 0} (look : D → View) (tend : C → ChildrenView) (source : Source) (limits : Limits) (report : Report N)

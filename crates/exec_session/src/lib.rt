@@ -4,6 +4,7 @@
 
 mod answer;
 mod drain;
+mod gathered;
 pub mod laws;
 mod lines;
 mod metadata;
@@ -13,6 +14,7 @@ mod room;
 mod serve;
 mod session;
 mod setting;
+mod together;
 mod turn;
 
 pub use metadata::Metadata;

@@ -1,22 +1,28 @@
 //! The next line of the input, and what is done with it.
-ghost use Rattle.std.specs.Prelude.{ℕ, List, Option, IfOk};
+ghost use Rattle.std.specs.Prelude.{◌≡◌, ℕ, ◌+◌, ◌<◌, [], List, true, length, Option, IfOk, OnOk};
 ghost use Rattle.exec_lines.specs.Buffer.{line_bytes};
 ghost use Rattle.exec_lines.specs.Pieces.{IsNext};
 ghost use Rattle.executor.specs.Lives.{ByCalls};
 ghost use Rattle.executor.specs.Sights.{IsSound, sight_of};
+ghost use Rattle.executor.specs.declared.executor.Executor.{Executor};
+ghost use Rattle.exec_session.specs.Gathered.{waiting};
 ghost use Rattle.exec_session.specs.Limits.{limits_of};
-ghost use Rattle.exec_session.specs.Progress.{ReadsInput, Takes, place};
+ghost use Rattle.exec_session.specs.Progress.{Place, ReadsInput, Takes, place};
+ghost use Rattle.exec_session.specs.Together.{ReadsCommand};
+ghost use Rattle.exec_session.specs.Waiting.{ComesOrEnds, HasCome, MayTakeBehind, MayWait};
 
 use crate::answer::reply_to;
+use crate::gathered::Gathered;
 use crate::metadata::Metadata;
 use crate::setting::Setting;
+use crate::together::answer_gathered;
 use child_keeper::Children;
 use disk_model::Disk;
 use exec_commands::{Line, read_command};
 use exec_lines::{LineBuffer, Next, Output};
 use exec_output::{Stopped, send_reply};
 use executor::Executor;
-use ocf_types::Refusal;
+use ocf_types::{Command, Refusal, Request};
 use std::alloc::Global;
 use std::rt::Clock;
 
@@ -31,9 +37,9 @@ pub enum Found {
     End,
 }
 
-/// What was done with what stands next in the input.
+// What was done with what stands next in the input.
 #[derive(Clone, Copy, Debug, PartialEq, Eq)]
-pub enum Progress {
+enum Progress {
     Answered,
     PassedOver,
     End,
@@ -55,8 +61,8 @@ pub fn found_in(alloc: Global, buffer: &LineBuffer, next: Next) -> Found
     }
 }
 
-/// Answers what stands next in the input. A line of no bytes is passed over.
-pub fn answer_found<W: Output, D: Disk + Drop, C: Children + Drop, K: Clock, M: Metadata>(
+// Answers what stands next in the input. A line of no bytes is passed over.
+fn answer_found<W: Output, D: Disk + Drop, C: Children + Drop, K: Clock, M: Metadata>(
     setting: &Setting<K, M>,
     writer: &mut W,
     executor: &mut Executor<D, C>,
@@ -77,4 +83,89 @@ pub fn answer_found<W: Output, D: Disk + Drop, C: Children + Drop, K: Clock, M: 
     let reply = reply_to(setting, writer, executor, line)?;
     send_reply(setting.alloc, writer, &reply)?;
     Ok(Progress::Answered)
+}
+
+// Has a command wait behind the others, and answers all of them unless the next line is there already.
+fn take_command<W: Output, D: Disk + Drop, C: Children + Drop, K: Clock, M: Metadata>(
+    setting: &Setting<K, M>,
+    writer: &mut W,
+    executor: &mut Executor<D, C>,
+    gathered: &mut Gathered,
+    command: Command,
+    has_next: bool,
+) -> Result<(), Stopped>
+    requires open { (sight_of C.view executor.old).is_open ≡ true }
+    requires few { length (waiting gathered.old) < 64 }
+    requires sound { IsSound D.view (sight_of C.view executor.old) }
+    ensures sound { IsSound D.view (sight_of C.view executor.new) }
+    ensures waits { MayWait (sight_of C.view executor.new) (waiting gathered.new) }
+    ensures calls { ByCalls D.view (sight_of C.view executor.old) (sight_of C.view executor.new) }
+    ensures takes { (p : Place (Executor D C Global)) (most : ℕ) (left now : Option (List ℕ))
+        → MayTakeBehind setting.now.way most → ReadsCommand left now command
+        → HasCome D.view C.view (M.gives setting.now.metadata.now) (limits_of setting.now) p most
+        (waiting gathered.old) (place executor.old left (W.contents writer.old))
+        → OnOk result (HasCome D.view C.view (M.gives setting.now.metadata.now) (limits_of setting.now) p (most + 1)
+        (waiting gathered.new) (place executor.new now (W.contents writer.new))) }
+{
+    gathered.push(command);
+    if has_next && !gathered.is_full() {
+        return Ok(());
+    }
+    answer_gathered(setting, writer, executor, gathered)
+}
+
+// Answers the commands that wait, and then what stands next in the input. Whether the input ended.
+fn take_other<W: Output, D: Disk + Drop, C: Children + Drop, K: Clock, M: Metadata>(
+    setting: &Setting<K, M>,
+    writer: &mut W,
+    executor: &mut Executor<D, C>,
+    gathered: &mut Gathered,
+    found: Found,
+) -> Result<bool, Stopped>
+    requires waits { MayWait (sight_of C.view executor.old) (waiting gathered.old) }
+    requires sound { IsSound D.view (sight_of C.view executor.old) }
+    ensures sound { IsSound D.view (sight_of C.view executor.new) }
+    ensures none { waiting gathered.new ≡ [] }
+    ensures calls { ByCalls D.view (sight_of C.view executor.old) (sight_of C.view executor.new) }
+    ensures takes { (p : Place (Executor D C Global)) (most : ℕ) (left now : Option (List ℕ))
+        → MayTakeBehind setting.now.way most → ReadsInput left now found
+        → HasCome D.view C.view (M.gives setting.now.metadata.now) (limits_of setting.now) p most
+        (waiting gathered.old) (place executor.old left (W.contents writer.old))
+        → IfOk result (ComesOrEnds D.view C.view (M.gives setting.now.metadata.now) (limits_of setting.now) p (most + 1)
+        (waiting gathered.new) (place executor.new now (W.contents writer.new))) }
+{
+    answer_gathered(setting, writer, executor, gathered)?;
+    let progress = answer_found(setting, writer, executor, found)?;
+    Ok(progress == Progress::End)
+}
+
+/// Takes what stands next in the input: a command waits while the next line is there already, and else all that wait are
+/// answered together; anything else is answered behind them. Whether the input ended.
+pub fn take_found<W: Output, D: Disk + Drop, C: Children + Drop, K: Clock, M: Metadata>(
+    setting: &Setting<K, M>,
+    writer: &mut W,
+    executor: &mut Executor<D, C>,
+    gathered: &mut Gathered,
+    found: Found,
+    has_next: bool,
+) -> Result<bool, Stopped>
+    requires waits { MayWait (sight_of C.view executor.old) (waiting gathered.old) }
+    requires sound { IsSound D.view (sight_of C.view executor.old) }
+    ensures sound { IsSound D.view (sight_of C.view executor.new) }
+    ensures waits { MayWait (sight_of C.view executor.new) (waiting gathered.new) }
+    ensures calls { ByCalls D.view (sight_of C.view executor.old) (sight_of C.view executor.new) }
+    ensures takes { (p : Place (Executor D C Global)) (most : ℕ) (left now : Option (List ℕ))
+        → MayTakeBehind setting.now.way most → ReadsInput left now found
+        → HasCome D.view C.view (M.gives setting.now.metadata.now) (limits_of setting.now) p most
+        (waiting gathered.old) (place executor.old left (W.contents writer.old))
+        → IfOk result (ComesOrEnds D.view C.view (M.gives setting.now.metadata.now) (limits_of setting.now) p (most + 1)
+        (waiting gathered.new) (place executor.new now (W.contents writer.new))) }
+{
+    match found {
+        Found::Line(Ok(Line::Request(Request::Command(command)))) if executor.is_open() => {
+            take_command(setting, writer, executor, gathered, command, has_next)?;
+            Ok(false)
+        }
+        found => take_other(setting, writer, executor, gathered, found),
+    }
 }

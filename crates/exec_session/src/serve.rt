@@ -1,20 +1,23 @@
 //! Serving: lines are answered while agents run, and turns are made by the run itself.
-ghost use Rattle.std.specs.Prelude.{◌≡◌, ◌⊎◌, ◌≤◌, ℕ, List, [], Option, None, true, false, IfOk, OnOk, MatchOption, if◌then◌else◌};
+ghost use Rattle.std.specs.Prelude.{◌≡◌, ◌+◌, ◌≤◌, ℕ, [], true, false, IfOk, OnOk};
 ghost use Rattle.exec_lines.specs.Buffer.{line_bytes};
-ghost use Rattle.exec_lines.specs.Pieces.{IsMidLine};
 ghost use Rattle.executor.specs.Lives.{ByCalls};
 ghost use Rattle.executor.specs.Sights.{IsSound, sight_of};
 ghost use Rattle.executor.specs.declared.executor.Executor.{Executor};
 ghost use Rattle.exec_session.specs.Drains.{spot};
+ghost use Rattle.exec_session.specs.Gathered.{waiting};
 ghost use Rattle.exec_session.specs.Limits.{limits_of};
 ghost use Rattle.exec_session.specs.Progress.{Place, place};
 ghost use Rattle.exec_session.specs.Runs.{ReachesEnd};
-ghost use Rattle.exec_session.specs.Serving.{ComesOrEnds, GoesOnWith, HasComeFrom, TurnsAlone};
+ghost use Rattle.exec_session.specs.Serving.{ComesMidOrEnds, HasComeMid, TurnsAlone};
+ghost use Rattle.exec_session.specs.Waiting.{MayTakeBehind, MayWait};
 
-use crate::lines::{Progress, answer_found, found_in};
+use crate::gathered::Gathered;
+use crate::lines::{found_in, take_found};
 use crate::metadata::Metadata;
 use crate::pause::{Pause, rest};
 use crate::setting::{Setting, Way};
+use crate::together::answer_gathered;
 use crate::turn::make_turn;
 use child_keeper::Children;
 use disk_model::Disk;
@@ -31,57 +34,92 @@ const READS_A_TURN: u32 = 64;
 // The longest wait while nothing is queued or runs, in milliseconds.
 const LONGEST_IDLE: u32 = 1_000;
 
-// Goes on with the line in the buffer by one read, and answers it once it is whole; none while it is not.
+// Goes on with the line in the buffer by one read, and takes it once it is whole. Whether the input ended.
 fn take_read<R: Input, W: Output, D: Disk + Drop, C: Children + Drop, K: Clock, M: Metadata>(
     setting: &Setting<K, M>,
     reader: &mut R,
     writer: &mut W,
     executor: &mut Executor<D, C>,
     buffer: &mut LineBuffer,
-) -> Result<Option<Progress>, Stopped>
+    gathered: &mut Gathered,
+) -> Result<bool, Stopped>
+    requires waits { MayWait (sight_of C.view executor.old) (waiting gathered.old) }
     requires sound { IsSound D.view (sight_of C.view executor.old) }
     ensures sound { IsSound D.view (sight_of C.view executor.new) }
+    ensures waits { MayWait (sight_of C.view executor.new) (waiting gathered.new) }
     ensures calls { ByCalls D.view (sight_of C.view executor.old) (sight_of C.view executor.new) }
-    ensures takes { (left : Option (List ℕ)) → IsMidLine left (line_bytes buffer.old) (R.remaining reader.old)
-        → IfOk result (GoesOnWith D.view C.view (M.gives setting.now.metadata.now) (limits_of setting.now)
-        (place executor.old left (W.contents writer.old)) (line_bytes buffer.new)
-        (place executor.new (R.remaining reader.new) (W.contents writer.new))) }
+    ensures takes { (p : Place (Executor D C Global)) (most : ℕ) → MayTakeBehind setting.now.way most
+        → HasComeMid D.view C.view (M.gives setting.now.metadata.now) (limits_of setting.now) p most (waiting gathered.old)
+        (line_bytes buffer.old) (place executor.old (R.remaining reader.old) (W.contents writer.old))
+        → IfOk result (ComesMidOrEnds D.view C.view (M.gives setting.now.metadata.now) (limits_of setting.now) p (most + 1)
+        (waiting gathered.new) (line_bytes buffer.new) (place executor.new (R.remaining reader.new) (W.contents writer.new))) }
 {
     let Some(next) = gather_line(reader, buffer)? else {
-        return Ok(None);
+        return Ok(false);
     };
     let found = found_in(setting.alloc, buffer, next);
     buffer.clear();
-    Ok(Some(answer_found(setting, writer, executor, found)?))
+    let has_next = reader.has_line();
+    take_found(setting, writer, executor, gathered, found, has_next)
 }
 
-// Answers the lines that are there, and tells whether the input ended.
+// Takes the lines that are there. Whether the input ended; else commands may wait still.
+fn take_waiting<R: Input, W: Output, D: Disk + Drop, C: Children + Drop, K: Clock, M: Metadata>(
+    setting: &Setting<K, M>,
+    reader: &mut R,
+    writer: &mut W,
+    executor: &mut Executor<D, C>,
+    buffer: &mut LineBuffer,
+    gathered: &mut Gathered,
+) -> Result<bool, Stopped>
+    requires sound { IsSound D.view (sight_of C.view executor.old) }
+    requires way { setting.now.way ≡ Way.Serve }
+    requires none { waiting gathered.old ≡ [] }
+    ensures sound { IsSound D.view (sight_of C.view executor.new) }
+    ensures waits { MayWait (sight_of C.view executor.new) (waiting gathered.new) }
+    ensures calls { ByCalls D.view (sight_of C.view executor.old) (sight_of C.view executor.new) }
+    ensures takes { (p : Place (Executor D C Global))
+        → HasComeMid D.view C.view (M.gives setting.now.metadata.now) (limits_of setting.now) p 0 []
+        (line_bytes buffer.old) (place executor.old (R.remaining reader.old) (W.contents writer.old))
+        → IfOk result (ComesMidOrEnds D.view C.view (M.gives setting.now.metadata.now) (limits_of setting.now) p 64
+        (waiting gathered.new) (line_bytes buffer.new) (place executor.new (R.remaining reader.new) (W.contents writer.new))) }
+{
+    for _reads in 0..READS_A_TURN {
+        if !reader.is_ready(0) {
+            return Ok(false);
+        }
+        if take_read(setting, reader, writer, executor, buffer, gathered)? {
+            return Ok(true);
+        }
+    }
+    Ok(false)
+}
+
+// Answers the lines that are there. Whether the input ended.
 fn answer_waiting<R: Input, W: Output, D: Disk + Drop, C: Children + Drop, K: Clock, M: Metadata>(
     setting: &Setting<K, M>,
     reader: &mut R,
     writer: &mut W,
     executor: &mut Executor<D, C>,
     buffer: &mut LineBuffer,
+    gathered: &mut Gathered,
 ) -> Result<bool, Stopped>
     requires sound { IsSound D.view (sight_of C.view executor.old) }
     requires way { setting.now.way ≡ Way.Serve }
+    requires none { waiting gathered.old ≡ [] }
     ensures sound { IsSound D.view (sight_of C.view executor.new) }
+    ensures none { IfOk result (λ ended. ended ≡ false → waiting gathered.new ≡ []) }
     ensures calls { ByCalls D.view (sight_of C.view executor.old) (sight_of C.view executor.new) }
-    ensures lines { (p : Place (Executor D C Global))
-        → HasComeFrom D.view C.view (M.gives setting.now.metadata.now) (limits_of setting.now) p 0
+    ensures takes { (p : Place (Executor D C Global))
+        → HasComeMid D.view C.view (M.gives setting.now.metadata.now) (limits_of setting.now) p 0 []
         (line_bytes buffer.old) (place executor.old (R.remaining reader.old) (W.contents writer.old))
-        → IfOk result (ComesOrEnds D.view C.view (M.gives setting.now.metadata.now) (limits_of setting.now) p 64
+        → IfOk result (ComesMidOrEnds D.view C.view (M.gives setting.now.metadata.now) (limits_of setting.now) p 64 []
         (line_bytes buffer.new) (place executor.new (R.remaining reader.new) (W.contents writer.new))) }
 {
-    for _reads in 0..READS_A_TURN {
-        if !reader.is_ready(0) {
-            return Ok(false);
-        }
-        let taken = take_read(setting, reader, writer, executor, buffer)?;
-        if taken == Some(Progress::End) {
-            return Ok(true);
-        }
+    if take_waiting(setting, reader, writer, executor, buffer, gathered)? {
+        return Ok(true);
     }
+    answer_gathered(setting, writer, executor, gathered)?;
     Ok(false)
 }
 
@@ -155,17 +193,19 @@ fn wait<R: Input, W: Output, D: Disk + Drop, C: Children + Drop, K: Clock, M>(
 
 /// Answers the lines of the input up to its end, each once it is whole, and makes a turn behind at most 64 of them; while no
 /// line is there it makes turns, too, and waits between them as long as nothing happens. Behind a disk fault it goes on
-/// without turns.
+/// without turns. The buffer is empty, and no command waits.
 pub fn serve_all<R: Input, W: Output, D: Disk + Drop, C: Children + Drop, K: Clock, M: Metadata>(
     setting: &Setting<K, M>,
     reader: &mut R,
     writer: &mut W,
     executor: &mut Executor<D, C>,
     buffer: &mut LineBuffer,
+    gathered: &mut Gathered,
 ) -> Result<(), Stopped>
     requires sound { IsSound D.view (sight_of C.view executor.old) }
     requires way { setting.now.way ≡ Way.Serve }
     requires empty { line_bytes buffer.old ≡ [] }
+    requires none { waiting gathered.old ≡ [] }
     ensures calls { ByCalls D.view (sight_of C.view executor.old) (sight_of C.view executor.new) }
     ensures lines { OnOk result (ReachesEnd D.view C.view (M.gives setting.now.metadata.now) (limits_of setting.now)
         (place executor.old (R.remaining reader.old) (W.contents writer.old))
@@ -173,7 +213,7 @@ pub fn serve_all<R: Input, W: Output, D: Disk + Drop, C: Children + Drop, K: Clo
 {
     let mut pause = Pause::new();
     for _ in 0..NUM_MAX {
-        if answer_waiting(setting, reader, writer, executor, buffer)? {
+        if answer_waiting(setting, reader, writer, executor, buffer, gathered)? {
             return Ok(());
         }
         make_own_turn(setting, writer, executor, &mut pause)?;

@@ -1,13 +1,17 @@
 //! Command lines answered one by one.
-ghost use Rattle.std.specs.Prelude.{◌≡◌, [], IfOk, OnOk};
+ghost use Rattle.std.specs.Prelude.{◌≡◌, ℕ, ◌+◌, [], IfOk, OnOk};
 ghost use Rattle.exec_lines.specs.Buffer.{line_bytes};
 ghost use Rattle.executor.specs.Lives.{ByCalls};
 ghost use Rattle.executor.specs.Sights.{IsSound, sight_of};
+ghost use Rattle.executor.specs.declared.executor.Executor.{Executor};
+ghost use Rattle.exec_session.specs.Gathered.{waiting};
 ghost use Rattle.exec_session.specs.Limits.{limits_of};
-ghost use Rattle.exec_session.specs.Progress.{Takes, place};
+ghost use Rattle.exec_session.specs.Progress.{Place, place};
 ghost use Rattle.exec_session.specs.Runs.{ClosesByCalls, Ended, EndsAs, ReachesEnd, Runs};
+ghost use Rattle.exec_session.specs.Waiting.{ComesOrEnds, HasCome, MayTakeBehind, MayWait};
 
-use crate::lines::{Progress, answer_found, found_in};
+use crate::gathered::Gathered;
+use crate::lines::{found_in, take_found};
 use crate::metadata::Metadata;
 use crate::report::send_report;
 use crate::serve::serve_all;
@@ -18,6 +22,7 @@ use exec_lines::{Input, LineBuffer, Output, next_line};
 use exec_output::{Fault, Stopped};
 use executor::{Executor, Report};
 use ocf_types::NUM_MAX;
+use std::alloc::Global;
 use std::rt::Clock;
 
 /// How a run ended, and what it hands back.
@@ -29,72 +34,82 @@ pub struct Run<D: Drop, C: Drop> {
     pub children: C,
 }
 
-// Reads and answers the next line. One of no bytes is passed over.
-fn next_reply<R: Input, W: Output, D: Disk + Drop, C: Children + Drop, K: Clock, M: Metadata>(
+// Reads the next line and takes it. Whether the input ended.
+fn take_next<R: Input, W: Output, D: Disk + Drop, C: Children + Drop, K: Clock, M: Metadata>(
     setting: &Setting<K, M>,
     reader: &mut R,
     writer: &mut W,
     executor: &mut Executor<D, C>,
     buffer: &mut LineBuffer,
-) -> Result<Progress, Stopped>
+    gathered: &mut Gathered,
+) -> Result<bool, Stopped>
+    requires waits { MayWait (sight_of C.view executor.old) (waiting gathered.old) }
     requires sound { IsSound D.view (sight_of C.view executor.old) }
     ensures sound { IsSound D.view (sight_of C.view executor.new) }
+    ensures waits { MayWait (sight_of C.view executor.new) (waiting gathered.new) }
     ensures calls { ByCalls D.view (sight_of C.view executor.old) (sight_of C.view executor.new) }
-    ensures progress { IfOk result (Takes D.view C.view (M.gives setting.now.metadata.now) (limits_of setting.now)
-        (place executor.old (R.remaining reader.old) (W.contents writer.old))
-        (place executor.new (R.remaining reader.new) (W.contents writer.new))) }
+    ensures takes { (p : Place (Executor D C Global)) (most : ℕ) → MayTakeBehind setting.now.way most
+        → HasCome D.view C.view (M.gives setting.now.metadata.now) (limits_of setting.now) p most
+        (waiting gathered.old) (place executor.old (R.remaining reader.old) (W.contents writer.old))
+        → IfOk result (ComesOrEnds D.view C.view (M.gives setting.now.metadata.now) (limits_of setting.now) p (most + 1)
+        (waiting gathered.new) (place executor.new (R.remaining reader.new) (W.contents writer.new))) }
 {
     let next = next_line(reader, buffer)?;
     let found = found_in(setting.alloc, buffer, next);
-    answer_found(setting, writer, executor, found)
+    let has_next = reader.has_line();
+    take_found(setting, writer, executor, gathered, found, has_next)
 }
 
-// Answers line after line, up to the end of the input.
+// Answers line after line, up to the end of the input. No command waits.
 fn answer_all<R: Input, W: Output, D: Disk + Drop, C: Children + Drop, K: Clock, M: Metadata>(
     setting: &Setting<K, M>,
     reader: &mut R,
     writer: &mut W,
     executor: &mut Executor<D, C>,
     buffer: &mut LineBuffer,
+    gathered: &mut Gathered,
 ) -> Result<(), Stopped>
     requires sound { IsSound D.view (sight_of C.view executor.old) }
     requires way { setting.now.way ≡ Way.Run }
+    requires none { waiting gathered.old ≡ [] }
     ensures calls { ByCalls D.view (sight_of C.view executor.old) (sight_of C.view executor.new) }
     ensures lines { OnOk result (ReachesEnd D.view C.view (M.gives setting.now.metadata.now) (limits_of setting.now)
         (place executor.old (R.remaining reader.old) (W.contents writer.old))
         (place executor.new (R.remaining reader.new) (W.contents writer.new))) }
 {
     for _ in 0..NUM_MAX {
-        let progress = next_reply(setting, reader, writer, executor, buffer)?;
-        if progress == Progress::End {
+        if take_next(setting, reader, writer, executor, buffer, gathered)? {
             return Ok(());
         }
     }
     Err(Stopped::InputOrOutput)
 }
 
-// Answers the lines of the input, up to its end, in the way that is set. The buffer is empty.
+// Answers the lines of the input, up to its end, in the way that is set. The buffer is empty, and no command
+// waits.
 fn answer_in_way<R: Input, W: Output, D: Disk + Drop, C: Children + Drop, K: Clock, M: Metadata>(
     setting: &Setting<K, M>,
     reader: &mut R,
     writer: &mut W,
     executor: &mut Executor<D, C>,
     buffer: &mut LineBuffer,
+    gathered: &mut Gathered,
 ) -> Result<(), Stopped>
     requires sound { IsSound D.view (sight_of C.view executor.old) }
     requires empty { line_bytes buffer.old ≡ [] }
+    requires none { waiting gathered.old ≡ [] }
     ensures calls { ByCalls D.view (sight_of C.view executor.old) (sight_of C.view executor.new) }
     ensures lines { OnOk result (ReachesEnd D.view C.view (M.gives setting.now.metadata.now) (limits_of setting.now)
         (place executor.old (R.remaining reader.old) (W.contents writer.old))
         (place executor.new (R.remaining reader.new) (W.contents writer.new))) }
 {
     match setting.way {
-        Way::Run => answer_all(setting, reader, writer, executor, buffer),
-        Way::Serve => serve_all(setting, reader, writer, executor, buffer),
+        Way::Run => answer_all(setting, reader, writer, executor, buffer, gathered),
+        Way::Serve => serve_all(setting, reader, writer, executor, buffer, gathered),
     }
 }
 
-// Writes the report, and then answers all lines. The buffer is empty.
+// Writes the report, and then answers all lines. The buffer is empty, and no command waits.
 fn report_and_answer<
     R: Input,
     W: Output,
@@ -107,18 +122,20 @@ fn report_and_answer<
     reader: &mut R,
     writer: &mut W,
     executor: &mut Executor<D, C>,
-    buffer: &mut LineBuffer,
     report: &Report,
+    buffer: &mut LineBuffer,
+    gathered: &mut Gathered,
 ) -> Result<(), Stopped>
     requires sound { IsSound D.view (sight_of C.view executor.old) }
     requires empty { line_bytes buffer.old ≡ [] }
+    requires none { waiting gathered.old ≡ [] }
     ensures calls { ByCalls D.view (sight_of C.view executor.old) (sight_of C.view executor.new) }
     ensures runs { OnOk result (Runs D.view C.view (M.gives setting.now.metadata.now) (limits_of setting.now) report.now
         (place executor.old (R.remaining reader.old) (W.contents writer.old))
         (place executor.new (R.remaining reader.new) (W.contents writer.new))) }
 {
     send_report(setting.alloc, writer, setting.form, report)?;
-    answer_in_way(setting, reader, writer, executor, buffer)?;
+    answer_in_way(setting, reader, writer, executor, buffer, gathered)?;
     Ok(())
 }
 
@@ -139,7 +156,19 @@ fn answer_lines<R: Input, W: Output, D: Disk + Drop, C: Children + Drop, K: Cloc
     let Ok(mut buffer) = LineBuffer::new(setting.alloc) else {
         return Err(Fault::Memory);
     };
-    match report_and_answer(setting, reader, writer, executor, &mut buffer, report) {
+    let Ok(mut gathered) = Gathered::new(setting.alloc) else {
+        return Err(Fault::Memory);
+    };
+    let answered = report_and_answer(
+        setting,
+        reader,
+        writer,
+        executor,
+        report,
+        &mut buffer,
+        &mut gathered,
+    );
+    match answered {
         Ok(()) if executor.is_open() => Ok(()),
         Ok(()) => Err(Fault::Disk),
         Err(Stopped::InputOrOutput) => Err(Fault::InputOrOutput),
@@ -148,9 +177,10 @@ fn answer_lines<R: Input, W: Output, D: Disk + Drop, C: Children + Drop, K: Cloc
 }
 
 /// Writes what the opening reports, and then answers each line of the input, up to its end; a run that serves makes turns by
-/// itself, too. Each reply is flushed before the next line is answered, and a turn's notices before the next turn. Where the
-/// disk failed the end of the input is a fault; input or output that fails is another, and so is a reply that finds no memory. In any case all children are given
-/// up then, and the executor closed.
+/// itself, too. Commands that stand whole in what was read, one behind the other, are recorded together, and their replies
+/// flushed together; any other reply is flushed before the next line is answered, and a turn's notices before the next turn.
+/// Where the disk failed the end of the input is a fault; input or output that fails is another, and so is a reply that finds
+/// no memory. In any case all children are given up then, and the executor closed.
 pub fn run_lines<R: Input, W: Output, D: Disk + Drop, C: Children + Drop, K: Clock, M: Metadata>(
     setting: &Setting<K, M>,
     reader: &mut R,

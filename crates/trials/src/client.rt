@@ -68,4 +68,8 @@ impl Input for Client<'_> {
         self.clock.pass(left.min(u64::from(millis) * 1_000));
         due <= self.clock.passed()
     }
+
+    fn has_line(&self) -> bool {
+        self.due() <= self.clock.passed() && self.line().contains(&b'\n')
+    }
 }

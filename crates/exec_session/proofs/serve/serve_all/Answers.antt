@@ -1,19 +1,20 @@
-use Rattle.std.proofs.Common.{refl, subst}
+use Rattle.std.proofs.Common.{[], refl, subst}
 use Rattle.executor.specs.CallLaws.{by_both, by_none}
 use Rattle.executor.specs.Sights.{sight_of}
 use Rattle.exec_lines.specs.Buffer.{line_bytes}
 use Rattle.exec_session.specs.Limits.{limits_of}
 use Rattle.exec_session.specs.Progress.{place}
-use Rattle.exec_session.specs.Serving.{ComesOrEnds}
-use Rattle.exec_session.proofs.ServeLemmas.{at_first, one_turn}
+use Rattle.exec_session.specs.Serving.{ComesMidOrEnds}
+use Rattle.exec_session.proofs.ServeLemmas.{first_mid, one_turn}
 use Rattle.exec_session.proofs.serve.serve_all.Goals as goal
 
 pub loop-init : goal.loop-init
 loop-init g c = record {
   sound = c.requires.sound;
   way = c.requires.way;
+  none = c.requires.none;
   calls = by_none g.D.Disk.view (sight_of g.C.Children.view c.args.executor.now) (sight_of g.C.Children.view c.args.executor.now) refl;
-  come = at_first _ _ _ _ _ (line_bytes c.args.buffer.now) c.requires.empty;
+  come = first_mid _ _ _ _ _ (line_bytes c.args.buffer.now) c.requires.empty;
 }
 
 pub returns-in_err-answer_waiting-clause-calls : goal.returns-in_err-answer_waiting-clause-calls
@@ -33,8 +34,8 @@ returns-then-branch-clause-lines g c =
     let p = place c.args.executor.now (g.R.Read.remaining c.args.reader.now) (g.W.Write.contents c.args.writer.now) in
     let q = place c.answer_waiting.new.executor
     (g.R.Read.remaining c.answer_waiting.new.reader) (g.W.Write.contents c.answer_waiting.new.writer) in
-    subst (ComesOrEnds g.D.Disk.view g.C.Children.view (g.M.Metadata.gives c.args.setting.now.metadata.now) (limits_of c.args.setting.now)
-    p 64 (line_bytes c.answer_waiting.new.buffer) q) c.if-branch.true (c.in_ok-answer_waiting.ensures.lines p c.loop.invariant.come)
+    subst (ComesMidOrEnds g.D.Disk.view g.C.Children.view (g.M.Metadata.gives c.args.setting.now.metadata.now) (limits_of c.args.setting.now)
+    p 64 [] (line_bytes c.answer_waiting.new.buffer) q) c.if-branch.true (c.in_ok-answer_waiting.ensures.takes p c.loop.invariant.come)
 
 pub returns-in_err-make_own_turn-clause-calls : goal.returns-in_err-make_own_turn-clause-calls
 returns-in_err-make_own_turn-clause-calls g c =
@@ -60,11 +61,12 @@ loop-preserved g c =
     let p = place c.args.executor.now (g.R.Read.remaining c.args.reader.now) (g.W.Write.contents c.args.writer.now) in
     let q = place c.answer_waiting.new.executor
     (g.R.Read.remaining c.answer_waiting.new.reader) (g.W.Write.contents c.answer_waiting.new.writer) in
-    let come = subst (ComesOrEnds g.D.Disk.view tend (g.M.Metadata.gives c.args.setting.now.metadata.now) (limits_of c.args.setting.now)
-    p 64 (line_bytes c.answer_waiting.new.buffer) q) c.if-branch.false (c.in_ok-answer_waiting.ensures.lines p c.loop.invariant.come) in
+    let come = subst (ComesMidOrEnds g.D.Disk.view tend (g.M.Metadata.gives c.args.setting.now.metadata.now) (limits_of c.args.setting.now)
+    p 64 [] (line_bytes c.answer_waiting.new.buffer) q) c.if-branch.false (c.in_ok-answer_waiting.ensures.takes p c.loop.invariant.come) in
     record {
       sound = c.in_ok-make_own_turn.ensures.sound;
       way = c.loop.invariant.way;
+      none = c.in_ok-answer_waiting.ensures.none c.if-branch.false;
       calls =
           by_both g.D.Disk.view (sight_of tend c.args.executor.now) (sight_of tend c.answer_waiting.new.executor)
           (sight_of tend c.make_own_turn.new.executor) lines c.in_ok-make_own_turn.ensures.calls;

@@ -1,13 +1,24 @@
-use Rattle.std.proofs.Common.{refl}
-use Rattle.exec_session.proofs.ServeLemmas.{at_none, at_some}
+use Rattle.exec_lines.specs.Buffer.{line_bytes}
+use Rattle.exec_session.specs.Gathered.{waiting}
+use Rattle.exec_session.specs.Limits.{limits_of}
+use Rattle.exec_session.specs.Progress.{place}
+use Rattle.std.proofs.Common.{◌+◌, arith}
+use Rattle.exec_session.proofs.ServeLemmas.{at_none, at_some, mid_taken}
+use Rattle.exec_session.proofs.WaitLemmas.{come_more}
 use Rattle.exec_session.proofs.serve.take_read.Goals as goal
 
 pub returns-in_default-clause-takes : goal.returns-in_default-clause-takes
-returns-in_default-clause-takes g c = λ left mid.
-    (at_none c.in_ok-next.field-0 _ _ c.in_default.is (c.in_ok-next.ensures.gathers left mid), (refl, refl))
+returns-in_default-clause-takes g c = λ p most may (left, mid, come).
+    let executor = c.args.executor.now in
+    let written = g.W.Write.contents c.args.writer.now in (
+      left,
+      at_none c.in_ok-next.field-0 _ _ c.in_default.is (c.in_ok-next.ensures.gathers left mid),
+      come_more g.D.Disk.view g.C.Children.view (g.M.Metadata.gives c.args.setting.now.metadata.now) (limits_of c.args.setting.now) p most
+          (most + 1) (waiting c.args.gathered.now) (place executor left written) (omega arith) come,
+    )
 
 pub returns-clause-takes : goal.returns-clause-takes
-returns-clause-takes g c = λ left mid.
+returns-clause-takes g c = λ p most may (left, mid, come).
     let now = g.R.Read.remaining c.gather_line.new.reader in
     let next = at_some c.in_ok-next.field-0 c.in-Some.next _ _ c.in-Some.is (c.in_ok-next.ensures.gathers left mid) in
-    (c.clear.ensures, c.in_ok-answer_found.ensures.progress left now (c.found_in-found.ensures.found left now next))
+    c.take_found.ensures.takes p most left now may (c.found_in-found.ensures.found left now next) come

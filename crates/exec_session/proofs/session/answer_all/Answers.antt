@@ -1,59 +1,69 @@
-use Rattle.std.proofs.Common.{◌≡◌, ◌+◌, refl, rules}
+use Rattle.std.proofs.Common.{◌+◌, refl, subst}
 use Rattle.executor.specs.CallLaws.{by_both, by_none}
 use Rattle.executor.specs.Sights.{sight_of}
+use Rattle.exec_session.specs.Gathered.{waiting}
+use Rattle.exec_session.specs.Limits.{limits_of}
 use Rattle.exec_session.specs.Progress.{place}
-use Rattle.exec_session.specs.Runs.{here, line}
-use Rattle.exec_session.specs.declared.lines.Progress.TheVariants.{End}
-use Rattle.exec_session.proofs.RunLemmas.{at_end, may_run}
+use Rattle.exec_session.specs.Waiting.{ComesOrEnds}
+use Rattle.exec_session.proofs.WaitLemmas.{at_first, come_none, may_run, none_waits}
 use Rattle.exec_session.proofs.session.answer_all.Goals as goal
 
 pub loop-init : goal.loop-init
-loop-init g c = record {
-  sound = c.requires.sound;
-  way = c.requires.way;
-  reached = (0, here);
-  calls = by_none g.D.Disk.view (sight_of g.C.Children.view c.args.executor.now) (sight_of g.C.Children.view c.args.executor.now) refl;
-}
-
-pub returns-then-eq-clause-lines : goal.returns-then-eq-clause-lines
-returns-then-eq-clause-lines g c =
-    let is : c.in_ok-progress.progress ≡ End = search (rules, c.eq.ensures, c.if-eq.true) in
-    let last = place c.loop.executor (g.R.Read.remaining c.loop.reader) (g.W.Write.contents c.loop.writer) in
-    let end = place c.next_reply.new.executor (g.R.Read.remaining c.next_reply.new.reader) (g.W.Write.contents c.next_reply.new.writer) in
+loop-init g c =
+    let tend = g.C.Children.view in
+    let source = g.M.Metadata.gives c.args.setting.now.metadata.now in
+    let p = place c.args.executor.now (g.R.Read.remaining c.args.reader.now) (g.W.Write.contents c.args.writer.now) in
+    let limits = limits_of c.args.setting.now in
     record {
-      count = c.loop.invariant.reached.0;
-      last = last;
-      reached = c.loop.invariant.reached.1;
-      end = at_end _ _ _ _ last end c.in_ok-progress.progress is c.in_ok-progress.ensures.progress;
+      sound = c.requires.sound;
+      way = c.requires.way;
+      waits = none_waits (sight_of tend c.args.executor.now) (waiting c.args.gathered.now) c.requires.none;
+      calls = by_none g.D.Disk.view (sight_of tend c.args.executor.now) (sight_of tend c.args.executor.now) refl;
+      come = (
+        0,
+        come_none g.D.Disk.view tend source limits p 0 (waiting c.args.gathered.now) p c.requires.none
+            (at_first g.D.Disk.view tend source limits p),
+      );
     }
 
-pub returns-then-eq-clause-calls : goal.returns-then-eq-clause-calls
-returns-then-eq-clause-calls g c =
+pub returns-then-branch-clause-lines : goal.returns-then-branch-clause-lines
+returns-then-branch-clause-lines g c =
+    let p = place c.args.executor.now (g.R.Read.remaining c.args.reader.now) (g.W.Write.contents c.args.writer.now) in
+    let q = place c.take_next.new.executor (g.R.Read.remaining c.take_next.new.reader) (g.W.Write.contents c.take_next.new.writer) in
+    let most = c.loop.invariant.come.0 in
+    subst (ComesOrEnds g.D.Disk.view g.C.Children.view (g.M.Metadata.gives c.args.setting.now.metadata.now) (limits_of c.args.setting.now)
+    p (most + 1) (waiting c.take_next.new.gathered) q) c.if-branch.true
+    (c.in_ok-take_next.ensures.takes p most (may_run c.args.setting.now.way most c.loop.invariant.way) c.loop.invariant.come.1)
+
+pub returns-then-branch-clause-calls : goal.returns-then-branch-clause-calls
+returns-then-branch-clause-calls g c =
     let tend = g.C.Children.view in
-    by_both g.D.Disk.view (sight_of tend c.args.executor.now) (sight_of tend c.loop.executor) (sight_of tend c.next_reply.new.executor)
-    c.loop.invariant.calls c.next_reply.ensures.calls
+    by_both g.D.Disk.view (sight_of tend c.args.executor.now) (sight_of tend c.loop.executor) (sight_of tend c.take_next.new.executor)
+    c.loop.invariant.calls c.take_next.ensures.calls
 
 pub loop-preserved : goal.loop-preserved
 loop-preserved g c =
     let tend = g.C.Children.view in
-    let last = place c.loop.executor (g.R.Read.remaining c.loop.reader) (g.W.Write.contents c.loop.writer) in
-    let next = place c.next_reply.new.executor (g.R.Read.remaining c.next_reply.new.reader) (g.W.Write.contents c.next_reply.new.writer) in
+    let p = place c.args.executor.now (g.R.Read.remaining c.args.reader.now) (g.W.Write.contents c.args.writer.now) in
+    let q = place c.take_next.new.executor (g.R.Read.remaining c.take_next.new.reader) (g.W.Write.contents c.take_next.new.writer) in
+    let most = c.loop.invariant.come.0 in
     record {
-      sound = c.in_ok-progress.ensures.sound;
+      sound = c.in_ok-take_next.ensures.sound;
       way = c.loop.invariant.way;
-      reached = (
-        c.loop.invariant.reached.0 + 1,
-        line c.loop.invariant.reached.0 last next c.in_ok-progress.progress c.loop.invariant.reached.1
-            (may_run c.args.setting.now.way c.loop.invariant.reached.0 c.loop.invariant.way) c.in_ok-progress.ensures.progress,
-      );
+      waits = c.in_ok-take_next.ensures.waits;
       calls =
           by_both g.D.Disk.view (sight_of tend c.args.executor.now) (sight_of tend c.loop.executor)
-          (sight_of tend c.next_reply.new.executor)
-          c.loop.invariant.calls c.next_reply.ensures.calls;
+          (sight_of tend c.take_next.new.executor) c.loop.invariant.calls c.take_next.ensures.calls;
+      come = (
+        most + 1,
+        subst (ComesOrEnds g.D.Disk.view tend (g.M.Metadata.gives c.args.setting.now.metadata.now) (limits_of c.args.setting.now)
+        p (most + 1) (waiting c.take_next.new.gathered) q) c.if-branch.false
+            (c.in_ok-take_next.ensures.takes p most (may_run c.args.setting.now.way most c.loop.invariant.way) c.loop.invariant.come.1),
+      );
     }
 
-pub returns-in_err-progress-clause-calls : goal.returns-in_err-progress-clause-calls
-returns-in_err-progress-clause-calls g c =
+pub returns-in_err-take_next-clause-calls : goal.returns-in_err-take_next-clause-calls
+returns-in_err-take_next-clause-calls g c =
     let tend = g.C.Children.view in
-    by_both g.D.Disk.view (sight_of tend c.args.executor.now) (sight_of tend c.loop.executor) (sight_of tend c.next_reply.new.executor)
-    c.loop.invariant.calls c.next_reply.ensures.calls
+    by_both g.D.Disk.view (sight_of tend c.args.executor.now) (sight_of tend c.loop.executor) (sight_of tend c.take_next.new.executor)
+    c.loop.invariant.calls c.take_next.ensures.calls

@@ -1,18 +1,20 @@
 use Rattle.std.proofs.Common.{◌≡◌, ℕ}
-use Rattle.exec_session.specs.declared.setting.Way.TheVariants.{Run}
 use Rattle.executor.specs.Lives.{ByCalls}
 use Rattle.executor.specs.Sights.{IsSound, sight_of}
+use Rattle.exec_session.specs.Gathered.{waiting}
 use Rattle.exec_session.specs.Limits.{limits_of}
 use Rattle.exec_session.specs.Progress.{place}
-use Rattle.exec_session.specs.Runs.{Reaches}
+use Rattle.exec_session.specs.Waiting.{HasCome, MayWait}
+use Rattle.exec_session.specs.declared.setting.Way.TheVariants.{Run}
 use Rattle.exec_session.proofs.session.answer_all.Given as goal
 
 abbrev pub invariant-loop : goal.invariant-loop
 invariant-loop g l = record {
   sound : IsSound g.D.Disk.view (sight_of g.C.Children.view l.executor);
   way : l.setting.way ≡ Run;
-  reached : (n : ℕ) × Reaches g.D.Disk.view g.C.Children.view (g.M.Metadata.gives l.setting.metadata.now) (limits_of l.setting)
-      (place l.fn.executor (g.R.Read.remaining l.fn.reader) (g.W.Write.contents l.fn.writer)) n
-      (place l.executor (g.R.Read.remaining l.reader) (g.W.Write.contents l.writer));
+  waits : MayWait (sight_of g.C.Children.view l.executor) (waiting l.gathered);
   calls : ByCalls g.D.Disk.view (sight_of g.C.Children.view l.fn.executor) (sight_of g.C.Children.view l.executor);
+  come : (most : ℕ) × HasCome g.D.Disk.view g.C.Children.view (g.M.Metadata.gives l.setting.metadata.now) (limits_of l.setting)
+      (place l.fn.executor (g.R.Read.remaining l.fn.reader) (g.W.Write.contents l.fn.writer)) most (waiting l.gathered)
+      (place l.executor (g.R.Read.remaining l.reader) (g.W.Write.contents l.writer));
 }

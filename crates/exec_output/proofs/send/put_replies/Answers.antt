@@ -1,0 +1,8 @@
+use Rattle.exec_commands.specs.Replies.{request_line}
+use Rattle.exec_output.proofs.TextLemmas.{sends_more}
+use Rattle.exec_output.proofs.send.put_replies.Goals as goal
+
+pub loop-reply-preserved : goal.loop-reply-preserved
+loop-reply-preserved g c =
+    sends_more request_line c.args.replies.now c.loop-reply.reply-index c.reply-item.result _ _ _ c.loop-reply-test.true c.reply-item.is
+    c.loop-reply.invariant c.in_ok-put_reply.ensures

@@ -1,0 +1,149 @@
+-- A run whose commands wait to be answered together, line by line.
+use Rattle.std.proofs.Common.{◌≡◌, ◌≢◌, ◌⊎◌, ℕ, ◌+◌, ◌≤◌, Bool, true, false, true≢false, List, [], ◌∷◌, ◌++◌, length, Option, Result, Ok, Err, OnOk}
+use Rattle.std.proofs.Common.{refl, sym, ap, subst, ◌∙◌, inl, inr, arith, length-append}
+use Rattle.ocf_types.specs.Kinds.{Command}
+use Rattle.disk_model.specs.View.{View}
+use Rattle.child_keeper.specs.Children.{ChildrenView}
+use Rattle.executor.specs.Sights.{Sight, sight_of}
+use Rattle.executor.specs.declared.executor.Executor.{Executor}
+use Rattle.exec_session.specs.Answers.{Source}
+use Rattle.exec_session.specs.Drains.{Spot, spot}
+use Rattle.exec_session.specs.Limits.{Limits}
+use Rattle.exec_session.specs.Progress.{Place, Takes, place}
+use Rattle.exec_session.specs.Runs.{MayTake, Reaches, ReachesEnd, closed_line, here, line, row}
+use Rattle.exec_session.specs.Together.{AnswersAll, ReadsCommand, ReadsCommands}
+use Rattle.exec_session.specs.Waiting.{ComesOrEnds, HasCome, MayTakeBehind, MayWait}
+use Rattle.exec_session.specs.declared.lines.Progress.{Progress}
+use Rattle.exec_session.specs.declared.lines.Progress.TheVariants.{End}
+use Rattle.exec_session.specs.declared.setting.Way.{Way}
+use Rattle.exec_session.specs.declared.setting.Way.TheVariants.{Run, Serve}
+
+-- one command more is read
+reads_more : (a b c : Option (List ℕ)) (commands : List Command) (command : Command) → ReadsCommands a commands b
+    → ReadsCommand b c command → ReadsCommands a (commands ++ command ∷ []) c
+reads_more a b c [] command same read = (c, subst (λ x. ReadsCommand x c command) same read, refl)
+reads_more a b c (first ∷ others) command (behind, one, more) read = (behind, one, reads_more behind b c others command more read)
+
+-- a run by lines alone takes any line, one that serves 64 behind a turn
+pub may_run : (way : Way) (most : ℕ) → way ≡ Run → MayTakeBehind way most
+may_run Run most is = λ n le. tt
+may_run Serve most is = absurd cc
+
+pub may_serve : (way : Way) (most : ℕ) → way ≡ Serve → most + 1 ≤ 64 → MayTakeBehind way most
+may_serve Run most is le = absurd cc
+may_serve Serve most is le = λ n few. omega (arith, le, few)
+
+pub on_ok : {A E P Q : Type 0} (r : Result A E) → (P → Q) → OnOk r P → OnOk r Q
+on_ok (Ok x) to p = to p
+on_ok (Err e) to p = tt
+
+-- none waits
+pub none_waits : {D : Type 0} (x : Sight D) (commands : List Command) → commands ≡ [] → MayWait x commands
+none_waits x commands none = record { few = omega (arith, ap length none); while_open = λ _. none }
+
+-- while some wait the executor is open
+pub open_while : {D : Type 0} (x : Sight D) (commands : List Command) → MayWait x commands → commands ≢ [] → x.is_open ≡ true
+open_while x commands may some = by x.is_open refl
+  where
+    by : (b : Bool) → x.is_open ≡ b → x.is_open ≡ true
+    by true is_open = is_open
+    by false closed = absurd (some (may.while_open closed))
+
+module _ {D C M : Type 0} (look : D → View) (tend : C → ChildrenView) (source : Source) (limits : Limits) (p : Place (Executor D C M)) where
+  abbrev Come : ℕ → List Command → Place (Executor D C M) → Type 0
+  Come most commands q = HasCome look tend source limits p most commands q
+
+  abbrev Closed : Executor D C M → Type 0
+  Closed executor = (sight_of tend executor).is_open ≡ false
+
+  -- nothing is done yet
+  pub at_first : Come 0 [] p
+  at_first = (0, inl (omega arith), record { left = p.left; read = refl; reached = here })
+
+  -- none waits
+  pub come_none : (most : ℕ) (commands : List Command) (q : Place (Executor D C M)) → commands ≡ [] → Come most [] q → Come most commands q
+  come_none most commands q none come = subst (λ cs. Come most cs q) (sym none) come
+
+  -- more lines were allowed
+  pub come_more : (n m : ℕ) (commands : List Command) (q : Place (Executor D C M)) → n ≤ m → Come n commands q → Come m commands q
+  come_more n m commands q le (count, inl few, waits) = (count, inl (omega (arith, le, few)), waits)
+  come_more n m commands q le (count, inr closed, waits) = (count, inr closed, waits)
+
+  -- a command more waits
+  pub one_waits : (most : ℕ) (commands commands' : List Command) (command : Command) (executor : Executor D C M)
+      (left now written : Option (List ℕ)) → (sight_of tend executor).is_open ≡ true → ReadsCommand left now command
+      → commands' ≡ commands ++ command ∷ [] → Come most commands (place executor left written)
+      → Come (most + 1) commands' (place executor now written)
+  one_waits most commands commands' command executor left now written is_open read same (count, few, waits) = (
+    count,
+    more few,
+    record {
+      left = waits.left;
+      read = subst (λ cs. ReadsCommands waits.left cs now) (sym same) (reads_more waits.left left now commands command waits.read read);
+      reached = waits.reached;
+    },
+  )
+    where
+      more : (count + length commands ≤ most) ⊎ Closed executor → (count + length commands' ≤ most + 1) ⊎ Closed executor
+      more (inl le) = inl (omega (arith, le, ap length same, length-append commands (command ∷ [])))
+      more (inr closed) = absurd (true≢false (sym is_open ∙ closed))
+
+  -- all that wait are answered
+  pub all_answered : (most : ℕ) → ((n : ℕ) → n + 1 ≤ most → MayTake limits.way n) → (commands : List Command)
+      (old new : Executor D C M) (left written written' : Option (List ℕ))
+      → (commands ≢ [] → (sight_of tend old).is_open ≡ true) → Come most commands (place old left written)
+      → AnswersAll look tend limits commands (spot old written) (spot new written') → Come most [] (place new left written')
+  all_answered most may [] old new left written written' is_open (count, few, waits) same =
+      let executor : new ≡ old = ap (λ (s : Spot (Executor D C M)). s.executor) same in
+      let wrote : written' ≡ written = ap (λ (s : Spot (Executor D C M)). s.written) same in
+      let moved = subst (λ (e : Executor D C M). Come most [] (place e left written)) (sym executor) (count, few, waits) in
+      subst (λ w. Come most [] (place new left w)) (sym wrote) moved
+  all_answered most may (first ∷ others) old new left written written' is_open (count, inr closed, waits) answers =
+      absurd (true≢false (sym (is_open (λ none. cc)) ∙ closed))
+  all_answered most may (first ∷ others) old new left written written' is_open (count, inl few, waits) answers = (
+    count + length others + 1,
+    inl (omega (arith, few)),
+    record {
+      left = left;
+      read = refl;
+      reached =
+          row count (place old waits.left written) (place new left written') first others waits.reached (is_open (λ none. cc))
+          (may (count + length others) (omega (arith, few))) (record { read = waits.read; answered = answers });
+    },
+  )
+
+  -- with none that waits the run is at the line that is next
+  pub at_line : (most : ℕ) (q : Place (Executor D C M)) → Come most [] q → (count : ℕ)
+      × ((count ≤ most) ⊎ Closed q.executor) × Reaches look tend source limits p count q
+  at_line most q (count, few, waits) = (
+    count,
+    fewer few,
+    subst (λ left. Reaches look tend source limits p count (place q.executor left q.written)) (sym waits.read) waits.reached,
+  )
+    where
+      fewer : (count + 0 ≤ most) ⊎ Closed q.executor → (count ≤ most) ⊎ Closed q.executor
+      fewer (inl le) = inl (omega (arith, le))
+      fewer (inr closed) = inr closed
+
+  -- the next line is taken, or the input has ended
+  pub one_taken : (most : ℕ) → MayTakeBehind limits.way most → (q q' : Place (Executor D C M)) (s : Progress) (ended : Bool)
+      → (ended ≡ true → s ≡ End) → Come most [] q → Takes look tend source limits q q' s
+      → ComesOrEnds look tend source limits p (most + 1) [] q' ended
+  one_taken most may q q' s true is come takes =
+      let (count, few, reached) = at_line most q come in
+      record { count = count; last = q; reached = reached; end = subst (λ x. Takes look tend source limits q q' x) (is refl) takes }
+  one_taken most may q q' s false is come takes = by (sight_of tend q.executor).is_open refl (at_line most q come)
+    where
+      by : (b : Bool) → (sight_of tend q.executor).is_open ≡ b
+          → (count : ℕ) × ((count ≤ most) ⊎ Closed q.executor) × Reaches look tend source limits p count q → Come (most + 1) [] q'
+      by true is_open (count, inl few, reached) = (
+        count + 1,
+        inl (omega (arith, few)),
+        record { left = q'.left; read = refl; reached = line count q q' s reached (may count few) takes },
+      )
+      by true is_open (count, inr closed, reached) = absurd (true≢false (sym is_open ∙ closed))
+      by false closed (count, few, reached) = (
+        0,
+        inl (omega arith),
+        record { left = q'.left; read = refl; reached = closed_line count q q' s reached closed takes },
+      )

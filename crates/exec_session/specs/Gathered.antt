@@ -1,0 +1,12 @@
+-- What waits to be answered together.
+use Rattle.std.specs.Prelude.{List}
+use Rattle.ocf_types.specs.Kinds.{Command, Reply}
+use Rattle.exec_session.specs.declared.gathered.Gathered.{Gathered}
+
+-- the commands that wait, in their order
+abbrev pub waiting : Gathered → List Command
+waiting gathered = gathered.commands.items
+
+-- what was replied last
+abbrev pub replied : Gathered → List Reply
+replied gathered = gathered.replies.items

@@ -1,0 +1,58 @@
+-- Commands that arrived together, and are answered together.
+use Rattle.std.specs.Prelude.{◌≡◌, ℕ, List, [], ◌∷◌, length, replicate, Option, true, false, Ok}
+use Rattle.std.specs.Io.KnownBytes.{Appends}
+use Rattle.std.specs.List.{flat_map}
+use Rattle.ocf_types.specs.Kinds.{Command, Reply}
+use Rattle.ocf_types.specs.declared.command.RequestOf.TheVariants as asked
+use Rattle.ocf_types.specs.declared.refusal.Refusal.TheVariants.{Disk}
+use Rattle.ocf_types.specs.declared.reply.ReplyOf.TheVariants.{Refused}
+use Rattle.disk_model.specs.View.{View}
+use Rattle.child_keeper.specs.Children.{ChildrenView}
+use Rattle.executor.specs.Rows.{TakesCommands}
+use Rattle.executor.specs.Sights.{Sight, sight_of}
+use Rattle.executor.specs.declared.executor.Executor.{Executor}
+use Rattle.exec_commands.specs.Replies.{request_line}
+use Rattle.exec_commands.specs.declared.line.Line.TheVariants as line
+use Rattle.exec_session.specs.Drains.{Spot, spot}
+use Rattle.exec_session.specs.Limits.{Limits, MakesRoom}
+use Rattle.exec_session.specs.Progress.{Place, ReadsLine}
+
+-- the next line is read as this command
+abbrev pub ReadsCommand : Option (List ℕ) → Option (List ℕ) → Command → Type 0
+ReadsCommand old new command = ReadsLine old new (Ok (line.Request (asked.Command command)))
+
+-- the next lines are read as these commands, one behind the other
+abbrev pub ReadsCommands : Option (List ℕ) → List Command → Option (List ℕ) → Type 0
+ReadsCommands old [] new = new ≡ old
+ReadsCommands old (first ∷ others) new =
+    (behind : Option (List ℕ)) × ReadsCommand old behind first × ReadsCommands behind others new
+
+-- What an open executor does with commands that arrived together: room is made, and then it takes them at the moment that the
+-- clock shows, whatever that is. Where a disk fault closed the executor as room was made, each is refused for that and nothing
+-- else is done.
+pub record ServesTogether {D C M : Type 0} (look : D → View) (tend : C → ChildrenView) (limits : Limits) (commands : List Command)
+    (old new : Executor D C M) (given : List Reply) : Type 0 where
+  pub middle : Sight D
+  pub now : ℕ
+  pub room : MakesRoom look limits (sight_of tend old) middle
+  pub takes : middle.is_open ≡ true → TakesCommands look now commands middle (sight_of tend new) given
+  pub fails : middle.is_open ≡ false → (given ≡ replicate (length commands) (Refused Disk)) × (sight_of tend new ≡ middle)
+
+-- They are served, and behind that what the writer holds grows by just the lines of their replies, in their order.
+pub record AnswersTogether {D C M : Type 0} (look : D → View) (tend : C → ChildrenView) (limits : Limits) (commands : List Command)
+    (p q : Spot (Executor D C M)) : Type 0 where
+  pub given : List Reply
+  pub serves : ServesTogether look tend limits commands p.executor q.executor given
+  pub written : Appends p.written q.written (flat_map request_line given)
+
+-- all commands that wait are answered together, where there are any
+abbrev pub AnswersAll : {D C M : Type 0} → (D → View) → (C → ChildrenView) → Limits → List Command → Spot (Executor D C M)
+    → Spot (Executor D C M) → Type 0
+AnswersAll look tend limits [] p q = q ≡ p
+AnswersAll look tend limits (first ∷ others) p q = AnswersTogether look tend limits (first ∷ others) p q
+
+-- The next lines are commands, which are answered together.
+pub record AnswersRow {D C M : Type 0} (look : D → View) (tend : C → ChildrenView) (limits : Limits) (commands : List Command)
+    (p q : Place (Executor D C M)) : Type 0 where
+  pub read : ReadsCommands p.left commands q.left
+  pub answered : AnswersTogether look tend limits commands (spot p.executor p.written) (spot q.executor q.written)

@@ -1,0 +1,96 @@
+//! Commands that wait to be answered together.
+ghost use Rattle.std.specs.Prelude.{◌≡◌, ◌≤◌, ◌<◌, ◌==◌, [], ◌∷◌, ◌++◌, length, replicate, vec_len, vec_capacity, IfOk};
+ghost use Rattle.ocf_types.specs.declared.refusal.Refusal.TheVariants.{Disk};
+ghost use Rattle.ocf_types.specs.declared.reply.ReplyOf.TheVariants.{Refused};
+ghost use Rattle.executor.specs.Rows.{TakesCommands};
+ghost use Rattle.executor.specs.Sights.{IsSound, sight_of};
+
+use child_keeper::Children;
+use disk_model::Disk;
+use executor::Executor;
+use ocf_types::{Command, Refusal, Reply};
+use std::alloc::{AllocError, Global};
+
+// How many commands are answered together at most.
+const MOST: usize = 64;
+
+/// Commands that were read and wait to be answered together. All memory for them is taken as it is made.
+#[derive(Drop)]
+pub struct Gathered {
+    commands: Vec<Command>,
+    // What was replied last.
+    replies: Vec<Reply>,
+    ghost few: { vec_len commands ≤ 64 },
+    ghost commands_room: { 64 ≤ vec_capacity commands },
+    ghost replies_room: { 64 ≤ vec_capacity replies },
+}
+
+impl Gathered {
+    ghost use Rattle.exec_session.specs.Gathered.{replied, waiting};
+
+    /// No command waits. It fails only where memory is refused.
+    pub fn new(alloc: Global) -> Result<Gathered, AllocError>
+        ensures { IfOk result (λ gathered. waiting gathered ≡ []) }
+    {
+        let commands = Vec::with_capacity(alloc, MOST)?;
+        let replies = Vec::with_capacity(alloc, MOST)?;
+        Ok(Gathered { commands, replies })
+    }
+
+    /// Whether no command waits.
+    pub fn is_empty(&self) -> bool
+        ensures { result ≡ (length (waiting self.now) == 0) }
+    {
+        self.commands.is_empty()
+    }
+
+    /// Whether as many wait as are answered together at most.
+    pub fn is_full(&self) -> bool
+        ensures { result ≡ (length (waiting self.now) == 64) }
+    {
+        self.commands.len() == MOST
+    }
+
+    /// Has a command wait behind the others.
+    pub fn push(&mut self, command: Command)
+        requires { length (waiting self.old) < 64 }
+        ensures { waiting self.new ≡ waiting self.old ++ command ∷ [] }
+    {
+        self.commands.push_reserved(command);
+    }
+
+    /// What was replied last.
+    pub fn replies(&self) -> &[Reply]
+        ensures { result.now ≡ replied self.now }
+    {
+        self.replies.as_slice()
+    }
+
+    /// Refuses each command for the disk.
+    pub fn refuse_all(&mut self)
+        ensures replies { replied self.new ≡ replicate (length (waiting self.old)) (Refused Disk) }
+        ensures none { waiting self.new ≡ [] }
+    {
+        self.replies.clear();
+        for _count in 0..self.commands.len() {
+            self.replies.push_reserved(Reply::Refused(Refusal::Disk));
+        }
+        self.commands.clear();
+    }
+
+    /// Has an executor do what the commands ask, at a moment in milliseconds since 1970.
+    pub fn take_all<D: Disk + Drop, C: Children + Drop>(
+        &mut self,
+        executor: &mut Executor<D, C>,
+        now: u64,
+    )
+        requires sound { IsSound D.view (sight_of C.view executor.old) }
+        ensures sound { IsSound D.view (sight_of C.view executor.new) }
+        ensures takes { TakesCommands D.view now (waiting self.old) (sight_of C.view executor.old) (sight_of C.view executor.new)
+            (replied self.new) }
+        ensures none { waiting self.new ≡ [] }
+    {
+        self.replies.clear();
+        executor.commands(now, &mut self.commands, &mut self.replies);
+    }
+}
