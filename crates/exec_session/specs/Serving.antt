@@ -1,5 +1,5 @@
 -- How a run that serves goes on, read by read.
-use Rattle.std.specs.Prelude.{◌≡◌, ℕ, Bool, true, false, List, [], Option}
+use Rattle.std.specs.Prelude.{◌≡◌, ℕ, Bool, true, false, List, Option}
 use Rattle.ocf_types.specs.Kinds.{Command}
 use Rattle.ocf_types.specs.declared.reply.TurnEnd.{TurnEnd}
 use Rattle.disk_model.specs.View.{View}

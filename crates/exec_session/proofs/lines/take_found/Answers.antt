@@ -19,10 +19,10 @@ returns-in_ok-take_command-in-Line-Ok-Request-Command-clause-takes g c = λ p mo
 pub returns-in_default-clause-takes : goal.returns-in_default-clause-takes
 returns-in_default-clause-takes g c = λ p most left now may read come.
     let same : c.args.found ≡ c.in_default-1.found = elim c.in_default-1.branch [
-      in_default-via-in-Line-Ok-Request-Command+else-is_open w ↦ cc
-    | in_default-via-in-Line+in-Ok+in-Request+in-Question-1 w ↦ cc
-    | in_default-via-in-Line+in-Ok+in-Drain-1 w ↦ cc
-    | in_default-via-in-Line+in-Err-1 w ↦ cc
-    | in_default-via-in-Empty-1 w ↦ cc
+      | in_default-via-in-Line-Ok-Request-Command+else-is_open w ↦ cc
+      | in_default-via-in-Line+in-Ok+in-Request+in-Question-1 w ↦ cc
+      | in_default-via-in-Line+in-Ok+in-Drain-1 w ↦ cc
+      | in_default-via-in-Line+in-Err-1 w ↦ cc
+      | in_default-via-in-Empty-1 w ↦ cc
     ] in
     c.take_other.ensures.takes p most left now may (subst (λ (f : Found). ReadsInput left now f) same read) come

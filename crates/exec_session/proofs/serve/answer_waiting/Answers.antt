@@ -18,11 +18,10 @@ returns-then-branch-clause-takes g c = λ p come.
     (limits_of c.args.setting.now) p 64 (waiting c.take_waiting.new.gathered) (line_bytes c.take_waiting.new.buffer) q) c.if-branch.true
     (c.in_ok-take_waiting.ensures.takes p come)
 
-pub answer_gathered-requires : goal.answer_gathered-requires
-answer_gathered-requires g c = record {
-  open = open_while (sight_of g.C.Children.view c.take_waiting.new.executor) (waiting c.take_waiting.new.gathered) c.in_ok-take_waiting.ensures.waits;
-  sound = c.in_ok-take_waiting.ensures.sound;
-}
+pub answer_gathered-requires-clause-open : goal.answer_gathered-requires-clause-open
+answer_gathered-requires-clause-open g c =
+    open_while (sight_of g.C.Children.view c.take_waiting.new.executor) (waiting c.take_waiting.new.gathered)
+    c.in_ok-take_waiting.ensures.waits
 
 pub returns-in_err-answer_gathered-clause-calls : goal.returns-in_err-answer_gathered-clause-calls
 returns-in_err-answer_gathered-clause-calls g c =

@@ -1,10 +1,12 @@
+use Rattle.std.proofs.Common.{◌+◌, arith}
 use Rattle.exec_lines.specs.Buffer.{line_bytes}
 use Rattle.exec_session.specs.Gathered.{waiting}
 use Rattle.exec_session.specs.Limits.{limits_of}
 use Rattle.exec_session.specs.Progress.{place}
-use Rattle.std.proofs.Common.{◌+◌, arith}
+use Rattle.exec_session.specs.Serving.{ComesMidOrEnds}
+use Rattle.exec_session.specs.Waiting.{ComesOrEnds}
 use Rattle.exec_session.proofs.ServeLemmas.{at_none, at_some, mid_taken}
-use Rattle.exec_session.proofs.WaitLemmas.{come_more}
+use Rattle.exec_session.proofs.WaitLemmas.{come_more, if_ok}
 use Rattle.exec_session.proofs.serve.take_read.Goals as goal
 
 pub returns-in_default-clause-takes : goal.returns-in_default-clause-takes
@@ -19,6 +21,15 @@ returns-in_default-clause-takes g c = λ p most may (left, mid, come).
 
 pub returns-clause-takes : goal.returns-clause-takes
 returns-clause-takes g c = λ p most may (left, mid, come).
+    let look = g.D.Disk.view in
+    let tend = g.C.Children.view in
+    let source = g.M.Metadata.gives c.args.setting.now.metadata.now in
+    let limits = limits_of c.args.setting.now in
     let now = g.R.Read.remaining c.gather_line.new.reader in
+    let commands = waiting c.take_found.new.gathered in
+    let kept = line_bytes c.clear.new.self in
+    let q = place c.take_found.new.executor now (g.W.Write.contents c.take_found.new.writer) in
     let next = at_some c.in_ok-next.field-0 c.in-Some.next _ _ c.in-Some.is (c.in_ok-next.ensures.gathers left mid) in
-    c.take_found.ensures.takes p most left now may (c.found_in-found.ensures.found left now next) come
+    if_ok (ComesOrEnds look tend source limits p (most + 1) commands q) (ComesMidOrEnds look tend source limits p (most + 1) commands kept q)
+    c.take_found.result (λ ended. mid_taken look tend source limits p (most + 1) commands kept q ended c.clear.ensures)
+    (c.take_found.ensures.takes p most left now may (c.found_in-found.ensures.found left now next) come)

@@ -57,7 +57,7 @@ loop-preserved g c =
       come = (
         most + 1,
         subst (ComesOrEnds g.D.Disk.view tend (g.M.Metadata.gives c.args.setting.now.metadata.now) (limits_of c.args.setting.now)
-        p (most + 1) (waiting c.take_next.new.gathered) q) c.if-branch.false
+            p (most + 1) (waiting c.take_next.new.gathered) q) c.if-branch.false
             (c.in_ok-take_next.ensures.takes p most (may_run c.args.setting.now.way most c.loop.invariant.way) c.loop.invariant.come.1),
       );
     }
