@@ -18,7 +18,7 @@ import helper
 from helper import PROGRAM, action
 
 # whether commands that stand whole in the input are recorded as one row
-EXPECT_ROWS = False
+EXPECT_ROWS = True
 # how many commands a row has at most; how often it is synced, by its body and by its gate; and how many rows more may be made
 ROW, SYNCS_OF_A_ROW, MORE_ROWS = 64, 2, 1
 SHARED = "/dev/shm"
