@@ -217,7 +217,8 @@ class Growths(helper.Check):
             self.assertEqual(found.answers, [], "nothing answered with status 4")
             created = before[0] == b"" and state(folder) == {}
             if any(before) and files_of(folder) != before:
-                # the room for a line is made behind the opening, which has recorded what was interrupted and dropped by then
+                # the rooms for a line, for commands and for replies are made behind the opening, which has recorded what was interrupted
+                # and dropped by then
                 self.assertEqual(state(folder), self.booted, "a boot alone")
                 return "opening, behind its boot"
             self.assertTrue(files_of(folder) == before or created, "files as they were with status 4")
@@ -299,7 +300,7 @@ class Growths(helper.Check):
             refuse += stride
         print(f"growths: {' '.join(words[:1])} {self._testMethodName}: {base.made} growths: "
               + ", ".join(f"{count} {end}" for end, count in sorted(ends.items())), flush=True)
-        self.assertLessEqual(ends["opening, behind its boot"], 1)
+        self.assertLessEqual(ends["opening, behind its boot"], 3)
         return base
 
     # The scripts.
