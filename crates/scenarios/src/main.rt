@@ -16,6 +16,7 @@ mod site;
 mod step;
 mod sweep;
 mod tables;
+mod together;
 mod words;
 mod world;
 

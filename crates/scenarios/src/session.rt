@@ -1,4 +1,5 @@
 //! An open executor.
+ghost use Rattle.std.specs.Prelude.{◌+◌, ◌≤◌, vec_len, vec_capacity};
 ghost use Rattle.executor.specs.Sights.{IsSound, sight_of};
 ghost use Rattle.scenarios.specs.PlannedChildren.{planned_view};
 ghost use Rattle.scenarios.specs.SharedDisk.{shared_view};
@@ -10,7 +11,7 @@ use child_keeper::Entry;
 use exec_commands::{Line, LineReply, read_command};
 use executor::{Executor, OpenError, Report};
 use ocf_env::Site;
-use ocf_types::{Notice, Question, Refusal, Reply, ReplyOf, Request, RequestOf, TidyEnd, TurnEnd};
+use ocf_types::{Command, Notice, Question, Refusal, Reply, ReplyOf, Request, RequestOf, TidyEnd, TurnEnd};
 use std::alloc::{AllocError, Global};
 
 /// An executor on a shared disk with the world's children, and the site of its agents.
@@ -90,6 +91,13 @@ impl Session {
 
     fn request(&mut self, now: u64, request: Request) -> Reply {
         self.executor.command(now, request)
+    }
+
+    /// Takes commands that arrived together. There is room for a reply to each, which stand behind those that are there.
+    pub fn take_row(&mut self, now: u64, commands: &mut Vec<Command>, replies: &mut Vec<Reply>)
+        requires room { vec_len replies.old + vec_len commands.old ≤ vec_capacity replies.old }
+    {
+        self.executor.commands(now, commands, replies);
     }
 
     pub fn ask(&mut self, question: Question) -> Reply {

@@ -32,6 +32,10 @@ pub enum Act {
     Open(u64),
     /// The executor is handed these bytes as a command line, at this moment.
     Command(u64, Vec<u8>),
+    /// These bytes wait, as a command line, to be handed over with others.
+    Wait(Vec<u8>),
+    /// The executor is handed the lines that wait at once, at this moment.
+    Together(u64),
     /// The executor makes a turn at this moment.
     Turn(u64),
     /// The executor tidies its journal.
@@ -111,6 +115,8 @@ enum Verb {
     Open,
     At,
     Bytes,
+    Wait,
+    Together,
     Turn,
     Tidy,
     Clear,
@@ -133,7 +139,7 @@ enum Verb {
     Lives,
 }
 
-const VERBS: [(&str, Verb); 33] = [
+const VERBS: [(&str, Verb); 35] = [
     ("scenario", Verb::Scenario),
     ("part", Verb::Part),
     ("starts", Verb::Starts),
@@ -145,6 +151,8 @@ const VERBS: [(&str, Verb); 33] = [
     ("open", Verb::Open),
     ("at", Verb::At),
     ("bytes", Verb::Bytes),
+    ("wait", Verb::Wait),
+    ("together", Verb::Together),
     ("turn", Verb::Turn),
     ("tidy", Verb::Tidy),
     ("clear", Verb::Clear),
@@ -188,15 +196,20 @@ impl Line {
 fn read_line(alloc: Global, verb: Verb, words: &mut Words) -> Result<Line, BadLine> {
     match verb {
         Verb::Scenario => read_name(alloc, words).map(Line::Scenario),
-        Verb::Part | Verb::Site | Verb::At | Verb::Bytes | Verb::Image => {
+        Verb::Part | Verb::Site | Verb::At | Verb::Bytes | Verb::Wait | Verb::Image => {
             read_act(alloc, verb, words).map(Line::Act)
         }
         Verb::Starts | Verb::Polls | Verb::Kills => read_lists(alloc, verb, words).map(Line::Act),
         Verb::Children | Verb::Tidy | Verb::Clear | Verb::Abandon | Verb::Close => {
             Ok(Line::Act(bare_act(verb)))
         }
-        Verb::Book | Verb::Open | Verb::Turn | Verb::Stop | Verb::Fault | Verb::ChildFault =>
-            read_counted_act(verb, words).map(Line::Act),
+        Verb::Book
+        | Verb::Open
+        | Verb::Together
+        | Verb::Turn
+        | Verb::Stop
+        | Verb::Fault
+        | Verb::ChildFault => read_counted_act(verb, words).map(Line::Act),
         Verb::Faults => read_faults(words).map(Line::Sweep),
         Verb::Stopped => read_fillings(alloc, words).map(|f| Line::Sweep(Sweep::Stopped(f))),
         Verb::Lives => read_fillings(alloc, words).map(|f| Line::Sweep(Sweep::Lives(f))),
@@ -211,6 +224,7 @@ fn read_act(alloc: Global, verb: Verb, words: &mut Words) -> Result<Act, BadLine
         Verb::Site => SiteWords::read(alloc, words).map(Act::Site),
         Verb::At => read_command(alloc, words),
         Verb::Bytes => read_bytes(alloc, words),
+        Verb::Wait => Ok(Act::Wait(words.tail().to_vec(alloc)?)),
         _ => read_image(alloc, words),
     }
 }
@@ -240,6 +254,7 @@ fn read_counted_act(verb: Verb, words: &mut Words) -> Result<Act, BadLine> {
     match verb {
         Verb::Book => read_book(words).map(Act::Book),
         Verb::Open => words.number().map(Act::Open),
+        Verb::Together => words.number().map(Act::Together),
         Verb::Turn => words.number().map(Act::Turn),
         Verb::Stop => words.count().map(Act::Stop),
         Verb::Fault => words.count().map(Act::Fault),

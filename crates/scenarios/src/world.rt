@@ -10,6 +10,7 @@ use crate::print::{
 use crate::session::Session;
 use crate::site::SiteWords;
 use crate::step::Act;
+use crate::together::answer_all;
 use anyhow::Result;
 use disk_model::MemDisk;
 use executor::{OpenError, Report};
@@ -17,6 +18,7 @@ use ocf_types::Part;
 use std::alloc::{AllocError, Global};
 use std::cell::{Ref, RefCell};
 use std::io::Write;
+use std::mem;
 use std::rc::Rc;
 
 /// A disk, children, the site of agents, and an executor where one is open.
@@ -29,6 +31,8 @@ pub struct World {
     device: Rc<RefCell<Device>>,
     pub(crate) children: WorldChildren,
     site: SiteWords,
+    // Command lines that are to be handed over at once.
+    waiting: Vec<Vec<u8>>,
     pub(crate) session: Option<Session>,
 }
 
@@ -52,6 +56,7 @@ impl World {
             device,
             children,
             site,
+            waiting: Vec::new(alloc),
             session: None,
         })
     }
@@ -195,6 +200,21 @@ impl World {
         }
     }
 
+    fn wait(&mut self, line: &[u8]) -> Result<()> {
+        let line = line.to_vec(self.alloc)?;
+        self.waiting.push(line)?;
+        Ok(())
+    }
+
+    // Hands over the lines that wait.
+    fn together<W: Write>(&mut self, now: u64, writer: &mut W) -> Result<()> {
+        let lines = mem::replace(&mut self.waiting, Vec::new(self.alloc));
+        match &mut self.session {
+            Some(session) => answer_all(self.alloc, session, now, lines.as_slice(), writer),
+            None => print_line(writer, "no executor"),
+        }
+    }
+
     /// Plays a step that changes the world.
     pub fn play<W: Write>(&mut self, act: &Act, writer: &mut W) -> Result<()> {
         match act {
@@ -213,6 +233,8 @@ impl World {
             }
             Act::Open(now) => self.open(*now, writer),
             Act::Command(now, line) => self.command(*now, line.as_slice(), writer),
+            Act::Wait(line) => self.wait(line.as_slice()),
+            Act::Together(now) => self.together(*now, writer),
             Act::Turn(now) => self.turn(*now, writer),
             Act::Tidy => self.tidy(writer),
             Act::Clear => self.clear(writer),
