@@ -4,7 +4,7 @@ use child_keeper::{Children, Log, Processes, Waited, run_meta};
 use disk_model::MemDisk;
 use exec_commands::{Line, read_command};
 use executor::{Executor, Input, InputOf};
-use ocf_types::{AgentType, MetaFault, Provider, Request};
+use ocf_types::{AgentType, MetaFault, Outcome, Provider, Request, RunEnd};
 use std::alloc::{Allocator, Global};
 use std::cell::Cell;
 use std::fmt::Display;
@@ -21,6 +21,10 @@ enum Course {
     Mortal,
     // It runs on, whatever is done to it.
     Immortal,
+    // It runs on, and its kill is refused.
+    Unkilled,
+    // It runs on, and cannot be asked.
+    Unasked,
 }
 
 // What comes behind the bytes that a process writes.
@@ -155,6 +159,9 @@ impl<'a> OpenProcess for FakeProcess<'a> {
 
     fn try_wait(&mut self) -> io::Result<Option<ExitStatus>> {
         count(&self.system.asks);
+        if let Course::Unasked = self.system.course {
+            return Err(io::Error::from(ErrorKind::BrokenPipe));
+        }
         if self.asked_dying {
             return Ok(Some(ExitStatus::from_raw(9)));
         }
@@ -165,7 +172,10 @@ impl<'a> OpenProcess for FakeProcess<'a> {
 
     fn kill(&mut self) -> io::Result<()> {
         count(&self.system.kills);
-        Ok(())
+        match self.system.course {
+            Course::Unkilled => Err(io::Error::from(ErrorKind::PermissionDenied)),
+            _ => Ok(()),
+        }
     }
 }
 
@@ -273,6 +283,27 @@ fn a_child_that_outlives_its_kill_is_told_once_after_a_tenth_of_a_second(rt: Hos
     let counts = [[1, 30, 1, 0], [1, 31, 1, 0], [1, 32, 1, 0], [1, 33, 1, 0]];
     let wanted = Some((counts, 1, 100_000));
     assert_eq!(rt; asked(rt.alloc(), Course::Immortal), wanted);
+}
+
+// How an action ends over a system that refuses, behind turns at these moments; what was asked of the system, and how many lines
+// were told.
+fn refused(alloc: Global, course: Course, turns: &[u64]) -> Option<(Outcome, [u32; 4], u32)> {
+    let system = FakeSystem::new(course, Behind::Fault);
+    let executor = played(alloc, &system, 1, turns)?;
+    let outcome = executor.notices().first()?.result.outcome;
+    Some((outcome, system.counts(), system.told.get()))
+}
+
+#[test]
+fn a_child_that_cannot_be_asked_is_lost_and_killed(rt: HostRuntime) {
+    let wanted = (Outcome::Run(RunEnd::Lost), [1, 2, 1, 0], 0);
+    assert_eq!(rt; refused(rt.alloc(), Course::Unasked, &[0, 1]), Some(wanted));
+}
+
+#[test]
+fn a_kill_that_is_refused_is_asked_and_told_and_its_run_has_timed_out(rt: HostRuntime) {
+    let wanted = (Outcome::Run(RunEnd::TimedOut), [1, 2, 1, 0], 1);
+    assert_eq!(rt; refused(rt.alloc(), Course::Unkilled, &[0, 1_000]), Some(wanted));
 }
 
 // How many kills are asked of the system, and how many lines are told, when so many children are given up; how long it took.
