@@ -21,14 +21,26 @@ use Rattle.exec_turn.specs.Turn.{due_after_all}
 use Rattle.executor.specs.Commands.{Obeys, Records}
 use Rattle.executor.specs.Parts.{IsPlain, commanded}
 use Rattle.executor.specs.Replies.{IsReplyTo, acknowledged, due_left, recorded}
-use Rattle.executor.specs.RowCalls.{Adds, moved, row_deeds}
+use Rattle.executor.specs.RowCalls.{Adds, row_deeds}
 use Rattle.executor.specs.Sessions.{Deeds, TakesRequest, command_deeds}
-use Rattle.executor.specs.Sights.{Sight}
+use Rattle.executor.specs.Sights.{Sight, due_in}
 use Rattle.executor.specs.Singles.{Follows, cut}
 use Rattle.executor.proofs.AloneChanges.{AreFresh, IsFresh}
 
+-- what a machine of one resource sees of an executor
+pub record Seen : Type 0 where
+  pub state : State
+  pub due : Due
+
+abbrev pub seen : {D : Type 0} → Sight D → Seen
+seen x = record { state = x.state; due = due_in x }
+
+-- the same behind these events
+abbrev pub seen_behind : Seen → List Event → Seen
+seen_behind x es = record { state = after_all x.state es; due = due_after_all x.state x.due es }
+
 -- what a call did: the state and the due moments after its events, which are new
-pub record Does {D : Type 0} (now : ℕ) (old new : Sight D) (es : List Event) : Type 0 where
+pub record Does (now : ℕ) (old new : Seen) (es : List Event) : Type 0 where
   pub state : new.state ≡ after_all old.state es
   pub due : new.due ≡ due_after_all old.state old.due es
   pub next : AreFresh old.state es
@@ -39,12 +51,12 @@ pub moment_is : (s : State) (now : ℕ) → s.clock ≤ cut now → moment s now
 moment_is s now h = max-eq_right h
 
 -- a call that left the executor as it was
-pub rested : {D : Type 0} (now : ℕ) (old new : Sight D) → old.state.clock ≤ cut now → new ≡ old → Does now old new []
-rested {D} now old new clock same = record {
-  state = ap (λ (x : Sight D). x.state) same;
-  due = ap (λ (x : Sight D). x.due) same;
+pub rested : (now : ℕ) (old new : Seen) → old.state.clock ≤ cut now → new ≡ old → Does now old new []
+rested now old new clock same = record {
+  state = ap (λ (x : Seen). x.state) same;
+  due = ap (λ (x : Seen). x.due) same;
   next = tt;
-  clock = subst (λ (x : Sight D). x.state.clock ≤ cut now) (sym same) clock;
+  clock = subst (λ (x : Seen). x.state.clock ≤ cut now) (sym same) clock;
 }
 
 -- the event is acknowledged, or refused for a want that resources share
@@ -98,7 +110,7 @@ one_clock s now c e is clock =
     subst (λ (f : Event). f.at ≤ cut now) went.0 (le_of_eq (moment_is s now clock))
 
 -- What a command does, and what it is answered where that is plain.
-pub record Commands {D : Type 0} (now : ℕ) (c : Command) (old new : Sight D) (reply : Reply) (deeds : Deeds) : Type 0 where
+pub record Commands (now : ℕ) (c : Command) (old new : Seen) (reply : Reply) (deeds : Deeds) : Type 0 where
   pub no_entries : deeds.entries ≡ []
   pub names : AllName (commanded c) deeds.events
   pub does : Does now old new deeds.events
@@ -106,14 +118,14 @@ pub record Commands {D : Type 0} (now : ℕ) (c : Command) (old new : Sight D) (
 
 pub commands : {D : Type 0} (look : D → View) (now : ℕ) (c : Command) (old new : Sight D) (reply : Reply) (deeds : Deeds)
     → old.state.clock ≤ cut now
-    → TakesRequest look now (asked.Command c) old new reply deeds → Commands now c old new reply deeds
+    → TakesRequest look now (asked.Command c) old new reply deeds → Commands now c (seen old) (seen new) reply deeds
 commands {D} look now c old new reply deeds clock takes =
-    subst (λ (x : Deeds). Commands now c old new reply x) (sym takes.does) (by (event_of old.state now c) refl takes.serves)
+    subst (λ (x : Deeds). Commands now c (seen old) (seen new) reply x) (sym takes.does) (by (event_of old.state now c) refl takes.serves)
   where
     by_reply : (e : Event) → event_of old.state now c ≡ Ok e → Records look e old new reply
-        → (reply ≡ acknowledged e.change) ⊎ IsRefused reply → Commands now c old new reply (command_deeds (Ok e) reply)
+        → (reply ≡ acknowledged e.change) ⊎ IsRefused reply → Commands now c (seen old) (seen new) reply (command_deeds (Ok e) reply)
     by_reply e is serves (inl told) =
-        let done = told_done old.state e e.change old.due in
+        let done = told_done old.state e e.change (due_in old) in
         let row : recorded e reply ≡ e ∷ [] = ap (recorded e) told ∙ done.0 in
         let after_one : new.state ≡ after old.state e = serves.leaves.state ∙ ap (after_all old.state) row in record {
           no_entries = refl;
@@ -121,8 +133,8 @@ commands {D} look now c old new reply deeds clock takes =
           does = record {
             state = serves.leaves.state;
             due =
-                serves.due ∙ ap (λ (r : Reply). due_left old.state e r old.due) told ∙ done.1
-                ∙ ap (due_after_all old.state old.due) (sym row);
+                serves.due ∙ ap (λ (r : Reply). due_left old.state e r (due_in old)) told ∙ done.1
+                ∙ ap (due_after_all old.state (due_in old)) (sym row);
             next = subst (AreFresh old.state) (sym row) (one_fresh old.state now c e is);
             clock = subst (λ (x : State). x.clock ≤ cut now) (sym after_one) (one_clock old.state now c e is clock);
           };
@@ -135,7 +147,7 @@ commands {D} look now c old new reply deeds clock takes =
           names = subst (AllName (commanded c)) (sym row) tt;
           does = record {
             state = serves.leaves.state;
-            due = serves.due ∙ ap (λ (r : Reply). due_left old.state e r old.due) refused ∙ ap (due_after_all old.state old.due) (sym row);
+            due = serves.due ∙ ap (λ (r : Reply). due_left old.state e r (due_in old)) refused ∙ ap (due_after_all old.state (due_in old)) (sym row);
             next = subst (AreFresh old.state) (sym row) tt;
             clock = subst (λ (x : State). x.clock ≤ cut now) (sym still) clock;
           };
@@ -143,22 +155,22 @@ commands {D} look now c old new reply deeds clock takes =
         }
 
     by : (v : Result Event Refusal) → event_of old.state now c ≡ v → Obeys look v old new reply
-        → Commands now c old new reply (command_deeds v reply)
+        → Commands now c (seen old) (seen new) reply (command_deeds v reply)
     by (Err why) is serves = record {
       no_entries = refl;
       names = tt;
-      does = rested now old new clock serves.1;
+      does = rested now (seen old) (seen new) clock (ap seen serves.1);
       follows = λ plain. subst (λ (w : Result Event Refusal). Follows w reply []) (sym is) (serves.0, refl);
     }
     by (Ok e) is serves = by_reply e is serves (told_or_refused e reply serves.told)
 
 -- the same of a command in a row
-pub added : {D : Type 0} (now : ℕ) (c : Command) (old : Sight D) (reply : Reply) (first : List Event) → old.state.clock ≤ cut now
-    → Adds (event_of old.state now c) reply first → Commands now c old (moved old first) reply (row_deeds true first)
-added {D} now c old reply first clock adds = by (event_of old.state now c) refl adds
+pub added : (now : ℕ) (c : Command) (old : Seen) (reply : Reply) (first : List Event) → old.state.clock ≤ cut now
+    → Adds (event_of old.state now c) reply first → Commands now c old (seen_behind old first) reply (row_deeds true first)
+added now c old reply first clock adds = by (event_of old.state now c) refl adds
   where
     none_added : (found : Result Event Refusal) → event_of old.state now c ≡ found → first ≡ [] → (IsPlain reply → Follows found reply first)
-        → Commands now c old (moved old first) reply (row_deeds true first)
+        → Commands now c old (seen_behind old first) reply (row_deeds true first)
     none_added found is none follows = record {
       no_entries = refl;
       names = subst (AllName (commanded c)) (sym none) tt;
@@ -172,7 +184,7 @@ added {D} now c old reply first clock adds = by (event_of old.state now c) refl 
     }
 
     by : (found : Result Event Refusal) → event_of old.state now c ≡ found → Adds found reply first
-        → Commands now c old (moved old first) reply (row_deeds true first)
+        → Commands now c old (seen_behind old first) reply (row_deeds true first)
     by (Err why) is refused = none_added (Err why) is refused.1 (λ plain. refused)
     by (Ok e) is (inr memory) = none_added (Ok e) is memory.2 (λ plain. absurd (subst IsPlain memory.0 plain))
     by (Ok e) is (inl told) = record {

@@ -19,15 +19,15 @@ use Rattle.child_keeper.specs.declared.answer.Entry.{Entry}
 use Rattle.exec_state.specs.Answers.{IsReplyOrMemory}
 use Rattle.exec_turn.specs.Actives.{active}
 use Rattle.executor.specs.Parts.{Apart, AreRising, IsPlain, commanded, concerns, entries_of_runs, events_of, inputs_at, is_about, own_runs, part}
-use Rattle.executor.specs.RowCalls.{Answered, moved, row_deeds}
+use Rattle.executor.specs.RowCalls.{Answered, row_deeds}
 use Rattle.executor.specs.Sessions.{Deeds, Input, Session, TakesWhile, closed_reply, no_deeds}
-use Rattle.executor.specs.Sights.{Sight}
+use Rattle.executor.specs.Sights.{Sight, due_in}
 use Rattle.executor.specs.Singles.{Alone, Single, SingleCommand, SingleTakes, cut, single_after_all, single_of}
 use Rattle.executor.specs.declared.session.InputOf.TheVariants as input
 use Rattle.executor.proofs.AloneChanges.{AreFresh, Stands, stands_all}
 use Rattle.executor.proofs.AloneLists.{each_first, each_last, filter_alike}
 use Rattle.executor.proofs.AloneReplies.{single_command, single_question}
-use Rattle.executor.proofs.AloneRequests.{Commands, Does, added, commands, rested}
+use Rattle.executor.proofs.AloneRequests.{Commands, Does, Seen, added, commands, rested, seen, seen_behind}
 use Rattle.executor.proofs.AloneRows.{AreOwn, names_it}
 use Rattle.executor.proofs.AloneRuns.{is_mine, own_stays, runs_own}
 use Rattle.executor.proofs.AloneTurns.{AllBeginOwn, AreApart, BeginsOwn, fresh-append, ids_stay, turn_does, turn_done, turn_single}
@@ -76,16 +76,18 @@ module _ {D : Type 0} (look : D → View) (mine : ℕ → Bool) (id : List ℕ) 
   -- an executor takes an input, answered plainly where it concerns this resource
   does : (open_now : Bool) (i : Input) (old new : Sight D) (r : Reply) (deeds : Deeds) → old.state.clock ≤ cut (moment_of i)
       → (concerns id i ≡ true → IsPlain r)
-      → TakesWhile open_now look i old new r deeds → Does (moment_of i) old new deeds.events
+      → TakesWhile open_now look i old new r deeds → Does (moment_of i) (seen old) (seen new) deeds.events
   does true (input.Request now (asked.Command c)) old new r deeds clock plain takes = (commands look now c old new r deeds clock takes).does
   does true (input.Request now (asked.Question q)) old new r deeds clock plain takes =
-      subst (λ (x : Deeds). Does now old new x.events) (sym takes.does) (rested now old new clock takes.serves.1)
+      subst (λ (x : Deeds). Does now (seen old) (seen new) x.events) (sym takes.does)
+      (rested now (seen old) (seen new) clock (ap seen takes.serves.1))
   does true (input.Turn now) old new r deeds clock plain takes =
       turn_does now old new r deeds (turn_done look now old new r deeds clock (plain refl) takes) clock
   does false i old new r deeds clock plain takes =
-      subst (λ (x : Deeds). Does (moment_of i) old new x.events) (sym takes.2) (rested (moment_of i) old new clock takes.1)
+      subst (λ (x : Deeds). Does (moment_of i) (seen old) (seen new) x.events) (sym takes.2)
+      (rested (moment_of i) (seen old) (seen new) clock (ap seen takes.1))
 
-  own_command : (b : Bool) (y : Single) (now : ℕ) (c : Command) (old new : Sight D) (r : Reply) (deeds : Deeds)
+  own_command : (b : Bool) (y : Single) (now : ℕ) (c : Command) (old new : Seen) (r : Reply) (deeds : Deeds)
       → bytes_eq id (commanded c) ≡ b → old.state.clock ≤ cut now
       → (b ≡ true → IsPlain r) → Stands y old.state old.due id → Commands now c old new r deeds
       → IsStep b id y (input.Request now (asked.Command c)) r (own_entries deeds.entries) (events_of id deeds.events)
@@ -109,7 +111,7 @@ module _ {D : Type 0} (look : D → View) (mine : ℕ → Bool) (id : List ℕ) 
 
   own_question : (b : Bool) (y : Single) (now : ℕ) (q : Question) (old : Sight D) (r : Reply) (deeds : Deeds)
       → is_about id (asked.Question q) ≡ b → (b ≡ true → IsPlain r)
-      → Stands y old.state old.due id → deeds ≡ no_deeds → IsReplyOrMemory (reply_to old.state q) r
+      → Stands y old.state (due_in old) id → deeds ≡ no_deeds → IsReplyOrMemory (reply_to old.state q) r
       → IsStep b id y (input.Request now (asked.Question q)) r (own_entries deeds.entries) (events_of id deeds.events)
   own_question true y now q old r deeds about plain stands none replies =
       (no_entries deeds none, no_events deeds none, single_question y.resource old.state id q r stands.resource about replies (plain refl))
@@ -118,7 +120,7 @@ module _ {D : Type 0} (look : D → View) (mine : ℕ → Bool) (id : List ℕ) 
   -- and so the machine of one resource, where the input concerns it
   steps : (open_now b : Bool) (y : Single) (i : Input) (old new : Sight D) (r : Reply) (deeds : Deeds) → concerns id i ≡ b
       → old.state.clock ≤ cut (moment_of i) → (b ≡ true → IsPlain r)
-      → Stands y old.state old.due id → AreApart old.state → AreOwn mine id (active old.state) → AllBeginOwn mine id deeds.events
+      → Stands y old.state (due_in old) id → AreApart old.state → AreOwn mine id (active old.state) → AllBeginOwn mine id deeds.events
       → TakesWhile open_now look i old new r deeds
       → IsStep b id y i r (own_entries deeds.entries) (events_of id deeds.events)
   unfolding own_entries
@@ -126,7 +128,7 @@ module _ {D : Type 0} (look : D → View) (mine : ℕ → Bool) (id : List ℕ) 
   steps false false y i old new r deeds about clock plain stands apart own begins takes =
       (no_entries deeds takes.2, no_events deeds takes.2)
   steps true b y (input.Request now (asked.Command c)) old new r deeds about clock plain stands apart own begins takes =
-      own_command b y now c old new r deeds about clock plain stands (commands look now c old new r deeds clock takes)
+      own_command b y now c (seen old) (seen new) r deeds about clock plain stands (commands look now c old new r deeds clock takes)
   steps true b y (input.Request now (asked.Question q)) old new r deeds about clock plain stands apart own begins takes =
       own_question b y now q old r deeds about plain stands takes.does takes.serves.0
   steps true true y (input.Turn now) old new r deeds about clock plain stands apart own begins takes =
@@ -145,7 +147,7 @@ module _ {D : Type 0} (look : D → View) (mine : ℕ → Bool) (id : List ℕ) 
       (subst (λ (l : List Event). Alone id (single_after_all y l) rest fs later_row) first.1 later))
 
   alone : (from : ℕ) (y : Single) (x z : Sight D) (is : List Input) (rs : List Reply) (d : Deeds) → x.state.clock ≤ from → AreRising from is
-      → AllByRecursion (λ p. IsPlain p.1) (part id is rs) → Stands y x.state x.due id → AreApart x.state → AreOwn mine id (active x.state)
+      → AllByRecursion (λ p. IsPlain p.1) (part id is rs) → Stands y x.state (due_in x) id → AreApart x.state → AreOwn mine id (active x.state)
       → AllBeginOwn mine id d.events
       → Session look x is rs z d → Alone id y (part id is rs) (own_entries d.entries) (events_of id d.events)
   unfolding own_entries
@@ -163,9 +165,9 @@ module _ {D : Type 0} (look : D → View) (mine : ℕ → Bool) (id : List ℕ) 
       let begins_later : AllBeginOwn mine id later.events = each_last
       (λ e. BeginsOwn mine id e.change) first.events later.events all_begin in
       let y2 = single_after_all y (events_of id first.events) in
-      let stands2 : Stands y2 mid.state mid.due id = subst (λ (s : State). Stands y2 s mid.due id) (sym did.state)
+      let stands2 : Stands y2 mid.state (due_in mid) id = subst (λ (s : State). Stands y2 s (due_in mid) id) (sym did.state)
       (subst (λ (u : Due). Stands y2 (after_all x.state first.events) u id) (sym did.due)
-      (stands_all y x.state x.due id first.events stands did.next)) in
+      (stands_all y x.state (due_in x) id first.events stands did.next)) in
       let apart2 : AreApart mid.state = subst AreApart (sym did.state) (ids_stay x.state first.events did.next apart) in
       let own2 : AreOwn mine id (active mid.state) = subst (λ (s : State). AreOwn mine id (active s)) (sym did.state)
       (own_stays mine id x.state first.events did.next begins_first own) in
@@ -195,7 +197,7 @@ module _ {D : Type 0} (look : D → View) (mine : ℕ → Bool) (id : List ℕ) 
       (fresh-append x.state first.events later.events did.next (subst (λ (s : State). AreFresh s later.events) did.state later_fresh))
 
   -- commands in a row at one moment
-  alone_row : (now : ℕ) (y : Single) (x : Sight D) (cs : List Command) (rs : List Reply) (es : List Event) → x.state.clock ≤ cut now
+  alone_row : (now : ℕ) (y : Single) (x : Seen) (cs : List Command) (rs : List Reply) (es : List Event) → x.state.clock ≤ cut now
       → AllByRecursion (λ p. IsPlain p.1) (part id (inputs_at now cs) rs) → Stands y x.state x.due id → Answered now x.state cs rs es
       → Alone id y (part id (inputs_at now cs) rs) [] (events_of id es)
   unfolding own_entries
@@ -207,16 +209,16 @@ module _ {D : Type 0} (look : D → View) (mine : ℕ → Bool) (id : List ℕ) 
       let plain2 = plain_parts id i r (part id (inputs_at now cs) rs) plain in
       let did = added now c x r first clock adds in
       let y2 = single_after_all y (events_of id first) in
-      let later_alone = alone_row now y2 (moved x first) cs rs later did.does.clock plain2.1
+      let later_alone = alone_row now y2 (seen_behind x first) cs rs later did.does.clock plain2.1
       (stands_all y x.state x.due id first stands did.does.next) rest in
-      let one = own_command (bytes_eq id (commanded c)) y now c x (moved x first) r (row_deeds true first) refl clock plain2.0 stands did in
+      let one = own_command (bytes_eq id (commanded c)) y now c x (seen_behind x first) r (row_deeds true first) refl clock plain2.0 stands did in
       subst (λ (l : List Event). Alone id y (part id (i ∷ inputs_at now cs) (r ∷ rs)) [] (events_of id l)) (sym all)
       (subst (λ (l : List Event). Alone id y (part id (i ∷ inputs_at now cs) (r ∷ rs)) [] l)
       (sym (filter-append (names_it id) first later))
       (goes (bytes_eq id (commanded c)) y i r (part id (inputs_at now cs) rs) [] [] (events_of id first) (events_of id later) one later_alone))
 
 -- each resource by itself, as it stands in an executor
-here : {D : Type 0} (x : Sight D) (id : List ℕ) → Stands (single_of x id) x.state x.due id
+here : {D : Type 0} (x : Sight D) (id : List ℕ) → Stands (single_of x id) x.state (due_in x) id
 here x id = record { resource = refl; due = λ call there. refl; calls = le_refl x.state.next_call; runs = le_refl x.state.next_run }
 
 -- the law of a row
@@ -224,7 +226,7 @@ pub row_alone : {D : Type 0} (look : D → View) (now : ℕ) (x : Sight D) (comm
     (id : List ℕ) → Answered now x.state commands replies es → AllByRecursion (λ p. IsPlain p.1) (part id (inputs_at now commands) replies)
     → x.state.clock ≤ cut now → Alone id (single_of x id) (part id (inputs_at now commands) replies) [] (events_of id es)
 row_alone look now x commands replies es id answered plain clock =
-    alone_row look (λ run. false) id now (single_of x id) x commands replies es clock plain (here x id) answered
+    alone_row look (λ run. false) id now (single_of x id) (seen x) commands replies es clock plain (here x id) answered
 
 -- the law
 pub each_alone : {D : Type 0} (look : D → View) (x z : Sight D) (inputs : List Input) (replies : List Reply) (d : Deeds) (id : List ℕ)

@@ -30,13 +30,13 @@ use Rattle.exec_turn.specs.Starts.{Started, refusals, starts}
 use Rattle.exec_turn.specs.Turn.{IsTurn, Told, Whole, due_after_all, scene}
 use Rattle.executor.specs.Parts.{IsPlain, events_of}
 use Rattle.executor.specs.Sessions.{Deeds, TakesATurn}
-use Rattle.executor.specs.Sights.{Sight}
+use Rattle.executor.specs.Sights.{Sight, due_in}
 use Rattle.executor.specs.Singles.{Single, SingleTurn, cut, running_in, single_after_all}
 use Rattle.executor.proofs.AloneChanges.{AreFresh, IsFresh, Stands, stands_all}
 use Rattle.executor.proofs.AloneLists.{each_first, each_last, each_map, each_of_all, each_unmap, filter-map}
 use Rattle.executor.proofs.AloneBegins.{single_begins}
 use Rattle.executor.proofs.AlonePicks.{begins_fresh, chosen, own_of}
-use Rattle.executor.proofs.AloneRequests.{Does, moment_is}
+use Rattle.executor.proofs.AloneRequests.{Does, moment_is, seen}
 use Rattle.executor.proofs.AloneRows.{AreOwn, IsEnd, begins_kept, ends_fresh, names_it, own_active, polls_kept, refusals_end, refusals_kept}
 use Rattle.executor.proofs.AloneRows.{results_end, results_kept, single_poll, starts_kept}
 
@@ -77,11 +77,11 @@ AllBeginOwn mine id es = AllByRecursion (λ e. BeginsOwn mine id e.change) es
 -- A turn that ended done, at the moment that was handed in.
 pub record TurnDone {D : Type 0} (now : ℕ) (old new : Sight D) (given : Reply) (deeds : Deeds) : Type 0 where
   pub done : given ≡ reply.Turn Done
-  pub t : Told Done (scene old.state old.due old.place (cut now))
+  pub t : Told Done (scene old.state (due_in old) old.place (cut now))
   pub entries : deeds.entries ≡ polls (cut now) t.polled ++ starts t.clock t.started
   pub events : deeds.events ≡ results (cut now) t.polled ++ (begins (cut now) t.begun ++ refusals (cut now) t.started)
   pub state : new.state ≡ after_all old.state deeds.events
-  pub due : new.due ≡ due_after_all old.state old.due deeds.events
+  pub due : due_in new ≡ due_after_all old.state (due_in old) deeds.events
 
 pub turn_done : {D : Type 0} (look : D → View) (now : ℕ) (old new : Sight D) (given : Reply) (deeds : Deeds) → old.state.clock ≤ cut now
     → IsPlain given
@@ -89,11 +89,11 @@ pub turn_done : {D : Type 0} (look : D → View) (now : ℕ) (old new : Sight D)
 turn_done {D} look now old new given deeds clock plain takes =
     let turns = takes.takes.turns in
     let is_done : takes.end ≡ Done = subst IsPlain takes.replies plain in
-    let raw : Whole Done (scene old.state old.due old.place (moment old.state now)) turns.entries turns.events turns.pending new.told =
+    let raw : Whole Done (scene old.state (due_in old) old.place (moment old.state now)) turns.entries turns.events turns.pending new.told =
     subst (λ (e : TurnEnd). IsTurn e
-    (scene old.state old.due old.place (moment old.state now)) turns.entries turns.events turns.pending new.told) is_done turns.does in
-    let whole : Whole Done (scene old.state old.due old.place (cut now)) turns.entries turns.events turns.pending new.told =
-    subst (λ (at : ℕ). Whole Done (scene old.state old.due old.place at) turns.entries turns.events turns.pending new.told)
+    (scene old.state (due_in old) old.place (moment old.state now)) turns.entries turns.events turns.pending new.told) is_done turns.does in
+    let whole : Whole Done (scene old.state (due_in old) old.place (cut now)) turns.entries turns.events turns.pending new.told =
+    subst (λ (at : ℕ). Whole Done (scene old.state (due_in old) old.place at) turns.entries turns.events turns.pending new.told)
     (moment_is old.state now clock) raw in
     let row : deeds.events ≡ turns.events = ap (λ (x : Deeds). x.events) takes.does in record {
       done = takes.replies ∙ ap (λ (e : TurnEnd). reply.Turn e) is_done;
@@ -103,7 +103,7 @@ turn_done {D} look now old new given deeds clock plain takes =
           row ∙ whole.2 ∙ append_assoc (results (cut now) whole.0.polled) (begins (cut now) whole.0.begun)
           (refusals (cut now) whole.0.started);
       state = turns.leaves.state ∙ ap (after_all old.state) (sym row);
-      due = turns.due_is ∙ ap (due_after_all old.state old.due) (sym row);
+      due = turns.due_is ∙ ap (due_after_all old.state (due_in old)) (sym row);
     }
 
 module _ {D : Type 0} (now : ℕ) (old new : Sight D) (given : Reply) (deeds : Deeds) (turn : TurnDone now old new given deeds) where
@@ -115,7 +115,7 @@ module _ {D : Type 0} (now : ℕ) (old new : Sight D) (given : Reply) (deeds : D
   mid = after_all old.state (results at turn.t.polled)
 
   moments : Due
-  moments = due_after_all old.state old.due (results at turn.t.polled)
+  moments = due_after_all old.state (due_in old) (results at turn.t.polled)
 
   behind : List Event
   behind = begins at turn.t.begun ++ refusals at turn.t.started
@@ -145,7 +145,7 @@ module _ {D : Type 0} (now : ℕ) (old new : Sight D) (given : Reply) (deeds : D
       ended es h = each_weaken (IsEnd at) (λ e. e.at ≡ at) (λ e end. end.now) es h
 
   -- it leaves what its events make of what it finds
-  pub turn_does : old.state.clock ≤ cut now → Does now old new deeds.events
+  pub turn_does : old.state.clock ≤ cut now → Does now (seen old) (seen new) deeds.events
   unfolding at mid behind
   turn_does clock = record {
     state = turn.state;
@@ -168,7 +168,7 @@ module _ {D : Type 0} (now : ℕ) (old new : Sight D) (given : Reply) (deeds : D
     own_started = filter (λ x. bytes_eq id x.what.id) turn.t.started
 
     -- the machine makes its part of the turn
-    pub turn_single : Stands y old.state old.due id → AreApart old.state → AreOwn mine id (active old.state)
+    pub turn_single : Stands y old.state (due_in old) id → AreApart old.state → AreOwn mine id (active old.state)
         → AllBeginOwn mine id deeds.events
         → SingleTurn id (cut now) y given (filter (λ e. mine e.run) deeds.entries) (events_of id deeds.events)
     unfolding at mid moments behind own_polled own_begun own_started
@@ -194,7 +194,7 @@ module _ {D : Type 0} (now : ℕ) (old new : Sight D) (given : Reply) (deeds : D
         let row : events_of id (results at turn.t.polled) ≡ results at own_polled = results_kept id at turn.t.polled in
         let there : Stands (single_after_all y (results at own_polled)) mid moments id = subst
         (λ (l : List Event). Stands (single_after_all y l) mid moments id) row
-        (stands_all y old.state old.due id (results at turn.t.polled) stands results_new) in record {
+        (stands_all y old.state (due_in old) id (results at turn.t.polled) stands results_new) in record {
           done = turn.done;
           polled = polls at own_polled;
           started = starts turn.t.clock own_started;

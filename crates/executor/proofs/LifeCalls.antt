@@ -77,7 +77,7 @@ module _ {D : Type 0} (look : D → View) where
   row_onward x y now commands replies d takes =
       let row = takes.records in
       subst (λ (e : Deeds). Onward look x y e) (sym takes.does)
-      (row_going y.is_open x y takes.events refl row.leaves (ap (λ (z : Sight D). z.state) row.same) row.roomy)
+      (row_going y.is_open x y takes.events refl row.leaves (ap (λ (z : Sight D). z.state) row.went.same) row.roomy)
 
   module _ (lawful : (d : D) → (look d).honest → Lawful (look d)) where
     -- one call more, of an open executor

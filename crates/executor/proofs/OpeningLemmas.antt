@@ -28,7 +28,7 @@ use Rattle.executor.specs.declared.opening.OpenError.TheVariants as why
 use Rattle.executor.specs.Openings.{Boots, BootsFrom, IsQuiet, LacksBoot, LacksRoom, NotOpened, Opened, OpensDisk, StartsLike, booted}
 use Rattle.executor.specs.Openings.{told_fault, told_slot, IsOver, IsUnready}
 use Rattle.executor.specs.Reports.{dropped, interrupted}
-use Rattle.executor.specs.Sights.{Sight}
+use Rattle.executor.specs.Sights.{Sight, due_in}
 use Rattle.exec_turn.specs.Turns.{Tended}
 use Rattle.executor.proofs.Keeping.{quiet_tended}
 use Rattle.executor.proofs.Journaling.{WhatStands}
@@ -201,7 +201,7 @@ module _ {D : Type 0} (look : D → View) (law : WhatStands) (once : (c : Image)
 
     pub opened : (x : Unit) (final : Sight D) (ran queued : List Notice) → Boots look now mid new (Ok x) → final.is_open ≡ true
         → final.state ≡ new.state → final.disk ≡ new.disk → final.place ≡ new.place
-        → final.due ≡ due_at final.state (moment mid.state now) → final.children ≡ new.children → final.told ≡ new.told
+        → due_in final ≡ due_at final.state (moment mid.state now) → final.children ≡ new.children → final.told ≡ new.told
         → ran ≡ interrupted mid.state (moment mid.state now) → queued ≡ dropped mid.state (moment mid.state now)
         → Opened look old from now final ran queued
     opened x final ran queued boots is_open state disk place due kids tells ran_is queued_is =

@@ -13,7 +13,7 @@ use Rattle.disk_model.specs.View.{View}
 use Rattle.child_keeper.specs.declared.answer.Entry.{Entry}
 use Rattle.exec_turn.specs.Turn.{due_after_all}
 use Rattle.executor.specs.Sessions.{Deeds, Input, Session, Takes, TakesWhile, both, no_deeds, request_deeds}
-use Rattle.executor.specs.Sights.{Sight}
+use Rattle.executor.specs.Sights.{Sight, due_in}
 use Rattle.ocf_types.specs.Answer.{event_of}
 use Rattle.ocf_types.specs.declared.command.RequestOf.TheVariants as asked
 use Rattle.ocf_types.specs.declared.refusal.Refusal.{Refusal}
@@ -127,7 +127,7 @@ leads_command look x y (Err refusal) reply still obeys closes =
 leads_command look x y (Ok e) reply still records closes = record {
   leaves = records.leaves;
   book = ap (λ (c : ChildrenView). c.book) records.children ∙ sym (append-nil x.children.book);
-  due = records.due ∙ due_of_reply x.state x.due e reply;
+  due = records.due ∙ due_of_reply x.state (due_in x) e reply;
   roomy = records.roomy;
   whole = λ is_open. no_pending e reply (λ disk. absurd (true≢false (sym is_open ∙ closes.1 disk)));
 }
@@ -193,9 +193,9 @@ leads_joined look x y z a b is_open one two =
           (a.pending ++ b.pending)) (sym reached) on.leaves;
       book = two.book ∙ ap (λ (es : List Entry). es ++ b.entries) one.book ∙ append_assoc x.children.book a.entries b.entries;
       due =
-          two.due ∙ ap (λ (s : State). due_after_all s y.due b.events) one.leaves.state
+          two.due ∙ ap (λ (s : State). due_after_all s (due_in y) b.events) one.leaves.state
           ∙ ap (λ (d : Due). due_after_all (after_all x.state a.events) d b.events) one.due
-          ∙ sym (due_after_all-append x.state x.due a.events b.events);
+          ∙ sym (due_after_all-append x.state (due_in x) a.events b.events);
       roomy = on.roomy;
       whole = on.whole;
     }

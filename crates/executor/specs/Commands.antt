@@ -14,7 +14,7 @@ use Rattle.exec_journal.specs.Rows.{IsTooLong}
 use Rattle.exec_state.specs.Answers.{IsReplyOrMemory}
 use Rattle.exec_turn.specs.Pieces.{Leaves}
 use Rattle.executor.specs.Replies.{IsReplyTo, due_left, pending, recorded}
-use Rattle.executor.specs.Sights.{Sight}
+use Rattle.executor.specs.Sights.{Sight, due_in}
 
 -- An event is recorded and acknowledged, or refused for a named reason: from one sight of the executor to another.
 pub record Records {D : Type 0} (look : D → View) (e : Event) (old new : Sight D) (reply : Reply) : Type 0 where
@@ -25,7 +25,7 @@ pub record Records {D : Type 0} (look : D → View) (e : Event) (old new : Sight
   -- the children are as they were, and what the last turn told
   pub children : new.children ≡ old.children
   pub told_still : new.told ≡ old.told
-  pub due : new.due ≡ due_left old.state e reply old.due
+  pub due : due_in new ≡ due_left old.state e reply (due_in old)
   -- what a stop leaves since the call's start has room for its boot
   pub roomy : Goes (look old.disk) (look new.disk) Roomy
   -- a refusal but for a disk fault leaves all as it was, on any disk

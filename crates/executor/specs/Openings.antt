@@ -22,7 +22,7 @@ use Rattle.exec_journal.specs.declared.fault.JournalFault.TheVariants as journal
 use Rattle.executor.specs.declared.opening.OpenError.{OpenError}
 use Rattle.executor.specs.declared.opening.OpenError.TheVariants as why
 use Rattle.executor.specs.Reports.{dropped, interrupted}
-use Rattle.executor.specs.Sights.{IsOnJournal, IsSound, Sight}
+use Rattle.executor.specs.Sights.{IsOnJournal, IsSound, Sight, due_in}
 
 -- the state after the boot that an opening at this moment needs: the state itself where nothing is queued or running
 abbrev pub booted : State → ℕ → State
@@ -105,7 +105,7 @@ pub record Opened {D : Type 0} (look : D → View) (old : View) (from : Children
     (was_running was_queued : List Notice) : Type 0 where
   pub over : IsOver from x
   pub sound : IsSound look x
-  pub starts : (look x.disk).honest → Starts old.reads now x.state x.due was_running was_queued
+  pub starts : (look x.disk).honest → Starts old.reads now x.state (due_in x) was_running was_queued
   pub did : OpensDisk old (look x.disk) now
   -- the boot had room
   pub fits : (look x.disk).honest → LacksRoom old.reads → ⊥

@@ -18,7 +18,7 @@ use Rattle.exec_turn.specs.Pieces.{Leaves}
 use Rattle.exec_turn.specs.Turn.{due_after_all}
 use Rattle.executor.specs.Commands.{ServesOpen}
 use Rattle.executor.specs.Replies.{pending, recorded}
-use Rattle.executor.specs.Sights.{Sight}
+use Rattle.executor.specs.Sights.{Sight, due_in}
 use Rattle.executor.specs.TurnCalls.{TakesTurn}
 use Rattle.executor.specs.declared.session.InputOf.{InputOf}
 use Rattle.executor.specs.declared.session.InputOf.TheVariants as input
@@ -93,7 +93,7 @@ pub record Leads {D : Type 0} (look : D → View) (old new : Sight D) (deeds : D
   -- the state, what a stop at any moment leaves, and that no agent was started without its synced begin
   pub leaves : Leaves (look old.disk) (look new.disk) old.state new.state deeds.entries deeds.events deeds.pending
   pub book : new.children.book ≡ old.children.book ++ deeds.entries
-  pub due : new.due ≡ due_after_all old.state old.due deeds.events
+  pub due : due_in new ≡ due_after_all old.state (due_in old) deeds.events
   -- what a stop leaves since its start has room for its boot
   pub roomy : Goes (look old.disk) (look new.disk) Roomy
   -- nothing is pending but after a disk fault, which closed the executor

@@ -9,31 +9,35 @@ use Rattle.exec_journal.specs.Journal.{journal_disk, journal_place}
 use Rattle.exec_journal.specs.Place.{Place}
 use Rattle.exec_journal.specs.Room.{HasRoom}
 use Rattle.exec_journal.specs.Settled.{IsSettled}
-use Rattle.exec_state.specs.Store.{dues}
+use Rattle.exec_state.specs.Store.{Monitors, due_of}
 use Rattle.exec_turn.specs.Turns.{Tended, told_of}
-use Rattle.executor.specs.declared.executor.Executor.{Executor}
+use Rattle.executor.specs.declared.desk.Desk.{Desk}
 
--- whether it takes requests, its state, when each recurring monitor is due, the disk that it works on, where the journal's
--- next record goes, its children, and what the last turn told
+-- whether it takes requests, its state, its recurring monitors with their due moments, the disk that it works on, where the
+-- journal's next record goes, its children, and what the last turn told
 pub record Sight (D : Type 0) : Type 0 where
   pub is_open : Bool
   pub state : State
-  pub due : Due
+  pub monitors : Monitors
   pub disk : D
   pub place : Place
   pub children : ChildrenView
   pub told : List Notice
 
-abbrev pub sight_of : {D C M : Type 0} → (C → ChildrenView) → Executor D C M → Sight D
+abbrev pub sight_of : {D C M : Type 0} → (C → ChildrenView) → Desk D C M → Sight D
 sight_of tend e = record {
   is_open = e.open;
   state = e.state.state;
-  due = dues e.state;
+  monitors = e.state.monitors;
   disk = journal_disk e.journal;
   place = journal_place e.journal;
   children = tend e.children;
   told = told_of e.rows;
 }
+
+-- when each of its recurring monitors is due
+abbrev pub due_in : {D : Type 0} → Sight D → Due
+due_in x = due_of x.monitors
 
 -- its journal, over a disk that is seen so, is settled at its state, or the disk is not honest
 abbrev pub IsOnJournal : {D : Type 0} → (D → View) → Sight D → Type 0

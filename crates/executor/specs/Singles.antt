@@ -32,7 +32,7 @@ use Rattle.exec_turn.specs.Polls.{IsPoll, ending, entries_of}
 use Rattle.exec_turn.specs.Starts.{refused_end}
 use Rattle.executor.specs.Replies.{acknowledged}
 use Rattle.executor.specs.Sessions.{Input}
-use Rattle.executor.specs.Sights.{Sight}
+use Rattle.executor.specs.Sights.{Sight, due_in}
 use Rattle.executor.specs.declared.session.InputOf.TheVariants as input
 
 -- the resource, if it is registered, when each of its monitors is due, by call, and numbers above all that were handed in
@@ -44,7 +44,7 @@ pub record Single : Type 0 where
 
 -- it as it stands in an executor
 abbrev pub single_of : {D : Type 0} → Sight D → List ℕ → Single
-single_of x id = record { resource = resource_at x.state id; due = x.due id; next_call = x.state.next_call; next_run = x.state.next_run }
+single_of x id = record { resource = resource_at x.state id; due = due_in x id; next_call = x.state.next_call; next_run = x.state.next_run }
 
 -- the resource after a change that names it
 abbrev pub single_changed : ℕ → Change → Option Resource → Option Resource

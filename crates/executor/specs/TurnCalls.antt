@@ -7,12 +7,12 @@ use Rattle.disk_model.specs.View.{View}
 use Rattle.child_keeper.specs.Children.{emptied, given_up}
 use Rattle.exec_turn.specs.Turn.{scene}
 use Rattle.exec_turn.specs.Turns.{Turns}
-use Rattle.executor.specs.Sights.{Sight}
+use Rattle.executor.specs.Sights.{Sight, due_in}
 
 -- An open executor makes a turn at this moment: from one sight of it to another.
 pub record TakesTurn {D : Type 0} (look : D → View) (now : ℕ) (old new : Sight D) (end : TurnEnd) : Type 0 where
   pub turns : Turns (look old.disk) (look new.disk)
-      (scene old.state old.due old.place (moment old.state now)) new.state new.due old.children new.children new.told end
+      (scene old.state (due_in old) old.place (moment old.state now)) new.state (due_in new) old.children new.children new.told end
   -- nothing is done just where the book takes less than three entries a resource
   pub full : (end ≡ BookFull) ↔ (old.children.room < 3 * length old.state.resources)
   pub unchanged : end ≡ BookFull → new ≡ record old { told = [] }

@@ -2,6 +2,7 @@
 #![tactic(auto)]
 
 mod commands;
+mod desk;
 mod executor;
 pub mod laws;
 mod opening;

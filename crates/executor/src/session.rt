@@ -2,7 +2,6 @@
 ghost use Rattle.std.specs.Prelude.{◌≡◌, ◌++◌, IfErr, OnOk, List};
 ghost use Rattle.ocf_types.specs.Kinds.{Reply};
 ghost use Rattle.executor.specs.Sessions.{Deeds, Sits, Takes};
-ghost use Rattle.executor.specs.Sights.{IsSound, sight_of};
 
 use crate::Executor;
 use child_keeper::Children;
@@ -26,9 +25,7 @@ pub type Input<A = Global> = InputOf<Params<A>>;
 impl<D: Disk + Drop, C: Children + Drop, A: Allocator + Copy> Executor<D, C, A> {
     // Takes one input.
     fn take(&mut self, input: Input<A>) -> Reply<A>
-        requires sound { IsSound D.view (sight_of C.view self.old) }
-        ensures sound { IsSound D.view (sight_of C.view self.new) }
-        ensures takes { (deeds : Deeds) × Takes D.view input (sight_of C.view self.old) (sight_of C.view self.new) result deeds }
+        ensures takes { (deeds : Deeds) × Takes D.view input self.old self.new result deeds }
     {
         match input {
             InputOf::Request { now, request } => self.command(now, request),
@@ -45,17 +42,16 @@ impl<D: Disk + Drop, C: Children + Drop, A: Allocator + Copy> Executor<D, C, A> 
         inputs: Vec<Input<A>, A>,
         replies: &mut Vec<Reply<A>, A>,
     ) -> Result<(), Vec<Input<A>, A>>
-        requires sound { IsSound D.view (sight_of C.view self.old) }
-        ensures sound { IsSound D.view (sight_of C.view self.new) }
         // each input was taken, in order and none left out, with one reply to each
         ensures sits { OnOk result
             ((given : List Reply) × (replies.new.items ≡ replies.old.items ++ given)
-            × Sits D.view inputs.items (sight_of C.view self.old) (sight_of C.view self.new) given) }
+            × Sits D.view inputs.items self.old self.new given) }
         // without memory for the replies nothing was done
         ensures refused { IfErr result
-            (λ back. (back ≡ inputs) × (sight_of C.view self.new ≡ sight_of C.view self.old) × (replies.new.items ≡ replies.old.items)) }
+            (λ back. (back ≡ inputs) × (self.new ≡ self.old) × (replies.new.items ≡ replies.old.items)) }
     {
         what_stands();
+        self.known();
         let Ok(()) = replies.try_reserve(inputs.len()) else {
             return Err(inputs);
         };

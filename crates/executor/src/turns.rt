@@ -1,6 +1,5 @@
 //! Turns, and what becomes of the children.
 ghost use Rattle.std.specs.Prelude.{◌≡◌};
-ghost use Rattle.executor.specs.Sights.{IsSound, sight_of};
 ghost use Rattle.executor.specs.TurnCalls.{TurnsWhile, abandoned, with_empty_book};
 
 use crate::Executor;
@@ -16,54 +15,51 @@ impl<D: Disk + Drop, C: Children + Drop, A: Allocator + Copy> Executor<D, C, A> 
     /// What ends is recorded before it is told, and what begins before it is started. A disk fault closes the executor. A
     /// closed one does nothing.
     pub fn turn(&mut self, now: u64) -> TurnEnd
-        requires sound { IsSound D.view (sight_of C.view self.old) }
-        ensures sound { IsSound D.view (sight_of C.view self.new) }
-        ensures turns { TurnsWhile (sight_of C.view self.old).is_open D.view now (sight_of C.view self.old)
-            (sight_of C.view self.new) result }
+        ensures turns { TurnsWhile self.old.is_open D.view now self.old self.new result }
     {
-        if !self.open {
+        if !self.desk.open {
             return TurnEnd::Closed;
         }
-        self.state.look();
+        self.desk.state.look();
         let end = take_turn(
-            &self.site,
-            &mut self.journal,
-            &mut self.state,
-            &mut self.children,
-            &mut self.rows,
+            &self.desk.site,
+            &mut self.desk.journal,
+            &mut self.desk.state,
+            &mut self.desk.children,
+            &mut self.desk.rows,
             now,
         );
-        self.open = end != TurnEnd::Disk;
+        self.desk.open = end != TurnEnd::Disk;
         end
     }
 
     /// The results that the last turn recorded, in their order.
     pub fn notices(&self) -> &[Notice]
-        ensures value { result.now ≡ (sight_of C.view self.now).told }
+        ensures value { result.now ≡ self.now.told }
     {
-        self.rows.notices()
+        self.desk.rows.notices()
     }
 
     /// The children's book: what each of them answered since it was emptied.
     pub fn book(&self) -> &[Entry]
-        ensures value { result.now ≡ (sight_of C.view self.now).children.book }
+        ensures value { result.now ≡ self.now.children.book }
     {
-        self.children.book()
+        self.desk.children.book()
     }
 
     /// Empties the children's book.
     pub fn clear_book(&mut self)
-        ensures cleared { sight_of C.view self.new ≡ with_empty_book (sight_of C.view self.old) }
+        ensures cleared { self.new ≡ with_empty_book self.old }
     {
-        self.children.clear_book();
+        self.desk.children.clear_book();
     }
 
     /// Kills and gives up every child. The executor is closed then: what runs is found as interrupted when the journal is
     /// opened again.
     pub fn abandon(&mut self)
-        ensures abandoned { sight_of C.view self.new ≡ abandoned (sight_of C.view self.old) }
+        ensures abandoned { self.new ≡ abandoned self.old }
     {
-        self.children.give_up_all();
-        self.open = false;
+        self.desk.children.give_up_all();
+        self.desk.open = false;
     }
 }

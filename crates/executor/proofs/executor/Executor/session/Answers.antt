@@ -3,9 +3,7 @@ use Rattle.std.proofs.lemmas.List.{append-nil, nil_from_length}
 use Rattle.std.specs.Vec.{vec_len}
 use Rattle.std.specs.Vec.Iter.{into_iter_items}
 use Rattle.ocf_types.specs.Kinds.{Reply}
-use Rattle.exec_journal.specs.Journal.{journal_disk}
 use Rattle.executor.specs.Sessions.{Input, Sits}
-use Rattle.executor.specs.Sights.{sight_of}
 use Rattle.executor.proofs.Journaling.{WhatStands}
 use Rattle.executor.proofs.SessionLemmas.{sits_more, sits_start}
 use Rattle.executor.proofs.executor.Executor.session.Goals as goal
@@ -21,18 +19,13 @@ loop-input-init g c =
       whole = all;
       count = c.into_iter-input-iterator.ensures.into_iter_gives.1 ∙ whole_len ∙ sym (ap length all);
       room = search rules;
-      sound = c.requires.sound;
       sits = (
         [],
         c.try_reserve.ensures.items
             ∙ sym (append-nil c.args.replies.now.items),
-        sits_start g.D.Disk.view law (sight_of g.C.Children.view x)
-            (g.met.D.Disk.lawful (journal_disk x.journal)) c.requires.sound,
+        sits_start g.D.Disk.view law x (g.met.D.Disk.lawful x.disk) c.known.ensures.sound,
       );
     }
-
-pub take-reply-requires : goal.take-reply-requires
-take-reply-requires g c = record { sound = c.loop-input.invariant.sound }
 
 pub push_reserved-requires : goal.push_reserved-requires
 push_reserved-requires g c =
@@ -43,7 +36,6 @@ push_reserved-requires g c =
 pub loop-input-preserved : goal.loop-input-preserved
 loop-input-preserved g c =
     let view = g.D.Disk.view in
-    let tend = g.C.Children.view in
     let was = c.loop-input.invariant in
     let before = c.loop-input.self in
     let steps = c.in-Some.ensures.steps in
@@ -64,19 +56,15 @@ loop-input-preserved g c =
           let len = c.push_reserved.ensures.len in
           let capacity = c.push_reserved.ensures.capacity in
           omega (arith, one, room, len, capacity);
-      sound = c.take-reply.ensures.sound;
       sits = (
         given ++ c.take-reply.result ∷ [],
         c.push_reserved.ensures.items ∙ ap (λ (l : List Reply). l ++ c.take-reply.result ∷ []) was.sits.1
             ∙ append_assoc c.args.replies.now.items given (c.take-reply.result ∷ []),
-        sits_more view (sight_of tend c.args.self.now) (sight_of tend before)
-            (sight_of tend c.take-reply.new.self) c.loop-input.yielded given c.in-Some.input c.take-reply.result taken.0
-            (g.met.D.Disk.lawful (journal_disk before.journal)) was.sits.2 taken.1,
+        sits_more view c.args.self.now before
+            c.take-reply.new.self c.loop-input.yielded given c.in-Some.input c.take-reply.result taken.0
+            (g.met.D.Disk.lawful before.disk) was.sits.2 taken.1,
       );
     }
-
-pub returns-clause-sound : goal.returns-clause-sound
-returns-clause-sound g c = c.loop-input.invariant.sound
 
 pub returns-clause-sits : goal.returns-clause-sits
 returns-clause-sits g c =
@@ -85,6 +73,6 @@ returns-clause-sits g c =
     let all = sym (append-nil c.loop-input.yielded) ∙ ap (λ (l : List Input). c.loop-input.yielded ++ l) (sym nothing) ∙ was.whole in (
       was.sits.0,
       was.sits.1,
-      subst (λ (l : List Input). Sits g.D.Disk.view l (sight_of g.C.Children.view c.args.self.now)
-          (sight_of g.C.Children.view c.loop-input.self) was.sits.0) all was.sits.2,
+      subst (λ (l : List Input). Sits g.D.Disk.view l c.args.self.now
+          c.loop-input.self was.sits.0) all was.sits.2,
     )

@@ -1,23 +1,24 @@
 use Rattle.std.proofs.Common.{subst, sym}
 use Rattle.ocf_types.specs.declared.reply.ReplyOf.TheVariants.{Turn}
 use Rattle.executor.specs.Sessions.{Deeds, Input, Takes}
-use Rattle.executor.specs.Sights.{sight_of}
 use Rattle.executor.specs.CallLaws.{request_taken, turn_taken}
 use Rattle.executor.proofs.executor.Executor.take.Goals as goal
 
-pub returns-in-Request-clause-takes : goal.returns-in-Request-clause-takes
-returns-in-Request-clause-takes g c =
-    let tend = g.C.Children.view in
-    let x = sight_of tend c.args.self.now in
-    let y = sight_of tend c.command.new.self in
-    subst (λ (i : Input). (d : Deeds) × Takes g.D.Disk.view i x y c.command.result d) (sym c.in-Request.is)
-    (request_taken x.is_open g.D.Disk.view c.in-Request.now c.in-Request.request x y c.command.result c.command.ensures.serves
-    c.command.ensures.closes)
+pub returns-in-Request : goal.returns-in-Request
+returns-in-Request g c =
+    let x = c.args.self.now in
+    let y = c.command.new.self in
+    record {
+      takes = subst (λ (i : Input). (d : Deeds) × Takes g.D.Disk.view i x y c.command.result d) (sym c.in-Request.is)
+          (request_taken x.is_open g.D.Disk.view c.in-Request.now c.in-Request.request x y c.command.result c.command.ensures.serves
+          c.command.ensures.closes);
+    }
 
-pub returns-in-Turn-clause-takes : goal.returns-in-Turn-clause-takes
-returns-in-Turn-clause-takes g c =
-    let tend = g.C.Children.view in
-    let x = sight_of tend c.args.self.now in
-    let y = sight_of tend c.turn.new.self in
-    subst (λ (i : Input). (d : Deeds) × Takes g.D.Disk.view i x y (Turn c.turn.result) d) (sym c.in-Turn.is)
-    (turn_taken x.is_open g.D.Disk.view c.in-Turn.now x y c.turn.result c.turn.ensures.turns)
+pub returns-in-Turn : goal.returns-in-Turn
+returns-in-Turn g c =
+    let x = c.args.self.now in
+    let y = c.turn.new.self in
+    record {
+      takes = subst (λ (i : Input). (d : Deeds) × Takes g.D.Disk.view i x y (Turn c.turn.result) d) (sym c.in-Turn.is)
+          (turn_taken x.is_open g.D.Disk.view c.in-Turn.now x y c.turn.result c.turn.ensures.turns);
+    }

@@ -1,5 +1,5 @@
 use Rattle.std.proofs.Common.{inl, inr, refl, arith}
-use Rattle.executor.proofs.executor.Executor.over.Goals as goal
+use Rattle.executor.proofs.desk.Desk.over.Goals as goal
 
 pub returns-then-last_run-get-clause-refused : goal.returns-then-last_run-get-clause-refused
 returns-then-last_run-get-clause-refused g c =

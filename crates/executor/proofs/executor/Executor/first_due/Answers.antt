@@ -1,0 +1,10 @@
+use Rattle.std.proofs.Common.{subst}
+use Rattle.exec_state.specs.Store.{all_pairs}
+use Rattle.executor.specs.Sights.{Sight}
+use Rattle.recurring.specs.Monitors.{IsFirstMoment}
+use Rattle.executor.proofs.executor.Executor.first_due.Goals as goal
+
+pub returns : goal.returns
+returns g c = record {
+  first = subst (λ (x : Sight _). IsFirstMoment (all_pairs x.monitors) c.first_due.result) c.self.view_is c.first_due.ensures;
+}
