@@ -24,3 +24,8 @@ pub mod RowLists
 pub mod RowRecords
 pub mod RowGrowing
 pub mod RowGathers
+pub mod HistoryLemmas
+pub mod HistoryRuns
+pub mod HistoryTold
+pub mod HistoryOrder
+pub mod HistoryExamples

@@ -13,3 +13,4 @@ pub mod Lives
 pub mod Rows
 pub mod RowSteps
 pub mod CallLaws
+pub mod Histories

@@ -4,6 +4,7 @@
 mod commands;
 mod desk;
 mod executor;
+pub mod histories;
 pub mod laws;
 mod opening;
 mod report;

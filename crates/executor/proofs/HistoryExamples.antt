@@ -1,0 +1,47 @@
+-- What is asked of a list of events, computed of lists that break it.
+use Rattle.std.proofs.Common.{◌≡◌, ℕ, Bool, true, false, List, [], ◌∷◌, filter, length, inl, inr, refl, arith}
+use Rattle.std.specs.Prelude.{codes}
+use Rattle.ocf_types.specs.Kinds.{Event}
+use Rattle.ocf_types.specs.State.{empty}
+use Rattle.ocf_types.specs.declared.action.Task.TheVariants as task
+use Rattle.ocf_types.specs.declared.outcome.RunEnd.TheVariants.{Done}
+use Rattle.ocf_types.specs.declared.event.Change.TheVariants as change
+use Rattle.ocf_types.specs.declared.event.Step.TheVariants as step
+use Rattle.executor.specs.Histories.{BeginInOrder, EndsBetween, Follow, RunsAscend, has_end, interruptions, is_of}
+
+abbrev r1 : List ℕ
+r1 = codes "r1"
+
+abbrev registered : Event
+registered = record { at = 0; change = change.Register (record { id = r1; provider = codes "pacemaker"; agent = codes "Dummy"; params = [] }) }
+
+abbrev asked : ℕ → Event
+asked call = record { at = 0; change = change.Step r1 (step.Exec (record { call = call; task = task.Start; timeout = 20000 })) }
+
+abbrev begins : ℕ → ℕ → Event
+begins call run = record { at = 10; change = change.Step r1 (step.Begin call run) }
+
+abbrev ended : ℕ → Event
+ended run = record { at = 20; change = change.Step r1 (step.Result run (Done 0)) }
+
+abbrev boot : Event
+boot = record { at = 30; change = change.Boot }
+
+-- a start that is begun twice under one run number
+double_start : RunsAscend empty (registered ∷ asked 1 ∷ begins 1 1 ∷ begins 1 1 ∷ []) → ⊥
+double_start h = let less = h.1.0.0 in omega (arith, less)
+
+-- two starts at once, each under a run number of its own
+two_at_once : EndsBetween (registered ∷ asked 1 ∷ asked 2 ∷ begins 1 1 ∷ begins 2 2 ∷ []) → ⊥
+two_at_once h =
+    let bad : false ≡ true = h (registered ∷ asked 1 ∷ asked 2 ∷ []) [] [] (begins 1 1) (begins 2 2) r1 1 1 2 2 refl refl refl in cc
+
+-- the second action before the first
+overtaken : BeginInOrder empty r1 (registered ∷ asked 1 ∷ asked 2 ∷ begins 2 1 ∷ ended 1 ∷ begins 1 2 ∷ []) → ⊥
+overtaken (inl h) = let same = h.0 in omega (arith, same)
+overtaken (inr (inl h)) = h.1
+overtaken (inr (inr h)) = h
+
+-- a stop while the first runs: the boot tells it, and what is asked and begun behind the boot is told by none
+told : length (filter (is_of r1 1) (interruptions empty (registered ∷ asked 1 ∷ begins 1 1 ∷ boot ∷ asked 2 ∷ begins 2 2 ∷ []))) ≡ 1
+told = refl

@@ -1,0 +1,5 @@
+use Rattle.executor.proofs.HistoryRuns.{ends_between}
+use Rattle.executor.proofs.histories.ends_between.Goals as goal
+
+pub returns : goal.returns
+returns c = ends_between

@@ -1,0 +1,5 @@
+use Rattle.executor.proofs.HistoryTold.{interrupted_once}
+use Rattle.executor.proofs.histories.interrupted_once.Goals as goal
+
+pub returns : goal.returns
+returns c = interrupted_once

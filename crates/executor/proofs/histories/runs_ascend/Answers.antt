@@ -1,0 +1,5 @@
+use Rattle.executor.proofs.HistoryLemmas.{runs_ascend}
+use Rattle.executor.proofs.histories.runs_ascend.Goals as goal
+
+pub returns : goal.returns
+returns c = runs_ascend

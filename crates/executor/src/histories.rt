@@ -1,0 +1,28 @@
+//! Laws of all lists of events that apply one behind the other, each the contract of a function that does nothing: what an
+//! administrator asks of what stands of an executor's life.
+ghost use Rattle.std.specs.Prelude.{ℕ, List};
+ghost use Rattle.ocf_types.specs.Kinds.{Event};
+ghost use Rattle.ocf_types.specs.LawfulState.{IsLawfulState};
+ghost use Rattle.ocf_types.specs.State.{State};
+ghost use Rattle.executor.specs.Histories.{BeginInOrder, EndsBetween, Follow, InterruptedOnce, RunsAscend};
+
+/// No run number is begun twice: each is above all that began before it, also behind an opening.
+pub fn runs_ascend()
+    ensures { (s : State) (es : List Event) → Follow s es → RunsAscend s es }
+{}
+
+/// Between two begins of a resource the first one's run ends: its result stands, or a boot, which tells it as interrupted.
+pub fn ends_between()
+    ensures { (s : State) (es : List Event) → Follow s es → EndsBetween es }
+{}
+
+/// A run that has no end before a boot is told as interrupted by that boot, once and with its call, and by no other boot.
+pub fn interrupted_once()
+    ensures { (s : State) (es : List Event) → IsLawfulState s → Follow s es → InterruptedOnce s es }
+{}
+
+/// The actions that a resource begins, its monitors' aside, are of those that were queued, in the order of their calls and
+/// each once.
+pub fn begin_in_order()
+    ensures { (s : State) (es : List Event) (id : List ℕ) → Follow s es → BeginInOrder s id es }
+{}
