@@ -13,11 +13,14 @@ use Rattle.ocf_types.specs.State.{State, after_all, named, resource_at}
 use Rattle.ocf_types.specs.declared.command.Question.{Question}
 use Rattle.ocf_types.specs.declared.command.RequestOf.TheVariants as asked
 use Rattle.ocf_types.specs.declared.reply.TurnEnd.TheVariants as turn_end
-use Rattle.ocf_types.specs.Laws.{each_weaken}
+use Rattle.ocf_types.specs.Laws.{after_all-append, each_weaken}
 use Rattle.disk_model.specs.View.{View}
 use Rattle.child_keeper.specs.declared.answer.Entry.{Entry}
 use Rattle.exec_state.specs.Answers.{IsReplyOrMemory}
 use Rattle.exec_turn.specs.Actives.{active}
+use Rattle.exec_turn.specs.Laws.{due_after_all-append}
+use Rattle.exec_turn.specs.Turn.{due_after_all}
+use Rattle.executor.specs.Joins.{StandsAt}
 use Rattle.executor.specs.Parts.{Apart, AreRising, IsPlain, commanded, concerns, entries_of_runs, events_of, inputs_at, is_about, own_runs, part}
 use Rattle.executor.specs.RowCalls.{Answered, row_deeds}
 use Rattle.executor.specs.Sessions.{Deeds, Input, Session, TakesWhile, closed_reply, no_deeds}
@@ -196,6 +199,29 @@ module _ {D : Type 0} (look : D → View) (mine : ℕ → Bool) (id : List ℕ) 
       subst (λ (k : Deeds). AreFresh x.state k.events) (sym all)
       (fresh-append x.state first.events later.events did.next (subst (λ (s : State). AreFresh s later.events) did.state later_fresh))
 
+  -- what a session leaves
+  session_ends : (from : ℕ) (x z : Sight D) (is : List Input) (rs : List Reply) (d : Deeds) → x.state.clock ≤ from → AreRising from is
+      → AllByRecursion (λ p. IsPlain p.1) (part id is rs) → Session look x is rs z d
+      → (z.state ≡ after_all x.state d.events) × (z.due ≡ due_after_all x.state x.due d.events)
+  session_ends from x z [] [] d clock rises plain session = (
+    ap (λ (w : Sight D). w.state) session.0 ∙ ap (λ (k : Deeds). after_all x.state k.events) (sym session.1),
+    ap (λ (w : Sight D). w.due) session.0 ∙ ap (λ (k : Deeds). due_after_all x.state x.due k.events) (sym session.1),
+  )
+  session_ends from x z [] (r ∷ rs) d clock rises plain session = absurd session
+  session_ends from x z (i ∷ is) [] d clock rises plain session = absurd session
+  session_ends from x z (i ∷ is) (r ∷ rs) d clock rises plain (mid, first, later, takes, rest, all) =
+      let later_from = rising from i is rises in
+      let plain2 = plain_parts id i r (part id is rs) plain in
+      let did = does x.is_open i x mid r first (le_trans clock later_from.0) plain2.0 takes in
+      let ends = session_ends (cut (moment_of i)) mid z is rs later did.clock later_from.1 plain2.1 rest in (
+        ends.0 ∙ ap (λ (s : State). after_all s later.events) did.state ∙ sym (after_all-append x.state first.events later.events)
+            ∙ ap (λ (k : Deeds). after_all x.state k.events) (sym all),
+        ends.1 ∙ ap (λ (u : Due). due_after_all mid.state u later.events) did.due
+            ∙ ap (λ (s : State). due_after_all s (due_after_all x.state x.due first.events) later.events) did.state
+            ∙ sym (due_after_all-append x.state x.due first.events later.events)
+            ∙ ap (λ (k : Deeds). due_after_all x.state x.due k.events) (sym all),
+      )
+
   -- commands in a row at one moment
   alone_row : (now : ℕ) (y : Single) (x : Seen) (cs : List Command) (rs : List Reply) (es : List Event) → x.state.clock ≤ cut now
       → AllByRecursion (λ p. IsPlain p.1) (part id (inputs_at now cs) rs) → Stands y x.state x.due id → Answered now x.state cs rs es
@@ -240,3 +266,16 @@ each_alone look x z inputs replies d id apart session plain rises =
     let own = runs_own id x.state d.events apart fresh in
     alone look mine id x.state.clock (single_of x id) x z inputs replies d
     (le_refl x.state.clock) rises plain (here x id) apart.ids own.0 own.1 session
+
+-- and it stands where the session ends
+pub alone_ends : {D : Type 0} (look : D → View) (x z : Sight D) (inputs : List Input) (replies : List Reply) (d : Deeds) (id : List ℕ)
+    → Session look x inputs replies z d → AllByRecursion (λ p. IsPlain p.1) (part id inputs replies) → AreRising x.state.clock inputs
+    → StandsAt (single_after_all (single_of x id) (events_of id d.events)) (single_of z id)
+alone_ends look x z inputs replies d id session plain rises =
+    let fresh = session_fresh look (λ run. false) id x.state.clock x z inputs replies d (le_refl x.state.clock) rises plain session in
+    let ends = session_ends look (λ run. false) id x.state.clock x z inputs replies d (le_refl x.state.clock) rises plain session in
+    let there : Stands (single_after_all (single_of x id) (events_of id d.events)) z.state z.due id =
+    subst (λ (s : State). Stands (single_after_all (single_of x id) (events_of id d.events)) s z.due id) (sym ends.0)
+    (subst (λ (u : Due). Stands (single_after_all (single_of x id) (events_of id d.events)) (after_all x.state d.events) u id) (sym ends.1)
+    (stands_all (single_of x id) x.state x.due id d.events (here x id) fresh)) in
+    record { resource = there.resource; due = there.due; calls = there.calls; runs = there.runs }

@@ -29,3 +29,6 @@ pub mod HistoryRuns
 pub mod HistoryTold
 pub mod HistoryOrder
 pub mod HistoryExamples
+pub mod SessionCalls
+pub mod MachineCalls
+pub mod MachineLives

@@ -30,7 +30,7 @@ abbrev pub OneFinding : Type 0
 OneFinding = (c : Image) (f g : Finding) → IsFound c f → IsFound c g → f ≡ g
 
 -- the state after the boot that is needed, if one is
-boots_is : (s : State) (now : ℕ) → after_all s (boots s now) ≡ booted s now
+pub boots_is : (s : State) (now : ℕ) → after_all s (boots s now) ≡ booted s now
 boots_is s now = by (any_busy s)
   where
     at : ℕ
@@ -56,11 +56,11 @@ module _ (law : WhatStands) where
 
 module _ {D : Type 0} (look : D → View) (law : WhatStands) (once : OneFinding) (lawful : (d : D) → (look d).honest → Lawful (look d))
     (start : State) where
-  one_state : (s t : State) (c : Image) → FoundAs s c → FoundAs t c → s ≡ t
+  pub one_state : (s t : State) (c : Image) → FoundAs s c → FoundAs t c → s ≡ t
   one_state s t c here there = same_whole s t (once c (Whole s) (Whole t) here there)
 
   -- the state behind some events and the boot that it needs
-  behind_boots : (ys : List Event) (s : State) (now : ℕ) → s ≡ after_all start ys
+  pub behind_boots : (ys : List Event) (s : State) (now : ℕ) → s ≡ after_all start ys
       → after_all start (ys ++ boots (after_all start ys) now) ≡ booted s now
   behind_boots ys s now same =
       after_all-append start ys (boots (after_all start ys) now) ∙ boots_is (after_all start ys) now

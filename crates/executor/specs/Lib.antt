@@ -14,3 +14,6 @@ pub mod Rows
 pub mod RowSteps
 pub mod CallLaws
 pub mod Histories
+pub mod Joins
+pub mod Machine
+pub mod SeenLives

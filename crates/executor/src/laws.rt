@@ -11,13 +11,14 @@ ghost use Rattle.child_keeper.specs.Children.{ChildrenView};
 ghost use Rattle.exec_journal.specs.Found.{FoundAs, IsFirstPart, IsFreshPair};
 ghost use Rattle.exec_journal.specs.Room.{Roomy};
 ghost use Rattle.exec_turn.specs.Lives.{Tends};
-ghost use Rattle.executor.specs.Lives.{BeginsAs, GoesOnFrom, InOpening, IsLife, LifeLeaves, Lived, OpensBehind, Sat, Sitting};
+ghost use Rattle.executor.specs.Joins.{StandsAt, as_calls};
+ghost use Rattle.executor.specs.Lives.{BeginsAs, Calls, GoesOnFrom, InOpening, IsLife, LifeLeaves, Lived, OpensBehind, Sat, Sitting};
 ghost use Rattle.executor.specs.Openings.{NotOpened, Opened};
 ghost use Rattle.executor.specs.Parts.{Apart, AreRising, IsPlain, entries_of_runs, events_of, inputs_at, own_runs, part};
 ghost use Rattle.executor.specs.RowCalls.{Answered};
 ghost use Rattle.executor.specs.Sessions.{Deeds, Input, Session};
 ghost use Rattle.executor.specs.Sights.{Sight};
-ghost use Rattle.executor.specs.Singles.{Alone, cut, single_of};
+ghost use Rattle.executor.specs.Singles.{Alone, cut, single_after_all, single_of};
 ghost use Rattle.executor.specs.declared.opening.OpenError.{OpenError};
 ghost use Rattle.executor.specs.declared.opening.OpenError.TheVariants as why;
 
@@ -35,10 +36,20 @@ pub fn each_alone<D: Disk>()
         → AreRising x.state.clock inputs
         → Alone id (single_of x id) (part id inputs replies) (entries_of_runs (own_runs id x.state d.events) d.entries)
         (events_of id d.events) }
+    // it stands then where the session ends, so that a resource's parts of two sessions are one run
+    ensures ends { (x z : Sight D) (inputs : List Input) (replies : List Reply) (d : Deeds) (id : List ℕ)
+        → Session D.view x inputs replies z d → AllByRecursion (λ p. IsPlain p.1) (part id inputs replies) → AreRising x.state.clock inputs
+        → StandsAt (single_after_all (single_of x id) (events_of id d.events)) (single_of z id) }
     // and so of commands in a row
     ensures row { (now : ℕ) (x : Sight D) (commands : List Command) (replies : List Reply) (es : List Event) (id : List ℕ)
         → Answered now x.state commands replies es → AllByRecursion (λ p. IsPlain p.1) (part id (inputs_at now commands) replies)
         → x.state.clock ≤ cut now → Alone id (single_of x id) (part id (inputs_at now commands) replies) [] (events_of id es) }
+{}
+
+/// A session is the calls of its inputs.
+pub fn session_is_calls<D: Disk>()
+    ensures { (x z : Sight D) (inputs : List Input) (replies : List Reply) (d : Deeds) → Session D.view x inputs replies z d
+        → Calls D.view x (as_calls inputs replies) z d }
 {}
 
 /// A state is apart that is lawful and whose running actions each have an agent of their own: so is each state of an open

@@ -6,6 +6,7 @@ mod desk;
 mod executor;
 pub mod histories;
 pub mod laws;
+pub mod machine;
 mod opening;
 mod report;
 mod session;

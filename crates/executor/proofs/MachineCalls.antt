@@ -1,0 +1,313 @@
+-- Each call of an executor is a step of the machine.
+use Rattle.std.proofs.Common.{◌≡◌, ◌≢◌, ◌⊎◌, inl, inr, ◌+◌, ◌≤◌, ℕ, Bool, true, false, List, [], ◌∷◌, ◌++◌, length, map, Result, Ok, Err, refl, sym, ap, subst, ◌∙◌}
+use Rattle.std.proofs.lemmas.Bool.{false≢true}
+use Rattle.std.proofs.lemmas.List.{append-nil}
+use Rattle.ocf_types.specs.Answer.{event_of, moment}
+use Rattle.ocf_types.specs.Due.{Due, due_after}
+use Rattle.ocf_types.specs.Kinds.{Change, Command, Event, Reply}
+use Rattle.ocf_types.specs.Limits.{num_max}
+use Rattle.ocf_types.specs.State.{State, after_all}
+use Rattle.ocf_types.specs.declared.command.Question.{Question}
+use Rattle.ocf_types.specs.declared.command.RequestOf.TheVariants as asked
+use Rattle.ocf_types.specs.declared.event.Change.TheVariants as change
+use Rattle.ocf_types.specs.declared.event.Step.TheVariants as step
+use Rattle.ocf_types.specs.declared.refusal.Refusal.{Refusal}
+use Rattle.ocf_types.specs.declared.refusal.Refusal.TheVariants.{Disk, JournalFull, Memory}
+use Rattle.ocf_types.specs.declared.reply.Notice.{Notice}
+use Rattle.ocf_types.specs.declared.reply.ReplyOf.TheVariants.{Refused, Done, Accepted}
+use Rattle.ocf_types.specs.declared.reply.TidyEnd.{TidyEnd}
+use Rattle.ocf_types.specs.declared.reply.TidyEnd.TheVariants as tidy
+use Rattle.ocf_types.specs.declared.reply.TurnEnd.{TurnEnd}
+use Rattle.ocf_types.specs.declared.reply.TurnEnd.TheVariants as turn_end
+use Rattle.disk_model.specs.View.{View}
+use Rattle.child_keeper.specs.declared.answer.Entry.{Entry}
+use Rattle.exec_turn.specs.Actives.{Active}
+use Rattle.exec_turn.specs.Picks.{ArePicks, begins}
+use Rattle.exec_turn.specs.Polls.{results}
+use Rattle.exec_turn.specs.Starts.{refusals}
+use Rattle.exec_turn.specs.Turn.{IsTurn, PickedAt, behind, Scene, Whole, due_after_all, scene}
+use Rattle.executor.specs.Commands.{Obeys, Records}
+use Rattle.executor.specs.Lives.{Abandoned, Calls, Cleared, Does, Exchange, Row, Tidied, Took}
+use Rattle.executor.specs.Machine.{AnswersClosed, Fails, GoesOn, Left, Machine, MovesAll, MovesOpen, MovesWhile, TakesAll, TakesOne, TurnAt, TurnEnds, TurnsAll, and_then}
+use Rattle.executor.specs.Replies.{acknowledged, due_left, pending, recorded}
+use Rattle.executor.specs.RowCalls.{Adds, Answered, TakesRow, failed, moved, row_deeds, row_replies}
+use Rattle.executor.specs.Sessions.{Deeds, Input, TakesATurn, TakesRequest, TakesWhile, both, command_deeds, no_deeds}
+use Rattle.executor.specs.Sights.{Sight}
+use Rattle.executor.specs.TidyCalls.{Tidies, TidiesWhile}
+use Rattle.executor.specs.declared.session.InputOf.TheVariants as input
+
+-- an executor as the machine, and what its calls left
+abbrev pub machine_of : {D : Type 0} → Sight D → Machine
+machine_of x = record { is_open = x.is_open; state = x.state; due = x.due; told = x.told }
+
+abbrev pub left_of : Deeds → Left
+left_of d = record { events = d.events; pending = d.pending }
+
+pub same_machine : (m n : Machine) → m.is_open ≡ n.is_open → m.state ≡ n.state → m.due ≡ n.due → m.told ≡ n.told → m ≡ n
+same_machine m n o s d t = λ k. record { is_open = o k; state = s k; due = d k; told = t k }
+
+same_left : (a b : Left) → a.events ≡ b.events → a.pending ≡ b.pending → a ≡ b
+same_left a b e p = λ k. record { events = e k; pending = p k }
+
+is_true : (o : Bool) → (o ≡ false → ⊥) → o ≡ true
+is_true true h = refl
+is_true false h = absurd (h refl)
+
+-- what is acknowledged is no refusal, and is recorded
+not_refused : (c : Change) (refusal : Refusal) → acknowledged c ≡ Refused refusal → ⊥
+not_refused (change.Step id (step.Exec o)) refusal is = cc
+not_refused (change.Step id (step.Recur m)) refusal is = cc
+not_refused _ refusal is = cc
+
+-- what of it is recorded, pending, and answered where the disk fails
+abbrev Acknowledged : State → Due → Event → Change → Type 0
+Acknowledged s due e c = (recorded e (acknowledged c) ≡ e ∷ []) × (pending e (acknowledged c) ≡ [])
+    × (due_left s e (acknowledged c) due ≡ due_after s due e) × (failed (acknowledged c ∷ []) ≡ Refused Disk ∷ [])
+
+is_acknowledged : (s : State) (due : Due) (e : Event) (c : Change) → Acknowledged s due e c
+is_acknowledged s due e (change.Step id (step.Exec o)) = (refl, refl, refl, refl)
+is_acknowledged s due e (change.Step id (step.Recur m)) = (refl, refl, refl, refl)
+is_acknowledged s due e _ = (refl, refl, refl, refl)
+
+-- one answer, and the events of one command
+answers : (s : State) (now : ℕ) (c : Command) (r : Reply) (es : List Event) (v : Result Event Refusal) → event_of s now c ≡ v → Adds v r es
+    → Answered now s (c ∷ []) (r ∷ []) es
+answers s now c r es v is adds = (es, [], subst (λ (w : Result Event Refusal). Adds w r es) (sym is) adds, refl, sym (append-nil es))
+
+-- what is begun at a scene, and what is left out
+picks_so : (end : TurnEnd) (x : Scene) (bs : List Active) → PickedAt end x bs
+    → (out : List Active) × ArePicks x.due x.at x.state.next_run x.state.resources (bs ++ out) × (x.state.next_run + length bs ≤ num_max)
+    × (end ≡ turn_end.Done → out ≡ [])
+picks_so turn_end.Done x bs p =
+    ([], subst (ArePicks x.due x.at x.state.next_run x.state.resources) (sym (append-nil bs)) p.0, p.1.runs, λ is. refl)
+picks_so turn_end.RunsSpent x bs p = (p.0.next ∷ p.0.later, p.0.picks, p.1.runs, λ is. absurd (cc))
+picks_so turn_end.Full x bs p = (p.0.next ∷ p.0.later, p.0.picks, p.1.runs, λ is. absurd (cc))
+picks_so turn_end.Memory x bs p = (p.0.next ∷ p.0.later, p.0.picks, p.1.runs, λ is. absurd (cc))
+picks_so turn_end.Closed x bs p = absurd p.0
+picks_so turn_end.BookFull x bs p = absurd p.0
+picks_so turn_end.Disk x bs p = absurd p.0
+
+module _ {D : Type 0} (look : D → View) where
+  still : (x y : Sight D) (d : Deeds) → y ≡ x → d ≡ no_deeds → GoesOn [] (machine_of x) (machine_of y) (left_of d)
+  still x y d same none = (ap machine_of same, ap left_of none)
+
+  -- a command
+  records : (now : ℕ) (c : Command) (x y : Sight D) (reply : Reply) (e : Event) → event_of x.state now c ≡ Ok e → Records look e x y reply
+      → x.is_open ≡ true → (y.is_open ≡ false → reply ≡ Refused Disk) → (reply ≡ Refused Disk → y.is_open ≡ false)
+      → TakesOne now c reply (machine_of x) (machine_of y) (left_of (command_deeds (Ok e) reply))
+  records now c x y reply e is r was closes closed = by r.told
+    where
+      so : Acknowledged x.state x.due e e.change
+      so = is_acknowledged x.state x.due e e.change
+
+      by : (reply ≡ acknowledged e.change) ⊎ ((reply ≡ Refused JournalFull) ⊎ ((reply ≡ Refused Memory) ⊎ (reply ≡ Refused Disk)))
+          → TakesOne now c reply (machine_of x) (machine_of y) (left_of (command_deeds (Ok e) reply))
+      by (inl told) =
+          let row : recorded e reply ≡ e ∷ [] = ap (recorded e) told ∙ so.0 in
+          let open_still : y.is_open ≡ true = is_true y.is_open (λ bad. not_refused e.change Disk (sym told ∙ closes bad)) in
+          inl (
+            reply ∷ [],
+            e ∷ [],
+            answers x.state now c reply (e ∷ []) (Ok e) is (inl (told, refl)),
+            inl (
+              refl,
+              (
+                same_machine (machine_of y) _ (open_still ∙ sym was) (r.leaves.state ∙ ap (after_all x.state) row)
+                    (r.due ∙ ap (λ (a : Reply). due_left x.state e a x.due) told ∙ so.2) r.told_still,
+                same_left _ _ row (ap (pending e) told ∙ so.1),
+              ),
+            ),
+          )
+      by (inr (inl full)) =
+          inr (e, is, full, (ap machine_of (r.unchanged (inl full)), same_left _ _ (ap (recorded e) full) (ap (pending e) full)))
+      by (inr (inr (inl memory))) =
+          inl (
+            reply ∷ [],
+            [],
+            answers x.state now c reply [] (Ok e) is (inr (memory, r.memory memory, refl)),
+            inl (
+              refl,
+              (ap machine_of (r.unchanged (inr memory)), same_left _ _ (ap (recorded e) memory) (ap (pending e) memory)),
+            ),
+          )
+      by (inr (inr (inr disk))) =
+          inl (
+            acknowledged e.change ∷ [],
+            e ∷ [],
+            answers x.state now c (acknowledged e.change) (e ∷ []) (Ok e) is (inl (refl, refl)),
+            inr (
+              ap (λ (a : Reply). a ∷ []) disk ∙ sym so.3,
+              (closed disk, same_left _ _ (ap (recorded e) disk) (ap (pending e) disk)),
+            ),
+          )
+
+  one_command : (now : ℕ) (c : Command) (x y : Sight D) (reply : Reply) (d : Deeds) → TakesRequest look now (asked.Command c) x y reply d
+      → x.is_open ≡ true → TakesOne now c reply (machine_of x) (machine_of y) (left_of d)
+  one_command now c x y reply d takes was =
+      subst (λ (k : Deeds). TakesOne now c reply (machine_of x) (machine_of y) (left_of k)) (sym takes.does)
+      (by (event_of x.state now c) refl takes.serves)
+    where
+      by : (v : Result Event Refusal) → event_of x.state now c ≡ v → Obeys look v x y reply
+          → TakesOne now c reply (machine_of x) (machine_of y) (left_of (command_deeds v reply))
+      by (Err refusal) is serves =
+          inl (reply ∷ [], [], answers x.state now c reply [] (Err refusal) is (serves.0, refl), inl (refl, still x y no_deeds serves.1 refl))
+      by (Ok e) is serves = records now c x y reply e is serves was takes.closes.0 takes.closes.1
+
+  -- commands in a row
+  row_so : (o : Bool) (now : ℕ) (cs : List Command) (rs : List Reply) (x y : Sight D) (d : Deeds) (t : TakesRow look now cs x y rs d)
+      → y.is_open ≡ o → TakesAll now cs (row_replies o t.meant) (machine_of x) (machine_of y) (left_of (row_deeds o t.events))
+  row_so true now cs rs x y d t is = (
+    t.meant,
+    t.events,
+    t.answered,
+    inl (
+      refl,
+      (
+        same_machine (machine_of y) _ (is ∙ sym t.was_open) (ap (λ (z : Sight D). z.state) t.records.same)
+            (ap (λ (z : Sight D). z.due) t.records.same) (ap (λ (z : Sight D). z.told) t.records.same),
+        refl,
+      ),
+    ),
+  )
+  row_so false now cs rs x y d t is = (t.meant, t.events, t.answered, inr (refl, (is, refl)))
+
+  one_row : (now : ℕ) (cs : List Command) (rs : List Reply) (x y : Sight D) (d : Deeds) → TakesRow look now cs x y rs d
+      → TakesAll now cs rs (machine_of x) (machine_of y) (left_of d)
+  one_row now cs rs x y d t =
+      subst (λ (l : List Reply). TakesAll now cs l (machine_of x) (machine_of y) (left_of d)) (sym t.told)
+      (subst (λ (k : Deeds). TakesAll now cs (row_replies y.is_open t.meant) (machine_of x) (machine_of y) (left_of k)) (sym t.does)
+      (row_so y.is_open now cs rs x y d t refl))
+
+  -- a turn
+  module _ (now : ℕ) (x y : Sight D) (entries : List Entry) (events pending : List Event) (state_is : y.state ≡ after_all x.state events)
+      (due_is : y.due ≡ due_after_all x.state x.due events) (was : x.is_open ≡ true) where
+    abbrev here : Scene
+    here = scene x.state x.due x.place (moment x.state now)
+
+    abbrev left : Left
+    left = record { events = events; pending = pending }
+
+    whole_turn : (end : TurnEnd) → y.is_open ≡ true → Whole end here entries events pending y.told
+        → TurnsAll end (moment x.state now) (machine_of x) (machine_of y) left
+    whole_turn end open_still (t, entries_are, events_are, none, told_is) =
+        let p = picks_so end (behind here (results here.at t.polled)) t.begun t.picked in (
+          record {
+            polled = t.polled;
+            begun = t.begun;
+            left_out = p.0;
+            started = t.started;
+            polls = t.each_polled.each;
+            begins_next = (p.1, p.2);
+            starts = t.each_started;
+          },
+          p.3,
+          (
+            same_machine (machine_of y) _ (open_still ∙ sym was) (state_is ∙ ap (after_all x.state) events_are)
+                (due_is ∙ ap (due_after_all x.state x.due) events_are) told_is,
+            same_left left _ events_are none,
+          ),
+        )
+
+    turn_so : (end : TurnEnd) → (y.is_open ≡ false → end ≡ turn_end.Disk) → (end ≡ turn_end.Disk → y.is_open ≡ false)
+        → IsTurn end here entries events pending y.told → TurnEnds end (moment x.state now) (machine_of x) (machine_of y) left
+    turn_so turn_end.Closed closes closed does = does
+    turn_so turn_end.BookFull closes closed does = (
+      same_machine (machine_of y) _ (is_true y.is_open (λ bad. let no : turn_end.BookFull ≡ turn_end.Disk = closes bad in cc) ∙ sym was)
+          (state_is ∙ ap (after_all x.state) does.1) (due_is ∙ ap (due_after_all x.state x.due) does.1) does.3,
+      same_left left _ does.1 does.2,
+    )
+    turn_so turn_end.Done closes closed does =
+        whole_turn turn_end.Done (is_true y.is_open (λ bad. let no : turn_end.Done ≡ turn_end.Disk = closes bad in cc)) does
+    turn_so turn_end.RunsSpent closes closed does =
+        whole_turn turn_end.RunsSpent (is_true y.is_open (λ bad. let no : turn_end.RunsSpent ≡ turn_end.Disk = closes bad in cc)) does
+    turn_so turn_end.Full closes closed does =
+        whole_turn turn_end.Full (is_true y.is_open (λ bad. let no : turn_end.Full ≡ turn_end.Disk = closes bad in cc)) does
+    turn_so turn_end.Memory closes closed does =
+        whole_turn turn_end.Memory (is_true y.is_open (λ bad. let no : turn_end.Memory ≡ turn_end.Disk = closes bad in cc)) does
+    turn_so turn_end.Disk closes closed (inl (ps, each, entries_are, events_are, pending_is, told_is)) =
+        (closed refl, inl (ps, each.each, same_left left _ events_are pending_is))
+    turn_so turn_end.Disk closes closed (inr (inl (ps, end, bs, each, picked, entries_are, events_are, pending_is, told_is))) =
+        let p = picks_so end (behind here (results here.at ps)) bs picked in
+        (closed refl, inr (inl (ps, bs, p.0, each.each, (p.1, p.2), same_left left _ events_are pending_is)))
+    turn_so turn_end.Disk closes closed (inr (inr (end, t, entries_are, events_are, pending_is, told_is))) =
+        let p = picks_so end (behind here (results here.at t.polled)) t.begun t.picked in (
+          closed refl,
+          inr (inr (
+            record {
+              polled = t.polled;
+              begun = t.begun;
+              left_out = p.0;
+              started = t.started;
+              polls = t.each_polled.each;
+              begins_next = (p.1, p.2);
+              starts = t.each_started;
+            },
+            same_left left _ events_are pending_is,
+          )),
+        )
+
+  one_turn : (now : ℕ) (x y : Sight D) (reply : Reply) (d : Deeds) → TakesATurn look now x y reply d → x.is_open ≡ true
+      → MovesOpen (Took (input.Turn now) reply) (machine_of x) (machine_of y) (left_of d)
+  one_turn now x y reply d takes was =
+      let turns = takes.takes.turns in (
+        takes.end,
+        takes.replies,
+        subst (λ (k : Deeds). TurnEnds takes.end (moment x.state now) (machine_of x) (machine_of y) (left_of k)) (sym takes.does)
+            (turn_so now x y turns.entries turns.events turns.pending turns.leaves.state turns.due_is was takes.end takes.takes.closes.0
+            takes.takes.closes.1 turns.does),
+      )
+
+  -- a tidy
+  one_tidy : (o : Bool) (end : TidyEnd) (x y : Sight D) (d : Deeds) → y.is_open ≡ o → Tidies look x y end → d ≡ no_deeds → x.is_open ≡ true
+      → MovesOpen (Tidied end) (machine_of x) (machine_of y) (left_of d)
+  one_tidy true end x y d is t none was = inr (
+    λ disk. false≢true (sym (t.closes.1 disk) ∙ is),
+    (
+      same_machine (machine_of y) _ (is ∙ sym was) (ap (λ (z : Sight D). z.state) t.same) (ap (λ (z : Sight D). z.due) t.same)
+          (ap (λ (z : Sight D). z.told) t.same),
+      ap left_of none,
+    ),
+  )
+  one_tidy false end x y d is t none was = inl (t.closes.0 is, (is, ap left_of none))
+
+  -- an open executor
+  moves_open : (e : Exchange) (x y : Sight D) (d : Deeds) → x.is_open ≡ true → Does look e x y d
+      → MovesOpen e (machine_of x) (machine_of y) (left_of d)
+  moves_open (Took (input.Request now (asked.Question q)) reply) x y d was does =
+      let t : TakesRequest look now (asked.Question q) x y reply d =
+      subst (λ (b : Bool). TakesWhile b look (input.Request now (asked.Question q)) x y reply d) was does in
+      (t.serves.0, still x y d t.serves.1 t.does)
+  moves_open (Took (input.Request now (asked.Command c)) reply) x y d was does =
+      one_command now c x y reply d (subst (λ (b : Bool). TakesWhile b look (input.Request now (asked.Command c)) x y reply d) was does) was
+  moves_open (Took (input.Turn now) reply) x y d was does =
+      one_turn now x y reply d (subst (λ (b : Bool). TakesWhile b look (input.Turn now) x y reply d) was does) was
+  moves_open (Row now cs rs) x y d was does = one_row now cs rs x y d does
+  moves_open (Tidied end) x y d was does =
+      one_tidy y.is_open end x y d refl (subst (λ (b : Bool). TidiesWhile b look x y end) was does.0) does.1 was
+  moves_open Cleared x y d was does = (ap machine_of does.0, ap left_of does.1)
+  moves_open Abandoned x y d was does = (ap (λ (z : Sight D). z.is_open) does.0, ap left_of does.1)
+
+  -- a closed one
+  closed_still : (x y : Sight D) (d : Deeds) → x.is_open ≡ false → y ≡ x → d ≡ no_deeds → Fails [] (machine_of y) (left_of d)
+  closed_still x y d was same none = (ap (λ (z : Sight D). z.is_open) same ∙ was, ap left_of none)
+
+  moves_closed : (e : Exchange) (x y : Sight D) (d : Deeds) → x.is_open ≡ false → Does look e x y d
+      → AnswersClosed e × Fails [] (machine_of y) (left_of d)
+  moves_closed (Took i reply) x y d was does =
+      let t = subst (λ (b : Bool). TakesWhile b look i x y reply d) was does in (t.0, closed_still x y d was t.1 t.2)
+  moves_closed (Row now cs rs) x y d was does = absurd (false≢true (sym was ∙ does.was_open))
+  moves_closed (Tidied end) x y d was does =
+      let t = subst (λ (b : Bool). TidiesWhile b look x y end) was does.0 in (t.0, closed_still x y d was t.1 does.1)
+  moves_closed Cleared x y d was does = (tt, (ap (λ (z : Sight D). z.is_open) does.0 ∙ was, ap left_of does.1))
+  moves_closed Abandoned x y d was does = (tt, (ap (λ (z : Sight D). z.is_open) does.0, ap left_of does.1))
+
+  moves : (o : Bool) (e : Exchange) (x y : Sight D) (d : Deeds) → x.is_open ≡ o → Does look e x y d
+      → MovesWhile o e (machine_of x) (machine_of y) (left_of d)
+  moves true e x y d was does = moves_open e x y d was does
+  moves false e x y d was does = moves_closed e x y d was does
+
+  -- calls, one behind the other
+  pub moves_all : (es : List Exchange) (x y : Sight D) (d : Deeds) → Calls look x es y d → MovesAll es (machine_of x) (machine_of y) (left_of d)
+  moves_all [] x y d calls = (ap machine_of calls.0, ap left_of calls.1)
+  moves_all (e ∷ es) x y d (mid, first, later, does, rest, is) =
+      (machine_of mid, left_of first, left_of later, moves x.is_open e x mid first refl does, moves_all es mid y later rest, ap left_of is)

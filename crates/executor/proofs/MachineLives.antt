@@ -1,0 +1,136 @@
+-- Whole lives are runs of the machine.
+use Rattle.std.proofs.Common.{◌≡◌, inl, inr, ℕ, true, List, [], ◌∷◌, ◌++◌, Option, Some, None, refl, sym, ap, subst, ◌∙◌, append_assoc}
+use Rattle.std.proofs.lemmas.List.{append-nil}
+use Rattle.ocf_types.specs.Answer.{moment}
+use Rattle.ocf_types.specs.Due.{Due, due_at}
+use Rattle.ocf_types.specs.Kinds.{Event}
+use Rattle.ocf_types.specs.Laws.{after_all-append}
+use Rattle.ocf_types.specs.State.{State, after_all}
+use Rattle.ocf_types.specs.declared.reply.Notice.{Notice}
+use Rattle.disk_model.specs.Image.{Image}
+use Rattle.disk_model.specs.View.{Lawful, View}
+use Rattle.exec_journal.specs.Found.{FoundAs}
+use Rattle.exec_journal.specs.Opening.{OpensLike}
+use Rattle.executor.specs.Lives.{EndsOpening, InOpening, InService, IsLife, LifeLeaves, MayBoot, Serves, Service, Sitting, Stands, boots}
+use Rattle.executor.specs.Machine.{Machine, MovesAll, Opening, Runs, Seen, Serving, Sits, StandsOf, opened_on}
+use Rattle.executor.specs.Openings.{StartsLike, booted}
+use Rattle.executor.specs.Reports.{dropped, interrupted}
+use Rattle.executor.specs.SeenLives.{seen}
+use Rattle.executor.specs.Sights.{Sight}
+use Rattle.executor.specs.declared.opening.OpenError.{OpenError}
+use Rattle.executor.specs.declared.opening.OpenError.TheVariants as why
+use Rattle.executor.proofs.Journaling.{WhatStands}
+use Rattle.executor.proofs.LifeServices.{service_stands, whole_leads}
+use Rattle.executor.proofs.Lives.{OneFinding, behind_boots, one_state}
+use Rattle.executor.proofs.MachineCalls.{left_of, machine_of, moves_all, same_machine}
+
+module _ {D : Type 0} (look : D → View) (law : WhatStands) (once : OneFinding) (lawful : (d : D) → (look d).honest → Lawful (look d))
+    (start : State) where
+  -- what is found behind a run
+  abbrev Behind : List Seen → Image → Type 0
+  Behind xs c = (zs : List Event) × Runs start xs zs × FoundAs (after_all start zs) c
+
+  same_state : (s t : State) (c : Image) → FoundAs s c → FoundAs t c → s ≡ t
+  same_state s t c here there = one_state look law once lawful start s t c here there
+
+  -- behind an opening that was refused or stopped: as before it
+  unbooted : (old : D) (now : ℕ) (end : Option OpenError) (older : List Seen) → ((d : Image) → (look old).now d → Behind older d)
+      → (look old).honest → (c : Image) → OpensLike (look old) c → Behind (Opening now end ∷ older) c
+  unbooted old now end older from honest c (inl was) =
+      let b = from c was in (b.0, (b.0, [], b.1, inl refl, sym (append-nil b.0)), b.2)
+  unbooted old now end older from honest c (inr (s, reads, found)) =
+      let b = from (look old).reads (lawful old honest).reads_now in
+      let same = same_state s (after_all start b.0) (look old).reads reads b.2 in
+      (b.0, (b.0, [], b.1, inl refl, sym (append-nil b.0)), subst (λ (t : State). FoundAs t c) same found)
+
+  -- or with its boot
+  may_boot : (old : D) (now : ℕ) (end : Option OpenError) (older : List Seen) → ((d : Image) → (look old).now d → Behind older d)
+      → (look old).honest → MayBoot end → (c : Image) → StartsLike (look old) now c → Behind (Opening now end ∷ older) c
+  may_boot old now end older from honest may c (inl like) = unbooted old now end older from honest c like
+  may_boot old now end older from honest may c (inr (s, reads, inl found)) =
+      unbooted old now end older from honest c (inr (s, reads, found))
+  may_boot old now end older from honest may c (inr (s, reads, inr found)) =
+      let b = from (look old).reads (lawful old honest).reads_now in
+      let same = same_state s (after_all start b.0) (look old).reads reads b.2 in (
+        b.0 ++ boots (after_all start b.0) now,
+        (b.0, boots (after_all start b.0) now, b.1, inr (may, refl), refl),
+        subst (λ (t : State). FoundAs t c) (sym (behind_boots look law once lawful start b.0 s now same)) found,
+      )
+
+  -- by how it ended
+  in_opening : (old new : D) (now : ℕ) (end : Option OpenError) (older : List Seen) → ((d : Image) → (look old).now d → Behind older d)
+      → (look new).honest → (look old).honest → EndsOpening (look old) (look new) now end → (c : Image) → (look new).since (look old).clock c
+      → Behind (Opening now end ∷ older) c
+  in_opening old new now None older from honest was ends c left =
+      may_boot old now None older from was (tt {0}) c (ends.did.goes.from_start honest c left)
+  in_opening old new now (Some why.Disk) older from honest was ends c left =
+      may_boot old now (Some why.Disk) older from was (tt {0}) c (ends.did.goes.from_start honest c left)
+  in_opening old new now (Some (why.Damaged d)) older from honest was ends c left =
+      unbooted old now (Some (why.Damaged d)) older from was c ((ends.unbooted (λ none. none)).from_start honest c left)
+  in_opening old new now (Some why.Memory) older from honest was ends c left =
+      unbooted old now (Some why.Memory) older from was c ((ends.unbooted (λ none. none)).from_start honest c left)
+  in_opening old new now (Some why.Foreign) older from honest was ends c left =
+      unbooted old now (Some why.Foreign) older from was c ((ends.unbooted (λ none. none)).from_start honest c left)
+  in_opening old new now (Some why.Full) older from honest was ends c left =
+      unbooted old now (Some why.Full) older from was c ((ends.unbooted (λ none. none)).from_start honest c left)
+
+  -- an executor as it was opened
+  opened_so : (x : Service D) (s : Serves look x) (t : State) → x.opened.state ≡ booted t x.now
+      → x.opened.due ≡ due_at x.opened.state (moment t x.now)
+      → machine_of x.opened ≡ opened_on t x.now
+  opened_so x s t state due = same_machine (machine_of x.opened) (opened_on t x.now) s.opens.over.is_open state
+      (due ∙ ap (λ (u : State). due_at u (moment t x.now)) state) s.opens.over.told
+
+  -- so much of what a service did stands
+  stands_so : (x : Service D) (p : List Event) → Stands x p → StandsOf (left_of x.done) (left_of x.under_way) p
+  stands_so x p s = (s.later, s.others, s.acknowledged, s.front)
+
+  -- every pair that a life may leave is found behind a run of the machine
+  pub life_runs : (life : List (Sitting D)) (is : IsLife look start life) (c : Image) → LifeLeaves look start life c
+      → Behind (seen look start life is) c
+  life_runs [] is c left = ([], refl, left.0)
+  life_runs (InOpening old new now end ∷ older) (is, from, ends, honest) c left =
+      in_opening old new now end (seen look start older is) (λ d d_now. life_runs older is d (from d d_now))
+      honest (ends.did.goes.passed.honest honest) ends c left
+  life_runs (InService x ∷ older) (is, from, serves, honest) c left =
+      let whole = whole_leads look law lawful x serves in
+      let opened_honest = whole.leaves.goes.passed.honest honest in
+      let was_honest = serves.opens.did.goes.passed.honest opened_honest in
+      let starts = serves.opens.starts opened_honest in
+      let before = life_runs older is (look x.disk).reads (from (look x.disk).reads (lawful x.disk was_honest).reads_now) in
+      let ys = before.0 in
+      let s = after_all start ys in
+      let same = same_state starts.state s (look x.disk).reads starts.found before.2 in
+      let stands = service_stands look law lawful x serves honest c left in
+      let b = boots s x.now in
+      let p = stands.0 in
+      let opened : after_all start (ys ++ b) ≡ x.opened.state =
+      behind_boots look law once lawful start ys starts.state x.now same ∙ sym starts.boot in
+      let all : after_all start (ys ++ (b ++ p)) ≡ after_all x.opened.state p =
+      ap (λ (l : List Event). after_all start l) (sym (append_assoc ys b p)) ∙ after_all-append start (ys ++ b) p
+      ∙ ap (λ (t : State). after_all t p) opened in
+      let machine = opened_so x serves s (starts.boot ∙ ap (λ (t : State). booted t x.now) same)
+      (starts.due_is ∙ ap (λ (t : State). due_at x.opened.state (moment t x.now)) same) in
+      let calls = moves_all look serves.calls x.opened x.returned x.done serves.returns in (
+        ys ++ (b ++ p),
+        (
+          ys,
+          b ++ p,
+          before.1,
+          (
+            starts.ran ∙ ap (λ (t : State). interrupted t (moment t x.now)) same,
+            starts.queued ∙ ap (λ (t : State). dropped t (moment t x.now)) same,
+            machine_of x.returned,
+            machine_of x.last,
+            left_of x.done,
+            left_of x.under_way,
+            p,
+            subst (λ (m : Machine). MovesAll serves.calls m (machine_of x.returned) (left_of x.done)) machine calls,
+            moves_all look serves.begun x.returned x.last x.under_way serves.goes_on,
+            stands_so x p stands.1,
+            refl,
+          ),
+          refl,
+        ),
+        subst (λ (t : State). FoundAs t c) (sym all) stands.2,
+      )

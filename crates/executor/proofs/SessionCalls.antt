@@ -1,0 +1,16 @@
+-- A session is the calls of its inputs.
+use Rattle.std.proofs.Common.{List, [], ◌∷◌}
+use Rattle.ocf_types.specs.Kinds.{Reply}
+use Rattle.disk_model.specs.View.{View}
+use Rattle.executor.specs.Joins.{as_calls}
+use Rattle.executor.specs.Lives.{Calls}
+use Rattle.executor.specs.Sessions.{Deeds, Input, Session}
+use Rattle.executor.specs.Sights.{Sight}
+
+pub session_is_calls : {D : Type 0} (look : D → View) (x z : Sight D) (is : List Input) (rs : List Reply) (d : Deeds)
+    → Session look x is rs z d → Calls look x (as_calls is rs) z d
+session_is_calls look x z [] [] d session = session
+session_is_calls look x z [] (r ∷ rs) d session = absurd session
+session_is_calls look x z (i ∷ is) [] d session = absurd session
+session_is_calls look x z (i ∷ is) (r ∷ rs) d (mid, first, later, takes, rest, all) =
+    (mid, first, later, takes, session_is_calls look mid z is rs later rest, all)

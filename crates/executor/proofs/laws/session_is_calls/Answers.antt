@@ -1,0 +1,5 @@
+use Rattle.executor.proofs.SessionCalls.{session_is_calls}
+use Rattle.executor.proofs.laws.session_is_calls.Goals as goal
+
+pub returns : goal.returns
+returns g c = session_is_calls g.D.Disk.view

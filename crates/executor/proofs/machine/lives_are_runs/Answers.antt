@@ -1,0 +1,11 @@
+use Rattle.executor.proofs.Journaling.{WhatStands}
+use Rattle.executor.proofs.Lives.{OneFinding}
+use Rattle.executor.proofs.MachineLives.{life_runs}
+use Rattle.executor.proofs.machine.lives_are_runs.Goals as goal
+
+pub returns : goal.returns
+returns g c =
+    let law : WhatStands =
+    record { found = c.what_stands.ensures.found; once = c.what_stands.ensures.once; fresh = c.what_stands.ensures.fresh; stays = c.what_stands.ensures.stays } in
+    let once : OneFinding = c.found_once.ensures in
+    life_runs g.D.Disk.view law once g.met.D.Disk.lawful
