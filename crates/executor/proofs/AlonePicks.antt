@@ -10,7 +10,7 @@ use Rattle.std.proofs.lemmas.List.Elements.{All-contains, All-from_recursion, fi
 use Rattle.std.proofs.lemmas.Map.Keys.{IsDistinct-head, IsDistinct-tail}
 use Rattle.std.proofs.lemmas.Slice.Eq.{bytes_eq-Decides}
 use Rattle.ocf_types.specs.RegistryLaws.{call_of}
-use Rattle.ocf_types.specs.Due.{Due, IsPick, IsPickOf, due_pairs}
+use Rattle.ocf_types.specs.Due.{Due, IsLeastDue, IsPick, IsPickOf, due_pairs}
 use Rattle.ocf_types.specs.Kinds.{Event}
 use Rattle.ocf_types.specs.Resource.{Resource, begun_from, of_call, run_of_monitor, run_of_op}
 use Rattle.ocf_types.specs.State.{Registry, State, after}
@@ -65,6 +65,14 @@ pick_same r due other at pick agree h =
     (each_weaken (λ m. is_some (of_call m.call r.recurring) ≡ true) (λ m. due m.call ≡ other m.call)
     (λ m found. sym (agree m.call found)) r.recurring (calls_known r.recurring)) in
     subst (λ (l : List (ℕ × ℕ)). IsPickOf r.history.running r.history.queue l at pick) same h
+
+-- with nothing queued what is picked is a monitor's call
+pub picks_ready : (r : Resource) (due : ℕ → Option ℕ) (at call : ℕ) → IsLeastDue (due_pairs r.recurring due) at (Some call)
+    → is_some (of_call call r.recurring) ≡ true
+picks_ready r due at call p =
+    All-contains (λ q. is_some (of_call q.1 r.recurring) ≡ true) (due_pairs r.recurring due) (p.0, call)
+    (All-from_recursion (λ q. is_some (of_call q.1 r.recurring) ≡ true) (due_pairs r.recurring due)
+    (pairs_known (λ c. is_some (of_call c r.recurring) ≡ true) r.recurring due (calls_known r.recurring))) p.1
 
 -- what picks a call begins it, under its run
 pub begun_one : (due : ℕ → Option ℕ) (at run : ℕ) (e : List ℕ × Resource) (call : ℕ) → IsPick e.1 due at (Some call)

@@ -29,7 +29,7 @@ Turned s id at (change.Step other what) was now =
 Turned s id at change.Boot was now = now ≡ option_map (on_history (booted at)) was
 
 module _ {A : Type 0} where
-  lookup-own : (id : List ℕ) (f : A → A) (es : List (List ℕ × A))
+  pub lookup-own : (id : List ℕ) (f : A → A) (es : List (List ℕ × A))
       → lookup (bytes_eq id) (at_id id f es) ≡ option_map f (lookup (bytes_eq id) es)
   lookup-own id f [] = refl
   lookup-own id f (e ∷ es) = by (bytes_eq id e.0) (lookup-own id f es)

@@ -32,3 +32,5 @@ pub mod HistoryExamples
 pub mod SessionCalls
 pub mod MachineCalls
 pub mod MachineLives
+pub mod MachineFollows
+pub mod MachineRuns

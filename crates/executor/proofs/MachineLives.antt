@@ -11,7 +11,7 @@ use Rattle.disk_model.specs.Image.{Image}
 use Rattle.disk_model.specs.View.{Lawful, View}
 use Rattle.exec_journal.specs.Found.{FoundAs}
 use Rattle.exec_journal.specs.Opening.{OpensLike}
-use Rattle.executor.specs.Lives.{EndsOpening, InOpening, InService, IsLife, LifeLeaves, MayBoot, Serves, Service, Sitting, Stands, boots}
+use Rattle.executor.specs.Lives.{EndsOpening, InOpening, InService, IsLife, LifeLeaves, Lived, MayBoot, Serves, Service, Sitting, Stands, boots}
 use Rattle.executor.specs.Machine.{Machine, MovesAll, Opening, Runs, Seen, Serving, Sits, StandsOf, opened_on}
 use Rattle.executor.specs.Openings.{StartsLike, booted}
 use Rattle.executor.specs.Reports.{dropped, interrupted}
@@ -27,52 +27,56 @@ use Rattle.executor.proofs.MachineCalls.{left_of, machine_of, moves_all, same_ma
 module _ {D : Type 0} (look : D → View) (law : WhatStands) (once : OneFinding) (lawful : (d : D) → (look d).honest → Lawful (look d))
     (start : State) where
   -- what is found behind a run
-  abbrev Behind : List Seen → Image → Type 0
-  Behind xs c = (zs : List Event) × Runs start xs zs × FoundAs (after_all start zs) c
+  abbrev Behind : List (Sitting D) → List Seen → Image → Type 0
+  Behind life xs c = (zs : List Event) × Runs start xs zs × Lived start life zs × FoundAs (after_all start zs) c
 
   same_state : (s t : State) (c : Image) → FoundAs s c → FoundAs t c → s ≡ t
   same_state s t c here there = one_state look law once lawful start s t c here there
 
   -- behind an opening that was refused or stopped: as before it
-  unbooted : (old : D) (now : ℕ) (end : Option OpenError) (older : List Seen) → ((d : Image) → (look old).now d → Behind older d)
-      → (look old).honest → (c : Image) → OpensLike (look old) c → Behind (Opening now end ∷ older) c
-  unbooted old now end older from honest c (inl was) =
-      let b = from c was in (b.0, (b.0, [], b.1, inl refl, sym (append-nil b.0)), b.2)
-  unbooted old now end older from honest c (inr (s, reads, found)) =
+  unbooted : (old new : D) (now : ℕ) (end : Option OpenError) (older : List (Sitting D)) (xs : List Seen)
+      → ((d : Image) → (look old).now d → Behind older xs d) → (look old).honest
+      → (c : Image) → OpensLike (look old) c → Behind (InOpening old new now end ∷ older) (Opening now end ∷ xs) c
+  unbooted old new now end older xs from honest c (inl was) =
+      let b = from c was in (b.0, (b.0, [], b.1, inl refl, sym (append-nil b.0)), (b.0, b.2, inl refl), b.3)
+  unbooted old new now end older xs from honest c (inr (s, reads, found)) =
       let b = from (look old).reads (lawful old honest).reads_now in
-      let same = same_state s (after_all start b.0) (look old).reads reads b.2 in
-      (b.0, (b.0, [], b.1, inl refl, sym (append-nil b.0)), subst (λ (t : State). FoundAs t c) same found)
+      let same = same_state s (after_all start b.0) (look old).reads reads b.3 in
+      (b.0, (b.0, [], b.1, inl refl, sym (append-nil b.0)), (b.0, b.2, inl refl), subst (λ (t : State). FoundAs t c) same found)
 
   -- or with its boot
-  may_boot : (old : D) (now : ℕ) (end : Option OpenError) (older : List Seen) → ((d : Image) → (look old).now d → Behind older d)
-      → (look old).honest → MayBoot end → (c : Image) → StartsLike (look old) now c → Behind (Opening now end ∷ older) c
-  may_boot old now end older from honest may c (inl like) = unbooted old now end older from honest c like
-  may_boot old now end older from honest may c (inr (s, reads, inl found)) =
-      unbooted old now end older from honest c (inr (s, reads, found))
-  may_boot old now end older from honest may c (inr (s, reads, inr found)) =
+  may_boot : (old new : D) (now : ℕ) (end : Option OpenError) (older : List (Sitting D)) (xs : List Seen)
+      → ((d : Image) → (look old).now d → Behind older xs d) → (look old).honest → MayBoot end
+      → (c : Image) → StartsLike (look old) now c → Behind (InOpening old new now end ∷ older) (Opening now end ∷ xs) c
+  may_boot old new now end older xs from honest may c (inl like) = unbooted old new now end older xs from honest c like
+  may_boot old new now end older xs from honest may c (inr (s, reads, inl found)) =
+      unbooted old new now end older xs from honest c (inr (s, reads, found))
+  may_boot old new now end older xs from honest may c (inr (s, reads, inr found)) =
       let b = from (look old).reads (lawful old honest).reads_now in
-      let same = same_state s (after_all start b.0) (look old).reads reads b.2 in (
+      let same = same_state s (after_all start b.0) (look old).reads reads b.3 in (
         b.0 ++ boots (after_all start b.0) now,
         (b.0, boots (after_all start b.0) now, b.1, inr (may, refl), refl),
+        (b.0, b.2, inr (may, refl)),
         subst (λ (t : State). FoundAs t c) (sym (behind_boots look law once lawful start b.0 s now same)) found,
       )
 
   -- by how it ended
-  in_opening : (old new : D) (now : ℕ) (end : Option OpenError) (older : List Seen) → ((d : Image) → (look old).now d → Behind older d)
-      → (look new).honest → (look old).honest → EndsOpening (look old) (look new) now end → (c : Image) → (look new).since (look old).clock c
-      → Behind (Opening now end ∷ older) c
-  in_opening old new now None older from honest was ends c left =
-      may_boot old now None older from was (tt {0}) c (ends.did.goes.from_start honest c left)
-  in_opening old new now (Some why.Disk) older from honest was ends c left =
-      may_boot old now (Some why.Disk) older from was (tt {0}) c (ends.did.goes.from_start honest c left)
-  in_opening old new now (Some (why.Damaged d)) older from honest was ends c left =
-      unbooted old now (Some (why.Damaged d)) older from was c ((ends.unbooted (λ none. none)).from_start honest c left)
-  in_opening old new now (Some why.Memory) older from honest was ends c left =
-      unbooted old now (Some why.Memory) older from was c ((ends.unbooted (λ none. none)).from_start honest c left)
-  in_opening old new now (Some why.Foreign) older from honest was ends c left =
-      unbooted old now (Some why.Foreign) older from was c ((ends.unbooted (λ none. none)).from_start honest c left)
-  in_opening old new now (Some why.Full) older from honest was ends c left =
-      unbooted old now (Some why.Full) older from was c ((ends.unbooted (λ none. none)).from_start honest c left)
+  in_opening : (old new : D) (now : ℕ) (end : Option OpenError) (older : List (Sitting D)) (xs : List Seen)
+      → ((d : Image) → (look old).now d → Behind older xs d) → (look new).honest → (look old).honest
+      → EndsOpening (look old) (look new) now end → (c : Image) → (look new).since (look old).clock c
+      → Behind (InOpening old new now end ∷ older) (Opening now end ∷ xs) c
+  in_opening old new now None older xs from honest was ends c left =
+      may_boot old new now None older xs from was (tt {0}) c (ends.did.goes.from_start honest c left)
+  in_opening old new now (Some why.Disk) older xs from honest was ends c left =
+      may_boot old new now (Some why.Disk) older xs from was (tt {0}) c (ends.did.goes.from_start honest c left)
+  in_opening old new now (Some (why.Damaged d)) older xs from honest was ends c left =
+      unbooted old new now (Some (why.Damaged d)) older xs from was c ((ends.unbooted (λ none. none)).from_start honest c left)
+  in_opening old new now (Some why.Memory) older xs from honest was ends c left =
+      unbooted old new now (Some why.Memory) older xs from was c ((ends.unbooted (λ none. none)).from_start honest c left)
+  in_opening old new now (Some why.Foreign) older xs from honest was ends c left =
+      unbooted old new now (Some why.Foreign) older xs from was c ((ends.unbooted (λ none. none)).from_start honest c left)
+  in_opening old new now (Some why.Full) older xs from honest was ends c left =
+      unbooted old new now (Some why.Full) older xs from was c ((ends.unbooted (λ none. none)).from_start honest c left)
 
   -- an executor as it was opened
   opened_so : (x : Service D) (s : Serves look x) (t : State) → x.opened.state ≡ booted t x.now
@@ -87,10 +91,10 @@ module _ {D : Type 0} (look : D → View) (law : WhatStands) (once : OneFinding)
 
   -- every pair that a life may leave is found behind a run of the machine
   pub life_runs : (life : List (Sitting D)) (is : IsLife look start life) (c : Image) → LifeLeaves look start life c
-      → Behind (seen look start life is) c
-  life_runs [] is c left = ([], refl, left.0)
+      → Behind life (seen look start life is) c
+  life_runs [] is c left = ([], refl, refl, left.0)
   life_runs (InOpening old new now end ∷ older) (is, from, ends, honest) c left =
-      in_opening old new now end (seen look start older is) (λ d d_now. life_runs older is d (from d d_now))
+      in_opening old new now end older (seen look start older is) (λ d d_now. life_runs older is d (from d d_now))
       honest (ends.did.goes.passed.honest honest) ends c left
   life_runs (InService x ∷ older) (is, from, serves, honest) c left =
       let whole = whole_leads look law lawful x serves in
@@ -100,7 +104,7 @@ module _ {D : Type 0} (look : D → View) (law : WhatStands) (once : OneFinding)
       let before = life_runs older is (look x.disk).reads (from (look x.disk).reads (lawful x.disk was_honest).reads_now) in
       let ys = before.0 in
       let s = after_all start ys in
-      let same = same_state starts.state s (look x.disk).reads starts.found before.2 in
+      let same = same_state starts.state s (look x.disk).reads starts.found before.3 in
       let stands = service_stands look law lawful x serves honest c left in
       let b = boots s x.now in
       let p = stands.0 in
@@ -132,5 +136,6 @@ module _ {D : Type 0} (look : D → View) (law : WhatStands) (once : OneFinding)
           ),
           refl,
         ),
+        (ys, p, before.2, stands.1, refl),
         subst (λ (t : State). FoundAs t c) (sym all) stands.2,
       )

@@ -101,3 +101,10 @@ abbrev pub BeginInOrder : State → List ℕ → List Event → Type 0
 BeginInOrder s id es =
     IsWithin (filter (λ call. not (list_any (nat_eq call) (monitored s id es))) (flat_map (λ e. call_begun id e.change) es))
     (queue_at s id ++ flat_map (λ e. call_queued id e.change) es)
+
+-- All that is asked of what stands.
+pub record IsInOrder (s : State) (es : List Event) : Type 0 where
+  pub runs : RunsAscend s es
+  pub ends : EndsBetween es
+  pub told : InterruptedOnce s es
+  pub calls : (id : List ℕ) → BeginInOrder s id es

@@ -1,0 +1,15 @@
+use Rattle.executor.specs.SeenLives.{seen}
+use Rattle.executor.proofs.Journaling.{WhatStands}
+use Rattle.executor.proofs.Lives.{OneFinding}
+use Rattle.executor.proofs.MachineLives.{life_runs}
+use Rattle.executor.proofs.MachineRuns.{in_order}
+use Rattle.executor.proofs.machine.lives_in_order.Goals as goal
+
+pub returns : goal.returns
+returns g c =
+    let law : WhatStands =
+    record { found = c.what_stands.ensures.found; once = c.what_stands.ensures.once; fresh = c.what_stands.ensures.fresh; stays = c.what_stands.ensures.stays } in
+    let once : OneFinding = c.found_once.ensures in
+    λ start life is image lawful left.
+    let b = life_runs g.D.Disk.view law once g.met.D.Disk.lawful start life is image left in
+    (b.0, b.2, b.3, in_order start (seen g.D.Disk.view start life is) b.0 lawful b.1)

@@ -1,0 +1,5 @@
+use Rattle.executor.proofs.MachineRuns.{runs_apply}
+use Rattle.executor.proofs.machine.runs_apply.Goals as goal
+
+pub returns : goal.returns
+returns c = runs_apply
