@@ -1,5 +1,7 @@
 -- What contracts see of children, and what each call does to it.
-use Rattle.std.specs.Prelude.{ℕ, ◌+◌, ◌-◌, ◌==◌, ⊤, List, [], ◌∷◌, ◌++◌, filter, length, not, Result, Ok, Err, All, Contains}
+use Rattle.std.specs.Prelude.{◌≡◌, ℕ, ◌+◌, ◌-◌, ◌==◌, ⊤, List, [], ◌∷◌, ◌++◌, filter, length, not, Option, Some, None, Result, Ok, Err, All}
+use Rattle.std.specs.Prelude.{Contains}
+use Rattle.ocf_env.specs.Places.{Place}
 use Rattle.ocf_types.specs.Limits.{resources_limit}
 use Rattle.ocf_types.specs.declared.outcome.StartFault.{StartFault}
 use Rattle.child_keeper.specs.declared.answer.Answer.{Answer}
@@ -14,13 +16,20 @@ use Rattle.child_keeper.specs.declared.answer.Poll.TheVariants as poll
 abbrev pub live_limit : ℕ
 live_limit = resources_limit
 
--- the book of answers and how many more it takes, the greatest run that was asked to start (0 where none was), and the
--- runs that live, by their start
+-- the book of answers and how many more it takes, the log of all answers ever, which no memory holds, the greatest run that
+-- was asked to start (0 where none was), the runs that live, by their start, and the site that the children insist on, if any
 pub record ChildrenView : Type 0 where
   pub book : List Entry
+  pub log : List Entry
   pub room : ℕ
   pub last_run : ℕ
   pub live : List ℕ
+  pub site : Option Place
+
+-- where this site is insisted on, if any, agents may be started at that one
+abbrev pub Admits : Option Place → Place → Type 0
+Admits None site = ⊤
+Admits (Some insisted) site = site ≡ insisted
 
 -- the live runs but this one
 abbrev pub without_run : ℕ → List ℕ → List ℕ
@@ -42,8 +51,12 @@ kill_answer (Ok x) = Killed
 kill_answer (Err fault) = NotKilled
 
 -- one entry more: of this run, at this count of device calls
-abbrev pub noted : ChildrenView → ℕ → ℕ → Answer → List Entry
-noted v run at answer = v.book ++ record { run = run; at = at; answer = answer } ∷ []
+abbrev pub noted : List Entry → ℕ → ℕ → Answer → List Entry
+noted entries run at answer = entries ++ record { run = run; at = at; answer = answer } ∷ []
+
+-- the same in the book, where it takes a place, and in the log
+abbrev pub with_entry : ChildrenView → ℕ → ℕ → Answer → ChildrenView
+with_entry v run at answer = record v { book = noted v.book run at answer; log = noted v.log run at answer; room = v.room - 1 }
 
 -- a run that was started lives
 abbrev pub live_started : {X : Type 0} → Result X StartFault → ℕ → List ℕ → List ℕ
@@ -57,26 +70,27 @@ live_polled _ run live = without_run run live
 
 -- after a start of a run, asked when the journal's disk had had so many device calls
 abbrev pub after_start : {X : Type 0} → ChildrenView → ℕ → ℕ → Result X StartFault → ChildrenView
-after_start v run at answer =
-    record { book = noted v run at (start_answer answer); room = v.room - 1; last_run = run; live = live_started answer run v.live }
+after_start v run at answer = record (with_entry v run at (start_answer answer)) { last_run = run; live = live_started answer run v.live }
 
 -- after a poll of a run
 abbrev pub after_poll : ChildrenView → ℕ → Poll → ChildrenView
-after_poll v run answer =
-    record { book = noted v run 0 (poll_answer answer); room = v.room - 1; last_run = v.last_run; live = live_polled answer run v.live }
+after_poll v run answer = record (with_entry v run 0 (poll_answer answer)) { live = live_polled answer run v.live }
 
 -- after a kill of a run: it lives no more, whatever the kill answered
 abbrev pub after_kill : {X : Type 0} → ChildrenView → ℕ → Result X KillFault → ChildrenView
-after_kill v run answer =
-    record { book = noted v run 0 (kill_answer answer); room = v.room - 1; last_run = v.last_run; live = without_run run v.live }
+after_kill v run answer = record (with_entry v run 0 (kill_answer answer)) { live = without_run run v.live }
 
 -- after all were given up
 abbrev pub given_up : ChildrenView → ChildrenView
-given_up v = record { book = v.book; room = v.room; last_run = v.last_run; live = [] }
+given_up v = record v { live = [] }
 
--- after the book was emptied: the places of its entries are free again
+-- after the book was emptied: the places of its entries are free again, and the log is as it was
 abbrev pub emptied : ChildrenView → ChildrenView
-emptied v = record { book = []; room = v.room + length v.book; last_run = v.last_run; live = v.live }
+emptied v = record v { book = []; room = v.room + length v.book }
+
+-- this entry is the last one of the book and of the log now, behind all that were there
+abbrev pub Adds : ChildrenView → ChildrenView → Entry → Type 0
+Adds old new entry = (new.book ≡ old.book ++ entry ∷ []) × (new.log ≡ old.log ++ entry ∷ [])
 
 -- what the book says of a start, whether or not it was done
 abbrev pub IsOfStart : Answer → Type 0

@@ -1,5 +1,5 @@
 -- When an agent may be started, and which.
-use Rattle.std.specs.Prelude.{◌≡◌, Some}
+use Rattle.std.specs.Prelude.{◌≡◌, Option, Some}
 use Rattle.ocf_types.specs.Resource.{Resource}
 use Rattle.ocf_types.specs.State.{State, resource_at}
 use Rattle.ocf_types.specs.declared.operation.Running.{Running}
@@ -10,11 +10,13 @@ use Rattle.ocf_env.specs.Instances.{registration_of}
 use Rattle.ocf_env.specs.Invocations.{IsInvocation}
 use Rattle.ocf_env.specs.Places.{Call, Place}
 use Rattle.ocf_env.specs.declared.launches.LaunchOf.{LaunchOf}
+use Rattle.child_keeper.specs.Children.{Admits}
 
 -- At this state an action runs under the launch's call and run in the resource of its id; the launch calls the agent that
--- is registered there, for that action, with the parameters that are registered, at some site.
-pub record IsLaunch (s : State) (launch : LaunchOf Call) : Type 0 where
+-- is registered there, for that action, with the parameters that are registered, at the site that is insisted on, if any.
+pub record IsLaunch (insisted : Option Place) (s : State) (launch : LaunchOf Call) : Type 0 where
   pub site : Place
+  pub admitted : Admits insisted site
   pub resource : Resource
   pub running : Running
   pub is : resource_at s launch.id ≡ Some resource
@@ -24,6 +26,6 @@ pub record IsLaunch (s : State) (launch : LaunchOf Call) : Type 0 where
   pub invocation : IsInvocation site (registration_of launch.id resource) running launch.invocation
 
 -- the journal, over a disk that is seen so, is settled at a state in which the launched action runs: whatever a stop leaves,
--- its begin is found
-abbrev pub MayStart : {D M : Type 0} → Journal D M → View → LaunchOf Call → Type 0
-MayStart j v launch = (s : State) × Settled j v s × IsLaunch s launch
+-- its begin is found; the launch is at the site that is insisted on, if any
+abbrev pub MayStart : {D M : Type 0} → Option Place → Journal D M → View → LaunchOf Call → Type 0
+MayStart insisted j v launch = (s : State) × Settled j v s × IsLaunch insisted s launch

@@ -1,4 +1,5 @@
 -- What contracts see of children of the system.
+use Rattle.std.specs.Prelude.{None}
 use Rattle.std.specs.declared.io.Read.{Ghosts as ReadOf}
 use Rattle.std.specs.declared.io.Write.{Ghosts as WriteOf}
 use Rattle.child_keeper.specs.Agents.{runs_of}
@@ -6,4 +7,4 @@ use Rattle.child_keeper.specs.Children.{ChildrenView}
 use Rattle.child_keeper.specs.declared.processes.Processes.{Processes}
 
 abbrev pub processes_of : {R A P I O E : Type 0} {i : WriteOf I} {o : ReadOf O} {e : ReadOf E} → Processes R A P I O E i o e → ChildrenView
-processes_of p = record { book = p.book.entries.items; room = p.book.room; last_run = p.last_run; live = runs_of p.live.agents.items }
+processes_of p = record { book = p.book.entries.items; log = p.book.log.items; room = p.book.room; last_run = p.last_run; live = runs_of p.live.agents.items; site = None }

@@ -1,5 +1,5 @@
 -- What contracts see of scripted children.
-use Rattle.std.specs.Prelude.{ℕ}
+use Rattle.std.specs.Prelude.{ℕ, None}
 use Rattle.std.specs.VecDeque.{deque_items}
 use Rattle.child_keeper.specs.Children.{ChildrenView}
 use Rattle.child_keeper.specs.Scripts.{ScriptView}
@@ -18,4 +18,4 @@ abbrev pub script_of : {M : Type 0} → Scripted M → ScriptView
 script_of c = planned_in c.fault_in (script_view c.script)
 
 abbrev pub children_of : {M : Type 0} → Scripted M → ChildrenView
-children_of c = record { book = c.book.entries.items; room = c.book.room; last_run = c.last_run; live = c.live.runs.items }
+children_of c = record { book = c.book.entries.items; log = c.book.log.items; room = c.book.room; last_run = c.last_run; live = c.live.runs.items; site = None }

@@ -1,15 +1,18 @@
-// The book of answers.
+// The book of answers, and their log.
 ghost use Rattle.std.specs.Prelude.{◌≡◌, ◌+◌, ◌<◌, ◌≤◌, ◌++◌, [], ◌∷◌, IfOk, length, vec_len};
 ghost use Rattle.std.specs.Vec.{vec_capacity};
 
 use crate::Entry;
+use past::Past;
 use std::alloc::{AllocError, Allocator};
 
-/// The answers since the book was emptied, in their order, and how many more it takes.
+/// The answers since the book was emptied, in their order, and how many more it takes; and for contracts alone all answers
+/// ever, which no memory holds.
 #[derive(Drop)]
 pub struct Book<A: Allocator> {
     pub entries: Vec<Entry, A>,
     pub room: usize,
+    pub log: Past<Entry>,
     pub ghost fits: { vec_len entries + room ≤ vec_capacity entries },
 }
 
@@ -17,25 +20,30 @@ impl<A: Allocator> Book<A> {
     /// A book for so many entries. It fails only where memory is refused.
     pub fn new(alloc: A, room: usize) -> Result<Book<A>, AllocError>
         ensures empty { IfOk result (λ b. b.entries.items ≡ []) }
+        ensures no_log { IfOk result (λ b. b.log.items ≡ []) }
         ensures room { IfOk result (λ b. b.room ≡ room) }
     {
         let entries = Vec::with_capacity(alloc, room)?;
-        Ok(Book { entries, room })
+        let log = Past::new();
+        Ok(Book { entries, room, log })
     }
 
     /// One entry more. It takes no memory.
     pub fn note(&mut self, entry: Entry)
         requires room { 0 < self.old.room }
         ensures noted { self.new.entries.items ≡ self.old.entries.items ++ entry ∷ [] }
+        ensures logged { self.new.log.items ≡ self.old.log.items ++ entry ∷ [] }
         ensures room { self.new.room + 1 ≡ self.old.room }
     {
         self.room -= 1;
+        self.log.note(&entry);
         self.entries.push_reserved(entry);
     }
 
-    /// Takes all entries out. Their places are free again.
+    /// Takes all entries out. Their places are free again, and the log is as it was.
     pub fn clear(&mut self)
         ensures entries { self.new.entries.items ≡ [] }
+        ensures log { self.new.log ≡ self.old.log }
         ensures room { self.new.room ≡ self.old.room + length self.old.entries.items }
     {
         self.room += self.entries.len();

@@ -4,22 +4,24 @@ ghost use Rattle.std.specs.Prelude.{cond, is_ok, length};
 ghost use Rattle.ocf_types.specs.declared.outcome.StartFault.{StartFault};
 ghost use Rattle.ocf_env.specs.Places.{Pair};
 ghost use Rattle.ocf_env.specs.Variables.{are_ascending};
-ghost use Rattle.child_keeper.specs.Children.{Asked, AsksNothing, ChildrenView, after_kill, after_poll, after_start, kill_answer};
-ghost use Rattle.child_keeper.specs.Children.{poll_answer, start_answer};
+ghost use Rattle.child_keeper.specs.Children.{Adds, Asked, AsksNothing, ChildrenView, after_kill, after_poll, after_start, emptied};
+ghost use Rattle.child_keeper.specs.Children.{given_up, kill_answer, poll_answer, start_answer};
 ghost use Rattle.child_keeper.specs.Commands.{given};
 ghost use Rattle.child_keeper.specs.declared.answer.Entry.{Entry};
 ghost use Rattle.child_keeper.specs.declared.answer.KillFault.{KillFault};
 ghost use Rattle.child_keeper.specs.declared.answer.Poll.{Poll};
 ghost use Rattle.child_keeper.specs.declared.answer.Poll.TheVariants.{Running};
 
-/// A call adds one entry at the end of the book, of the run that it names, with the answer that it returned.
+/// A call adds one entry at the end of the book and of the log, of the run that it names, with the answer that it returned.
+/// The log of all answers ever stays where the book is emptied or the children are given up.
 pub fn one_entry()
     ensures start { (v : ChildrenView) (run at : ℕ) (answer : Result Unit StartFault)
-        → (after_start v run at answer).book ≡ v.book ++ record { run = run; at = at; answer = start_answer answer } ∷ [] }
+        → Adds v (after_start v run at answer) (record { run = run; at = at; answer = start_answer answer }) }
     ensures poll { (v : ChildrenView) (run : ℕ) (answer : Poll)
-        → (after_poll v run answer).book ≡ v.book ++ record { run = run; at = 0; answer = poll_answer answer } ∷ [] }
+        → Adds v (after_poll v run answer) (record { run = run; at = 0; answer = poll_answer answer }) }
     ensures kill { (v : ChildrenView) (run : ℕ) (answer : Result Unit KillFault)
-        → (after_kill v run answer).book ≡ v.book ++ record { run = run; at = 0; answer = kill_answer answer } ∷ [] }
+        → Adds v (after_kill v run answer) (record { run = run; at = 0; answer = kill_answer answer }) }
+    ensures stays { (v : ChildrenView) → ((emptied v).log ≡ v.log) × ((given_up v).log ≡ v.log) }
 {}
 
 /// An entry tells what its call answered: no two answers to a start are told alike, and so for a poll and a kill.

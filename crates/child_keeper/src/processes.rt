@@ -1,5 +1,5 @@
 //! Children of the system.
-ghost use Rattle.std.specs.Prelude.{◌≡◌, ◌<◌, [], Contains, IfOk};
+ghost use Rattle.std.specs.Prelude.{◌≡◌, ◌<◌, [], Contains, IfOk, None};
 ghost use Rattle.child_keeper.specs.Agents.{runs_of};
 ghost use Rattle.child_keeper.specs.Children.{without_run};
 
@@ -47,7 +47,7 @@ impl<R: process::Processes + Clock + Eprint + Drop, A: Allocator + Copy> Process
     /// No children yet, which will write to the log, with a book of so many entries. The room for the book and for all that may
     /// live is made here. It fails only where memory is refused.
     pub fn new(rt: R, alloc: A, log: Log, book: usize) -> Result<Processes<R, A>, AllocError>
-        ensures children { IfOk result (λ p. processes_of p ≡ record { book = []; room = book; last_run = 0; live = [] }) }
+        ensures children { IfOk result (λ p. processes_of p ≡ record { book = []; log = []; room = book; last_run = 0; live = []; site = None }) }
     {
         Ok(Processes {
             rt,

@@ -1,5 +1,5 @@
 //! Children that play a script.
-ghost use Rattle.std.specs.Prelude.{◌≡◌, ◌-◌, ◌<◌, ◌==◌, [], Contains, IfOk, drop, length};
+ghost use Rattle.std.specs.Prelude.{◌≡◌, ◌-◌, ◌<◌, ◌==◌, [], Contains, IfOk, None, drop, length};
 ghost use Rattle.std.specs.VecDeque.{deque_items};
 ghost use Rattle.exec_journal.specs.Journal.{journal_disk};
 ghost use Rattle.child_keeper.specs.Children.{after_kill, after_poll, after_start, live_limit};
@@ -31,7 +31,7 @@ impl<A: Allocator + Copy> Scripted<A> {
 
     /// Children that play a script, with a book of so many entries. It fails only where memory is refused.
     pub fn new(alloc: A, script: Script<A>, book: usize) -> Result<Scripted<A>, AllocError>
-        ensures children { IfOk result (λ c. children_of c ≡ record { book = []; room = book; last_run = 0; live = [] }) }
+        ensures children { IfOk result (λ c. children_of c ≡ record { book = []; log = []; room = book; last_run = 0; live = []; site = None }) }
         ensures script { IfOk result (λ c. script_of c ≡ script_view script) }
     {
         Ok(Scripted {
@@ -84,7 +84,7 @@ impl<A: Allocator + Copy> Children for Scripted<A> {
         requires room { 0 < (children_of self.old).room }
         requires few { length (children_of self.old).live < live_limit }
         requires rising { (children_of self.old).last_run < launch.now.run }
-        requires may_start { MayStart journal.now (D.view (journal_disk journal.now)) launch.now }
+        requires may_start { MayStart (children_of self.old).site journal.now (D.view (journal_disk journal.now)) launch.now }
         ensures started { children_of self.new
             ≡ after_start (children_of self.old) launch.now.run (D.view (journal_disk journal.now)).clock result }
         ensures scripted { result ≡ next_start (script_of self.old) }

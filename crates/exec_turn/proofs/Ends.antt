@@ -1,5 +1,5 @@
 -- The ends of a turn.
-use Rattle.std.proofs.Common.{◌≡◌, inl, inr, ℕ, List, [], ◌++◌, Ok, Err, map, refl, sym, ◌∙◌, ap, subst, append_assoc, append-nil}
+use Rattle.std.proofs.Common.{◌≡◌, ⊎_elim, inl, inr, ℕ, List, [], ◌++◌, Ok, Err, map, refl, sym, ◌∙◌, ap, subst, append_assoc, append-nil}
 use Rattle.ocf_types.specs.Due.{Due}
 use Rattle.ocf_types.specs.Kinds.{Event}
 use Rattle.ocf_types.specs.Laws.{after_all-append}
@@ -11,57 +11,66 @@ use Rattle.disk_model.specs.Laws.{joined as runs_joined}
 use Rattle.disk_model.specs.Runs.{Goes}
 use Rattle.disk_model.specs.View.{Grew, Lawful, View}
 use Rattle.disk_model.specs.declared.disk.DiskFault.{DiskFault}
-use Rattle.child_keeper.specs.Children.{ChildrenView}
+use Rattle.child_keeper.specs.Children.{Asked, ChildrenView}
 use Rattle.child_keeper.specs.declared.answer.Entry.{Entry}
+use Rattle.exec_journal.specs.Found.{FoundAs}
 use Rattle.exec_journal.specs.Place.{Place}
 use Rattle.exec_journal.specs.Room.{Roomy}
 use Rattle.exec_turn.specs.Actives.{Active}
-use Rattle.exec_turn.specs.Laws.{due_after_all-append, joined, then_started}
+use Rattle.exec_turn.specs.Laws.{asked_in, asked_none, asked_starts, due_after_all-append, has_later, joined, then_started}
 use Rattle.exec_turn.specs.Picks.{begins}
-use Rattle.exec_turn.specs.Pieces.{Leaves}
+use Rattle.exec_turn.specs.Pieces.{AskedOn, HasBegin, Leaves, Prefix}
 use Rattle.exec_turn.specs.Polls.{polls, results}
 use Rattle.exec_turn.specs.Starts.{Started, refusal_notices, refusals, starts}
 use Rattle.exec_turn.specs.Turn.{IsTurn, PickedAt, PicksBehind, Scene, Told, Whole, due_after_all, scene}
 use Rattle.exec_turn.specs.Turns.{BeginsRow, PollsRow, StartsRow, Turns}
+use Rattle.exec_turn.proofs.Polling.{polls_ask_nothing}
 
 -- nothing was done
-pub book_full : (v : View) (x : Scene) (from : ChildrenView) → Leaves v v x.state x.state [] [] [] → Goes v v Roomy
-    → Turns v v x x.state x.due from from [] turn_end.BookFull
-book_full v x from leaves roomy = record {
+pub book_full : {D : Type 0} (look : D → View) (k : D) (x : Scene) (from : ChildrenView)
+    → Leaves (look k) (look k) x.state x.state [] [] [] → Goes (look k) (look k) Roomy
+    → Turns look k k x x.state x.due from from [] turn_end.BookFull
+book_full look k x from leaves roomy = record {
   entries = [];
   events = [];
   pending = [];
   book = sym (append-nil from.book);
+  log = sym (append-nil from.log);
+  site = refl;
   does = (refl, refl, refl, refl);
   leaves = leaves;
+  asked = λ run u h. absurd (asked_none run u h);
   due_is = refl;
   whole = λ _. refl;
   cause = λ bad. let none : ⊥ = cc in absurd none;
   roomy = roomy;
 }
 
-module _ (at : ℕ) (v0 v1 : View) (s0 s1 : State) (d0 d1 : Due) (p0 p1 : Place) (from c1 : ChildrenView) (n1 : List Notice)
-    (roomy1 : Goes v0 v1 Roomy) where
+module _ {D : Type 0} (look : D → View) (at : ℕ) (k0 k1 : D) (s0 s1 : State) (d0 d1 : Due) (p0 p1 : Place) (from c1 : ChildrenView) (n1 : List Notice)
+    (roomy1 : Goes (look k0) (look k1) Roomy) where
   -- the row of results failed
-  pub no_results : (f : DiskFault) → PollsRow v0 v1 (scene s0 d0 p0 at) (scene s1 d1 p1 at) from c1 n1 (Err f)
-      → Grew v0.failures v1.failures → Turns v0 v1 (scene s0 d0 p0 at) s1 d1 from c1 n1 turn_end.Disk
+  pub no_results : (f : DiskFault) → PollsRow (look k0) (look k1) (scene s0 d0 p0 at) (scene s1 d1 p1 at) from c1 n1 (Err f)
+      → Grew (look k0).failures (look k1).failures → Turns look k0 k1 (scene s0 d0 p0 at) s1 d1 from c1 n1 turn_end.Disk
   no_results f p grew = record {
     entries = polls at p.answers;
     events = [];
     pending = results at p.answers;
     book = p.book;
+    log = p.log;
+    site = p.site;
     does = inl (p.answers, p.each, refl, refl, refl, p.told_is);
     leaves = p.leaves;
+    asked = λ run u h. absurd (polls_ask_nothing at p.answers run u h);
     due_is = p.moves.1;
     whole = λ not. absurd (not refl);
     cause = λ _. grew;
     roomy = roomy1;
   }
 
-  module _ (u : Unit) (p : PollsRow v0 v1 (scene s0 d0 p0 at) (scene s1 d1 p1 at) from c1 n1 (Ok u)) (v2 : View) (s2 : State) (d2 : Due)
-      (p2 : Place) (begun : List Active) (end : TurnEnd) (roomy2 : Goes v1 v2 Roomy) where
-    roomy12 : Goes v0 v2 Roomy
-    roomy12 = runs_joined v0 v1 v2 Roomy roomy1 roomy2
+  module _ (u : Unit) (p : PollsRow (look k0) (look k1) (scene s0 d0 p0 at) (scene s1 d1 p1 at) from c1 n1 (Ok u)) (k2 : D) (s2 : State) (d2 : Due)
+      (p2 : Place) (begun : List Active) (end : TurnEnd) (roomy2 : Goes (look k1) (look k2) Roomy) where
+    roomy12 : Goes (look k0) (look k2) Roomy
+    roomy12 = runs_joined (look k0) (look k1) (look k2) Roomy roomy1 roomy2
 
     due1 : d1 ≡ due_after_all s0 d0 (results at p.answers)
     due1 = ap (λ (x : Scene). x.due) p.moves
@@ -70,33 +79,36 @@ module _ (at : ℕ) (v0 v1 : View) (s0 s1 : State) (d0 d1 : Due) (p0 p1 : Place)
     picks picked = subst (λ (x : Scene). PickedAt end x begun) p.moves picked
 
     -- the row of begins failed
-    pub no_begins : (f : DiskFault) → BeginsRow v1 v2 (scene s1 d1 p1 at) (scene s2 d2 p2 at) begun end (Err f)
-        → Grew v1.failures v2.failures → Grew v0.failures v2.failures → Turns v0 v2 (scene s0 d0 p0 at) s2 d2 from c1 n1 turn_end.Disk
+    pub no_begins : (f : DiskFault) → BeginsRow (look k1) (look k2) (scene s1 d1 p1 at) (scene s2 d2 p2 at) begun end (Err f)
+        → Grew (look k1).failures (look k2).failures → Grew (look k0).failures (look k2).failures → Turns look k0 k2 (scene s0 d0 p0 at) s2 d2 from c1 n1 turn_end.Disk
     no_begins f b grew since =
-        let both = joined v0 v1 v2 s0 s1 s2 (polls at p.answers) [] (results at p.answers) [] (begins at begun) p.leaves b.leaves in
+        let both = joined (look k0) (look k1) (look k2) s0 s1 s2 (polls at p.answers) [] (results at p.answers) [] (begins at begun) p.leaves b.leaves in
         record {
           entries = polls at p.answers;
           events = results at p.answers;
           pending = begins at begun;
           book = p.book;
+          log = p.log;
+          site = p.site;
           does = inr (inl (p.answers, end, begun, p.each, picks b.picked, refl, refl, refl, p.told_is));
           leaves =
-              subst (λ (l : List Entry). Leaves v0 v2 s0 s2 l (results at p.answers) (begins at begun)) (append-nil (polls at p.answers))
-              (subst (λ (l : List Event). Leaves v0 v2 s0 s2 (polls at p.answers ++ []) l (begins at begun))
+              subst (λ (l : List Entry). Leaves (look k0) (look k2) s0 s2 l (results at p.answers) (begins at begun)) (append-nil (polls at p.answers))
+              (subst (λ (l : List Event). Leaves (look k0) (look k2) s0 s2 (polls at p.answers ++ []) l (begins at begun))
               (append-nil (results at p.answers)) both);
+          asked = λ run u h. absurd (polls_ask_nothing at p.answers run u h);
           due_is = b.moves.1 ∙ due1;
           whole = λ not. absurd (not refl);
           cause = λ _. since;
           roomy = roomy12;
         }
 
-    module _ (w : Unit) (b : BeginsRow v1 v2 (scene s1 d1 p1 at) (scene s2 d2 p2 at) begun end (Ok w)) (v3 : View) (s3 : State) (d3 : Due)
-        (p3 : Place) (c2 : ChildrenView) (n3 : List Notice) (roomy3 : Goes v2 v3 Roomy) (lawful : v2.honest → Lawful v2) where
+    module _ (w : Unit) (b : BeginsRow (look k1) (look k2) (scene s1 d1 p1 at) (scene s2 d2 p2 at) begun end (Ok w)) (k3 : D) (s3 : State) (d3 : Due)
+        (p3 : Place) (c2 : ChildrenView) (n3 : List Notice) (roomy3 : Goes (look k2) (look k3) Roomy) (lawful : (look k2).honest → Lawful (look k2)) where
       abbrev before : List Event
       before = results at p.answers ++ begins at begun
 
-      roomy13 : Goes v0 v3 Roomy
-      roomy13 = runs_joined v0 v2 v3 Roomy roomy12 roomy3
+      roomy13 : Goes (look k0) (look k3) Roomy
+      roomy13 = runs_joined (look k0) (look k2) (look k3) Roomy roomy12 roomy3
 
       state1 : s1 ≡ after_all s0 (results at p.answers)
       state1 = ap (λ (x : Scene). x.state) p.moves
@@ -111,47 +123,78 @@ module _ (at : ℕ) (v0 v1 : View) (s0 s1 : State) (d0 d1 : Due) (p0 p1 : Place)
       state2 = ap (λ (x : Scene). x.state) b.moves
 
       module _ (answers : List Started) (each : map (λ a. a.what) answers ≡ begun)
-          (book2 : c2.book ≡ c1.book ++ starts v2.clock answers) where
+          (book2 : c2.book ≡ c1.book ++ starts (look k2).clock answers) where
         abbrev entries : List Entry
-        entries = polls at p.answers ++ starts v2.clock answers
+        entries = polls at p.answers ++ starts (look k2).clock answers
 
         book_all : c2.book ≡ from.book ++ entries
         book_all =
-            book2 ∙ ap (λ (l : List Entry). l ++ starts v2.clock answers) p.book
-            ∙ append_assoc from.book (polls at p.answers) (starts v2.clock answers)
+            book2 ∙ ap (λ (l : List Entry). l ++ starts (look k2).clock answers) p.book
+            ∙ append_assoc from.book (polls at p.answers) (starts (look k2).clock answers)
 
-        begun_leaves : Leaves v0 v2 s0 s2 entries before []
+        log_all : c2.log ≡ c1.log ++ starts (look k2).clock answers → c2.log ≡ from.log ++ entries
+        log_all log2 =
+            log2 ∙ ap (λ (l : List Entry). l ++ starts (look k2).clock answers) p.log
+            ∙ append_assoc from.log (polls at p.answers) (starts (look k2).clock answers)
+
+        begun_leaves : Leaves (look k0) (look k2) s0 s2 entries before []
         begun_leaves =
-            joined v0 v1 v2 s0 s1 s2 (polls at p.answers) (starts v2.clock answers) (results at p.answers) (begins at begun) [] p.leaves
-            (then_started v1 v2 s1 s2 at v2.clock begun answers lawful refl each b.leaves)
+            joined (look k0) (look k1) (look k2) s0 s1 s2 (polls at p.answers) (starts (look k2).clock answers) (results at p.answers) (begins at begun) [] p.leaves
+            (then_started (look k1) (look k2) s1 s2 at (look k2).clock begun answers lawful refl each b.leaves)
 
-        ended : (es pending : List Event) → Leaves v2 v3 s2 s3 [] es pending → Leaves v0 v3 s0 s3 entries (before ++ es) pending
-        ended es pending last = subst (λ (l : List Entry). Leaves v0 v3 s0 s3 l (before ++ es) pending) (append-nil entries)
-            (joined v0 v2 v3 s0 s2 s3 entries [] before es pending begun_leaves last)
+        ended : (es pending : List Event) → Leaves (look k2) (look k3) s2 s3 [] es pending → Leaves (look k0) (look k3) s0 s3 entries (before ++ es) pending
+        ended es pending last = subst (λ (l : List Entry). Leaves (look k0) (look k3) s0 s3 l (before ++ es) pending) (append-nil entries)
+            (joined (look k0) (look k2) (look k3) s0 s2 s3 entries [] before es pending begun_leaves last)
+
+        asked_behind : (es pending : List Event) → Leaves (look k2) (look k3) s2 s3 [] es pending → (run u : ℕ) → Asked entries run u
+            → AskedOn look k0 k3 s0 ((before ++ es) ++ pending) run u
+        asked_behind es pending last run u asked = ⊎_elim
+            (λ polled. absurd (polls_ask_nothing at p.answers run u polled))
+            (λ started.
+            let found = asked_starts at (look k2).clock answers run u started in record {
+              disk = k2;
+              first = before;
+              rest = es ++ pending;
+              split = sym (append_assoc before es pending);
+              begins = has_later run (results at p.answers) (begins at begun)
+                  (subst (λ (l : List Active). HasBegin run (begins at l)) each found.1);
+              counted = found.0;
+              before = subst (λ (l : List Event). Goes (look k0) (look k2) (Prefix s0 l)) (append-nil before) begun_leaves.goes;
+              stands = λ h c now. subst (λ (x : State). FoundAs x c) begun_leaves.state
+                  (⊎_elim (λ a. a) (λ b. b) (begun_leaves.now h c now));
+              behind = subst (λ (x : State). Goes (look k2) (look k3) (Prefix x (es ++ pending))) begun_leaves.state last.goes;
+            })
+            (asked_in (polls at p.answers) (starts (look k2).clock answers) run u asked)
 
         abbrev all_told : Told end (scene s0 d0 p0 at)
         all_told = record {
           polled = p.answers;
           begun = begun;
           started = answers;
-          clock = v2.clock;
+          clock = (look k2).clock;
           each_polled = p.each;
           picked = picks b.picked;
           each_started = each;
         }
 
       -- the row of refused starts failed
-      pub no_refusals : (f : DiskFault) → StartsRow v2 v3 (scene s2 d2 p2 at) (scene s3 d3 p3 at) begun c1 c2 n1 n3 (Err f)
-          → Grew v0.failures v3.failures → Turns v0 v3 (scene s0 d0 p0 at) s3 d3 from c2 n3 turn_end.Disk
+      pub no_refusals : (f : DiskFault) → StartsRow (look k2) (look k3) (scene s2 d2 p2 at) (scene s3 d3 p3 at) begun c1 c2 n1 n3 (Err f)
+          → Grew (look k0).failures (look k3).failures → Turns look k0 k3 (scene s0 d0 p0 at) s3 d3 from c2 n3 turn_end.Disk
       no_refusals f x since = record {
         entries = entries x.answers x.each x.book;
         events = before;
         pending = refusals at x.answers;
         book = book_all x.answers x.each x.book;
+        log = log_all x.answers x.each x.book x.log;
+        site = x.site ∙ p.site;
         does = inr (inr (end, all_told x.answers x.each x.book, refl, refl, refl, x.told_is ∙ p.told_is));
         leaves =
-            subst (λ (l : List Event). Leaves v0 v3 s0 s3 (entries x.answers x.each x.book) l (refusals at x.answers)) (append-nil before)
+            subst (λ (l : List Event). Leaves (look k0) (look k3) s0 s3 (entries x.answers x.each x.book) l (refusals at x.answers)) (append-nil before)
             (ended x.answers x.each x.book [] (refusals at x.answers) x.leaves);
+        asked =
+            subst (λ (l : List Event). (run u : ℕ) → Asked (entries x.answers x.each x.book) run u
+            → AskedOn look k0 k3 s0 (l ++ refusals at x.answers) run u) (append-nil before)
+            (asked_behind x.answers x.each x.book [] (refusals at x.answers) x.leaves);
         due_is = x.moves.1 ∙ due2;
         whole = λ not. absurd (not refl);
         cause = λ _. since;
@@ -178,8 +221,8 @@ module _ (at : ℕ) (v0 v1 : View) (s0 s1 : State) (d0 d1 : Due) (p0 p1 : Place)
       not_disk turn_end.Disk h is = absurd h.0
 
       -- all of it went well
-      pub whole_turn : (z : Unit) → StartsRow v2 v3 (scene s2 d2 p2 at) (scene s3 d3 p3 at) begun c1 c2 n1 n3 (Ok z)
-          → Turns v0 v3 (scene s0 d0 p0 at) s3 d3 from c2 n3 end
+      pub whole_turn : (z : Unit) → StartsRow (look k2) (look k3) (scene s2 d2 p2 at) (scene s3 d3 p3 at) begun c1 c2 n1 n3 (Ok z)
+          → Turns look k0 k3 (scene s0 d0 p0 at) s3 d3 from c2 n3 end
       whole_turn z x =
           let due3 : d3 ≡ due_after_all s0 d0 (before ++ refusals at x.answers) = ap (λ (y : Scene). y.due) x.moves
           ∙ ap (λ (s : State). due_after_all s d2 (refusals at x.answers))
@@ -193,6 +236,8 @@ module _ (at : ℕ) (v0 v1 : View) (s0 s1 : State) (d0 d1 : Due) (p0 p1 : Place)
             events = before ++ refusals at x.answers;
             pending = [];
             book = book_all x.answers x.each x.book;
+            log = log_all x.answers x.each x.book x.log;
+            site = x.site ∙ p.site;
             does = is_whole end (scene s0 d0 p0 at) es (before ++ refusals at x.answers) [] n3 b.picked (
               all_told x.answers x.each x.book,
               refl,
@@ -202,6 +247,7 @@ module _ (at : ℕ) (v0 v1 : View) (s0 s1 : State) (d0 d1 : Due) (p0 p1 : Place)
                   ∙ ap (λ (l : List Notice). l ++ refusal_notices at x.answers) p.told_is,
             );
             leaves = ended x.answers x.each x.book (refusals at x.answers) [] x.leaves;
+            asked = asked_behind x.answers x.each x.book (refusals at x.answers) [] x.leaves;
             due_is = due3;
             whole = λ _. refl;
             cause = λ is. absurd (not_disk end b.picked is);

@@ -78,6 +78,44 @@ polls_book at v (p ∷ ps) =
       room_after at (p ∷ ps) v,
     )
 
+-- and so does the log
+polled_log : (at : ℕ) (x : Running) (answer : Poll) (kill : Result Unit KillFault) (v : ChildrenView)
+    → (polled_on at x answer kill v).log ≡ v.log ++ entries_of at x answer kill
+polled_log at x poll.Running kill v = by (is_late at x)
+  where
+    by : (b : Bool) → (if b then after_kill (after_poll v x.run poll.Running) x.run kill else after_poll v x.run poll.Running).log
+        ≡ v.log ++ said x.run (poll_answer poll.Running) ∷ (if b then said x.run (kill_answer kill) ∷ [] else [])
+    by true = append_assoc v.log (said x.run (poll_answer poll.Running) ∷ []) (said x.run (kill_answer kill) ∷ [])
+    by false = refl
+polled_log at x (poll.Exited code) kill v = refl
+polled_log at x poll.Signaled kill v = refl
+polled_log at x poll.Fault kill v = refl
+
+pub polls_log : (at : ℕ) (v : ChildrenView) (ps : List Polled) → (after_polls at v ps).log ≡ v.log ++ polls at ps
+polls_log at v [] = sym (append-nil v.log)
+polls_log at v (p ∷ ps) =
+    let x = p.who.running in
+    polls_log at (polled_on at x p.poll p.kill v) ps
+    ∙ ap (λ (l : List Entry). l ++ polls at ps) (polled_log at x p.poll p.kill v)
+    ∙ append_assoc v.log (entries_of at x p.poll p.kill) (polls at ps)
+
+-- the site that the children insist on stays
+polled_site : (at : ℕ) (x : Running) (answer : Poll) (kill : Result Unit KillFault) (v : ChildrenView)
+    → (polled_on at x answer kill v).site ≡ v.site
+polled_site at x poll.Running kill v = by (is_late at x)
+  where
+    by : (b : Bool) → (if b then after_kill (after_poll v x.run poll.Running) x.run kill else after_poll v x.run poll.Running).site ≡ v.site
+    by true = refl
+    by false = refl
+polled_site at x (poll.Exited code) kill v = refl
+polled_site at x poll.Signaled kill v = refl
+polled_site at x poll.Fault kill v = refl
+
+pub polls_site : (at : ℕ) (v : ChildrenView) (ps : List Polled) → (after_polls at v ps).site ≡ v.site
+polls_site at v [] = refl
+polls_site at v (p ∷ ps) =
+    polls_site at (polled_on at p.who.running p.poll p.kill v) ps ∙ polled_site at p.who.running p.poll p.kill v
+
 -- no poll and no kill is a start
 poll_unasked : (answer : Poll) → IsOfStart (poll_answer answer) → ⊥
 poll_unasked poll.Running h = h

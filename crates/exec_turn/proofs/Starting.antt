@@ -222,6 +222,16 @@ pub starts_last : (clock n : ℕ) (v : ChildrenView) (xs : List Started) → v.l
 starts_last clock n v [] low below = low
 starts_last clock n v (x ∷ xs) low below = starts_last clock n (after_start v x.what.running.run clock x.answer) xs below.0 below.1
 
+pub starts_log : (clock : ℕ) (v : ChildrenView) (xs : List Started) → (after_starts clock v xs).log ≡ v.log ++ starts clock xs
+starts_log clock v [] = sym (append-nil v.log)
+starts_log clock v (x ∷ xs) =
+    starts_log clock (after_start v x.what.running.run clock x.answer) xs
+    ∙ append_assoc v.log (record { run = x.what.running.run; at = clock; answer = start_answer x.answer } ∷ []) (starts clock xs)
+
+pub starts_site : (clock : ℕ) (v : ChildrenView) (xs : List Started) → (after_starts clock v xs).site ≡ v.site
+starts_site clock v [] = refl
+starts_site clock v (x ∷ xs) = starts_site clock (after_start v x.what.running.run clock x.answer) xs
+
 -- no run number is drawn by them
 pub refusals_draw_none : (s : State) (at : ℕ) (xs : List Started) → (after_all s (refusals at xs)).next_run ≡ s.next_run
 refusals_draw_none s at [] = refl

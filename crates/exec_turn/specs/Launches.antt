@@ -1,5 +1,5 @@
 -- What is started: the call of an agent, as the registry and the site say. OCF Resource Agent API 1.1, invocation.
-use Rattle.std.specs.Prelude.{◌≡◌, List, Some, map}
+use Rattle.std.specs.Prelude.{◌≡◌, List, Option, Some, map}
 use Rattle.std.specs.List.{AllByRecursion}
 use Rattle.ocf_types.specs.Resource.{Resource}
 use Rattle.ocf_types.specs.State.{State, resource_at}
@@ -28,6 +28,6 @@ pub record IsStart (site : Place) (s : State) (x : StartOf Call) : Type 0 where
   pub of_one : IsOfOne x
   pub invocation : IsInvocation site (registration_of x.launch.id resource) x.running x.launch.invocation
 
--- each of these launches what runs at this state
-abbrev pub AllLaunch : State → List (StartOf Call) → Type 0
-AllLaunch s starts = AllByRecursion (λ x. IsLaunch s x.launch) starts
+-- each of these launches what runs at this state, at the site that is insisted on, if any
+abbrev pub AllLaunch : Option Place → State → List (StartOf Call) → Type 0
+AllLaunch insisted s starts = AllByRecursion (λ x. IsLaunch insisted s x.launch) starts

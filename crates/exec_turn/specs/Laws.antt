@@ -48,7 +48,7 @@ either s es c (inl same) = ([], es, refl, same)
 either s es c (inr more) = (es, [], append-nil es, more)
 
 -- a begin among the later events is among all
-has_later : (run : ℕ) (es fs : List Event) → HasBegin run fs → HasBegin run (es ++ fs)
+pub has_later : (run : ℕ) (es fs : List Event) → HasBegin run fs → HasBegin run (es ++ fs)
 has_later run [] fs h = h
 has_later run (e ∷ es) fs h = or_right (is_begin run e.change) (list_any (λ e. is_begin run e.change) (es ++ fs)) (has_later run es fs h)
 
@@ -153,7 +153,7 @@ pub asked_one : (e x : Entry) → Contains (e ∷ []) x → e ≡ x
 asked_one e x h = ⊎_elim (λ none. let bad = none.1 in absurd (omega (arith, bad))) (λ same. same) (Contains-push_cases [] e x h)
 
 -- each start that is asked is of something whose begin is in the row
-asked_starts : (at clock : ℕ) (xs : List Started) (run u : ℕ) → Asked (starts clock xs) run u
+pub asked_starts : (at clock : ℕ) (xs : List Started) (run u : ℕ) → Asked (starts clock xs) run u
     → (u ≡ clock) × HasBegin run (begins at (map (λ x. x.what) xs))
 asked_starts at clock [] run u asked = absurd (asked_none run u asked)
 asked_starts at clock (x ∷ xs) run u asked = ⊎_elim

@@ -1,5 +1,5 @@
 -- What a turn's call does, and what its steps hand on.
-use Rattle.std.specs.Prelude.{◌≡◌, ◌≢◌, ◌*◌, ◌+◌, ◌<◌, ◌≤◌, List, [], ◌++◌, length, map, Result, Ok, Err, is_ok, if◌then◌else◌}
+use Rattle.std.specs.Prelude.{◌≡◌, ◌≢◌, ℕ, ◌*◌, ◌+◌, ◌<◌, ◌≤◌, List, [], ◌++◌, length, map, Result, Ok, Err, is_ok, if◌then◌else◌}
 use Rattle.ocf_types.specs.Due.{Due}
 use Rattle.ocf_types.specs.Kinds.{Event}
 use Rattle.ocf_types.specs.State.{State}
@@ -9,13 +9,13 @@ use Rattle.ocf_types.specs.declared.reply.TurnEnd.TheVariants as turn_end
 use Rattle.disk_model.specs.Runs.{Goes}
 use Rattle.disk_model.specs.View.{Grew, View}
 use Rattle.disk_model.specs.declared.disk.DiskFault.{DiskFault}
-use Rattle.child_keeper.specs.Children.{ChildrenView}
+use Rattle.child_keeper.specs.Children.{Asked, ChildrenView}
 use Rattle.child_keeper.specs.declared.answer.Entry.{Entry}
 use Rattle.exec_journal.specs.Room.{Roomy}
 use Rattle.exec_turn.specs.Actives.{Active}
 use Rattle.exec_turn.specs.Lives.{Tends}
 use Rattle.exec_turn.specs.Picks.{begins}
-use Rattle.exec_turn.specs.Pieces.{Leaves}
+use Rattle.exec_turn.specs.Pieces.{AskedOn, Leaves}
 use Rattle.exec_turn.specs.Polls.{Polled, polls, result_notices, results}
 use Rattle.exec_turn.specs.Starts.{Started, refusal_notices, refusals, starts}
 use Rattle.exec_turn.specs.declared.rows.Rows.{Rows}
@@ -42,6 +42,8 @@ pub record PollsRow (old new : View) (x y : Scene) (from to : ChildrenView) (tol
   pub answers : List Polled
   pub each : EachPolled x answers
   pub book : to.book ≡ from.book ++ polls x.at answers
+  pub log : to.log ≡ from.log ++ polls x.at answers
+  pub site : to.site ≡ from.site
   pub left : from.room ≤ to.room + 2 * length x.state.resources
   pub moves : Moves x y (results x.at answers) result
   pub leaves : LeavesRow old new x y (polls x.at answers) (results x.at answers) result
@@ -59,27 +61,35 @@ pub record StartsRow (old new : View) (x y : Scene) (begun : List Active) (from 
   pub answers : List Started
   pub each : map (λ a. a.what) answers ≡ begun
   pub book : to.book ≡ from.book ++ starts old.clock answers
+  pub log : to.log ≡ from.log ++ starts old.clock answers
+  pub site : to.site ≡ from.site
   pub moves : Moves x y (refusals x.at answers) result
   pub leaves : LeavesRow old new x y [] (refusals x.at answers) result
   pub told_is : told ≡ (if is_ok result then was ++ refusal_notices x.at answers else was)
 
 -- A turn of an open executor: from what it finds to a state, due moments and children, with what is told.
-pub record Turns (old new : View) (x : Scene) (t : State) (due : Due) (from to : ChildrenView) (told : List Notice)
-    (end : TurnEnd) : Type 0 where
+pub record Turns {D : Type 0} (look : D → View) (old new : D) (x : Scene) (t : State) (due : Due) (from to : ChildrenView)
+    (told : List Notice) (end : TurnEnd) : Type 0 where
   -- its entries in the children's book, its events, and those that a disk fault left pending
   pub entries : List Entry
   pub events : List Event
   pub pending : List Event
   pub book : to.book ≡ from.book ++ entries
+  -- these are all that its children were asked, whether or not the book was emptied in between
+  pub log : to.log ≡ from.log ++ entries
+  -- the site that its children insist on stays
+  pub site : to.site ≡ from.site
   pub does : IsTurn end x entries events pending told
   -- what it recorded, what a stop at any moment of it leaves, and that no agent was started without its synced begin
-  pub leaves : Leaves old new x.state t entries events pending
+  pub leaves : Leaves (look old) (look new) x.state t entries events pending
+  -- each start was asked in the turn, behind its begin: its entry counts the calls of the disk as it was then
+  pub asked : (run clock : ℕ) → Asked entries run clock → AskedOn look old new x.state (events ++ pending) run clock
   pub due_is : due ≡ due_after_all x.state x.due events
   -- nothing is pending but after a disk fault, which has a cause
   pub whole : end ≢ turn_end.Disk → pending ≡ []
-  pub cause : end ≡ turn_end.Disk → Grew old.failures new.failures
+  pub cause : end ≡ turn_end.Disk → Grew (look old).failures (look new).failures
   -- what a stop leaves since its start has room for its boot
-  pub roomy : Goes old new Roomy
+  pub roomy : Goes (look old) (look new) Roomy
 
 -- what is told of the last turn
 abbrev pub told_of : {M : Type 0} → Rows M → List Notice

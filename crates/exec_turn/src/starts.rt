@@ -31,7 +31,7 @@ fn start_one<D: Disk + Drop, C: Children, A: Allocator + Copy>(
     notices: &mut Vec<Notice, A>,
 )
     requires settled { Settled journal.now (D.view (journal_disk journal.now)) state.now.state }
-    requires launches { IsLaunch state.now.state start.now.launch }
+    requires launches { IsLaunch (C.view children.old).site state.now.state start.now.launch }
     requires of_one { IsOfOne start.now }
     requires rising { (C.view children.old).last_run < start.now.running.run }
     requires few { length (C.view children.old).live < live_limit }
@@ -72,7 +72,7 @@ pub(crate) fn start_all<D: Disk + Drop, C: Children, A: Allocator + Copy>(
     notices: &mut Vec<Notice, A>,
 )
     requires settled { Settled journal.now (D.view (journal_disk journal.now)) state.now.state }
-    requires launches { AllLaunch state.now.state starts.now }
+    requires launches { AllLaunch (C.view children.old).site state.now.state starts.now }
     requires of_one { AllByRecursion IsOfOne starts.now }
     requires rising { Rising (C.view children.old).last_run (all_starting starts.now) }
     requires few { length (C.view children.old).live + length starts.now ≤ live_limit }

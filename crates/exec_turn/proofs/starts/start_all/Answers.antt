@@ -1,9 +1,9 @@
-use Rattle.std.proofs.Common.{◌≡◌, ◌+◌, ◌++◌, ◌∙◌, List, [], ◌∷◌, take, drop, length, map, refl, sym, ap, subst, arith, append_assoc}
+use Rattle.std.proofs.Common.{◌≡◌, ◌+◌, ◌++◌, ◌∙◌, List, [], ◌∷◌, Option, take, drop, length, map, refl, sym, ap, subst, arith, append_assoc}
 use Rattle.std.proofs.lemmas.List.{append-nil, drop_more, map-append, take_more}
 use Rattle.ocf_types.specs.declared.reply.Notice.{Notice}
 use Rattle.child_keeper.specs.Children.{ChildrenView}
 use Rattle.exec_journal.specs.Journal.{journal_disk}
-use Rattle.ocf_env.specs.Places.{Call}
+use Rattle.ocf_env.specs.Places.{Call, Place}
 use Rattle.child_keeper.specs.MayStart.{IsLaunch}
 use Rattle.exec_turn.specs.Actives.{Active, notice_of}
 use Rattle.exec_turn.specs.Launches.{IsOfOne, all_starting, what_starts}
@@ -22,6 +22,7 @@ loop-start-init g c = record {
   rising = c.requires.rising;
   few = omega (arith, c.requires.few);
   room = omega (arith, c.requires.room);
+  site = refl;
   row_len = omega (arith, c.clear.ensures.len);
   notice_len = omega arith;
   row_room = c.clear.ensures.capacity;
@@ -30,8 +31,9 @@ loop-start-init g c = record {
 
 pub start_one-requires-clause-launches : goal.start_one-requires-clause-launches
 start_one-requires-clause-launches g c =
-    each_at (λ (x : StartOf Call). IsLaunch c.args.state.now.state x.launch) c.args.starts.now c.loop-start.start-index c.start-item.result
-    c.requires.launches c.loop-start-test.true c.start-item.is
+    let at_first = each_at (λ (x : StartOf Call). IsLaunch (g.C.Children.view c.args.children.now).site c.args.state.now.state x.launch)
+    c.args.starts.now c.loop-start.start-index c.start-item.result c.requires.launches c.loop-start-test.true c.start-item.is in
+    subst (λ (site : Option Place). IsLaunch site c.args.state.now.state c.start-item.result.launch) (sym c.loop-start.invariant.site) at_first
 
 pub start_one-requires-clause-of_one : goal.start_one-requires-clause-of_one
 start_one-requires-clause-of_one g c =
@@ -74,6 +76,7 @@ loop-start-preserved g c =
       few = let live = ap (λ (v : ChildrenView). length v.live) started.1 in
           omega (arith, inv.few, live, one_live x.running.run old.live answer);
       room = let left = ap (λ (v : ChildrenView). v.room) started.1 in omega (arith, inv.room, left);
+      site = ap (λ (v : ChildrenView). v.site) started.1 ∙ inv.site;
       row_len = omega (arith, inv.row_len, c.start_one.ensures.row_len);
       notice_len = omega (arith, inv.notice_len, c.start_one.ensures.notice_len);
       row_room = c.start_one.ensures.row_room ∙ inv.row_room;

@@ -19,6 +19,7 @@ invariant-loop-start g l =
       rising : Rising (view l.children).last_run (all_starting (drop i l.starts));
       few : length (view l.children).live + length l.starts ≤ live_limit + i;
       room : length l.starts ≤ (view l.children).room + i;
+      site : (view l.children).site ≡ (view l.fn.children).site;
       row_len : vec_len l.row ≤ i;
       notice_len : vec_len l.notices ≤ vec_len l.fn.notices + i;
       row_room : vec_capacity l.row ≡ vec_capacity l.fn.row;
