@@ -14,7 +14,7 @@ use Rattle.two_parts.specs.declared.choice.Choice.{Choice}
 use Rattle.two_parts.specs.declared.damage.Damage.{Damage}
 use Rattle.exec_journal.specs.Found.{Damaged, Finding, Finds, FoundAs, IsFirstPart, IsFound, IsFreshPair, IsToWrite, Whole}
 use Rattle.exec_journal.specs.Laws.{same_whole}
-use Rattle.exec_journal.specs.Opening.{OpensLike}
+use Rattle.exec_journal.specs.Opening.{Opens, OpensLike}
 use Rattle.exec_journal.specs.Room.{Roomy}
 use Rattle.executor.specs.Lives.{BeginsAs, EndsOpening, GoesOnFrom, MayBoot, InOpening, InService, IsLife, LifeLeaves, Lived, OpensBehind, Sat, Sitting, boots}
 use Rattle.executor.specs.Openings.{NotOpened, Opened, StartsLike, booted}
@@ -22,6 +22,7 @@ use Rattle.executor.specs.Reports.{dropped, interrupted}
 use Rattle.executor.specs.Sights.{Sight}
 use Rattle.executor.specs.declared.opening.OpenError.{OpenError}
 use Rattle.executor.specs.declared.opening.OpenError.TheVariants as why
+use Rattle.executor.proofs.OpeningLemmas.{read_only}
 use Rattle.executor.proofs.Journaling.{WhatStands}
 use Rattle.executor.proofs.LifeServices.{service_roomy, service_stands, whole_leads}
 
@@ -175,4 +176,12 @@ pub refused_sits : {D : Type 0} (look : D → View) (old new : D) (from to : Chi
 refused_sits look old new from to now fault fails = record {
   did = fails.did;
   unbooted = λ never. fails.unbooted (λ is. never (subst (λ (f : OpenError). MayBoot (Some f)) (sym is) (tt {0})));
+}
+
+-- so is one of the journal alone
+pub looked_sits : {D : Type 0} (look : D → View) (old new : D) (now : ℕ) (end : Option OpenError) → Opens (look old) (look new)
+    → Sat look (InOpening old new now end)
+looked_sits look old new now end opens = record {
+  did = read_only (look old) (look new) now opens.goes opens.roomy opens.unwritten;
+  unbooted = λ _. opens.goes;
 }

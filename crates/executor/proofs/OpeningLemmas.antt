@@ -7,7 +7,7 @@ use Rattle.ocf_types.specs.Due.{due_at}
 use Rattle.ocf_types.specs.Laws.{quiet}
 use Rattle.ocf_types.specs.State.{State, after}
 use Rattle.ocf_types.specs.declared.reply.Notice.{Notice}
-use Rattle.child_keeper.specs.Children.{ChildrenView, given_up}
+use Rattle.child_keeper.specs.Children.{Admits, ChildrenView, given_up}
 use Rattle.disk_model.specs.Image.{Image}
 use Rattle.disk_model.specs.Laws.{joined, passed_on, supposed, weakened}
 use Rattle.disk_model.specs.Runs.{Goes}
@@ -26,7 +26,7 @@ use Rattle.exec_journal.specs.declared.fault.JournalFault.TheVariants as journal
 use Rattle.executor.specs.declared.opening.OpenError.{OpenError}
 use Rattle.executor.specs.declared.opening.OpenError.TheVariants as why
 use Rattle.executor.specs.Openings.{Boots, BootsFrom, IsQuiet, LacksBoot, LacksRoom, NotOpened, Opened, OpensDisk, StartsLike, booted}
-use Rattle.executor.specs.Openings.{told_fault, told_slot, IsOver, IsUnready}
+use Rattle.executor.specs.Openings.{told_fault, told_slot, IsForeign, IsOver, IsUnready}
 use Rattle.executor.specs.Reports.{dropped, interrupted}
 use Rattle.executor.specs.Sights.{Sight, due_in}
 use Rattle.exec_turn.specs.Turns.{Tended}
@@ -52,7 +52,7 @@ opens_like : (old new : View) (now : ℕ) → Goes old new (OpensLike old) → G
 opens_like old new now goes = weakened old new (OpensLike old) (StartsLike old now) (λ h c left. inl left) goes
 
 -- only the journal was opened, or not even that
-read_only : (old new : View) (now : ℕ) → Goes old new (OpensLike old) → ((old.honest → AllRoomy old) → Goes old new Roomy)
+pub read_only : (old new : View) (now : ℕ) → Goes old new (OpensLike old) → ((old.honest → AllRoomy old) → Goes old new Roomy)
     → ((old.honest → IsToWrite old.reads → ⊥) → Rests old new) → OpensDisk old new now
 read_only old new now goes roomy unwritten =
     record { goes = opens_like old new now goes; roomy = roomy; unwritten = λ quiet. unwritten (λ h. (quiet h).0) }
@@ -65,12 +65,15 @@ module _ (old new : View) (from : ChildrenView) (now : ℕ) where
     children = inl refl;
     untouched = λ d is. refl;
     foreign = λ is. absurd (never_foreign fault is);
+    spared = λ h other. refl;
     damaged = λ h d is. fails.damaged h d (as_damaged fault d is);
     cause = λ is. fails.cause (as_disk fault is);
     full = λ h is. absurd (never_full fault is);
     not_foreign = λ h is. absurd (never_full fault is);
     never_full = λ roomy h is. never_full fault is;
     unbooted = λ _. fails.opens.goes;
+    foreign_unbooted = λ _. fails.opens.goes;
+    unwritten = λ _. fails.opens.unwritten;
   }
     where
       as_damaged : (f : JournalFault) (d : Damage) → told_fault f ≡ why.Damaged d → f ≡ journal.Damaged d
@@ -95,8 +98,8 @@ module _ (old new : View) (from : ChildrenView) (now : ℕ) where
 
 -- memory was refused once the journal was opened, and the children were given up
 pub unready_memory : (old new : View) (from to : ChildrenView) (now : ℕ) → Opens old new → to ≡ given_up from
-    → NotOpened old new from to now why.Memory
-unready_memory old new from to now opens kids = record {
+    → (new.honest → IsForeign old.reads from → ⊥) → NotOpened old new from to now why.Memory
+unready_memory old new from to now opens kids own = record {
   did = read_only old new now opens.goes opens.roomy opens.unwritten;
   children = inr kids;
   untouched = λ d is. let none : ⊥ = cc in absurd none;
@@ -106,7 +109,10 @@ unready_memory old new from to now opens kids = record {
   full = λ h is. let none : ⊥ = cc in absurd none;
   not_foreign = λ h is. let none : ⊥ = cc in absurd none;
   never_full = λ roomy h is. cc;
+  spared = λ h other. absurd (own h other);
   unbooted = λ _. opens.goes;
+  foreign_unbooted = λ _. opens.goes;
+  unwritten = λ _. opens.unwritten;
 }
 
 -- the children are another journal's
@@ -122,17 +128,30 @@ unready_foreign old new p s from to now opens kids later = record {
   full = λ h is. let none : ⊥ = cc in absurd none;
   not_foreign = λ h is. let none : ⊥ = cc in absurd none;
   never_full = λ roomy h is. cc;
+  spared = λ h other. kids;
   unbooted = λ _. opens.opens.goes;
+  foreign_unbooted = λ _. opens.opens.goes;
+  unwritten = λ _. opens.opens.unwritten;
 }
 
-pub unready : (old new : View) (p : Place) (s : State) (from to : ChildrenView) (now : ℕ) (fault : OpenError) → OpensAt p s old new
+-- the children were not started for another journal than the one that was found
+own_children : ((c : Image) (s t : State) → FoundAs s c → FoundAs t c → s ≡ t) → (c : Image) (s : State) (from : ChildrenView) → FoundAs s c
+    → from.last_run < s.next_run → IsForeign c from → ⊥
+own_children once c s from found low foreign =
+    let same = once c foreign.state s foreign.found found in
+    let next = ap (λ (t : State). t.next_run) same in
+    let later = foreign.later in
+    omega (arith, next, low, later)
+
+pub unready : ((c : Image) (s t : State) → FoundAs s c → FoundAs t c → s ≡ t) → (old new : View) (p : Place) (s : State) (from to : ChildrenView) (now : ℕ) (fault : OpenError) → OpensAt p s old new
     → IsUnready from to s fault → NotOpened old new from to now fault
-unready old new p s from to now fault opens is = elim is.either [
+unready once old new p s from to now fault opens is = elim is.either [
   | inl foreign ↦ (let kids = is.foreign foreign in
       subst (λ (w : OpenError). NotOpened old new from to now w) (sym foreign)
       (unready_foreign old new p s from to now opens kids.0 kids.1))
   | inr memory ↦ subst (λ (w : OpenError). NotOpened old new from to now w) (sym memory)
-      (unready_memory old new from to now opens.opens (is.memory memory))
+      (let kids = is.memory memory in unready_memory old new from to now opens.opens kids.0
+      (λ h. own_children once old.reads s from (opens.found h) kids.1))
 ]
 
 module _ {D : Type 0} (look : D → View) (law : WhatStands) (once : (c : Image) (s t : State) → FoundAs s c → FoundAs t c → s ≡ t)
@@ -142,7 +161,8 @@ module _ {D : Type 0} (look : D → View) (law : WhatStands) (once : (c : Image)
   pub report_refused : (d : D) (to : ChildrenView) → d ≡ mid.disk → to ≡ mid.children → NotOpened old (look d) from to now why.Memory
   report_refused d to same kids =
       subst (λ (x : D). NotOpened old (look x) from to now why.Memory) (sym same)
-      (unready_memory old (look mid.disk) from to now opens.opens (kids ∙ over.children))
+      (unready_memory old (look mid.disk) from to now opens.opens (kids ∙ over.children)
+      (λ h. own_children once old.reads mid.state from (opens.found h) over.rising))
 
   module _ (new : Sight D) where
     both_passed : Passed (look mid.disk) (look new.disk) → Passed old (look new.disk)
@@ -203,8 +223,8 @@ module _ {D : Type 0} (look : D → View) (law : WhatStands) (once : (c : Image)
         → final.state ≡ new.state → final.disk ≡ new.disk → final.place ≡ new.place
         → due_in final ≡ due_at final.state (moment mid.state now) → final.children ≡ new.children → final.told ≡ new.told
         → ran ≡ interrupted mid.state (moment mid.state now) → queued ≡ dropped mid.state (moment mid.state now)
-        → Opened look old from now final ran queued
-    opened x final ran queued boots is_open state disk place due kids tells ran_is queued_is =
+        → Admits from.site final.site → Opened look old from now final ran queued
+    opened x final ran queued boots is_open state disk place due kids tells ran_is queued_is admits =
         let honest_new : (look final.disk).honest → (look new.disk).honest = λ h. subst (λ (d : D). (look d).honest) disk h in
         let done : final.state ≡ booted mid.state now = state ∙ boots.state in
         let quiet_now : any_busy final.state ≡ false = ap any_busy done ∙ boot_quiet mid.state (moment mid.state now) in
@@ -220,6 +240,7 @@ module _ {D : Type 0} (look : D → View) (law : WhatStands) (once : (c : Image)
                 (subst (λ (d : D). IsSettled new.place new.state (look d)) (sym disk) (boots.settled (honest_new h))));
             room = λ busy. absurd (true≢false (sym busy ∙ quiet_now));
             tended = subst (λ (v : ChildrenView). Tended final.state v) (sym given) (quiet_tended final.state from quiet_now rising);
+            admits = subst (λ (v : ChildrenView). Admits v.site final.site) (sym given) admits;
           };
           starts = λ h. record {
             state = mid.state;
@@ -251,16 +272,19 @@ module _ {D : Type 0} (look : D → View) (law : WhatStands) (once : (c : Image)
           let room = opens.room roomy (boots.goes.passed.honest h) lacks.0 in
           let short = lacks.1 in
           omega (arith, room, short);
-      not_foreign = λ h _ foreign.
-          let same = once old.reads foreign.state mid.state foreign.found (opens.found (boots.goes.passed.honest h)) in
-          let next = ap (λ (s : State). s.next_run) same in
-          let low = over.rising in
-          let later = foreign.later in
-          omega (arith, next, low, later);
+      not_foreign = λ h _. own h;
+      spared = λ h other. absurd (own h other);
+      foreign_unbooted = λ other.
+          supposed old (look new.disk) (OpensLike old) (both_passed boots.goes.passed) (λ h. absurd (own h (other h)));
+      unwritten = λ not_disk not.
+          subst (λ (x : D). Rests old (look x)) (sym (boots.unwritten (ap Err (else_full fault not_disk)))) (opens.opens.unwritten not);
       unbooted = λ not_disk.
           subst (λ (x : D). Goes old (look x) (OpensLike old)) (sym (boots.unwritten (ap Err (else_full fault not_disk)))) opens.opens.goes;
     })
       where
+        own : (look new.disk).honest → IsForeign old.reads from → ⊥
+        own h = own_children once old.reads mid.state from (opens.found (boots.goes.passed.honest h)) over.rising
+
         no_damage : (f : SlotFault) (x : Damage) → told_slot f ≡ why.Damaged x → ⊥
         no_damage slot.Disk x is = cc
         no_damage slot.Full x is = cc

@@ -66,6 +66,8 @@ pub leads_start : {D : Type 0} (look : D → View) (law : WhatStands) (x : Sight
 leads_start look law x lawful keeps = record {
   leaves = told (look x.disk) x.state [] lawful (settled_found law x.place x.state (look x.disk) keeps.journal) asked_none;
   book = sym (append-nil x.children.book);
+  log = sym (append-nil x.children.log);
+  site = refl;
   due = refl;
   roomy = same_roomy law x.place x.state (look x.disk) keeps.journal lawful keeps.room;
   whole = λ is_open. refl;
@@ -102,6 +104,8 @@ leads_still look w x a lawful is_open so_far = record {
       (subst (λ (p : List Event). EitherSide x.state p c) (so_far.whole is_open)
       (subst (λ (s : State). EitherSide s a.pending c) (sym (so_far.state is_open)) (so_far.leaves.now h c now)))) asked_none;
   book = sym (append-nil x.children.book);
+  log = sym (append-nil x.children.log);
+  site = refl;
   due = refl;
   roomy = started (look x.disk) Roomy (left_now (look w.disk) (look x.disk) Roomy so_far.roomy lawful) lawful;
   whole = λ is_open. refl;
@@ -127,6 +131,8 @@ leads_command look x y (Err refusal) reply still obeys closes =
 leads_command look x y (Ok e) reply still records closes = record {
   leaves = records.leaves;
   book = ap (λ (c : ChildrenView). c.book) records.children ∙ sym (append-nil x.children.book);
+  log = ap (λ (c : ChildrenView). c.log) records.children ∙ sym (append-nil x.children.log);
+  site = records.site;
   due = records.due ∙ due_of_reply x.state (due_in x) e reply;
   roomy = records.roomy;
   whole = λ is_open. no_pending e reply (λ disk. absurd (true≢false (sym is_open ∙ closes.1 disk)));
@@ -145,6 +151,8 @@ leads_turn : {D : Type 0} (look : D → View) (now : ℕ) (x y : Sight D) (end :
 leads_turn look now x y end takes = record {
   leaves = takes.turns.leaves;
   book = takes.turns.book;
+  log = takes.turns.log;
+  site = takes.site;
   due = takes.turns.due_is;
   roomy = takes.turns.roomy;
   whole = λ is_open. takes.turns.whole (λ disk. absurd (true≢false (sym is_open ∙ takes.closes.1 disk)));
@@ -192,6 +200,8 @@ leads_joined look x y z a b is_open one two =
           subst (λ (s : State). Leaves (look x.disk) (look z.disk) x.state s (a.entries ++ b.entries) (a.events ++ b.events)
           (a.pending ++ b.pending)) (sym reached) on.leaves;
       book = two.book ∙ ap (λ (es : List Entry). es ++ b.entries) one.book ∙ append_assoc x.children.book a.entries b.entries;
+      log = two.log ∙ ap (λ (es : List Entry). es ++ b.entries) one.log ∙ append_assoc x.children.log a.entries b.entries;
+      site = two.site ∙ one.site;
       due =
           two.due ∙ ap (λ (s : State). due_after_all s (due_in y) b.events) one.leaves.state
           ∙ ap (λ (d : Due). due_after_all (after_all x.state a.events) d b.events) one.due

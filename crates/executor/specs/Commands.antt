@@ -22,8 +22,9 @@ pub record Records {D : Type 0} (look : D → View) (e : Event) (old new : Sight
   -- what is acknowledged is recorded and is found after a stop at any later moment; after a disk fault it is recorded or
   -- not; and a stop in between leaves one or the other; no agent is started
   pub leaves : Leaves (look old.disk) (look new.disk) old.state new.state [] (recorded e reply) (pending e reply)
-  -- the children are as they were, and what the last turn told
+  -- the children are as they were, the site, and what the last turn told
   pub children : new.children ≡ old.children
+  pub site : new.site ≡ old.site
   pub told_still : new.told ≡ old.told
   pub due : due_in new ≡ due_left old.state e reply (due_in old)
   -- what a stop leaves since the call's start has room for its boot

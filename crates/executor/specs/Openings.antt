@@ -40,6 +40,7 @@ BootsFrom s now c = FoundAs s c ⊎ FoundAs (booted s now) c
 pub record Boots {D : Type 0} (look : D → View) (now : ℕ) (old new : Sight D) (result : Result Unit SlotFault) : Type 0 where
   pub still_open : new.is_open ≡ true
   pub children : new.children ≡ old.children
+  pub site : new.site ≡ old.site
   pub told : new.told ≡ old.told
   pub settled : OnOk result (IsOnJournal look new)
   pub state : OnOk result (new.state ≡ booted old.state now)
@@ -98,7 +99,7 @@ pub record IsOver {D : Type 0} (from : ChildrenView) (x : Sight D) : Type 0 wher
 pub record IsUnready (from to : ChildrenView) (s : State) (fault : OpenError) : Type 0 where
   pub either : (fault ≡ why.Foreign) ⊎ (fault ≡ why.Memory)
   pub foreign : fault ≡ why.Foreign → (to ≡ from) × (s.next_run ≤ from.last_run)
-  pub memory : fault ≡ why.Memory → to ≡ given_up from
+  pub memory : fault ≡ why.Memory → (to ≡ given_up from) × (from.last_run < s.next_run)
 
 -- The executor was opened: from one view of the disk and these children, and with these notices.
 pub record Opened {D : Type 0} (look : D → View) (old : View) (from : ChildrenView) (now : ℕ) (x : Sight D)
@@ -123,6 +124,7 @@ pub record NotOpened (old new : View) (from to : ChildrenView) (now : ℕ) (faul
   pub children : (to ≡ from) ⊎ (to ≡ given_up from)
   pub untouched : (d : Damage) → fault ≡ why.Damaged d → to ≡ from
   pub foreign : fault ≡ why.Foreign → (to ≡ from) × (new.honest → IsForeign old.reads from)
+  pub spared : new.honest → IsForeign old.reads from → to ≡ from
   -- damage is what was found, and a disk fault has a cause
   pub damaged : new.honest → (d : Damage) → fault ≡ why.Damaged d → IsFound old.reads (Damaged d)
   pub cause : fault ≡ why.Disk → Grew old.failures new.failures
@@ -131,8 +133,11 @@ pub record NotOpened (old new : View) (from to : ChildrenView) (now : ℕ) (faul
   pub full : new.honest → fault ≡ why.Full → LacksRoom old.reads
   pub not_foreign : new.honest → fault ≡ why.Full → IsForeign old.reads from → ⊥
   pub never_full : (old.honest → AllRoomy old) → new.honest → fault ≡ why.Full → ⊥
-  -- a boot may be recorded only where the device failed
+  -- a boot may be recorded only where the device failed, and not before foreign children are refused
   pub unbooted : (fault ≡ why.Disk → ⊥) → Goes old new (OpensLike old)
+  pub foreign_unbooted : (new.honest → IsForeign old.reads from) → Goes old new (OpensLike old)
+  -- else nothing is written but where a journal is made, or one of the first layout laid anew
+  pub unwritten : (fault ≡ why.Disk → ⊥) → (old.honest → IsToWrite old.reads → ⊥) → Rests old new
 
 -- why the journal was not opened, as the executor tells it
 abbrev pub told_fault : JournalFault → OpenError

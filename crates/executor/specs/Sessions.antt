@@ -93,6 +93,10 @@ pub record Leads {D : Type 0} (look : D → View) (old new : Sight D) (deeds : D
   -- the state, what a stop at any moment leaves, and that no agent was started without its synced begin
   pub leaves : Leaves (look old.disk) (look new.disk) old.state new.state deeds.entries deeds.events deeds.pending
   pub book : new.children.book ≡ old.children.book ++ deeds.entries
+  -- these are all that its children were asked
+  pub log : new.children.log ≡ old.children.log ++ deeds.entries
+  -- agents are started at the site at which they were
+  pub site : new.site ≡ old.site
   pub due : due_in new ≡ due_after_all old.state (due_in old) deeds.events
   -- what a stop leaves since its start has room for its boot
   pub roomy : Goes (look old.disk) (look new.disk) Roomy

@@ -11,8 +11,10 @@ use Rattle.executor.specs.Sights.{Sight, due_in}
 
 -- An open executor makes a turn at this moment: from one sight of it to another.
 pub record TakesTurn {D : Type 0} (look : D → View) (now : ℕ) (old new : Sight D) (end : TurnEnd) : Type 0 where
-  pub turns : Turns (look old.disk) (look new.disk)
+  pub turns : Turns look old.disk new.disk
       (scene old.state (due_in old) old.place (moment old.state now)) new.state (due_in new) old.children new.children new.told end
+  -- what it starts is started at its site, which stays
+  pub site : new.site ≡ old.site
   -- nothing is done just where the book takes less than three entries a resource
   pub full : (end ≡ BookFull) ↔ (old.children.room < 3 * length old.state.resources)
   pub unchanged : end ≡ BookFull → new ≡ record old { told = [] }

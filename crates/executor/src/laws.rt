@@ -1,5 +1,5 @@
 //! Laws of sessions and of whole lives, each the contract of a function that does nothing.
-ghost use Rattle.std.specs.Prelude.{◌≢◌, ◌≤◌, ℕ, List, [], Some};
+ghost use Rattle.std.specs.Prelude.{◌≢◌, ◌≤◌, ℕ, List, Option, [], Some};
 ghost use Rattle.std.specs.List.{AllByRecursion};
 ghost use Rattle.ocf_types.specs.Kinds.{Command, Event, Reply};
 ghost use Rattle.ocf_types.specs.LawfulState.{IsLawfulState};
@@ -9,6 +9,7 @@ ghost use Rattle.disk_model.specs.Image.{Image};
 ghost use Rattle.two_parts.specs.declared.damage.Damage.{Damage};
 ghost use Rattle.child_keeper.specs.Children.{ChildrenView};
 ghost use Rattle.exec_journal.specs.Found.{FoundAs, IsFirstPart, IsFreshPair};
+ghost use Rattle.exec_journal.specs.Opening.{Opens};
 ghost use Rattle.exec_journal.specs.Room.{Roomy};
 ghost use Rattle.exec_turn.specs.Lives.{Tends};
 ghost use Rattle.executor.specs.Joins.{StandsAt, as_calls};
@@ -65,7 +66,8 @@ pub fn tended_apart()
 /// of a full journal.
 ///
 /// An opening that was refused is such a sitting. Its boot may stand only where the device failed: want of memory, foreign
-/// children, a full journal and damage come before it.
+/// children, a full journal and damage come before it. And where the journal was opened alone, for a look, that is a sitting
+/// without a boot, however it ended.
 ///
 /// A life begins on any pair that is found as a state and has room for its boot: so does a fresh pair, with the empty state,
 /// and a journal of the first layout, with what it leads to.
@@ -85,6 +87,8 @@ pub fn whole_life<D: Disk>()
         → (fault ≢ why.Full) × ((d : Damage) → fault ≢ why.Damaged d) }
     ensures refused { (old new : D) (from to : ChildrenView) (now : ℕ) (fault : OpenError)
         → NotOpened (D.view old) (D.view new) from to now fault → Sat D.view (InOpening old new now (Some fault)) }
+    ensures looked { (old new : D) (now : ℕ) (end : Option OpenError) → Opens (D.view old) (D.view new)
+        → Sat D.view (InOpening old new now end) }
 {
     found_once();
     what_stands();

@@ -1,5 +1,5 @@
 use Rattle.executor.proofs.Journaling.{WhatStands}
-use Rattle.executor.proofs.Lives.{OneFinding, first_begins, fresh_begins, life_leaves, opened_behind, opens_behind, refused_sits}
+use Rattle.executor.proofs.Lives.{OneFinding, first_begins, fresh_begins, life_leaves, opened_behind, opens_behind, looked_sits, refused_sits}
 use Rattle.executor.proofs.laws.whole_life.Goals as goal
 
 pub returns : goal.returns
@@ -15,4 +15,5 @@ returns g c =
       opened = opened_behind g.D.Disk.view law once g.met.D.Disk.lawful;
       not_refused = opens_behind g.D.Disk.view law once g.met.D.Disk.lawful;
       refused = refused_sits g.D.Disk.view;
+      looked = looked_sits g.D.Disk.view;
     }

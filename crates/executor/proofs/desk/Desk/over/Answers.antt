@@ -16,5 +16,10 @@ pub returns-in_default-clause-refused : goal.returns-in_default-clause-refused
 returns-in_default-clause-refused g c = record {
   either = inr refl;
   foreign = λ is. let none : ⊥ = cc in absurd none;
-  memory = λ is. c.give_up_all.ensures.given_up;
+  memory = λ is.
+      let last = c.last_run.ensures.value in
+      let next = c.get.ensures.value in
+      let here = c.next_run.ensures in
+      let below = c.if-last_run-get.false in
+      (c.give_up_all.ensures.given_up, omega (arith, last, next, here, below));
 }
