@@ -4,13 +4,11 @@ use Rattle.ocf_types.specs.Boot.{any_busy}
 use Rattle.ocf_types.specs.declared.refusal.Refusal.{Refusal}
 use Rattle.ocf_types.specs.declared.reply.TurnEnd.{TurnEnd}
 use Rattle.disk_model.specs.View.{View}
-use Rattle.child_keeper.specs.Children.{ChildrenView}
 use Rattle.executor.specs.CallLaws.{by_both, by_clear, by_command, by_none, by_tidy, by_turn}
 use Rattle.executor.specs.Lives.{ByCalls}
-use Rattle.executor.specs.Sights.{Sight, sight_of}
+use Rattle.executor.specs.Sights.{Sight}
 use Rattle.executor.specs.TidyCalls.{TidiesWhile}
 use Rattle.executor.specs.TurnCalls.{TurnsWhile, with_empty_book}
-use Rattle.executor.specs.declared.executor.Executor.{Executor}
 use Rattle.exec_commands.specs.declared.ends.DrainEnd.{DrainEnd}
 use Rattle.exec_commands.specs.declared.line.Line.{Line}
 use Rattle.exec_commands.specs.declared.line.Line.TheVariants as line
@@ -38,51 +36,51 @@ room_by_calls look limits x y is_open room = by (is_tidy_due limits x) refl
         by_tidy look x y made.0 (subst (λ (o : Bool). TidiesWhile o look x y made.0) (sym is_open) made.1)
     by false none = by_none look x y (room.none none)
 
-module _ {D C M : Type 0} (look : D → View) (tend : C → ChildrenView) (limits : Limits) where
+module _ {D : Type 0} (look : D → View) (limits : Limits) where
   -- the executor goes from one sight to another by calls
-  abbrev Goes : Executor D C M → Executor D C M → Type 0
-  Goes old new = ByCalls look (sight_of tend old) (sight_of tend new)
+  abbrev Goes : Sight D → Sight D → Type 0
+  Goes old new = ByCalls look old new
 
   -- a request, where room was made first
-  request_by_calls : (request : Request) (old new : Executor D C M) (reply : LineReply) → (sight_of tend old).is_open ≡ true
-      → ServesNow look tend limits request old new reply → Goes old new
+  request_by_calls : (request : Request) (old new : Sight D) (reply : LineReply) → old.is_open ≡ true
+      → ServesNow look limits request old new reply → Goes old new
   request_by_calls request old new reply is_open serves =
-      by_both look (sight_of tend old) serves.middle (sight_of tend new)
-      (room_by_calls look limits (sight_of tend old) serves.middle is_open serves.room) (by serves.middle.is_open refl)
+      by_both look old serves.middle new
+      (room_by_calls look limits old serves.middle is_open serves.room) (by serves.middle.is_open refl)
     where
-      by : (b : Bool) → serves.middle.is_open ≡ b → ByCalls look serves.middle (sight_of tend new)
+      by : (b : Bool) → serves.middle.is_open ≡ b → ByCalls look serves.middle new
       by true open_still =
-          by_command look serves.now request serves.middle (sight_of tend new) serves.given (serves.serves open_still) (λ _. serves.closes)
-      by false closed = by_none look serves.middle (sight_of tend new) (serves.fails closed).1
+          by_command look serves.now request serves.middle new serves.given (serves.serves open_still) (λ _. serves.closes)
+      by false closed = by_none look serves.middle new (serves.fails closed).1
 
   -- commands that were answered together
-  together_by_calls : (commands : List Command) (p q : Spot (Executor D C M)) → (sight_of tend p.executor).is_open ≡ true
-      → AnswersTogether look tend limits commands p q → Goes p.executor q.executor
+  together_by_calls : (commands : List Command) (p q : Spot D) → p.executor.is_open ≡ true
+      → AnswersTogether look limits commands p q → Goes p.executor q.executor
   together_by_calls commands p q is_open answers =
-      by_both look (sight_of tend p.executor) answers.serves.middle (sight_of tend q.executor)
-      (room_by_calls look limits (sight_of tend p.executor) answers.serves.middle is_open answers.serves.room)
+      by_both look p.executor answers.serves.middle q.executor
+      (room_by_calls look limits p.executor answers.serves.middle is_open answers.serves.room)
       (by answers.serves.middle.is_open refl)
     where
-      by : (b : Bool) → answers.serves.middle.is_open ≡ b → ByCalls look answers.serves.middle (sight_of tend q.executor)
+      by : (b : Bool) → answers.serves.middle.is_open ≡ b → ByCalls look answers.serves.middle q.executor
       by true open_still = let takes = answers.serves.takes open_still in (takes.exchanges, takes.deeds, takes.calls)
-      by false closed = by_none look answers.serves.middle (sight_of tend q.executor) (answers.serves.fails closed).1
+      by false closed = by_none look answers.serves.middle q.executor (answers.serves.fails closed).1
 
   -- a turn of a drain
-  turn_by_calls : (now : ℕ) (p q : Spot (Executor D C M)) (end : TurnEnd) → (sight_of tend p.executor).is_open ≡ true
-      → MakesTurn look tend limits now p q end → Goes p.executor q.executor
+  turn_by_calls : (now : ℕ) (p q : Spot D) (end : TurnEnd) → p.executor.is_open ≡ true
+      → MakesTurn look limits now p q end → Goes p.executor q.executor
   turn_by_calls now p q end is_open made =
       by_both look old cleared last (by_clear look old cleared refl)
       (by_both look cleared made.middle last (room_by_calls look limits cleared made.middle is_open made.room)
       (by made.middle.is_open refl))
     where
       old : Sight D
-      old = sight_of tend p.executor
+      old = p.executor
 
       cleared : Sight D
       cleared = with_empty_book old
 
       last : Sight D
-      last = sight_of tend q.executor
+      last = q.executor
 
       by : (b : Bool) → made.middle.is_open ≡ b → ByCalls look made.middle last
       by true open_still =
@@ -91,74 +89,74 @@ module _ {D C M : Type 0} (look : D → View) (tend : C → ChildrenView) (limit
       by false closed = by_none look made.middle last (made.fails closed).1
 
   -- turns that go on, each behind an executor that is open still
-  pub turns_by_calls : (t : Terms) (start : ℕ) (p : Spot (Executor D C M)) (turns now : ℕ) (q : Spot (Executor D C M))
-      → (sight_of tend p.executor).is_open ≡ true → GoesOn look tend limits t start p turns now q
-      → Goes p.executor q.executor × ((sight_of tend q.executor).is_open ≡ true)
-  turns_by_calls t start p _ _ _ is_open at_start = (by_none look (sight_of tend p.executor) (sight_of tend p.executor) refl, is_open)
+  pub turns_by_calls : (t : Terms) (start : ℕ) (p : Spot D) (turns now : ℕ) (q : Spot D)
+      → p.executor.is_open ≡ true → GoesOn look limits t start p turns now q
+      → Goes p.executor q.executor × (q.executor.is_open ≡ true)
+  turns_by_calls t start p _ _ _ is_open at_start = (by_none look p.executor p.executor refl, is_open)
   turns_by_calls t start p _ _ _ is_open (further n before after m q end gone_on made on) =
       let so_far = turns_by_calls t start p n before m is_open gone_on in
-      let idle = not (any_busy (sight_of tend q.executor).state) in (
-        by_both look (sight_of tend p.executor) (sight_of tend m.executor) (sight_of tend q.executor) so_far.0
+      let idle = not (any_busy q.executor.state) in (
+        by_both look p.executor m.executor q.executor so_far.0
             (turn_by_calls before m q end so_far.1 made),
-        still_open t (n + 1) after end idle (sight_of tend q.executor).is_open (closes look tend limits before m q end made) on,
+        still_open t (n + 1) after end idle q.executor.is_open (closes look limits before m q end made) on,
       )
 
-  drain_by_calls : (t : Terms) (start : ℕ) (p q : Spot (Executor D C M)) (end : DrainEnd) → (sight_of tend p.executor).is_open ≡ true
-      → Drains look tend limits t start p q end → Goes p.executor q.executor
+  drain_by_calls : (t : Terms) (start : ℕ) (p q : Spot D) (end : DrainEnd) → p.executor.is_open ≡ true
+      → Drains look limits t start p q end → Goes p.executor q.executor
   drain_by_calls t start p q end is_open drains =
       let so_far = turns_by_calls t start p drains.turns drains.now drains.last is_open drains.gone_on in
-      by_both look (sight_of tend p.executor) (sight_of tend drains.last.executor) (sight_of tend q.executor) so_far.0
+      by_both look p.executor drains.last.executor q.executor so_far.0
       (turn_by_calls drains.now drains.last q drains.turn_end so_far.1 drains.made)
 
   -- what an open executor answers to a line
-  open_by_calls : (source : Source) (p q : Spot (Executor D C M)) (found : Result Line Refusal) (reply : LineReply)
-      → (sight_of tend p.executor).is_open ≡ true → IsOpenReply look tend source limits p q found reply → Goes p.executor q.executor
+  open_by_calls : (source : Source) (p q : Spot D) (found : Result Line Refusal) (reply : LineReply)
+      → p.executor.is_open ≡ true → IsOpenReply look source limits p q found reply → Goes p.executor q.executor
   open_by_calls source p q (Ok (line.Request request)) reply is_open answered =
       request_by_calls request p.executor q.executor reply is_open answered.0
   open_by_calls source p q (Ok (line.Drain limit)) reply is_open (now, end, told, drains) = drain_by_calls _ _ p q end is_open drains
   open_by_calls source p q (Ok (line.Watch limit)) reply is_open (now, end, told, drains) = drain_by_calls _ _ p q end is_open drains
   open_by_calls source p q (Ok line.Tidy) reply is_open ((end, told, tidies), same) =
-      by_tidy look (sight_of tend p.executor) (sight_of tend q.executor) end
-      (subst (λ (o : Bool). TidiesWhile o look (sight_of tend p.executor) (sight_of tend q.executor) end) (sym is_open) tidies)
+      by_tidy look p.executor q.executor end
+      (subst (λ (o : Bool). TidiesWhile o look p.executor q.executor end) (sym is_open) tidies)
   open_by_calls source p q (Ok (line.Meta provider agent limit)) reply is_open answered =
-      by_none look (sight_of tend p.executor) (sight_of tend q.executor)
-      (ap (λ (s : Spot (Executor D C M)). sight_of tend s.executor) answered.1)
+      by_none look p.executor q.executor
+      (ap (λ (s : Spot D). s.executor) answered.1)
   open_by_calls source p q (Err why) reply is_open answered =
-      by_none look (sight_of tend p.executor) (sight_of tend q.executor)
-      (ap (λ (s : Spot (Executor D C M)). sight_of tend s.executor) answered.1)
+      by_none look p.executor q.executor
+      (ap (λ (s : Spot D). s.executor) answered.1)
 
-  reply_by_calls : (source : Source) (p q : Spot (Executor D C M)) (found : Result Line Refusal) (reply : LineReply)
-      → IsReply look tend source limits p q found reply → Goes p.executor q.executor
-  reply_by_calls source p q found reply is = by (sight_of tend p.executor).is_open refl
+  reply_by_calls : (source : Source) (p q : Spot D) (found : Result Line Refusal) (reply : LineReply)
+      → IsReply look source limits p q found reply → Goes p.executor q.executor
+  reply_by_calls source p q found reply is = by p.executor.is_open refl
     where
-      by : (b : Bool) → (sight_of tend p.executor).is_open ≡ b → Goes p.executor q.executor
+      by : (b : Bool) → p.executor.is_open ≡ b → Goes p.executor q.executor
       by true is_open = open_by_calls source p q found reply is_open (is.while_open is_open)
       by false closed =
-          by_none look (sight_of tend p.executor) (sight_of tend q.executor)
-          (ap (λ (s : Spot (Executor D C M)). sight_of tend s.executor) (is.once_closed closed).1)
+          by_none look p.executor q.executor
+          (ap (λ (s : Spot D). s.executor) (is.once_closed closed).1)
 
   -- what stands next in the input
-  next_by_calls : (source : Source) (p q : Place (Executor D C M)) (s : Progress) → Takes look tend source limits p q s
+  next_by_calls : (source : Source) (p q : Place D) (s : Progress) → Takes look source limits p q s
       → Goes p.executor q.executor
   next_by_calls source p q progress.Answered takes = reply_by_calls source _ _ takes.found takes.reply takes.answered
   next_by_calls source p q progress.PassedOver takes =
-      by_none look (sight_of tend p.executor) (sight_of tend q.executor) (ap (λ (e : Executor D C M). sight_of tend e) takes.1.0)
+      by_none look p.executor q.executor (ap (λ (e : Sight D). e) takes.1.0)
   next_by_calls source p q progress.End takes =
-      by_none look (sight_of tend p.executor) (sight_of tend q.executor) (ap (λ (e : Executor D C M). sight_of tend e) takes.1.0)
+      by_none look p.executor q.executor (ap (λ (e : Sight D). e) takes.1.0)
 
   -- line after line, and turns between them
-  pub lines_by_calls : (source : Source) (p : Place (Executor D C M)) (n : ℕ) (q : Place (Executor D C M)) → Reaches look tend source limits p n q
+  pub lines_by_calls : (source : Source) (p : Place D) (n : ℕ) (q : Place D) → Reaches look source limits p n q
       → Goes p.executor q.executor
-  lines_by_calls source p _ _ here = by_none look (sight_of tend p.executor) (sight_of tend p.executor) refl
+  lines_by_calls source p _ _ here = by_none look p.executor p.executor refl
   lines_by_calls source p _ _ (one_line n m q s reaches may takes) =
-      by_both look (sight_of tend p.executor) (sight_of tend m.executor) (sight_of tend q.executor) (lines_by_calls source p n m reaches)
+      by_both look p.executor m.executor q.executor (lines_by_calls source p n m reaches)
       (next_by_calls source m q s takes)
   lines_by_calls source p _ _ (row n m q first others reaches is_open may answers) =
-      by_both look (sight_of tend p.executor) (sight_of tend m.executor) (sight_of tend q.executor) (lines_by_calls source p n m reaches)
+      by_both look p.executor m.executor q.executor (lines_by_calls source p n m reaches)
       (together_by_calls (first ∷ others) _ _ is_open answers.answered)
   lines_by_calls source p _ _ (closed_line n m q s reaches closed takes) =
-      by_both look (sight_of tend p.executor) (sight_of tend m.executor) (sight_of tend q.executor) (lines_by_calls source p n m reaches)
+      by_both look p.executor m.executor q.executor (lines_by_calls source p n m reaches)
       (next_by_calls source m q s takes)
   lines_by_calls source p _ _ (one_turn n now m q end reaches may is_open made left) =
-      by_both look (sight_of tend p.executor) (sight_of tend m.executor) (sight_of tend q.executor) (lines_by_calls source p n m reaches)
+      by_both look p.executor m.executor q.executor (lines_by_calls source p n m reaches)
       (turn_by_calls now _ _ end is_open made)

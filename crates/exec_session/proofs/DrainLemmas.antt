@@ -3,9 +3,6 @@ use Rattle.std.proofs.Common.{◌≡◌, ◌↔◌, ℕ, Bool, true, false, Opti
 use Rattle.ocf_types.specs.declared.reply.TurnEnd.{TurnEnd}
 use Rattle.ocf_types.specs.declared.reply.TurnEnd.TheVariants as turn_end
 use Rattle.disk_model.specs.View.{View}
-use Rattle.child_keeper.specs.Children.{ChildrenView}
-use Rattle.executor.specs.Sights.{sight_of}
-use Rattle.executor.specs.declared.executor.Executor.{Executor}
 use Rattle.exec_commands.specs.declared.ends.DrainEnd.{DrainEnd}
 use Rattle.exec_session.specs.Drains.{MakesTurn, Spot, end_behind}
 use Rattle.exec_session.specs.Limits.{Limits}
@@ -28,12 +25,12 @@ still_open t turns now end idle true closes e = refl
 still_open t turns now end idle false closes e = let is = sym (done t turns now end idle e) ∙ closes.0 refl in absurd cc
 
 -- a turn that closed the executor ended for the disk, as room was made or in the turn itself
-pub closes : {D C M : Type 0} (look : D → View) (tend : C → ChildrenView) (limits : Limits) (now : ℕ) (p q : Spot (Executor D C M))
+pub closes : {D : Type 0} (look : D → View) (limits : Limits) (now : ℕ) (p q : Spot D)
     (end : TurnEnd)
-    → MakesTurn look tend limits now p q end → ((sight_of tend q.executor).is_open ≡ false) ↔ (end ≡ turn_end.Disk)
-closes look tend limits now p q end made = by made.middle.is_open refl
+    → MakesTurn look limits now p q end → (q.executor.is_open ≡ false) ↔ (end ≡ turn_end.Disk)
+closes look limits now p q end made = by made.middle.is_open refl
   where
-    by : (b : Bool) → made.middle.is_open ≡ b → ((sight_of tend q.executor).is_open ≡ false) ↔ (end ≡ turn_end.Disk)
+    by : (b : Bool) → made.middle.is_open ≡ b → (q.executor.is_open ≡ false) ↔ (end ≡ turn_end.Disk)
     by true is_open = (made.takes is_open).closes
     by false closed = let fails = made.fails closed in (λ _. fails.0, λ _. ap (λ x. x.is_open) fails.1 ∙ closed)
 

@@ -5,9 +5,7 @@ use Rattle.std.proofs.lemmas.List.Elements.{All-nil}
 use Rattle.std.proofs.KnownBytes.{Consumes-nil}
 use Rattle.ocf_types.specs.Kinds.{Command}
 use Rattle.disk_model.specs.View.{View}
-use Rattle.child_keeper.specs.Children.{ChildrenView}
-use Rattle.executor.specs.Sights.{sight_of}
-use Rattle.executor.specs.declared.executor.Executor.{Executor}
+use Rattle.executor.specs.Sights.{Sight}
 use Rattle.exec_lines.specs.Pieces.{IsMidLine}
 use Rattle.exec_session.specs.Answers.{Source}
 use Rattle.exec_session.specs.Drains.{spot, Spot}
@@ -41,59 +39,59 @@ turns_serve : (way : Way) → way ≡ Serve → MakesTurns way
 turns_serve Run is = absurd cc
 turns_serve Serve is = tt
 
-module _ {D C M : Type 0} (look : D → View) (tend : C → ChildrenView) (source : Source) (limits : Limits) (p : Place (Executor D C M)) where
-  abbrev Come : ℕ → List Command → Place (Executor D C M) → Type 0
-  Come most commands q = HasCome look tend source limits p most commands q
+module _ {D : Type 0} (look : D → View) (source : Source) (limits : Limits) (p : Place D) where
+  abbrev Come : ℕ → List Command → Place D → Type 0
+  Come most commands q = HasCome look source limits p most commands q
 
-  abbrev ComeMid : ℕ → List Command → List ℕ → Place (Executor D C M) → Type 0
-  ComeMid most commands kept q = HasComeMid look tend source limits p most commands kept q
+  abbrev ComeMid : ℕ → List Command → List ℕ → Place D → Type 0
+  ComeMid most commands kept q = HasComeMid look source limits p most commands kept q
 
   -- nothing is done yet
   pub first_mid : (kept : List ℕ) → kept ≡ [] → ComeMid 0 [] kept p
-  first_mid kept none = (p.left, begins p.left kept none, at_first look tend source limits p)
+  first_mid kept none = (p.left, begins p.left kept none, at_first look source limits p)
 
   -- more lines were allowed
-  pub mid_more : (n m : ℕ) (commands : List Command) (kept : List ℕ) (q : Place (Executor D C M)) → n ≤ m → ComeMid n commands kept q
+  pub mid_more : (n m : ℕ) (commands : List Command) (kept : List ℕ) (q : Place D) → n ≤ m → ComeMid n commands kept q
       → ComeMid m commands kept q
   mid_more n m commands kept q le (left, mid, come) =
-      (left, mid, come_more look tend source limits p n m commands (place q.executor left q.written) le come)
+      (left, mid, come_more look source limits p n m commands (place q.executor left q.written) le come)
 
   -- a line was taken, and the buffer is empty
-  pub mid_taken : (most : ℕ) (commands : List Command) (kept : List ℕ) (q : Place (Executor D C M)) (ended : Bool) → kept ≡ []
-      → ComesOrEnds look tend source limits p most commands q ended → ComesMidOrEnds look tend source limits p most commands kept q ended
+  pub mid_taken : (most : ℕ) (commands : List Command) (kept : List ℕ) (q : Place D) (ended : Bool) → kept ≡ []
+      → ComesOrEnds look source limits p most commands q ended → ComesMidOrEnds look source limits p most commands kept q ended
   mid_taken most commands kept q false none come = (q.left, begins q.left kept none, come)
   mid_taken most commands kept q true none end = end
 
   -- all that wait are answered
   pub mid_answered : (most : ℕ) → ((n : ℕ) → n + 1 ≤ most → MayTake limits.way n) → (commands : List Command) (kept : List ℕ)
-      (old new : Executor D C M) (now written written' : Option (List ℕ))
-      → (commands ≢ [] → (sight_of tend old).is_open ≡ true) → ComeMid most commands kept (place old now written)
-      → AnswersAll look tend limits commands (spot old written) (spot new written') → ComeMid most [] kept (place new now written')
+      (old new : Sight D) (now written written' : Option (List ℕ))
+      → (commands ≢ [] → old.is_open ≡ true) → ComeMid most commands kept (place old now written)
+      → AnswersAll look limits commands (spot old written) (spot new written') → ComeMid most [] kept (place new now written')
   mid_answered most may commands kept old new now written written' is_open (left, mid, come) answers =
-      (left, mid, all_answered look tend source limits p most may commands old new left written written' is_open come answers)
+      (left, mid, all_answered look source limits p most may commands old new left written written' is_open come answers)
 
   -- a look at the input leaves what is left
-  pub mid_same : (most : ℕ) (commands : List Command) (kept : List ℕ) (executor : Executor D C M) (written old new : Option (List ℕ))
+  pub mid_same : (most : ℕ) (commands : List Command) (kept : List ℕ) (executor : Sight D) (written old new : Option (List ℕ))
       → new ≡ old → ComeMid most commands kept (place executor old written) → ComeMid most commands kept (place executor new written)
   mid_same most commands kept executor written old new same come =
       subst (λ left. ComeMid most commands kept (place executor left written)) (sym same) come
 
   -- a turn
-  pub one_turn : limits.way ≡ Serve → (n : ℕ) (kept : List ℕ) (q q' : Place (Executor D C M)) → q'.left ≡ q.left → ComeMid n [] kept q
-      → TurnsAlone look tend limits (spot q.executor q.written) (spot q'.executor q'.written) → ComeMid 0 [] kept q'
+  pub one_turn : limits.way ≡ Serve → (n : ℕ) (kept : List ℕ) (q q' : Place D) → q'.left ≡ q.left → ComeMid n [] kept q
+      → TurnsAlone look limits (spot q.executor q.written) (spot q'.executor q'.written) → ComeMid 0 [] kept q'
   one_turn way n kept q q' same (left, mid, come) turns =
-      (left, subst (IsMidLine left kept) (sym same) mid, by (sight_of tend q.executor).is_open refl)
+      (left, subst (IsMidLine left kept) (sym same) mid, by q.executor.is_open refl)
     where
-      before : Place (Executor D C M)
+      before : Place D
       before = place q.executor left q.written
 
-      after : Place (Executor D C M)
+      after : Place D
       after = place q'.executor left q'.written
 
-      by : (b : Bool) → (sight_of tend q.executor).is_open ≡ b → Come 0 [] after
+      by : (b : Bool) → q.executor.is_open ≡ b → Come 0 [] after
       by true is_open =
           let (now, end, made) = turns.while_open is_open in
-          let (count, few, reached) = at_line look tend source limits p n before come in (
+          let (count, few, reached) = at_line look source limits p n before come in (
             0,
             inl (omega arith),
             record {
@@ -104,9 +102,9 @@ module _ {D C M : Type 0} (look : D → View) (tend : C → ChildrenView) (sourc
           )
       by false closed =
           let stays = turns.once_closed closed in
-          let executor : q'.executor ≡ q.executor = ap (λ (s : Spot (Executor D C M)). s.executor) stays in
-          let written : q'.written ≡ q.written = ap (λ (s : Spot (Executor D C M)). s.written) stays in
+          let executor : q'.executor ≡ q.executor = ap (λ (s : Spot D). s.executor) stays in
+          let written : q'.written ≡ q.written = ap (λ (s : Spot D). s.written) stays in
           let (count, few, waits) = come in
           let still : Come 0 [] before = (count, inr closed, waits) in
-          let moved = subst (λ (e : Executor D C M). Come 0 [] (place e left q.written)) (sym executor) still in
+          let moved = subst (λ (e : Sight D). Come 0 [] (place e left q.written)) (sym executor) still in
           subst (λ w. Come 0 [] (place q'.executor left w)) (sym written) moved

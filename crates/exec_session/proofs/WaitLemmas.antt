@@ -3,9 +3,7 @@ use Rattle.std.proofs.Common.{◌≡◌, ◌≢◌, ◌⊎◌, ℕ, ◌+◌, ◌
 use Rattle.std.proofs.Common.{refl, sym, ap, subst, ◌∙◌, inl, inr, arith, length-append}
 use Rattle.ocf_types.specs.Kinds.{Command}
 use Rattle.disk_model.specs.View.{View}
-use Rattle.child_keeper.specs.Children.{ChildrenView}
-use Rattle.executor.specs.Sights.{Sight, sight_of}
-use Rattle.executor.specs.declared.executor.Executor.{Executor}
+use Rattle.executor.specs.Sights.{Sight}
 use Rattle.exec_session.specs.Answers.{Source}
 use Rattle.exec_session.specs.Drains.{Spot, spot}
 use Rattle.exec_session.specs.Limits.{Limits}
@@ -53,29 +51,29 @@ open_while x commands may some = by x.is_open refl
     by true is_open = is_open
     by false closed = absurd (some (may.while_open closed))
 
-module _ {D C M : Type 0} (look : D → View) (tend : C → ChildrenView) (source : Source) (limits : Limits) (p : Place (Executor D C M)) where
-  abbrev Come : ℕ → List Command → Place (Executor D C M) → Type 0
-  Come most commands q = HasCome look tend source limits p most commands q
+module _ {D : Type 0} (look : D → View) (source : Source) (limits : Limits) (p : Place D) where
+  abbrev Come : ℕ → List Command → Place D → Type 0
+  Come most commands q = HasCome look source limits p most commands q
 
-  abbrev Closed : Executor D C M → Type 0
-  Closed executor = (sight_of tend executor).is_open ≡ false
+  abbrev Closed : Sight D → Type 0
+  Closed executor = executor.is_open ≡ false
 
   -- nothing is done yet
   pub at_first : Come 0 [] p
   at_first = (0, inl (omega arith), record { left = p.left; read = refl; reached = here })
 
   -- none waits
-  pub come_none : (most : ℕ) (commands : List Command) (q : Place (Executor D C M)) → commands ≡ [] → Come most [] q → Come most commands q
+  pub come_none : (most : ℕ) (commands : List Command) (q : Place D) → commands ≡ [] → Come most [] q → Come most commands q
   come_none most commands q none come = subst (λ cs. Come most cs q) (sym none) come
 
   -- more lines were allowed
-  pub come_more : (n m : ℕ) (commands : List Command) (q : Place (Executor D C M)) → n ≤ m → Come n commands q → Come m commands q
+  pub come_more : (n m : ℕ) (commands : List Command) (q : Place D) → n ≤ m → Come n commands q → Come m commands q
   come_more n m commands q le (count, inl few, waits) = (count, inl (omega (arith, le, few)), waits)
   come_more n m commands q le (count, inr closed, waits) = (count, inr closed, waits)
 
   -- a command more waits
-  pub one_waits : (most : ℕ) (commands commands' : List Command) (command : Command) (executor : Executor D C M)
-      (left now written : Option (List ℕ)) → (sight_of tend executor).is_open ≡ true → ReadsCommand left now command
+  pub one_waits : (most : ℕ) (commands commands' : List Command) (command : Command) (executor : Sight D)
+      (left now written : Option (List ℕ)) → executor.is_open ≡ true → ReadsCommand left now command
       → commands' ≡ commands ++ command ∷ [] → Come most commands (place executor left written)
       → Come (most + 1) commands' (place executor now written)
   one_waits most commands commands' command executor left now written is_open read same (count, few, waits) = (
@@ -94,13 +92,13 @@ module _ {D C M : Type 0} (look : D → View) (tend : C → ChildrenView) (sourc
 
   -- all that wait are answered
   pub all_answered : (most : ℕ) → ((n : ℕ) → n + 1 ≤ most → MayTake limits.way n) → (commands : List Command)
-      (old new : Executor D C M) (left written written' : Option (List ℕ))
-      → (commands ≢ [] → (sight_of tend old).is_open ≡ true) → Come most commands (place old left written)
-      → AnswersAll look tend limits commands (spot old written) (spot new written') → Come most [] (place new left written')
+      (old new : Sight D) (left written written' : Option (List ℕ))
+      → (commands ≢ [] → old.is_open ≡ true) → Come most commands (place old left written)
+      → AnswersAll look limits commands (spot old written) (spot new written') → Come most [] (place new left written')
   all_answered most may [] old new left written written' is_open (count, few, waits) same =
-      let executor : new ≡ old = ap (λ (s : Spot (Executor D C M)). s.executor) same in
-      let wrote : written' ≡ written = ap (λ (s : Spot (Executor D C M)). s.written) same in
-      let moved = subst (λ (e : Executor D C M). Come most [] (place e left written)) (sym executor) (count, few, waits) in
+      let executor : new ≡ old = ap (λ (s : Spot D). s.executor) same in
+      let wrote : written' ≡ written = ap (λ (s : Spot D). s.written) same in
+      let moved = subst (λ (e : Sight D). Come most [] (place e left written)) (sym executor) (count, few, waits) in
       subst (λ w. Come most [] (place new left w)) (sym wrote) moved
   all_answered most may (first ∷ others) old new left written written' is_open (count, inr closed, waits) answers =
       absurd (true≢false (sym (is_open (λ none. cc)) ∙ closed))
@@ -117,12 +115,12 @@ module _ {D C M : Type 0} (look : D → View) (tend : C → ChildrenView) (sourc
   )
 
   -- with none that waits the run is at the line that is next
-  pub at_line : (most : ℕ) (q : Place (Executor D C M)) → Come most [] q → (count : ℕ)
-      × ((count ≤ most) ⊎ Closed q.executor) × Reaches look tend source limits p count q
+  pub at_line : (most : ℕ) (q : Place D) → Come most [] q → (count : ℕ)
+      × ((count ≤ most) ⊎ Closed q.executor) × Reaches look source limits p count q
   at_line most q (count, few, waits) = (
     count,
     fewer few,
-    subst (λ left. Reaches look tend source limits p count (place q.executor left q.written)) (sym waits.read) waits.reached,
+    subst (λ left. Reaches look source limits p count (place q.executor left q.written)) (sym waits.read) waits.reached,
   )
     where
       fewer : (count + 0 ≤ most) ⊎ Closed q.executor → (count ≤ most) ⊎ Closed q.executor
@@ -130,16 +128,16 @@ module _ {D C M : Type 0} (look : D → View) (tend : C → ChildrenView) (sourc
       fewer (inr closed) = inr closed
 
   -- the next line is taken, or the input has ended
-  pub one_taken : (most : ℕ) → MayTakeBehind limits.way most → (q q' : Place (Executor D C M)) (s : Progress) (ended : Bool)
-      → (ended ≡ true → s ≡ End) → Come most [] q → Takes look tend source limits q q' s
-      → ComesOrEnds look tend source limits p (most + 1) [] q' ended
+  pub one_taken : (most : ℕ) → MayTakeBehind limits.way most → (q q' : Place D) (s : Progress) (ended : Bool)
+      → (ended ≡ true → s ≡ End) → Come most [] q → Takes look source limits q q' s
+      → ComesOrEnds look source limits p (most + 1) [] q' ended
   one_taken most may q q' s true is come takes =
       let (count, few, reached) = at_line most q come in
-      record { count = count; last = q; reached = reached; end = subst (λ x. Takes look tend source limits q q' x) (is refl) takes }
-  one_taken most may q q' s false is come takes = by (sight_of tend q.executor).is_open refl (at_line most q come)
+      record { count = count; last = q; reached = reached; end = subst (λ x. Takes look source limits q q' x) (is refl) takes }
+  one_taken most may q q' s false is come takes = by q.executor.is_open refl (at_line most q come)
     where
-      by : (b : Bool) → (sight_of tend q.executor).is_open ≡ b
-          → (count : ℕ) × ((count ≤ most) ⊎ Closed q.executor) × Reaches look tend source limits p count q → Come (most + 1) [] q'
+      by : (b : Bool) → q.executor.is_open ≡ b
+          → (count : ℕ) × ((count ≤ most) ⊎ Closed q.executor) × Reaches look source limits p count q → Come (most + 1) [] q'
       by true is_open (count, inl few, reached) = (
         count + 1,
         inl (omega (arith, few)),

@@ -9,10 +9,8 @@ use Rattle.ocf_types.specs.declared.reply.TidyEnd.{TidyEnd}
 use Rattle.ocf_types.specs.declared.reply.TidyEnd.TheVariants as tidy_end
 use Rattle.ocf_types.specs.declared.reply.TurnEnd.TheVariants as turn_end
 use Rattle.disk_model.specs.View.{View}
-use Rattle.child_keeper.specs.Children.{ChildrenView}
-use Rattle.executor.specs.declared.executor.Executor.{Executor}
 use Rattle.executor.specs.Commands.{Serves}
-use Rattle.executor.specs.Sights.{Sight, sight_of}
+use Rattle.executor.specs.Sights.{Sight}
 use Rattle.executor.specs.TidyCalls.{Tidies}
 use Rattle.exec_commands.specs.Lines.{line_read}
 use Rattle.exec_commands.specs.declared.ends.DrainEnd.{DrainEnd}
@@ -60,43 +58,43 @@ IsClosedReply source (Ok (line.Request request)) reply = reply ≡ refused refus
 IsClosedReply source (Err why) reply = reply ≡ refused refusal.Closed
 
 -- a drain from the moment that the clock shows, whatever that is, for so many milliseconds and turns at most
-abbrev pub DrainsFor : {D C M : Type 0} → (D → View) → (C → ChildrenView) → Bool → ℕ → Limits → Spot (Executor D C M)
-    → Spot (Executor D C M) → LineReply → Type 0
-DrainsFor look tend ends_idle limit limits p q reply =
+abbrev pub DrainsFor : {D : Type 0} → (D → View) → Bool → ℕ → Limits → Spot D
+    → Spot D → LineReply → Type 0
+DrainsFor look ends_idle limit limits p q reply =
     (now : ℕ) × (end : DrainEnd) × (reply ≡ answer.Drain end)
-    × Drains look tend limits (record { ends_idle = ends_idle; until = now + limit; most = limits.most_turns }) now p q end
+    × Drains look limits (record { ends_idle = ends_idle; until = now + limit; most = limits.most_turns }) now p q end
 
 -- What an open executor does with a request: room is made, and then it is served at the moment that the clock shows,
 -- whatever that is. Where a disk fault closed the executor as room was made, it is refused for that and nothing else is done.
-pub record ServesNow {D C M : Type 0} (look : D → View) (tend : C → ChildrenView) (limits : Limits) (request : Request)
-    (old new : Executor D C M) (reply : LineReply) : Type 0 where
+pub record ServesNow {D : Type 0} (look : D → View) (limits : Limits) (request : Request)
+    (old new : Sight D) (reply : LineReply) : Type 0 where
   pub middle : Sight D
   pub now : ℕ
   pub given : Reply
   pub told : reply ≡ answer.Request given
-  pub room : MakesRoom look limits (sight_of tend old) middle
-  pub serves : middle.is_open ≡ true → Serves look now request middle (sight_of tend new) given
-  pub fails : middle.is_open ≡ false → (given ≡ Refused refusal.Disk) × (sight_of tend new ≡ middle)
-  pub closes : (sight_of tend new).is_open ≡ false ↔ (given ≡ Refused refusal.Disk)
+  pub room : MakesRoom look limits old middle
+  pub serves : middle.is_open ≡ true → Serves look now request middle new given
+  pub fails : middle.is_open ≡ false → (given ≡ Refused refusal.Disk) × (new ≡ middle)
+  pub closes : new.is_open ≡ false ↔ (given ≡ Refused refusal.Disk)
 
 -- how a tidy ended that was asked for
-abbrev pub TidiesNow : {D C M : Type 0} → (D → View) → (C → ChildrenView) → Executor D C M → Executor D C M → LineReply → Type 0
-TidiesNow look tend old new reply = (end : TidyEnd) × (reply ≡ answer.Tidy end) × Tidies look (sight_of tend old) (sight_of tend new) end
+abbrev pub TidiesNow : {D : Type 0} → (D → View) → Sight D → Sight D → LineReply → Type 0
+TidiesNow look old new reply = (end : TidyEnd) × (reply ≡ answer.Tidy end) × Tidies look old new end
 
 -- what an open executor answers to a line: from the spot of its start to that at which the reply is written
-abbrev pub IsOpenReply : {D C M : Type 0} → (D → View) → (C → ChildrenView) → Source → Limits → Spot (Executor D C M)
-    → Spot (Executor D C M) → Result Line Refusal → LineReply → Type 0
-IsOpenReply look tend source limits p q (Ok (line.Request request)) reply =
-    ServesNow look tend limits request p.executor q.executor reply × (q.written ≡ p.written)
-IsOpenReply look tend source limits p q (Ok (line.Drain limit)) reply = DrainsFor look tend true limit limits p q reply
-IsOpenReply look tend source limits p q (Ok (line.Watch limit)) reply = DrainsFor look tend false limit limits p q reply
-IsOpenReply look tend source limits p q (Ok line.Tidy) reply = TidiesNow look tend p.executor q.executor reply × (q.written ≡ p.written)
-IsOpenReply look tend source limits p q (Ok (line.Meta provider agent limit)) reply =
+abbrev pub IsOpenReply : {D : Type 0} → (D → View) → Source → Limits → Spot D
+    → Spot D → Result Line Refusal → LineReply → Type 0
+IsOpenReply look source limits p q (Ok (line.Request request)) reply =
+    ServesNow look limits request p.executor q.executor reply × (q.written ≡ p.written)
+IsOpenReply look source limits p q (Ok (line.Drain limit)) reply = DrainsFor look true limit limits p q reply
+IsOpenReply look source limits p q (Ok (line.Watch limit)) reply = DrainsFor look false limit limits p q reply
+IsOpenReply look source limits p q (Ok line.Tidy) reply = TidiesNow look p.executor q.executor reply × (q.written ≡ p.written)
+IsOpenReply look source limits p q (Ok (line.Meta provider agent limit)) reply =
     IsMetaReply source provider agent limit reply × (q ≡ p)
-IsOpenReply look tend source limits p q (Err why) reply = (reply ≡ refused why) × (q ≡ p)
+IsOpenReply look source limits p q (Err why) reply = (reply ≡ refused why) × (q ≡ p)
 
 -- the same while the executor is open or closed
-pub record IsReply {D C M : Type 0} (look : D → View) (tend : C → ChildrenView) (source : Source) (limits : Limits)
-    (p q : Spot (Executor D C M)) (found : Result Line Refusal) (reply : LineReply) : Type 0 where
-  pub while_open : (sight_of tend p.executor).is_open ≡ true → IsOpenReply look tend source limits p q found reply
-  pub once_closed : (sight_of tend p.executor).is_open ≡ false → IsClosedReply source found reply × (q ≡ p)
+pub record IsReply {D : Type 0} (look : D → View) (source : Source) (limits : Limits)
+    (p q : Spot D) (found : Result Line Refusal) (reply : LineReply) : Type 0 where
+  pub while_open : p.executor.is_open ≡ true → IsOpenReply look source limits p q found reply
+  pub once_closed : p.executor.is_open ≡ false → IsClosedReply source found reply × (q ≡ p)

@@ -6,10 +6,8 @@ use Rattle.ocf_types.specs.Boot.{any_busy}
 use Rattle.ocf_types.specs.declared.reply.TurnEnd.{TurnEnd}
 use Rattle.ocf_types.specs.declared.reply.TurnEnd.TheVariants.{Disk, Done}
 use Rattle.disk_model.specs.View.{View}
-use Rattle.child_keeper.specs.Children.{ChildrenView}
-use Rattle.executor.specs.Sights.{Sight, sight_of}
+use Rattle.executor.specs.Sights.{Sight}
 use Rattle.executor.specs.TurnCalls.{TakesTurn, with_empty_book}
-use Rattle.executor.specs.declared.executor.Executor.{Executor}
 use Rattle.exec_commands.specs.Replies.{formed_line}
 use Rattle.exec_commands.specs.declared.ends.DrainEnd.{DrainEnd}
 use Rattle.exec_commands.specs.declared.ends.DrainEnd.TheVariants.{Idle, Limit, Turns, Turn}
@@ -17,22 +15,22 @@ use Rattle.exec_session.specs.Limits.{Limits, MakesRoom}
 use Rattle.exec_session.specs.declared.drain.Terms.{Terms}
 
 -- where an answer stands: its executor, and what the writer holds
-pub record Spot (E : Type 0) : Type 0 where
-  pub executor : E
+pub record Spot (D : Type 0) : Type 0 where
+  pub executor : Sight D
   pub written : Option (List ℕ)
 
-abbrev pub spot : {E : Type 0} → E → Option (List ℕ) → Spot E
+abbrev pub spot : {D : Type 0} → Sight D → Option (List ℕ) → Spot D
 spot executor written = record { executor = executor; written = written }
 
 -- A turn at this moment: the book is emptied and room is made, then the turn is made, and its notices are written. Where a
 -- disk fault closed the executor as room was made, no turn is made and nothing is written.
-pub record MakesTurn {D C M : Type 0} (look : D → View) (tend : C → ChildrenView) (limits : Limits) (now : ℕ) (p q : Spot (Executor D C M))
+pub record MakesTurn {D : Type 0} (look : D → View) (limits : Limits) (now : ℕ) (p q : Spot D)
     (end : TurnEnd) : Type 0 where
   pub middle : Sight D
-  pub room : MakesRoom look limits (with_empty_book (sight_of tend p.executor)) middle
-  pub takes : middle.is_open ≡ true → TakesTurn look now middle (sight_of tend q.executor) end
-  pub written : middle.is_open ≡ true → Appends p.written q.written (flat_map (formed_line limits.form) (sight_of tend q.executor).told)
-  pub fails : middle.is_open ≡ false → (end ≡ Disk) × (sight_of tend q.executor ≡ middle) × (q.written ≡ p.written)
+  pub room : MakesRoom look limits (with_empty_book p.executor) middle
+  pub takes : middle.is_open ≡ true → TakesTurn look now middle q.executor end
+  pub written : middle.is_open ≡ true → Appends p.written q.written (flat_map (formed_line limits.form) q.executor.told)
+  pub fails : middle.is_open ≡ false → (end ≡ Disk) × (q.executor ≡ middle) × (q.written ≡ p.written)
 
 -- how a drain ends behind its turn of this number, which ended so and left the executor idle or not, at the moment that
 -- the clock shows then; none where it goes on
@@ -43,27 +41,27 @@ end_behind t turns now Done idle =
 end_behind t turns now end idle = Some (Turn end)
 
 -- the same, of an executor that is seen as it is behind that turn
-abbrev pub end_at : {D C M : Type 0} → (C → ChildrenView) → Terms → ℕ → ℕ → TurnEnd → Executor D C M → Option DrainEnd
-end_at tend t turns now end e = end_behind t turns now end (not (any_busy (sight_of tend e).state))
+abbrev pub end_at : {D : Type 0} → Terms → ℕ → ℕ → TurnEnd → Sight D → Option DrainEnd
+end_at t turns now end e = end_behind t turns now end (not (any_busy e.state))
 
 -- So many turns were made, none of which ended the drain, each at the moment that the clock showed behind the one before:
 -- the first at the start, and the next one will be at this moment.
-pub data GoesOn {D C M : Type 0} (look : D → View) (tend : C → ChildrenView) (limits : Limits) (t : Terms) (start : ℕ)
-    (p : Spot (Executor D C M)) : ℕ → ℕ → Spot (Executor D C M) → Type 0 where
-  at_start : GoesOn look tend limits t start p 0 start p
-  further : (turns now after : ℕ) (m q : Spot (Executor D C M)) (end : TurnEnd)
-      → GoesOn look tend limits t start p turns now m → MakesTurn look tend limits now m q end
-      → end_at tend t (turns + 1) after end q.executor ≡ None
-      → GoesOn look tend limits t start p (turns + 1) after q
+pub data GoesOn {D : Type 0} (look : D → View) (limits : Limits) (t : Terms) (start : ℕ)
+    (p : Spot D) : ℕ → ℕ → Spot D → Type 0 where
+  at_start : GoesOn look limits t start p 0 start p
+  further : (turns now after : ℕ) (m q : Spot D) (end : TurnEnd)
+      → GoesOn look limits t start p turns now m → MakesTurn look limits now m q end
+      → end_at t (turns + 1) after end q.executor ≡ None
+      → GoesOn look limits t start p (turns + 1) after q
 
 -- A whole drain from this start: turns that go on, and the one that ends it.
-pub record Drains {D C M : Type 0} (look : D → View) (tend : C → ChildrenView) (limits : Limits) (t : Terms) (start : ℕ)
-    (p q : Spot (Executor D C M)) (end : DrainEnd) : Type 0 where
+pub record Drains {D : Type 0} (look : D → View) (limits : Limits) (t : Terms) (start : ℕ)
+    (p q : Spot D) (end : DrainEnd) : Type 0 where
   pub turns : ℕ
   pub now : ℕ
   pub after : ℕ
-  pub last : Spot (Executor D C M)
+  pub last : Spot D
   pub turn_end : TurnEnd
-  pub gone_on : GoesOn look tend limits t start p turns now last
-  pub made : MakesTurn look tend limits now last q turn_end
-  pub ended : end_at tend t (turns + 1) after turn_end q.executor ≡ Some end
+  pub gone_on : GoesOn look limits t start p turns now last
+  pub made : MakesTurn look limits now last q turn_end
+  pub ended : end_at t (turns + 1) after turn_end q.executor ≡ Some end

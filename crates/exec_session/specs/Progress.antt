@@ -3,8 +3,7 @@ use Rattle.std.specs.Prelude.{◌≡◌, ◌≢◌, ℕ, ◌<◌, ⊤, List, [],
 use Rattle.std.specs.Io.KnownBytes.{Appends, IsAtEnd}
 use Rattle.ocf_types.specs.declared.refusal.Refusal.{Refusal}
 use Rattle.disk_model.specs.View.{View}
-use Rattle.child_keeper.specs.Children.{ChildrenView}
-use Rattle.executor.specs.declared.executor.Executor.{Executor}
+use Rattle.executor.specs.Sights.{Sight}
 use Rattle.exec_lines.specs.Lines.{first_line, after_first_line}
 use Rattle.exec_commands.specs.Replies.{reply_line}
 use Rattle.exec_commands.specs.declared.line.Line.{Line}
@@ -34,31 +33,31 @@ ReadsInput old new found.Empty = PassesLine old new
 ReadsInput old new (found.Line line) = ReadsLine old new line
 
 -- where a run is: its executor, what the reader has left, and what the writer holds
-pub record Place (E : Type 0) : Type 0 where
-  pub executor : E
+pub record Place (D : Type 0) : Type 0 where
+  pub executor : Sight D
   pub left : Option (List ℕ)
   pub written : Option (List ℕ)
 
-abbrev pub place : {E : Type 0} → E → Option (List ℕ) → Option (List ℕ) → Place E
+abbrev pub place : {D : Type 0} → Sight D → Option (List ℕ) → Option (List ℕ) → Place D
 place executor left written = record { executor = executor; left = left; written = written }
 
 -- The next line is read, and what the writer holds grows by the notices of a drain, and then by just the reply.
-pub record Answers {D C M : Type 0} (look : D → View) (tend : C → ChildrenView) (source : Source) (limits : Limits)
-    (p q : Place (Executor D C M)) : Type 0 where
+pub record Answers {D : Type 0} (look : D → View) (source : Source) (limits : Limits)
+    (p q : Place D) : Type 0 where
   pub found : Result Line Refusal
   pub reply : LineReply
   pub noticed : Option (List ℕ)
   pub read : ReadsLine p.left q.left found
-  pub answered : IsReply look tend source limits (spot p.executor p.written) (spot q.executor noticed) found reply
+  pub answered : IsReply look source limits (spot p.executor p.written) (spot q.executor noticed) found reply
   pub written : Appends noticed q.written (reply_line reply)
 
 -- the executor and what the writer holds are the same
-abbrev pub Stays : {E : Type 0} → Place E → Place E → Type 0
+abbrev pub Stays : {D : Type 0} → Place D → Place D → Type 0
 Stays p q = (q.executor ≡ p.executor) × (q.written ≡ p.written)
 
 -- what was done with what stands next in the input
-abbrev pub Takes : {D C M : Type 0} → (D → View) → (C → ChildrenView) → Source → Limits → Place (Executor D C M) → Place (Executor D C M)
+abbrev pub Takes : {D : Type 0} → (D → View) → Source → Limits → Place D → Place D
     → Progress → Type 0
-Takes look tend source limits p q progress.Answered = Answers look tend source limits p q
-Takes look tend source limits p q progress.PassedOver = PassesLine p.left q.left × Stays p q
-Takes look tend source limits p q progress.End = IsAtEnd p.left × Stays p q
+Takes look source limits p q progress.Answered = Answers look source limits p q
+Takes look source limits p q progress.PassedOver = PassesLine p.left q.left × Stays p q
+Takes look source limits p q progress.End = IsAtEnd p.left × Stays p q

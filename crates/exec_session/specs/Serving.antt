@@ -3,9 +3,6 @@ use Rattle.std.specs.Prelude.{◌≡◌, ℕ, Bool, true, false, List, Option}
 use Rattle.ocf_types.specs.Kinds.{Command}
 use Rattle.ocf_types.specs.declared.reply.TurnEnd.{TurnEnd}
 use Rattle.disk_model.specs.View.{View}
-use Rattle.child_keeper.specs.Children.{ChildrenView}
-use Rattle.executor.specs.Sights.{sight_of}
-use Rattle.executor.specs.declared.executor.Executor.{Executor}
 use Rattle.exec_lines.specs.Pieces.{IsMidLine}
 use Rattle.exec_session.specs.Answers.{Source}
 use Rattle.exec_session.specs.Drains.{MakesTurn, Spot}
@@ -15,19 +12,19 @@ use Rattle.exec_session.specs.Runs.{ReachesEnd}
 use Rattle.exec_session.specs.Waiting.{HasCome}
 
 -- a run has come so far, and behind the commands that wait the front of the next line stands in its buffer
-abbrev pub HasComeMid : {D C M : Type 0} → (D → View) → (C → ChildrenView) → Source → Limits → Place (Executor D C M) → ℕ
-    → List Command → List ℕ → Place (Executor D C M) → Type 0
-HasComeMid look tend source limits p most commands kept q =
-    (left : Option (List ℕ)) × IsMidLine left kept q.left × HasCome look tend source limits p most commands (place q.executor left q.written)
+abbrev pub HasComeMid : {D : Type 0} → (D → View) → Source → Limits → Place D → ℕ
+    → List Command → List ℕ → Place D → Type 0
+HasComeMid look source limits p most commands kept q =
+    (left : Option (List ℕ)) × IsMidLine left kept q.left × HasCome look source limits p most commands (place q.executor left q.written)
 
 -- it has come so far, or to the end of the input
-abbrev pub ComesMidOrEnds : {D C M : Type 0} → (D → View) → (C → ChildrenView) → Source → Limits → Place (Executor D C M) → ℕ
-    → List Command → List ℕ → Place (Executor D C M) → Bool → Type 0
-ComesMidOrEnds look tend source limits p most commands kept q false = HasComeMid look tend source limits p most commands kept q
-ComesMidOrEnds look tend source limits p most commands kept q true = ReachesEnd look tend source limits p q
+abbrev pub ComesMidOrEnds : {D : Type 0} → (D → View) → Source → Limits → Place D → ℕ
+    → List Command → List ℕ → Place D → Bool → Type 0
+ComesMidOrEnds look source limits p most commands kept q false = HasComeMid look source limits p most commands kept q
+ComesMidOrEnds look source limits p most commands kept q true = ReachesEnd look source limits p q
 
 -- a turn, where the executor is open, and else nothing
-pub record TurnsAlone {D C M : Type 0} (look : D → View) (tend : C → ChildrenView) (limits : Limits) (p q : Spot (Executor D C M)) : Type 0
+pub record TurnsAlone {D : Type 0} (look : D → View) (limits : Limits) (p q : Spot D) : Type 0
   where
-    pub while_open : (sight_of tend p.executor).is_open ≡ true → (now : ℕ) × (end : TurnEnd) × MakesTurn look tend limits now p q end
-    pub once_closed : (sight_of tend p.executor).is_open ≡ false → q ≡ p
+    pub while_open : p.executor.is_open ≡ true → (now : ℕ) × (end : TurnEnd) × MakesTurn look limits now p q end
+    pub once_closed : p.executor.is_open ≡ false → q ≡ p

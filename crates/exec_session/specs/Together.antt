@@ -7,10 +7,8 @@ use Rattle.ocf_types.specs.declared.command.RequestOf.TheVariants as asked
 use Rattle.ocf_types.specs.declared.refusal.Refusal.TheVariants.{Disk}
 use Rattle.ocf_types.specs.declared.reply.ReplyOf.TheVariants.{Refused}
 use Rattle.disk_model.specs.View.{View}
-use Rattle.child_keeper.specs.Children.{ChildrenView}
 use Rattle.executor.specs.Rows.{TakesCommands}
-use Rattle.executor.specs.Sights.{Sight, sight_of}
-use Rattle.executor.specs.declared.executor.Executor.{Executor}
+use Rattle.executor.specs.Sights.{Sight}
 use Rattle.exec_commands.specs.Replies.{request_line}
 use Rattle.exec_commands.specs.declared.line.Line.TheVariants as line
 use Rattle.exec_session.specs.Drains.{Spot, spot}
@@ -30,29 +28,29 @@ ReadsCommands old (first ∷ others) new =
 -- What an open executor does with commands that arrived together: room is made, and then it takes them at the moment that the
 -- clock shows, whatever that is. Where a disk fault closed the executor as room was made, each is refused for that and nothing
 -- else is done.
-pub record ServesTogether {D C M : Type 0} (look : D → View) (tend : C → ChildrenView) (limits : Limits) (commands : List Command)
-    (old new : Executor D C M) (given : List Reply) : Type 0 where
+pub record ServesTogether {D : Type 0} (look : D → View) (limits : Limits) (commands : List Command)
+    (old new : Sight D) (given : List Reply) : Type 0 where
   pub middle : Sight D
   pub now : ℕ
-  pub room : MakesRoom look limits (sight_of tend old) middle
-  pub takes : middle.is_open ≡ true → TakesCommands look now commands middle (sight_of tend new) given
-  pub fails : middle.is_open ≡ false → (given ≡ replicate (length commands) (Refused Disk)) × (sight_of tend new ≡ middle)
+  pub room : MakesRoom look limits old middle
+  pub takes : middle.is_open ≡ true → TakesCommands look now commands middle new given
+  pub fails : middle.is_open ≡ false → (given ≡ replicate (length commands) (Refused Disk)) × (new ≡ middle)
 
 -- They are served, and behind that what the writer holds grows by just the lines of their replies, in their order.
-pub record AnswersTogether {D C M : Type 0} (look : D → View) (tend : C → ChildrenView) (limits : Limits) (commands : List Command)
-    (p q : Spot (Executor D C M)) : Type 0 where
+pub record AnswersTogether {D : Type 0} (look : D → View) (limits : Limits) (commands : List Command)
+    (p q : Spot D) : Type 0 where
   pub given : List Reply
-  pub serves : ServesTogether look tend limits commands p.executor q.executor given
+  pub serves : ServesTogether look limits commands p.executor q.executor given
   pub written : Appends p.written q.written (flat_map request_line given)
 
 -- all commands that wait are answered together, where there are any
-abbrev pub AnswersAll : {D C M : Type 0} → (D → View) → (C → ChildrenView) → Limits → List Command → Spot (Executor D C M)
-    → Spot (Executor D C M) → Type 0
-AnswersAll look tend limits [] p q = q ≡ p
-AnswersAll look tend limits (first ∷ others) p q = AnswersTogether look tend limits (first ∷ others) p q
+abbrev pub AnswersAll : {D : Type 0} → (D → View) → Limits → List Command → Spot D
+    → Spot D → Type 0
+AnswersAll look limits [] p q = q ≡ p
+AnswersAll look limits (first ∷ others) p q = AnswersTogether look limits (first ∷ others) p q
 
 -- The next lines are commands, which are answered together.
-pub record AnswersRow {D C M : Type 0} (look : D → View) (tend : C → ChildrenView) (limits : Limits) (commands : List Command)
-    (p q : Place (Executor D C M)) : Type 0 where
+pub record AnswersRow {D : Type 0} (look : D → View) (limits : Limits) (commands : List Command)
+    (p q : Place D) : Type 0 where
   pub read : ReadsCommands p.left commands q.left
-  pub answered : AnswersTogether look tend limits commands (spot p.executor p.written) (spot q.executor q.written)
+  pub answered : AnswersTogether look limits commands (spot p.executor p.written) (spot q.executor q.written)

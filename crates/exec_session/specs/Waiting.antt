@@ -2,9 +2,7 @@
 use Rattle.std.specs.Prelude.{◌≡◌, ◌⊎◌, ℕ, ◌+◌, ◌<◌, ◌≤◌, Bool, true, false, List, [], length, Option}
 use Rattle.ocf_types.specs.Kinds.{Command}
 use Rattle.disk_model.specs.View.{View}
-use Rattle.child_keeper.specs.Children.{ChildrenView}
-use Rattle.executor.specs.Sights.{Sight, sight_of}
-use Rattle.executor.specs.declared.executor.Executor.{Executor}
+use Rattle.executor.specs.Sights.{Sight}
 use Rattle.exec_session.specs.Answers.{Source}
 use Rattle.exec_session.specs.Limits.{Limits}
 use Rattle.exec_session.specs.Progress.{Place, place}
@@ -23,24 +21,24 @@ pub record MayWait {D : Type 0} (x : Sight D) (commands : List Command) : Type 0
 
 -- A run has come from a place so far that these commands wait: they were read, one behind the other, and since then nothing was
 -- done with the executor and nothing written.
-pub record Waits {D C M : Type 0} (look : D → View) (tend : C → ChildrenView) (source : Source) (limits : Limits)
-    (p : Place (Executor D C M)) (count : ℕ) (commands : List Command) (q : Place (Executor D C M)) : Type 0 where
+pub record Waits {D : Type 0} (look : D → View) (source : Source) (limits : Limits)
+    (p : Place D) (count : ℕ) (commands : List Command) (q : Place D) : Type 0 where
   pub left : Option (List ℕ)
   pub read : ReadsCommands left commands q.left
-  pub reached : Reaches look tend source limits p count (place q.executor left q.written)
+  pub reached : Reaches look source limits p count (place q.executor left q.written)
 
 -- it has come so far, with at most so many lines since its last turn, those that wait too, or with a closed executor
-abbrev pub HasCome : {D C M : Type 0} → (D → View) → (C → ChildrenView) → Source → Limits → Place (Executor D C M) → ℕ
-    → List Command → Place (Executor D C M) → Type 0
-HasCome look tend source limits p most commands q =
-    (count : ℕ) × ((count + length commands ≤ most) ⊎ ((sight_of tend q.executor).is_open ≡ false))
-    × Waits look tend source limits p count commands q
+abbrev pub HasCome : {D : Type 0} → (D → View) → Source → Limits → Place D → ℕ
+    → List Command → Place D → Type 0
+HasCome look source limits p most commands q =
+    (count : ℕ) × ((count + length commands ≤ most) ⊎ (q.executor.is_open ≡ false))
+    × Waits look source limits p count commands q
 
 -- it has come so far, or to the end of the input
-abbrev pub ComesOrEnds : {D C M : Type 0} → (D → View) → (C → ChildrenView) → Source → Limits → Place (Executor D C M) → ℕ
-    → List Command → Place (Executor D C M) → Bool → Type 0
-ComesOrEnds look tend source limits p most commands q false = HasCome look tend source limits p most commands q
-ComesOrEnds look tend source limits p most commands q true = ReachesEnd look tend source limits p q
+abbrev pub ComesOrEnds : {D : Type 0} → (D → View) → Source → Limits → Place D → ℕ
+    → List Command → Place D → Bool → Type 0
+ComesOrEnds look source limits p most commands q false = HasCome look source limits p most commands q
+ComesOrEnds look source limits p most commands q true = ReachesEnd look source limits p q
 
 -- a run may take a line behind at most so many since its last turn
 abbrev pub MayTakeBehind : Way → ℕ → Type 0

@@ -1,7 +1,6 @@
 //! What a line is answered.
 ghost use Rattle.std.specs.Prelude.{◌≡◌, true, IfOk};
 ghost use Rattle.executor.specs.Lives.{ByCalls};
-ghost use Rattle.executor.specs.Sights.{IsSound, sight_of};
 ghost use Rattle.exec_session.specs.Answers.{DrainsFor, IsClosedReply, IsMetaReply, IsOpenReply, IsReply, ServesNow, closed_drain};
 ghost use Rattle.exec_session.specs.Answers.{closed_tidy, refused};
 ghost use Rattle.exec_session.specs.Drains.{spot};
@@ -81,11 +80,9 @@ fn drain_reply<W: Output, D: Disk + Drop, C: Children + Drop, K: Clock, M: Metad
     ends_idle: bool,
     limit: u32,
 ) -> Result<LineReply, Stopped>
-    requires open { (sight_of C.view executor.old).is_open ≡ true }
-    requires sound { IsSound D.view (sight_of C.view executor.old) }
-    ensures sound { IsSound D.view (sight_of C.view executor.new) }
-    ensures calls { ByCalls D.view (sight_of C.view executor.old) (sight_of C.view executor.new) }
-    ensures reply { IfOk result (DrainsFor D.view C.view ends_idle limit (limits_of setting.now)
+    requires open { executor.old.is_open ≡ true }
+    ensures calls { ByCalls D.view executor.old executor.new }
+    ensures reply { IfOk result (DrainsFor D.view ends_idle limit (limits_of setting.now)
         (spot executor.old (W.contents writer.old)) (spot executor.new (W.contents writer.new))) }
 {
     let start = moment_now(setting.clock).get();
@@ -105,11 +102,9 @@ fn request_reply<D: Disk + Drop, C: Children + Drop, K: Clock, M>(
     executor: &mut Executor<D, C>,
     request: Request,
 ) -> LineReply
-    requires open { (sight_of C.view executor.old).is_open ≡ true }
-    requires sound { IsSound D.view (sight_of C.view executor.old) }
-    ensures sound { IsSound D.view (sight_of C.view executor.new) }
-    ensures calls { ByCalls D.view (sight_of C.view executor.old) (sight_of C.view executor.new) }
-    ensures serves { ServesNow D.view C.view (limits_of setting.now) request executor.old executor.new result }
+    requires open { executor.old.is_open ≡ true }
+    ensures calls { ByCalls D.view executor.old executor.new }
+    ensures serves { ServesNow D.view (limits_of setting.now) request executor.old executor.new result }
 {
     if !make_room(setting, executor) {
         return refused(Refusal::Disk);
@@ -125,11 +120,9 @@ fn open_reply<W: Output, D: Disk + Drop, C: Children + Drop, K: Clock, M: Metada
     executor: &mut Executor<D, C>,
     line: Result<Line, Refusal>,
 ) -> Result<LineReply, Stopped>
-    requires open { (sight_of C.view executor.old).is_open ≡ true }
-    requires sound { IsSound D.view (sight_of C.view executor.old) }
-    ensures sound { IsSound D.view (sight_of C.view executor.new) }
-    ensures calls { ByCalls D.view (sight_of C.view executor.old) (sight_of C.view executor.new) }
-    ensures reply { IfOk result (IsOpenReply D.view C.view (M.gives setting.now.metadata.now) (limits_of setting.now)
+    requires open { executor.old.is_open ≡ true }
+    ensures calls { ByCalls D.view executor.old executor.new }
+    ensures reply { IfOk result (IsOpenReply D.view (M.gives setting.now.metadata.now) (limits_of setting.now)
         (spot executor.old (W.contents writer.old)) (spot executor.new (W.contents writer.new)) line) }
 {
     match line {
@@ -155,10 +148,8 @@ pub fn reply_to<W: Output, D: Disk + Drop, C: Children + Drop, K: Clock, M: Meta
     executor: &mut Executor<D, C>,
     line: Result<Line, Refusal>,
 ) -> Result<LineReply, Stopped>
-    requires sound { IsSound D.view (sight_of C.view executor.old) }
-    ensures sound { IsSound D.view (sight_of C.view executor.new) }
-    ensures calls { ByCalls D.view (sight_of C.view executor.old) (sight_of C.view executor.new) }
-    ensures reply { IfOk result (IsReply D.view C.view (M.gives setting.now.metadata.now) (limits_of setting.now)
+    ensures calls { ByCalls D.view executor.old executor.new }
+    ensures reply { IfOk result (IsReply D.view (M.gives setting.now.metadata.now) (limits_of setting.now)
         (spot executor.old (W.contents writer.old)) (spot executor.new (W.contents writer.new)) line) }
 {
     if executor.is_open() {

@@ -1,7 +1,6 @@
 //! Drains and watches: turns, each with its notices.
 ghost use Rattle.std.specs.Prelude.{◌≡◌, true, IfOk};
 ghost use Rattle.executor.specs.Lives.{ByCalls};
-ghost use Rattle.executor.specs.Sights.{IsSound, sight_of};
 ghost use Rattle.exec_session.specs.Drains.{Drains, end_behind, spot};
 ghost use Rattle.exec_session.specs.Limits.{limits_of};
 
@@ -59,11 +58,9 @@ pub fn drain<W: Output, D: Disk + Drop, C: Children + Drop, K: Clock, M: Metadat
     terms: Terms,
     start: u64,
 ) -> Result<DrainEnd, Stopped>
-    requires open { (sight_of C.view executor.old).is_open ≡ true }
-    requires sound { IsSound D.view (sight_of C.view executor.old) }
-    ensures sound { IsSound D.view (sight_of C.view executor.new) }
-    ensures calls { ByCalls D.view (sight_of C.view executor.old) (sight_of C.view executor.new) }
-    ensures drains { IfOk result (λ end. Drains D.view C.view (limits_of setting.now) terms start
+    requires open { executor.old.is_open ≡ true }
+    ensures calls { ByCalls D.view executor.old executor.new }
+    ensures drains { IfOk result (λ end. Drains D.view (limits_of setting.now) terms start
         (spot executor.old (W.contents writer.old)) (spot executor.new (W.contents writer.new)) end) }
 {
     let mut now = start;

@@ -3,7 +3,6 @@ ghost use Rattle.std.specs.Prelude.{◌≡◌, ◌≤◌, ◌<◌, ◌==◌, [],
 ghost use Rattle.ocf_types.specs.declared.refusal.Refusal.TheVariants.{Disk};
 ghost use Rattle.ocf_types.specs.declared.reply.ReplyOf.TheVariants.{Refused};
 ghost use Rattle.executor.specs.Rows.{TakesCommands};
-ghost use Rattle.executor.specs.Sights.{IsSound, sight_of};
 
 use child_keeper::Children;
 use disk_model::Disk;
@@ -84,9 +83,7 @@ impl Gathered {
         executor: &mut Executor<D, C>,
         now: u64,
     )
-        requires sound { IsSound D.view (sight_of C.view executor.old) }
-        ensures sound { IsSound D.view (sight_of C.view executor.new) }
-        ensures takes { TakesCommands D.view now (waiting self.old) (sight_of C.view executor.old) (sight_of C.view executor.new)
+        ensures takes { TakesCommands D.view now (waiting self.old) executor.old executor.new
             (replied self.new) }
         ensures none { waiting self.new ≡ [] }
     {

@@ -1,8 +1,6 @@
 //! Laws of runs, each the contract of a function that does nothing.
 ghost use Rattle.std.specs.Prelude.{◌≡◌, ℕ, true};
 ghost use Rattle.executor.specs.Lives.{ByCalls};
-ghost use Rattle.executor.specs.Sights.{sight_of};
-ghost use Rattle.executor.specs.declared.executor.Executor.{Executor};
 ghost use Rattle.exec_session.specs.Drains.{GoesOn, Spot};
 ghost use Rattle.exec_session.specs.Limits.{Limits};
 ghost use Rattle.exec_session.specs.Progress.{Place};
@@ -10,21 +8,19 @@ ghost use Rattle.exec_session.specs.Runs.{Reaches};
 ghost use Rattle.exec_session.specs.declared.drain.Terms.{Terms};
 
 use crate::metadata::Metadata;
-use child_keeper::Children;
 use disk_model::Disk;
-use std::alloc::Global;
 
 /// Whatever lines were answered, and whatever turns a run that serves made between them, the executor went on by calls alone: so the law of whole lives speaks of each run, stopped
 /// behind any of its replies.
-pub fn lines_are_calls<D: Disk, C: Children, M: Metadata>(metadata: &M)
-    ensures { (limits : Limits) (n : ℕ) (p q : Place (Executor D C Global))
-        → Reaches D.view C.view (M.gives metadata.now) limits p n q
-        → ByCalls D.view (sight_of C.view p.executor) (sight_of C.view q.executor) }
+pub fn lines_are_calls<D: Disk, M: Metadata>(metadata: &M)
+    ensures { (limits : Limits) (n : ℕ) (p q : Place D)
+        → Reaches D.view (M.gives metadata.now) limits p n q
+        → ByCalls D.view p.executor q.executor }
 {}
 
 /// So does each drain and watch, turn by turn: so the law of whole lives speaks of one that is stopped behind any of its turns.
-pub fn turns_are_calls<D: Disk, C: Children>()
-    ensures { (limits : Limits) (terms : Terms) (start turns now : ℕ) (p q : Spot (Executor D C Global))
-        → (sight_of C.view p.executor).is_open ≡ true → GoesOn D.view C.view limits terms start p turns now q
-        → ByCalls D.view (sight_of C.view p.executor) (sight_of C.view q.executor) }
+pub fn turns_are_calls<D: Disk>()
+    ensures { (limits : Limits) (terms : Terms) (start turns now : ℕ) (p q : Spot D)
+        → p.executor.is_open ≡ true → GoesOn D.view limits terms start p turns now q
+        → ByCalls D.view p.executor q.executor }
 {}

@@ -3,8 +3,6 @@ ghost use Rattle.std.specs.Prelude.{◌≡◌, ℕ, ◌+◌, ◌<◌, [], List, 
 ghost use Rattle.exec_lines.specs.Buffer.{line_bytes};
 ghost use Rattle.exec_lines.specs.Pieces.{IsNext};
 ghost use Rattle.executor.specs.Lives.{ByCalls};
-ghost use Rattle.executor.specs.Sights.{IsSound, sight_of};
-ghost use Rattle.executor.specs.declared.executor.Executor.{Executor};
 ghost use Rattle.exec_session.specs.Gathered.{waiting};
 ghost use Rattle.exec_session.specs.Limits.{limits_of};
 ghost use Rattle.exec_session.specs.Progress.{Place, ReadsInput, Takes, place};
@@ -68,11 +66,9 @@ fn answer_found<W: Output, D: Disk + Drop, C: Children + Drop, K: Clock, M: Meta
     executor: &mut Executor<D, C>,
     found: Found,
 ) -> Result<Progress, Stopped>
-    requires sound { IsSound D.view (sight_of C.view executor.old) }
-    ensures sound { IsSound D.view (sight_of C.view executor.new) }
-    ensures calls { ByCalls D.view (sight_of C.view executor.old) (sight_of C.view executor.new) }
+    ensures calls { ByCalls D.view executor.old executor.new }
     ensures progress { (left now : Option (List ℕ)) → ReadsInput left now found
-        → IfOk result (Takes D.view C.view (M.gives setting.now.metadata.now) (limits_of setting.now)
+        → IfOk result (Takes D.view (M.gives setting.now.metadata.now) (limits_of setting.now)
         (place executor.old left (W.contents writer.old)) (place executor.new now (W.contents writer.new))) }
 {
     let line = match found {
@@ -94,17 +90,15 @@ fn take_command<W: Output, D: Disk + Drop, C: Children + Drop, K: Clock, M: Meta
     command: Command,
     has_next: bool,
 ) -> Result<(), Stopped>
-    requires open { (sight_of C.view executor.old).is_open ≡ true }
+    requires open { executor.old.is_open ≡ true }
     requires few { length (waiting gathered.old) < 64 }
-    requires sound { IsSound D.view (sight_of C.view executor.old) }
-    ensures sound { IsSound D.view (sight_of C.view executor.new) }
-    ensures waits { MayWait (sight_of C.view executor.new) (waiting gathered.new) }
-    ensures calls { ByCalls D.view (sight_of C.view executor.old) (sight_of C.view executor.new) }
-    ensures takes { (p : Place (Executor D C Global)) (most : ℕ) (left now : Option (List ℕ))
+    ensures waits { MayWait executor.new (waiting gathered.new) }
+    ensures calls { ByCalls D.view executor.old executor.new }
+    ensures takes { (p : Place D) (most : ℕ) (left now : Option (List ℕ))
         → MayTakeBehind setting.now.way most → ReadsCommand left now command
-        → HasCome D.view C.view (M.gives setting.now.metadata.now) (limits_of setting.now) p most
+        → HasCome D.view (M.gives setting.now.metadata.now) (limits_of setting.now) p most
         (waiting gathered.old) (place executor.old left (W.contents writer.old))
-        → OnOk result (HasCome D.view C.view (M.gives setting.now.metadata.now) (limits_of setting.now) p (most + 1)
+        → OnOk result (HasCome D.view (M.gives setting.now.metadata.now) (limits_of setting.now) p (most + 1)
         (waiting gathered.new) (place executor.new now (W.contents writer.new))) }
 {
     gathered.push(command);
@@ -122,16 +116,14 @@ fn take_other<W: Output, D: Disk + Drop, C: Children + Drop, K: Clock, M: Metada
     gathered: &mut Gathered,
     found: Found,
 ) -> Result<bool, Stopped>
-    requires waits { MayWait (sight_of C.view executor.old) (waiting gathered.old) }
-    requires sound { IsSound D.view (sight_of C.view executor.old) }
-    ensures sound { IsSound D.view (sight_of C.view executor.new) }
+    requires waits { MayWait executor.old (waiting gathered.old) }
     ensures none { waiting gathered.new ≡ [] }
-    ensures calls { ByCalls D.view (sight_of C.view executor.old) (sight_of C.view executor.new) }
-    ensures takes { (p : Place (Executor D C Global)) (most : ℕ) (left now : Option (List ℕ))
+    ensures calls { ByCalls D.view executor.old executor.new }
+    ensures takes { (p : Place D) (most : ℕ) (left now : Option (List ℕ))
         → MayTakeBehind setting.now.way most → ReadsInput left now found
-        → HasCome D.view C.view (M.gives setting.now.metadata.now) (limits_of setting.now) p most
+        → HasCome D.view (M.gives setting.now.metadata.now) (limits_of setting.now) p most
         (waiting gathered.old) (place executor.old left (W.contents writer.old))
-        → IfOk result (ComesOrEnds D.view C.view (M.gives setting.now.metadata.now) (limits_of setting.now) p (most + 1)
+        → IfOk result (ComesOrEnds D.view (M.gives setting.now.metadata.now) (limits_of setting.now) p (most + 1)
         (waiting gathered.new) (place executor.new now (W.contents writer.new))) }
 {
     answer_gathered(setting, writer, executor, gathered)?;
@@ -149,16 +141,14 @@ pub fn take_found<W: Output, D: Disk + Drop, C: Children + Drop, K: Clock, M: Me
     found: Found,
     has_next: bool,
 ) -> Result<bool, Stopped>
-    requires waits { MayWait (sight_of C.view executor.old) (waiting gathered.old) }
-    requires sound { IsSound D.view (sight_of C.view executor.old) }
-    ensures sound { IsSound D.view (sight_of C.view executor.new) }
-    ensures waits { MayWait (sight_of C.view executor.new) (waiting gathered.new) }
-    ensures calls { ByCalls D.view (sight_of C.view executor.old) (sight_of C.view executor.new) }
-    ensures takes { (p : Place (Executor D C Global)) (most : ℕ) (left now : Option (List ℕ))
+    requires waits { MayWait executor.old (waiting gathered.old) }
+    ensures waits { MayWait executor.new (waiting gathered.new) }
+    ensures calls { ByCalls D.view executor.old executor.new }
+    ensures takes { (p : Place D) (most : ℕ) (left now : Option (List ℕ))
         → MayTakeBehind setting.now.way most → ReadsInput left now found
-        → HasCome D.view C.view (M.gives setting.now.metadata.now) (limits_of setting.now) p most
+        → HasCome D.view (M.gives setting.now.metadata.now) (limits_of setting.now) p most
         (waiting gathered.old) (place executor.old left (W.contents writer.old))
-        → IfOk result (ComesOrEnds D.view C.view (M.gives setting.now.metadata.now) (limits_of setting.now) p (most + 1)
+        → IfOk result (ComesOrEnds D.view (M.gives setting.now.metadata.now) (limits_of setting.now) p (most + 1)
         (waiting gathered.new) (place executor.new now (W.contents writer.new))) }
 {
     match found {

@@ -1,7 +1,6 @@
 //! Room in the journal, which a run makes by itself.
 ghost use Rattle.std.specs.Prelude.{◌≡◌, true};
 ghost use Rattle.executor.specs.Lives.{ByCalls};
-ghost use Rattle.executor.specs.Sights.{IsSound, sight_of};
 ghost use Rattle.exec_session.specs.Limits.{MakesRoom, is_tidy_due, limits_of};
 
 use crate::setting::Setting;
@@ -18,7 +17,7 @@ fn is_tidy_due<D: Disk + Drop, C: Children + Drop, K, M>(
     setting: &Setting<K, M>,
     executor: &Executor<D, C>,
 ) -> bool
-    ensures { result ≡ is_tidy_due (limits_of setting.now) (sight_of C.view executor.now) }
+    ensures { result ≡ is_tidy_due (limits_of setting.now) executor.now }
 {
     let tail = executor.tail();
     if setting.tidy_at == 0 || tail <= setting.tidy_at {
@@ -32,12 +31,10 @@ pub fn make_room<D: Disk + Drop, C: Children + Drop, K, M>(
     setting: &Setting<K, M>,
     executor: &mut Executor<D, C>,
 ) -> bool
-    requires open { (sight_of C.view executor.old).is_open ≡ true }
-    requires sound { IsSound D.view (sight_of C.view executor.old) }
-    ensures sound { IsSound D.view (sight_of C.view executor.new) }
-    ensures calls { ByCalls D.view (sight_of C.view executor.old) (sight_of C.view executor.new) }
-    ensures makes { MakesRoom D.view (limits_of setting.now) (sight_of C.view executor.old) (sight_of C.view executor.new) }
-    ensures value { result ≡ (sight_of C.view executor.new).is_open }
+    requires open { executor.old.is_open ≡ true }
+    ensures calls { ByCalls D.view executor.old executor.new }
+    ensures makes { MakesRoom D.view (limits_of setting.now) executor.old executor.new }
+    ensures value { result ≡ executor.new.is_open }
 {
     if !is_tidy_due(setting, executor) {
         return true;

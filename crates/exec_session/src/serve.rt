@@ -2,8 +2,6 @@
 ghost use Rattle.std.specs.Prelude.{◌≡◌, ◌+◌, ◌≤◌, ℕ, [], true, false, IfOk, OnOk};
 ghost use Rattle.exec_lines.specs.Buffer.{line_bytes};
 ghost use Rattle.executor.specs.Lives.{ByCalls};
-ghost use Rattle.executor.specs.Sights.{IsSound, sight_of};
-ghost use Rattle.executor.specs.declared.executor.Executor.{Executor};
 ghost use Rattle.exec_session.specs.Drains.{spot};
 ghost use Rattle.exec_session.specs.Gathered.{waiting};
 ghost use Rattle.exec_session.specs.Limits.{limits_of};
@@ -43,15 +41,13 @@ fn take_read<R: Input, W: Output, D: Disk + Drop, C: Children + Drop, K: Clock, 
     buffer: &mut LineBuffer,
     gathered: &mut Gathered,
 ) -> Result<bool, Stopped>
-    requires waits { MayWait (sight_of C.view executor.old) (waiting gathered.old) }
-    requires sound { IsSound D.view (sight_of C.view executor.old) }
-    ensures sound { IsSound D.view (sight_of C.view executor.new) }
-    ensures waits { MayWait (sight_of C.view executor.new) (waiting gathered.new) }
-    ensures calls { ByCalls D.view (sight_of C.view executor.old) (sight_of C.view executor.new) }
-    ensures takes { (p : Place (Executor D C Global)) (most : ℕ) → MayTakeBehind setting.now.way most
-        → HasComeMid D.view C.view (M.gives setting.now.metadata.now) (limits_of setting.now) p most (waiting gathered.old)
+    requires waits { MayWait executor.old (waiting gathered.old) }
+    ensures waits { MayWait executor.new (waiting gathered.new) }
+    ensures calls { ByCalls D.view executor.old executor.new }
+    ensures takes { (p : Place D) (most : ℕ) → MayTakeBehind setting.now.way most
+        → HasComeMid D.view (M.gives setting.now.metadata.now) (limits_of setting.now) p most (waiting gathered.old)
         (line_bytes buffer.old) (place executor.old (R.remaining reader.old) (W.contents writer.old))
-        → IfOk result (ComesMidOrEnds D.view C.view (M.gives setting.now.metadata.now) (limits_of setting.now) p (most + 1)
+        → IfOk result (ComesMidOrEnds D.view (M.gives setting.now.metadata.now) (limits_of setting.now) p (most + 1)
         (waiting gathered.new) (line_bytes buffer.new) (place executor.new (R.remaining reader.new) (W.contents writer.new))) }
 {
     let Some(next) = gather_line(reader, buffer)? else {
@@ -72,16 +68,14 @@ fn take_waiting<R: Input, W: Output, D: Disk + Drop, C: Children + Drop, K: Cloc
     buffer: &mut LineBuffer,
     gathered: &mut Gathered,
 ) -> Result<bool, Stopped>
-    requires sound { IsSound D.view (sight_of C.view executor.old) }
     requires way { setting.now.way ≡ Way.Serve }
     requires none { waiting gathered.old ≡ [] }
-    ensures sound { IsSound D.view (sight_of C.view executor.new) }
-    ensures waits { MayWait (sight_of C.view executor.new) (waiting gathered.new) }
-    ensures calls { ByCalls D.view (sight_of C.view executor.old) (sight_of C.view executor.new) }
-    ensures takes { (p : Place (Executor D C Global))
-        → HasComeMid D.view C.view (M.gives setting.now.metadata.now) (limits_of setting.now) p 0 []
+    ensures waits { MayWait executor.new (waiting gathered.new) }
+    ensures calls { ByCalls D.view executor.old executor.new }
+    ensures takes { (p : Place D)
+        → HasComeMid D.view (M.gives setting.now.metadata.now) (limits_of setting.now) p 0 []
         (line_bytes buffer.old) (place executor.old (R.remaining reader.old) (W.contents writer.old))
-        → IfOk result (ComesMidOrEnds D.view C.view (M.gives setting.now.metadata.now) (limits_of setting.now) p 64
+        → IfOk result (ComesMidOrEnds D.view (M.gives setting.now.metadata.now) (limits_of setting.now) p 64
         (waiting gathered.new) (line_bytes buffer.new) (place executor.new (R.remaining reader.new) (W.contents writer.new))) }
 {
     for _reads in 0..READS_A_TURN {
@@ -104,16 +98,14 @@ fn answer_waiting<R: Input, W: Output, D: Disk + Drop, C: Children + Drop, K: Cl
     buffer: &mut LineBuffer,
     gathered: &mut Gathered,
 ) -> Result<bool, Stopped>
-    requires sound { IsSound D.view (sight_of C.view executor.old) }
     requires way { setting.now.way ≡ Way.Serve }
     requires none { waiting gathered.old ≡ [] }
-    ensures sound { IsSound D.view (sight_of C.view executor.new) }
     ensures none { IfOk result (λ ended. ended ≡ false → waiting gathered.new ≡ []) }
-    ensures calls { ByCalls D.view (sight_of C.view executor.old) (sight_of C.view executor.new) }
-    ensures takes { (p : Place (Executor D C Global))
-        → HasComeMid D.view C.view (M.gives setting.now.metadata.now) (limits_of setting.now) p 0 []
+    ensures calls { ByCalls D.view executor.old executor.new }
+    ensures takes { (p : Place D)
+        → HasComeMid D.view (M.gives setting.now.metadata.now) (limits_of setting.now) p 0 []
         (line_bytes buffer.old) (place executor.old (R.remaining reader.old) (W.contents writer.old))
-        → IfOk result (ComesMidOrEnds D.view C.view (M.gives setting.now.metadata.now) (limits_of setting.now) p 64 []
+        → IfOk result (ComesMidOrEnds D.view (M.gives setting.now.metadata.now) (limits_of setting.now) p 64 []
         (line_bytes buffer.new) (place executor.new (R.remaining reader.new) (W.contents writer.new))) }
 {
     if take_waiting(setting, reader, writer, executor, buffer, gathered)? {
@@ -130,10 +122,8 @@ fn make_own_turn<W: Output, D: Disk + Drop, C: Children + Drop, K: Clock, M>(
     executor: &mut Executor<D, C>,
     pause: &mut Pause,
 ) -> Result<(), Stopped>
-    requires sound { IsSound D.view (sight_of C.view executor.old) }
-    ensures sound { IsSound D.view (sight_of C.view executor.new) }
-    ensures calls { ByCalls D.view (sight_of C.view executor.old) (sight_of C.view executor.new) }
-    ensures turns { OnOk result (TurnsAlone D.view C.view (limits_of setting.now)
+    ensures calls { ByCalls D.view executor.old executor.new }
+    ensures turns { OnOk result (TurnsAlone D.view (limits_of setting.now)
         (spot executor.old (W.contents writer.old)) (spot executor.new (W.contents writer.new))) }
 {
     if !executor.is_open() {
@@ -202,12 +192,11 @@ pub fn serve_all<R: Input, W: Output, D: Disk + Drop, C: Children + Drop, K: Clo
     buffer: &mut LineBuffer,
     gathered: &mut Gathered,
 ) -> Result<(), Stopped>
-    requires sound { IsSound D.view (sight_of C.view executor.old) }
     requires way { setting.now.way ≡ Way.Serve }
     requires empty { line_bytes buffer.old ≡ [] }
     requires none { waiting gathered.old ≡ [] }
-    ensures calls { ByCalls D.view (sight_of C.view executor.old) (sight_of C.view executor.new) }
-    ensures lines { OnOk result (ReachesEnd D.view C.view (M.gives setting.now.metadata.now) (limits_of setting.now)
+    ensures calls { ByCalls D.view executor.old executor.new }
+    ensures lines { OnOk result (ReachesEnd D.view (M.gives setting.now.metadata.now) (limits_of setting.now)
         (place executor.old (R.remaining reader.old) (W.contents writer.old))
         (place executor.new (R.remaining reader.new) (W.contents writer.new))) }
 {

@@ -2,8 +2,6 @@
 ghost use Rattle.std.specs.Prelude.{◌≡◌, ℕ, ◌+◌, [], IfOk, OnOk};
 ghost use Rattle.exec_lines.specs.Buffer.{line_bytes};
 ghost use Rattle.executor.specs.Lives.{ByCalls};
-ghost use Rattle.executor.specs.Sights.{IsSound, sight_of};
-ghost use Rattle.executor.specs.declared.executor.Executor.{Executor};
 ghost use Rattle.exec_session.specs.Gathered.{waiting};
 ghost use Rattle.exec_session.specs.Limits.{limits_of};
 ghost use Rattle.exec_session.specs.Progress.{Place, place};
@@ -43,15 +41,13 @@ fn take_next<R: Input, W: Output, D: Disk + Drop, C: Children + Drop, K: Clock, 
     buffer: &mut LineBuffer,
     gathered: &mut Gathered,
 ) -> Result<bool, Stopped>
-    requires waits { MayWait (sight_of C.view executor.old) (waiting gathered.old) }
-    requires sound { IsSound D.view (sight_of C.view executor.old) }
-    ensures sound { IsSound D.view (sight_of C.view executor.new) }
-    ensures waits { MayWait (sight_of C.view executor.new) (waiting gathered.new) }
-    ensures calls { ByCalls D.view (sight_of C.view executor.old) (sight_of C.view executor.new) }
-    ensures takes { (p : Place (Executor D C Global)) (most : ℕ) → MayTakeBehind setting.now.way most
-        → HasCome D.view C.view (M.gives setting.now.metadata.now) (limits_of setting.now) p most
+    requires waits { MayWait executor.old (waiting gathered.old) }
+    ensures waits { MayWait executor.new (waiting gathered.new) }
+    ensures calls { ByCalls D.view executor.old executor.new }
+    ensures takes { (p : Place D) (most : ℕ) → MayTakeBehind setting.now.way most
+        → HasCome D.view (M.gives setting.now.metadata.now) (limits_of setting.now) p most
         (waiting gathered.old) (place executor.old (R.remaining reader.old) (W.contents writer.old))
-        → IfOk result (ComesOrEnds D.view C.view (M.gives setting.now.metadata.now) (limits_of setting.now) p (most + 1)
+        → IfOk result (ComesOrEnds D.view (M.gives setting.now.metadata.now) (limits_of setting.now) p (most + 1)
         (waiting gathered.new) (place executor.new (R.remaining reader.new) (W.contents writer.new))) }
 {
     let next = next_line(reader, buffer)?;
@@ -69,11 +65,10 @@ fn answer_all<R: Input, W: Output, D: Disk + Drop, C: Children + Drop, K: Clock,
     buffer: &mut LineBuffer,
     gathered: &mut Gathered,
 ) -> Result<(), Stopped>
-    requires sound { IsSound D.view (sight_of C.view executor.old) }
     requires way { setting.now.way ≡ Way.Run }
     requires none { waiting gathered.old ≡ [] }
-    ensures calls { ByCalls D.view (sight_of C.view executor.old) (sight_of C.view executor.new) }
-    ensures lines { OnOk result (ReachesEnd D.view C.view (M.gives setting.now.metadata.now) (limits_of setting.now)
+    ensures calls { ByCalls D.view executor.old executor.new }
+    ensures lines { OnOk result (ReachesEnd D.view (M.gives setting.now.metadata.now) (limits_of setting.now)
         (place executor.old (R.remaining reader.old) (W.contents writer.old))
         (place executor.new (R.remaining reader.new) (W.contents writer.new))) }
 {
@@ -95,11 +90,10 @@ fn answer_in_way<R: Input, W: Output, D: Disk + Drop, C: Children + Drop, K: Clo
     buffer: &mut LineBuffer,
     gathered: &mut Gathered,
 ) -> Result<(), Stopped>
-    requires sound { IsSound D.view (sight_of C.view executor.old) }
     requires empty { line_bytes buffer.old ≡ [] }
     requires none { waiting gathered.old ≡ [] }
-    ensures calls { ByCalls D.view (sight_of C.view executor.old) (sight_of C.view executor.new) }
-    ensures lines { OnOk result (ReachesEnd D.view C.view (M.gives setting.now.metadata.now) (limits_of setting.now)
+    ensures calls { ByCalls D.view executor.old executor.new }
+    ensures lines { OnOk result (ReachesEnd D.view (M.gives setting.now.metadata.now) (limits_of setting.now)
         (place executor.old (R.remaining reader.old) (W.contents writer.old))
         (place executor.new (R.remaining reader.new) (W.contents writer.new))) }
 {
@@ -126,11 +120,10 @@ fn report_and_answer<
     buffer: &mut LineBuffer,
     gathered: &mut Gathered,
 ) -> Result<(), Stopped>
-    requires sound { IsSound D.view (sight_of C.view executor.old) }
     requires empty { line_bytes buffer.old ≡ [] }
     requires none { waiting gathered.old ≡ [] }
-    ensures calls { ByCalls D.view (sight_of C.view executor.old) (sight_of C.view executor.new) }
-    ensures runs { OnOk result (Runs D.view C.view (M.gives setting.now.metadata.now) (limits_of setting.now) report.now
+    ensures calls { ByCalls D.view executor.old executor.new }
+    ensures runs { OnOk result (Runs D.view (M.gives setting.now.metadata.now) (limits_of setting.now) report.now
         (place executor.old (R.remaining reader.old) (W.contents writer.old))
         (place executor.new (R.remaining reader.new) (W.contents writer.new))) }
 {
@@ -147,9 +140,8 @@ fn answer_lines<R: Input, W: Output, D: Disk + Drop, C: Children + Drop, K: Cloc
     executor: &mut Executor<D, C>,
     report: &Report,
 ) -> Result<(), Fault>
-    requires sound { IsSound D.view (sight_of C.view executor.old) }
-    ensures calls { ByCalls D.view (sight_of C.view executor.old) (sight_of C.view executor.new) }
-    ensures ends { EndsAs D.view C.view (M.gives setting.now.metadata.now) (limits_of setting.now) report.now
+    ensures calls { ByCalls D.view executor.old executor.new }
+    ensures ends { EndsAs D.view (M.gives setting.now.metadata.now) (limits_of setting.now) report.now
         (place executor.old (R.remaining reader.old) (W.contents writer.old))
         (place executor.new (R.remaining reader.new) (W.contents writer.new)) result }
 {
@@ -188,11 +180,10 @@ pub fn run_lines<R: Input, W: Output, D: Disk + Drop, C: Children + Drop, K: Clo
     mut executor: Executor<D, C>,
     report: &Report,
 ) -> Run<D, C>
-    requires sound { IsSound D.view (sight_of C.view executor) }
     ensures ends { Ended D.view C.view (M.gives setting.now.metadata.now) (limits_of setting.now) report.now
         (place executor (R.remaining reader.old) (W.contents writer.old))
         (R.remaining reader.new) (W.contents writer.new) result }
-    ensures calls { ClosesByCalls D.view (sight_of C.view executor) result.disk (C.view result.children) }
+    ensures calls { ClosesByCalls D.view executor result.disk (C.view result.children) }
     ensures none_lives { (C.view result.children).live ≡ [] }
 {
     let ended = answer_lines(setting, reader, writer, &mut executor, report);

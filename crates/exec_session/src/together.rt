@@ -1,7 +1,6 @@
 //! Commands that arrived together, answered together.
 ghost use Rattle.std.specs.Prelude.{◌≡◌, ◌≢◌, [], true, OnOk};
 ghost use Rattle.executor.specs.Lives.{ByCalls};
-ghost use Rattle.executor.specs.Sights.{IsSound, sight_of};
 ghost use Rattle.exec_session.specs.Drains.{spot};
 ghost use Rattle.exec_session.specs.Gathered.{replied, waiting};
 ghost use Rattle.exec_session.specs.Limits.{limits_of};
@@ -25,11 +24,9 @@ fn serve_gathered<D: Disk + Drop, C: Children + Drop, K: Clock, M>(
     executor: &mut Executor<D, C>,
     gathered: &mut Gathered,
 )
-    requires open { (sight_of C.view executor.old).is_open ≡ true }
-    requires sound { IsSound D.view (sight_of C.view executor.old) }
-    ensures sound { IsSound D.view (sight_of C.view executor.new) }
-    ensures calls { ByCalls D.view (sight_of C.view executor.old) (sight_of C.view executor.new) }
-    ensures serves { ServesTogether D.view C.view (limits_of setting.now) (waiting gathered.old) executor.old executor.new
+    requires open { executor.old.is_open ≡ true }
+    ensures calls { ByCalls D.view executor.old executor.new }
+    ensures serves { ServesTogether D.view (limits_of setting.now) (waiting gathered.old) executor.old executor.new
         (replied gathered.new) }
     ensures none { waiting gathered.new ≡ [] }
 {
@@ -49,12 +46,10 @@ pub fn answer_gathered<W: Write, D: Disk + Drop, C: Children + Drop, K: Clock, M
     executor: &mut Executor<D, C>,
     gathered: &mut Gathered,
 ) -> Result<(), Stopped>
-    requires open { waiting gathered.old ≢ [] → (sight_of C.view executor.old).is_open ≡ true }
-    requires sound { IsSound D.view (sight_of C.view executor.old) }
-    ensures sound { IsSound D.view (sight_of C.view executor.new) }
-    ensures calls { ByCalls D.view (sight_of C.view executor.old) (sight_of C.view executor.new) }
+    requires open { waiting gathered.old ≢ [] → executor.old.is_open ≡ true }
+    ensures calls { ByCalls D.view executor.old executor.new }
     ensures none { waiting gathered.new ≡ [] }
-    ensures answers { OnOk result (AnswersAll D.view C.view (limits_of setting.now) (waiting gathered.old)
+    ensures answers { OnOk result (AnswersAll D.view (limits_of setting.now) (waiting gathered.old)
         (spot executor.old (W.contents writer.old)) (spot executor.new (W.contents writer.new))) }
 {
     if gathered.is_empty() {

@@ -1,7 +1,6 @@
 //! One turn, with its notices.
 ghost use Rattle.std.specs.Prelude.{◌≡◌, true, IfOk};
 ghost use Rattle.executor.specs.Lives.{ByCalls};
-ghost use Rattle.executor.specs.Sights.{IsSound, sight_of};
 ghost use Rattle.exec_session.specs.Drains.{MakesTurn, spot};
 ghost use Rattle.exec_session.specs.Limits.{limits_of};
 
@@ -21,11 +20,9 @@ pub fn make_turn<W: Write, D: Disk + Drop, C: Children + Drop, K, M>(
     executor: &mut Executor<D, C>,
     now: u64,
 ) -> Result<TurnEnd, Stopped>
-    requires open { (sight_of C.view executor.old).is_open ≡ true }
-    requires sound { IsSound D.view (sight_of C.view executor.old) }
-    ensures sound { IsSound D.view (sight_of C.view executor.new) }
-    ensures calls { ByCalls D.view (sight_of C.view executor.old) (sight_of C.view executor.new) }
-    ensures made { IfOk result (λ end. MakesTurn D.view C.view (limits_of setting.now) now
+    requires open { executor.old.is_open ≡ true }
+    ensures calls { ByCalls D.view executor.old executor.new }
+    ensures made { IfOk result (λ end. MakesTurn D.view (limits_of setting.now) now
         (spot executor.old (W.contents writer.old)) (spot executor.new (W.contents writer.new)) end) }
 {
     executor.clear_book();

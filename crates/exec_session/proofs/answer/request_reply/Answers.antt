@@ -2,13 +2,12 @@ use Rattle.std.proofs.Common.{true≢false, refl, sym, ◌∙◌}
 use Rattle.ocf_types.specs.declared.refusal.Refusal.TheVariants.{Disk}
 use Rattle.ocf_types.specs.declared.reply.ReplyOf.TheVariants.{Refused}
 use Rattle.executor.specs.CallLaws.{by_both, by_command}
-use Rattle.executor.specs.Sights.{sight_of}
 use Rattle.exec_session.proofs.answer.request_reply.Goals as goal
 
 pub returns-then-not-make_room-clause-serves : goal.returns-then-not-make_room-clause-serves
 returns-then-not-make_room-clause-serves g c =
     let closed = sym c.if-not-make_room.ensures.value in record {
-      middle = sight_of g.C.Children.view c.make_room.new.executor;
+      middle = c.make_room.new.executor;
       now = 0;
       given = Refused Disk;
       told = c.refused.ensures;
@@ -21,7 +20,7 @@ returns-then-not-make_room-clause-serves g c =
 pub returns-clause-serves : goal.returns-clause-serves
 returns-clause-serves g c =
     let is_open = sym c.if-not-make_room.ensures.value in record {
-      middle = sight_of g.C.Children.view c.make_room.new.executor;
+      middle = c.make_room.new.executor;
       now = c.get-now.result;
       given = c.command.result;
       told = refl;
@@ -33,9 +32,8 @@ returns-clause-serves g c =
 
 pub returns-clause-calls : goal.returns-clause-calls
 returns-clause-calls g c =
-    let tend = g.C.Children.view in
-    let middle = sight_of tend c.make_room.new.executor in
-    let last = sight_of tend c.command.new.self in
-    by_both g.D.Disk.view (sight_of tend c.args.executor.now) middle last c.make_room.ensures.calls
+    let middle = c.make_room.new.executor in
+    let last = c.command.new.self in
+    by_both g.D.Disk.view c.args.executor.now middle last c.make_room.ensures.calls
     (by_command g.D.Disk.view c.get-now.result c.args.request middle last c.command.result c.command.ensures.serves
     c.command.ensures.closes)

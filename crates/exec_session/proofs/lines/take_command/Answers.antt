@@ -7,22 +7,21 @@ use Rattle.exec_session.proofs.lines.take_command.Goals as goal
 
 pub returns-then-not-is_full-clause-takes : goal.returns-then-not-is_full-clause-takes
 returns-then-not-is_full-clause-takes g c = λ p most left now may read come.
-    one_waits g.D.Disk.view g.C.Children.view (g.M.Metadata.gives c.args.setting.now.metadata.now) (limits_of c.args.setting.now) p most
+    one_waits g.D.Disk.view (g.M.Metadata.gives c.args.setting.now.metadata.now) (limits_of c.args.setting.now) p most
     (waiting c.args.gathered.now) (waiting c.push.new.self) c.args.command c.args.executor.now left now
     (g.W.Write.contents c.args.writer.now) c.requires.open read c.push.ensures come
 
 pub returns-clause-takes : goal.returns-clause-takes
 returns-clause-takes g c = λ p most left now may read come.
     let look = g.D.Disk.view in
-    let tend = g.C.Children.view in
     let source = g.M.Metadata.gives c.args.setting.now.metadata.now in
     let limits = limits_of c.args.setting.now in
     let new = c.answer_gathered.new in
     let written = g.W.Write.contents c.args.writer.now in
     let written' = g.W.Write.contents new.writer in
-    let waits = one_waits look tend source limits p most (waiting c.args.gathered.now) (waiting c.push.new.self) c.args.command
+    let waits = one_waits look source limits p most (waiting c.args.gathered.now) (waiting c.push.new.self) c.args.command
     c.args.executor.now left now written c.requires.open read c.push.ensures come in
     on_ok c.answer_gathered.result (λ answers.
-    come_none look tend source limits p (most + 1) (waiting new.gathered) (place new.executor now written') c.answer_gathered.ensures.none
-    (all_answered look tend source limits p (most + 1) (λ n few. may n (omega (arith, few))) (waiting c.push.new.self) c.args.executor.now
+    come_none look source limits p (most + 1) (waiting new.gathered) (place new.executor now written') c.answer_gathered.ensures.none
+    (all_answered look source limits p (most + 1) (λ n few. may n (omega (arith, few))) (waiting c.push.new.self) c.args.executor.now
     new.executor now written written' (λ _. c.requires.open) waits answers)) c.answer_gathered.ensures.answers

@@ -1,6 +1,5 @@
 use Rattle.std.proofs.Common.{◌≡◌, ◌+◌, true, arith, rules, subst, sym}
 use Rattle.executor.specs.CallLaws.{by_both}
-use Rattle.executor.specs.Sights.{sight_of}
 use Rattle.exec_session.specs.Gathered.{waiting}
 use Rattle.exec_session.specs.Limits.{limits_of}
 use Rattle.exec_session.specs.Progress.{place}
@@ -11,20 +10,17 @@ use Rattle.exec_session.proofs.lines.take_other.Goals as goal
 
 pub returns-in_err-progress-clause-calls : goal.returns-in_err-progress-clause-calls
 returns-in_err-progress-clause-calls g c =
-    let tend = g.C.Children.view in
-    by_both g.D.Disk.view (sight_of tend c.args.executor.now) (sight_of tend c.answer_gathered.new.executor)
-    (sight_of tend c.answer_found.new.executor) c.answer_gathered.ensures.calls c.answer_found.ensures.calls
+    by_both g.D.Disk.view c.args.executor.now c.answer_gathered.new.executor
+    c.answer_found.new.executor c.answer_gathered.ensures.calls c.answer_found.ensures.calls
 
 pub returns-clause-calls : goal.returns-clause-calls
 returns-clause-calls g c =
-    let tend = g.C.Children.view in
-    by_both g.D.Disk.view (sight_of tend c.args.executor.now) (sight_of tend c.answer_gathered.new.executor)
-    (sight_of tend c.answer_found.new.executor) c.answer_gathered.ensures.calls c.answer_found.ensures.calls
+    by_both g.D.Disk.view c.args.executor.now c.answer_gathered.new.executor
+    c.answer_found.new.executor c.answer_gathered.ensures.calls c.answer_found.ensures.calls
 
 pub returns-clause-takes : goal.returns-clause-takes
 returns-clause-takes g c = λ p most left now may read come.
     let look = g.D.Disk.view in
-    let tend = g.C.Children.view in
     let source = g.M.Metadata.gives c.args.setting.now.metadata.now in
     let limits = limits_of c.args.setting.now in
     let gathered = c.answer_gathered.new.gathered in
@@ -32,11 +28,11 @@ returns-clause-takes g c = λ p most left now may read come.
     let written = g.W.Write.contents c.answer_gathered.new.writer in
     let before = place middle left written in
     let after = place c.answer_found.new.executor now (g.W.Write.contents c.answer_found.new.writer) in
-    let answered = all_answered look tend source limits p most (λ n few. may n (omega (arith, few))) (waiting c.args.gathered.now)
+    let answered = all_answered look source limits p most (λ n few. may n (omega (arith, few))) (waiting c.args.gathered.now)
     c.args.executor.now middle left (g.W.Write.contents c.args.writer.now) written
-    (open_while (sight_of tend c.args.executor.now) (waiting c.args.gathered.now) c.requires.waits) come
+    (open_while c.args.executor.now (waiting c.args.gathered.now) c.requires.waits) come
     c.in_ok-answer_gathered.ensures.answers in
     let is : c.eq.result ≡ true → c.in_ok-progress.progress ≡ End = λ e. search (rules, c.eq.ensures, e) in
-    subst (λ cs. ComesOrEnds look tend source limits p (most + 1) cs after c.eq.result) (sym c.answer_gathered.ensures.none)
-    (one_taken look tend source limits p most may before after c.in_ok-progress.progress c.eq.result is answered
+    subst (λ cs. ComesOrEnds look source limits p (most + 1) cs after c.eq.result) (sym c.answer_gathered.ensures.none)
+    (one_taken look source limits p most may before after c.in_ok-progress.progress c.eq.result is answered
     (c.in_ok-progress.ensures.progress left now read))

@@ -1,6 +1,5 @@
 use Rattle.std.proofs.Common.{arith, subst}
 use Rattle.executor.specs.CallLaws.{by_both}
-use Rattle.executor.specs.Sights.{sight_of}
 use Rattle.exec_lines.specs.Buffer.{line_bytes}
 use Rattle.exec_session.specs.Gathered.{waiting}
 use Rattle.exec_session.specs.Limits.{limits_of}
@@ -14,37 +13,34 @@ pub returns-then-branch-clause-takes : goal.returns-then-branch-clause-takes
 returns-then-branch-clause-takes g c = λ p come.
     let q = place c.take_waiting.new.executor
     (g.R.Read.remaining c.take_waiting.new.reader) (g.W.Write.contents c.take_waiting.new.writer) in
-    subst (ComesMidOrEnds g.D.Disk.view g.C.Children.view (g.M.Metadata.gives c.args.setting.now.metadata.now)
+    subst (ComesMidOrEnds g.D.Disk.view (g.M.Metadata.gives c.args.setting.now.metadata.now)
     (limits_of c.args.setting.now) p 64 (waiting c.take_waiting.new.gathered) (line_bytes c.take_waiting.new.buffer) q) c.if-branch.true
     (c.in_ok-take_waiting.ensures.takes p come)
 
-pub answer_gathered-requires-clause-open : goal.answer_gathered-requires-clause-open
-answer_gathered-requires-clause-open g c =
-    open_while (sight_of g.C.Children.view c.take_waiting.new.executor) (waiting c.take_waiting.new.gathered)
-    c.in_ok-take_waiting.ensures.waits
+pub answer_gathered-requires : goal.answer_gathered-requires
+answer_gathered-requires g c = record {
+  «open» = open_while c.take_waiting.new.executor (waiting c.take_waiting.new.gathered) c.in_ok-take_waiting.ensures.waits;
+}
 
 pub returns-in_err-answer_gathered-clause-calls : goal.returns-in_err-answer_gathered-clause-calls
 returns-in_err-answer_gathered-clause-calls g c =
-    let tend = g.C.Children.view in
-    by_both g.D.Disk.view (sight_of tend c.args.executor.now) (sight_of tend c.take_waiting.new.executor)
-    (sight_of tend c.answer_gathered.new.executor) c.take_waiting.ensures.calls c.answer_gathered.ensures.calls
+    by_both g.D.Disk.view c.args.executor.now c.take_waiting.new.executor
+    c.answer_gathered.new.executor c.take_waiting.ensures.calls c.answer_gathered.ensures.calls
 
 pub returns-clause-calls : goal.returns-clause-calls
 returns-clause-calls g c =
-    let tend = g.C.Children.view in
-    by_both g.D.Disk.view (sight_of tend c.args.executor.now) (sight_of tend c.take_waiting.new.executor)
-    (sight_of tend c.answer_gathered.new.executor) c.take_waiting.ensures.calls c.answer_gathered.ensures.calls
+    by_both g.D.Disk.view c.args.executor.now c.take_waiting.new.executor
+    c.answer_gathered.new.executor c.take_waiting.ensures.calls c.answer_gathered.ensures.calls
 
 pub returns-clause-takes : goal.returns-clause-takes
 returns-clause-takes g c = λ p come.
-    let tend = g.C.Children.view in
     let source = g.M.Metadata.gives c.args.setting.now.metadata.now in
     let now = g.R.Read.remaining c.take_waiting.new.reader in
     let q = place c.take_waiting.new.executor now (g.W.Write.contents c.take_waiting.new.writer) in
-    let still = subst (ComesMidOrEnds g.D.Disk.view tend source (limits_of c.args.setting.now) p 64 (waiting c.take_waiting.new.gathered)
+    let still = subst (ComesMidOrEnds g.D.Disk.view source (limits_of c.args.setting.now) p 64 (waiting c.take_waiting.new.gathered)
     (line_bytes c.take_waiting.new.buffer) q) c.if-branch.false (c.in_ok-take_waiting.ensures.takes p come) in
-    mid_answered g.D.Disk.view tend source (limits_of c.args.setting.now) p 64 (λ n few. may_serve c.args.setting.now.way 63 c.requires.way (omega arith) n (omega (arith, few)))
+    mid_answered g.D.Disk.view source (limits_of c.args.setting.now) p 64 (λ n few. may_serve c.args.setting.now.way 63 c.requires.way (omega arith) n (omega (arith, few)))
     (waiting c.take_waiting.new.gathered) (line_bytes c.take_waiting.new.buffer) c.take_waiting.new.executor c.answer_gathered.new.executor now
     (g.W.Write.contents c.take_waiting.new.writer) (g.W.Write.contents c.answer_gathered.new.writer)
-    (open_while (sight_of tend c.take_waiting.new.executor) (waiting c.take_waiting.new.gathered) c.in_ok-take_waiting.ensures.waits) still
+    (open_while c.take_waiting.new.executor (waiting c.take_waiting.new.gathered) c.in_ok-take_waiting.ensures.waits) still
     c.in_ok-answer_gathered.ensures.answers

@@ -1,6 +1,5 @@
 use Rattle.std.proofs.Common.{[], refl, subst}
 use Rattle.executor.specs.CallLaws.{by_both, by_none}
-use Rattle.executor.specs.Sights.{sight_of}
 use Rattle.exec_lines.specs.Buffer.{line_bytes}
 use Rattle.exec_session.specs.Limits.{limits_of}
 use Rattle.exec_session.specs.Progress.{place}
@@ -10,68 +9,61 @@ use Rattle.exec_session.proofs.serve.serve_all.Goals as goal
 
 pub loop-init : goal.loop-init
 loop-init g c = record {
-  sound = c.requires.sound;
   way = c.requires.way;
   none = c.requires.none;
-  calls = by_none g.D.Disk.view (sight_of g.C.Children.view c.args.executor.now) (sight_of g.C.Children.view c.args.executor.now) refl;
-  come = first_mid _ _ _ _ _ (line_bytes c.args.buffer.now) c.requires.empty;
+  calls = by_none g.D.Disk.view c.args.executor.now c.args.executor.now refl;
+  come = first_mid _ _ _ _ (line_bytes c.args.buffer.now) c.requires.empty;
 }
 
 pub returns-in_err-answer_waiting-clause-calls : goal.returns-in_err-answer_waiting-clause-calls
 returns-in_err-answer_waiting-clause-calls g c =
-    let tend = g.C.Children.view in
-    by_both g.D.Disk.view (sight_of tend c.args.executor.now) (sight_of tend c.loop.executor)
-    (sight_of tend c.answer_waiting.new.executor) c.loop.invariant.calls c.answer_waiting.ensures.calls
+    by_both g.D.Disk.view c.args.executor.now c.loop.executor
+    c.answer_waiting.new.executor c.loop.invariant.calls c.answer_waiting.ensures.calls
 
 pub returns-then-branch-clause-calls : goal.returns-then-branch-clause-calls
 returns-then-branch-clause-calls g c =
-    let tend = g.C.Children.view in
-    by_both g.D.Disk.view (sight_of tend c.args.executor.now) (sight_of tend c.loop.executor)
-    (sight_of tend c.answer_waiting.new.executor) c.loop.invariant.calls c.answer_waiting.ensures.calls
+    by_both g.D.Disk.view c.args.executor.now c.loop.executor
+    c.answer_waiting.new.executor c.loop.invariant.calls c.answer_waiting.ensures.calls
 
 pub returns-then-branch-clause-lines : goal.returns-then-branch-clause-lines
 returns-then-branch-clause-lines g c =
     let p = place c.args.executor.now (g.R.Read.remaining c.args.reader.now) (g.W.Write.contents c.args.writer.now) in
     let q = place c.answer_waiting.new.executor
     (g.R.Read.remaining c.answer_waiting.new.reader) (g.W.Write.contents c.answer_waiting.new.writer) in
-    subst (ComesMidOrEnds g.D.Disk.view g.C.Children.view (g.M.Metadata.gives c.args.setting.now.metadata.now) (limits_of c.args.setting.now)
+    subst (ComesMidOrEnds g.D.Disk.view (g.M.Metadata.gives c.args.setting.now.metadata.now) (limits_of c.args.setting.now)
     p 64 [] (line_bytes c.answer_waiting.new.buffer) q) c.if-branch.true (c.in_ok-answer_waiting.ensures.takes p c.loop.invariant.come)
 
 pub returns-in_err-make_own_turn-clause-calls : goal.returns-in_err-make_own_turn-clause-calls
 returns-in_err-make_own_turn-clause-calls g c =
-    let tend = g.C.Children.view in
-    let lines = by_both g.D.Disk.view (sight_of tend c.args.executor.now) (sight_of tend c.loop.executor)
-    (sight_of tend c.answer_waiting.new.executor) c.loop.invariant.calls c.answer_waiting.ensures.calls in
-    by_both g.D.Disk.view (sight_of tend c.args.executor.now) (sight_of tend c.answer_waiting.new.executor)
-    (sight_of tend c.make_own_turn.new.executor) lines c.make_own_turn.ensures.calls
+    let lines = by_both g.D.Disk.view c.args.executor.now c.loop.executor
+    c.answer_waiting.new.executor c.loop.invariant.calls c.answer_waiting.ensures.calls in
+    by_both g.D.Disk.view c.args.executor.now c.answer_waiting.new.executor
+    c.make_own_turn.new.executor lines c.make_own_turn.ensures.calls
 
 pub returns-in_err-wait-clause-calls : goal.returns-in_err-wait-clause-calls
 returns-in_err-wait-clause-calls g c =
-    let tend = g.C.Children.view in
-    let lines = by_both g.D.Disk.view (sight_of tend c.args.executor.now) (sight_of tend c.loop.executor)
-    (sight_of tend c.answer_waiting.new.executor) c.loop.invariant.calls c.answer_waiting.ensures.calls in
-    by_both g.D.Disk.view (sight_of tend c.args.executor.now) (sight_of tend c.answer_waiting.new.executor)
-    (sight_of tend c.make_own_turn.new.executor) lines c.make_own_turn.ensures.calls
+    let lines = by_both g.D.Disk.view c.args.executor.now c.loop.executor
+    c.answer_waiting.new.executor c.loop.invariant.calls c.answer_waiting.ensures.calls in
+    by_both g.D.Disk.view c.args.executor.now c.answer_waiting.new.executor
+    c.make_own_turn.new.executor lines c.make_own_turn.ensures.calls
 
 pub loop-preserved : goal.loop-preserved
 loop-preserved g c =
-    let tend = g.C.Children.view in
-    let lines = by_both g.D.Disk.view (sight_of tend c.args.executor.now) (sight_of tend c.loop.executor)
-    (sight_of tend c.answer_waiting.new.executor) c.loop.invariant.calls c.answer_waiting.ensures.calls in
+    let lines = by_both g.D.Disk.view c.args.executor.now c.loop.executor
+    c.answer_waiting.new.executor c.loop.invariant.calls c.answer_waiting.ensures.calls in
     let p = place c.args.executor.now (g.R.Read.remaining c.args.reader.now) (g.W.Write.contents c.args.writer.now) in
     let q = place c.answer_waiting.new.executor
     (g.R.Read.remaining c.answer_waiting.new.reader) (g.W.Write.contents c.answer_waiting.new.writer) in
-    let come = subst (ComesMidOrEnds g.D.Disk.view tend (g.M.Metadata.gives c.args.setting.now.metadata.now) (limits_of c.args.setting.now)
+    let come = subst (ComesMidOrEnds g.D.Disk.view (g.M.Metadata.gives c.args.setting.now.metadata.now) (limits_of c.args.setting.now)
     p 64 [] (line_bytes c.answer_waiting.new.buffer) q) c.if-branch.false (c.in_ok-answer_waiting.ensures.takes p c.loop.invariant.come) in
     record {
-      sound = c.in_ok-make_own_turn.ensures.sound;
       way = c.loop.invariant.way;
       none = c.in_ok-answer_waiting.ensures.none c.if-branch.false;
       calls =
-          by_both g.D.Disk.view (sight_of tend c.args.executor.now) (sight_of tend c.answer_waiting.new.executor)
-          (sight_of tend c.make_own_turn.new.executor) lines c.in_ok-make_own_turn.ensures.calls;
+          by_both g.D.Disk.view c.args.executor.now c.answer_waiting.new.executor
+          c.make_own_turn.new.executor lines c.in_ok-make_own_turn.ensures.calls;
       come =
-          one_turn g.D.Disk.view tend (g.M.Metadata.gives c.args.setting.now.metadata.now) (limits_of c.args.setting.now)
+          one_turn g.D.Disk.view (g.M.Metadata.gives c.args.setting.now.metadata.now) (limits_of c.args.setting.now)
           p c.loop.invariant.way 64 (line_bytes c.answer_waiting.new.buffer) q
           (place c.make_own_turn.new.executor (g.R.Read.remaining c.wait.new.reader) (g.W.Write.contents c.make_own_turn.new.writer))
           c.wait.ensures.same come c.in_ok-make_own_turn.ensures.turns;

@@ -1,7 +1,6 @@
 use Rattle.std.proofs.Common.{◌≡◌, []}
 use Rattle.exec_lines.specs.Buffer.{line_bytes}
 use Rattle.executor.specs.Lives.{ByCalls}
-use Rattle.executor.specs.Sights.{IsSound, sight_of}
 use Rattle.exec_session.specs.Gathered.{waiting}
 use Rattle.exec_session.specs.Limits.{limits_of}
 use Rattle.exec_session.specs.Progress.{place}
@@ -11,11 +10,10 @@ use Rattle.exec_session.proofs.serve.serve_all.Given as goal
 
 abbrev pub invariant-loop : goal.invariant-loop
 invariant-loop g l = record {
-  sound : IsSound g.D.Disk.view (sight_of g.C.Children.view l.executor);
   way : l.setting.way ≡ Serve;
   none : waiting l.gathered ≡ [];
-  calls : ByCalls g.D.Disk.view (sight_of g.C.Children.view l.fn.executor) (sight_of g.C.Children.view l.executor);
-  come : HasComeMid g.D.Disk.view g.C.Children.view (g.M.Metadata.gives l.setting.metadata.now) (limits_of l.setting)
+  calls : ByCalls g.D.Disk.view l.fn.executor l.executor;
+  come : HasComeMid g.D.Disk.view (g.M.Metadata.gives l.setting.metadata.now) (limits_of l.setting)
       (place l.fn.executor (g.R.Read.remaining l.fn.reader) (g.W.Write.contents l.fn.writer)) 0 []
       (line_bytes l.buffer) (place l.executor (g.R.Read.remaining l.reader) (g.W.Write.contents l.writer));
 }

@@ -15,14 +15,13 @@ returns-in_default-clause-takes g c = λ p most may (left, mid, come).
     let written = g.W.Write.contents c.args.writer.now in (
       left,
       at_none c.in_ok-next.field-0 _ _ c.in_default.is (c.in_ok-next.ensures.gathers left mid),
-      come_more g.D.Disk.view g.C.Children.view (g.M.Metadata.gives c.args.setting.now.metadata.now) (limits_of c.args.setting.now) p most
+      come_more g.D.Disk.view (g.M.Metadata.gives c.args.setting.now.metadata.now) (limits_of c.args.setting.now) p most
           (most + 1) (waiting c.args.gathered.now) (place executor left written) (omega arith) come,
     )
 
 pub returns-clause-takes : goal.returns-clause-takes
 returns-clause-takes g c = λ p most may (left, mid, come).
     let look = g.D.Disk.view in
-    let tend = g.C.Children.view in
     let source = g.M.Metadata.gives c.args.setting.now.metadata.now in
     let limits = limits_of c.args.setting.now in
     let now = g.R.Read.remaining c.gather_line.new.reader in
@@ -30,6 +29,6 @@ returns-clause-takes g c = λ p most may (left, mid, come).
     let kept = line_bytes c.clear.new.self in
     let q = place c.take_found.new.executor now (g.W.Write.contents c.take_found.new.writer) in
     let next = at_some c.in_ok-next.field-0 c.in-Some.next _ _ c.in-Some.is (c.in_ok-next.ensures.gathers left mid) in
-    if_ok (ComesOrEnds look tend source limits p (most + 1) commands q) (ComesMidOrEnds look tend source limits p (most + 1) commands kept q)
-    c.take_found.result (λ ended. mid_taken look tend source limits p (most + 1) commands kept q ended c.clear.ensures)
+    if_ok (ComesOrEnds look source limits p (most + 1) commands q) (ComesMidOrEnds look source limits p (most + 1) commands kept q)
+    c.take_found.result (λ ended. mid_taken look source limits p (most + 1) commands kept q ended c.clear.ensures)
     (c.take_found.ensures.takes p most left now may (c.found_in-found.ensures.found left now next) come)

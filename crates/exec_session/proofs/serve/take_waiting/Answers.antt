@@ -1,6 +1,5 @@
 use Rattle.std.proofs.Common.{◌+◌, arith, refl, subst, sym}
 use Rattle.executor.specs.CallLaws.{by_both, by_none}
-use Rattle.executor.specs.Sights.{sight_of}
 use Rattle.exec_lines.specs.Buffer.{line_bytes}
 use Rattle.exec_session.specs.Gathered.{waiting}
 use Rattle.exec_session.specs.Limits.{limits_of}
@@ -12,71 +11,65 @@ use Rattle.exec_session.proofs.serve.take_waiting.Goals as goal
 
 pub loop-reads-init : goal.loop-reads-init
 loop-reads-init g c =
-    let tend = g.C.Children.view in
     let source = g.M.Metadata.gives c.args.setting.now.metadata.now in
     let q = place c.args.executor.now (g.R.Read.remaining c.args.reader.now) (g.W.Write.contents c.args.writer.now) in
     record {
-      sound = c.requires.sound;
       way = c.requires.way;
-      waits = none_waits (sight_of tend c.args.executor.now) (waiting c.args.gathered.now) c.requires.none;
-      calls = by_none g.D.Disk.view (sight_of tend c.args.executor.now) (sight_of tend c.args.executor.now) refl;
+      waits = none_waits c.args.executor.now (waiting c.args.gathered.now) c.requires.none;
+      calls = by_none g.D.Disk.view c.args.executor.now c.args.executor.now refl;
       come = λ p come.
-          subst (λ commands. HasComeMid g.D.Disk.view tend source (limits_of c.args.setting.now) p 0 commands (line_bytes c.args.buffer.now) q)
+          subst (λ commands. HasComeMid g.D.Disk.view source (limits_of c.args.setting.now) p 0 commands (line_bytes c.args.buffer.now) q)
           (sym c.requires.none) come;
     }
 
 pub returns-then-not-is_ready-clause-takes : goal.returns-then-not-is_ready-clause-takes
 returns-then-not-is_ready-clause-takes g c = λ p come.
-    mid_same _ _ _ _ p 64 (waiting c.loop-reads.gathered) (line_bytes c.loop-reads.buffer) c.loop-reads.executor
+    mid_same _ _ _ p 64 (waiting c.loop-reads.gathered) (line_bytes c.loop-reads.buffer) c.loop-reads.executor
     (g.W.Write.contents c.loop-reads.writer) (g.R.Read.remaining c.loop-reads.reader) (g.R.Read.remaining c.is_ready.new.self)
     c.is_ready.ensures.same
-    (mid_more _ _ _ _ p c.loop-reads._reads 64 _ _ _ (omega (arith, c.loop-reads-test.true)) (c.loop-reads.invariant.come p come))
+    (mid_more _ _ _ p c.loop-reads._reads 64 _ _ _ (omega (arith, c.loop-reads-test.true)) (c.loop-reads.invariant.come p come))
 
 pub returns-in_err-take_read-clause-calls : goal.returns-in_err-take_read-clause-calls
 returns-in_err-take_read-clause-calls g c =
-    let tend = g.C.Children.view in
-    by_both g.D.Disk.view (sight_of tend c.args.executor.now) (sight_of tend c.loop-reads.executor)
-    (sight_of tend c.take_read.new.executor) c.loop-reads.invariant.calls c.take_read.ensures.calls
+    by_both g.D.Disk.view c.args.executor.now c.loop-reads.executor
+    c.take_read.new.executor c.loop-reads.invariant.calls c.take_read.ensures.calls
 
 pub returns-then-branch-clause-calls : goal.returns-then-branch-clause-calls
 returns-then-branch-clause-calls g c =
-    let tend = g.C.Children.view in
-    by_both g.D.Disk.view (sight_of tend c.args.executor.now) (sight_of tend c.loop-reads.executor)
-    (sight_of tend c.take_read.new.executor) c.loop-reads.invariant.calls c.take_read.ensures.calls
+    by_both g.D.Disk.view c.args.executor.now c.loop-reads.executor
+    c.take_read.new.executor c.loop-reads.invariant.calls c.take_read.ensures.calls
 
 pub returns-then-branch-clause-takes : goal.returns-then-branch-clause-takes
 returns-then-branch-clause-takes g c = λ p come.
     let n = c.loop-reads._reads in
     let q = place c.take_read.new.executor (g.R.Read.remaining c.take_read.new.reader) (g.W.Write.contents c.take_read.new.writer) in
-    subst (ComesMidOrEnds g.D.Disk.view g.C.Children.view (g.M.Metadata.gives c.args.setting.now.metadata.now)
+    subst (ComesMidOrEnds g.D.Disk.view (g.M.Metadata.gives c.args.setting.now.metadata.now)
     (limits_of c.args.setting.now) p (n + 1) (waiting c.take_read.new.gathered) (line_bytes c.take_read.new.buffer) q) c.if-branch.true
     (c.in_ok-take_read.ensures.takes p n (may_serve c.args.setting.now.way n c.loop-reads.invariant.way (omega (arith, c.loop-reads-test.true)))
-    (mid_same _ _ _ _ p n (waiting c.loop-reads.gathered) (line_bytes c.loop-reads.buffer) c.loop-reads.executor
+    (mid_same _ _ _ p n (waiting c.loop-reads.gathered) (line_bytes c.loop-reads.buffer) c.loop-reads.executor
     (g.W.Write.contents c.loop-reads.writer) (g.R.Read.remaining c.loop-reads.reader) (g.R.Read.remaining c.is_ready.new.self)
     c.is_ready.ensures.same (c.loop-reads.invariant.come p come)))
 
 pub loop-reads-preserved : goal.loop-reads-preserved
 loop-reads-preserved g c =
-    let tend = g.C.Children.view in
     let n = c.loop-reads._reads in
     let q = place c.take_read.new.executor (g.R.Read.remaining c.take_read.new.reader) (g.W.Write.contents c.take_read.new.writer) in
     record {
-      sound = c.in_ok-take_read.ensures.sound;
       way = c.loop-reads.invariant.way;
       waits = c.in_ok-take_read.ensures.waits;
       calls =
-          by_both g.D.Disk.view (sight_of tend c.args.executor.now) (sight_of tend c.loop-reads.executor)
-          (sight_of tend c.take_read.new.executor) c.loop-reads.invariant.calls c.take_read.ensures.calls;
+          by_both g.D.Disk.view c.args.executor.now c.loop-reads.executor
+          c.take_read.new.executor c.loop-reads.invariant.calls c.take_read.ensures.calls;
       come = λ p come.
-          subst (ComesMidOrEnds g.D.Disk.view tend (g.M.Metadata.gives c.args.setting.now.metadata.now) (limits_of c.args.setting.now)
+          subst (ComesMidOrEnds g.D.Disk.view (g.M.Metadata.gives c.args.setting.now.metadata.now) (limits_of c.args.setting.now)
           p (n + 1) (waiting c.take_read.new.gathered) (line_bytes c.take_read.new.buffer) q) c.if-branch.false
           (c.in_ok-take_read.ensures.takes p n
           (may_serve c.args.setting.now.way n c.loop-reads.invariant.way (omega (arith, c.loop-reads-test.true)))
-          (mid_same _ _ _ _ p n (waiting c.loop-reads.gathered) (line_bytes c.loop-reads.buffer) c.loop-reads.executor
+          (mid_same _ _ _ p n (waiting c.loop-reads.gathered) (line_bytes c.loop-reads.buffer) c.loop-reads.executor
           (g.W.Write.contents c.loop-reads.writer) (g.R.Read.remaining c.loop-reads.reader) (g.R.Read.remaining c.is_ready.new.self)
           c.is_ready.ensures.same (c.loop-reads.invariant.come p come)));
     }
 
 pub returns-clause-takes : goal.returns-clause-takes
 returns-clause-takes g c = λ p come.
-    mid_more _ _ _ _ p c.loop-reads._reads 64 _ _ _ (omega (arith, c.loop-reads.auto)) (c.loop-reads.invariant.come p come)
+    mid_more _ _ _ p c.loop-reads._reads 64 _ _ _ (omega (arith, c.loop-reads.auto)) (c.loop-reads.invariant.come p come)

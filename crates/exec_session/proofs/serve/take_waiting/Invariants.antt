@@ -1,9 +1,6 @@
 use Rattle.std.proofs.Common.{◌≡◌, []}
-use Rattle.std.specs.Global.{Global}
 use Rattle.exec_lines.specs.Buffer.{line_bytes}
 use Rattle.executor.specs.Lives.{ByCalls}
-use Rattle.executor.specs.Sights.{IsSound, sight_of}
-use Rattle.executor.specs.declared.executor.Executor.{Executor}
 use Rattle.exec_session.specs.Gathered.{waiting}
 use Rattle.exec_session.specs.Limits.{limits_of}
 use Rattle.exec_session.specs.Progress.{Place, place}
@@ -14,14 +11,13 @@ use Rattle.exec_session.proofs.serve.take_waiting.Given as goal
 
 abbrev pub invariant-loop-reads : goal.invariant-loop-reads
 invariant-loop-reads g l = record {
-  sound : IsSound g.D.Disk.view (sight_of g.C.Children.view l.executor);
   way : l.setting.way ≡ Serve;
-  waits : MayWait (sight_of g.C.Children.view l.executor) (waiting l.gathered);
-  calls : ByCalls g.D.Disk.view (sight_of g.C.Children.view l.fn.executor) (sight_of g.C.Children.view l.executor);
-  come : (p : Place (Executor g.row.D.Denot g.row.C.Denot Global))
-      → HasComeMid g.D.Disk.view g.C.Children.view (g.M.Metadata.gives l.setting.metadata.now) (limits_of l.setting) p 0 []
+  waits : MayWait l.executor (waiting l.gathered);
+  calls : ByCalls g.D.Disk.view l.fn.executor l.executor;
+  come : (p : Place g.row.D.Denot)
+      → HasComeMid g.D.Disk.view (g.M.Metadata.gives l.setting.metadata.now) (limits_of l.setting) p 0 []
       (line_bytes l.fn.buffer) (place l.fn.executor (g.R.Read.remaining l.fn.reader) (g.W.Write.contents l.fn.writer))
-      → HasComeMid g.D.Disk.view g.C.Children.view (g.M.Metadata.gives l.setting.metadata.now) (limits_of l.setting) p l._reads
+      → HasComeMid g.D.Disk.view (g.M.Metadata.gives l.setting.metadata.now) (limits_of l.setting) p l._reads
       (waiting l.gathered) (line_bytes l.buffer)
       (place l.executor (g.R.Read.remaining l.reader) (g.W.Write.contents l.writer));
 }

@@ -1,6 +1,5 @@
 use Rattle.std.proofs.Common.{◌≡◌, ℕ}
 use Rattle.executor.specs.Lives.{ByCalls}
-use Rattle.executor.specs.Sights.{IsSound, sight_of}
 use Rattle.exec_session.specs.Gathered.{waiting}
 use Rattle.exec_session.specs.Limits.{limits_of}
 use Rattle.exec_session.specs.Progress.{place}
@@ -10,11 +9,10 @@ use Rattle.exec_session.proofs.session.answer_all.Given as goal
 
 abbrev pub invariant-loop : goal.invariant-loop
 invariant-loop g l = record {
-  sound : IsSound g.D.Disk.view (sight_of g.C.Children.view l.executor);
   way : l.setting.way ≡ Run;
-  waits : MayWait (sight_of g.C.Children.view l.executor) (waiting l.gathered);
-  calls : ByCalls g.D.Disk.view (sight_of g.C.Children.view l.fn.executor) (sight_of g.C.Children.view l.executor);
-  come : (most : ℕ) × HasCome g.D.Disk.view g.C.Children.view (g.M.Metadata.gives l.setting.metadata.now) (limits_of l.setting)
+  waits : MayWait l.executor (waiting l.gathered);
+  calls : ByCalls g.D.Disk.view l.fn.executor l.executor;
+  come : (most : ℕ) × HasCome g.D.Disk.view (g.M.Metadata.gives l.setting.metadata.now) (limits_of l.setting)
       (place l.fn.executor (g.R.Read.remaining l.fn.reader) (g.W.Write.contents l.fn.writer)) most (waiting l.gathered)
       (place l.executor (g.R.Read.remaining l.reader) (g.W.Write.contents l.writer));
 }

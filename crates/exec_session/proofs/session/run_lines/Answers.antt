@@ -1,6 +1,6 @@
 use Rattle.std.proofs.Common.{ap, ◌∙◌}
 use Rattle.executor.specs.CallLaws.{by_abandon, by_both}
-use Rattle.executor.specs.Sights.{Sight, sight_of}
+use Rattle.executor.specs.Sights.{Sight}
 use Rattle.exec_session.proofs.session.run_lines.Goals as goal
 
 pub returns-clause-ends : goal.returns-clause-ends
@@ -13,13 +13,12 @@ returns-clause-ends g c = record {
 
 pub returns-clause-calls : goal.returns-clause-calls
 returns-clause-calls g c =
-    let tend = g.C.Children.view in
-    let middle = sight_of tend c.answer_lines-ended.new.executor in
-    let last = sight_of tend c.abandon.new.self in
+    let middle = c.answer_lines-ended.new.executor in
+    let last = c.abandon.new.self in
     record {
       last = last;
       calls =
-          by_both g.D.Disk.view (sight_of tend c.args.executor) middle last c.answer_lines-ended.ensures.calls
+          by_both g.D.Disk.view c.args.executor middle last c.answer_lines-ended.ensures.calls
           (by_abandon g.D.Disk.view middle last c.abandon.ensures.abandoned);
       is_closed = ap (λ (x : Sight g.row.D.Denot). x.is_open) c.abandon.ensures.abandoned;
       disk_is = c.close-disk.ensures.disk;
