@@ -2,7 +2,6 @@
 use Rattle.std.proofs.Common.{inl, inr, ℕ, List, Result, Ok, Err, Option, subst, sym, ◌≡◌, is_some, true}
 use Rattle.disk_model.specs.View.{View}
 use Rattle.child_keeper.specs.Children.{ChildrenView}
-use Rattle.executor.specs.declared.executor.Executor.{Executor}
 use Rattle.executor.specs.declared.report.Report.{Report}
 use Rattle.exec_options.specs.Faults.{IsFault}
 use Rattle.exec_options.specs.Words.{Gives}
@@ -20,32 +19,32 @@ use Rattle.exec_session.specs.Runs.{Ended, EndsAs}
 use Rattle.ocfexec.specs.Starts.{EndsFor, IsToldAs}
 
 -- a run does not end by its words
-ends : {D C M N T : Type 0} (look : D → View) (tend : C → ChildrenView) (source : Source) (limits : Limits) (report : Report N)
-    (p q : Place (Executor D C M)) (r : Result T Fault)
-    → EndsAs look tend source limits report p q r → IsRunEnd r
-ends look tend source limits report p q (Ok done) how = tt
-ends look tend source limits report p q (Err fault.Usage) how = absurd how
-ends look tend source limits report p q (Err fault.Choice) how = absurd how
-ends look tend source limits report p q (Err fault.TidyAt) how = absurd how
-ends look tend source limits report p q (Err fault.Root) how = absurd how
-ends look tend source limits report p q (Err fault.Orphans) how = absurd how
-ends look tend source limits report p q (Err fault.NotText) how = absurd how
-ends look tend source limits report p q (Err fault.Log) how = absurd how
-ends look tend source limits report p q (Err fault.NoResource) how = absurd how
-ends look tend source limits report p q (Err fault.NotOpened) how = absurd how
-ends look tend source limits report p q (Err (fault.Damaged damage)) how = tt
-ends look tend source limits report p q (Err fault.Memory) how = tt
-ends look tend source limits report p q (Err fault.Disk) how = tt
-ends look tend source limits report p q (Err fault.Full) how = tt
-ends look tend source limits report p q (Err fault.InputOrOutput) how = tt
-ends look tend source limits report p q (Err fault.ReplyMemory) how = tt
-ends look tend source limits report p q (Err fault.ChildrenIgnored) how = absurd how
+ends : {D N T : Type 0} (look : D → View) (source : Source) (limits : Limits) (report : Report N)
+    (p q : Place D) (r : Result T Fault)
+    → EndsAs look source limits report p q r → IsRunEnd r
+ends look source limits report p q (Ok done) how = tt
+ends look source limits report p q (Err fault.Usage) how = absurd how
+ends look source limits report p q (Err fault.Choice) how = absurd how
+ends look source limits report p q (Err fault.TidyAt) how = absurd how
+ends look source limits report p q (Err fault.Root) how = absurd how
+ends look source limits report p q (Err fault.Orphans) how = absurd how
+ends look source limits report p q (Err fault.NotText) how = absurd how
+ends look source limits report p q (Err fault.Log) how = absurd how
+ends look source limits report p q (Err fault.NoResource) how = absurd how
+ends look source limits report p q (Err fault.NotOpened) how = absurd how
+ends look source limits report p q (Err (fault.Damaged damage)) how = tt
+ends look source limits report p q (Err fault.Memory) how = tt
+ends look source limits report p q (Err fault.Disk) how = tt
+ends look source limits report p q (Err fault.Full) how = tt
+ends look source limits report p q (Err fault.InputOrOutput) how = tt
+ends look source limits report p q (Err fault.ReplyMemory) how = tt
+ends look source limits report p q (Err fault.ChildrenIgnored) how = absurd how
 
-pub run_ends : {D C M N : Type 0} (look : D → View) (tend : C → ChildrenView) (source : Source) (limits : Limits) (report : Report N)
-    (p : Place (Executor D C M)) (left written : Option (List ℕ)) (run : Run D C)
+pub run_ends : {D C N : Type 0} (look : D → View) (tend : C → ChildrenView) (source : Source) (limits : Limits) (report : Report N)
+    (p : Place D) (left written : Option (List ℕ)) (run : Run D C)
     → Ended look tend source limits report p left written run → IsRunEnd run.ended
 run_ends look tend source limits report p left written run ended =
-    ends look tend source limits report p (place ended.last left written) run.ended ended.ends
+    ends look source limits report p (place ended.last left written) run.ended ended.ends
 
 -- words that give no options
 pub refused_ends : {T : Type 0} (words : List (List ℕ)) (f : WordsFault) (r : Result T Fault) → IsFault words f → IsToldAs f r

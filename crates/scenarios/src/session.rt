@@ -1,8 +1,5 @@
 //! An open executor.
 ghost use Rattle.std.specs.Prelude.{◌+◌, ◌≤◌, vec_len, vec_capacity};
-ghost use Rattle.executor.specs.Sights.{IsSound, sight_of};
-ghost use Rattle.scenarios.specs.PlannedChildren.{planned_view};
-ghost use Rattle.scenarios.specs.SharedDisk.{shared_view};
 
 use crate::disk::SharedDisk;
 use crate::planned::PlannedChildren;
@@ -19,7 +16,6 @@ use std::alloc::{AllocError, Global};
 pub struct Session {
     executor: Executor<SharedDisk, PlannedChildren>,
     site: SiteWords,
-    pub ghost sound: { ∥ IsSound shared_view (sight_of planned_view executor) ∥₁ },
 }
 
 impl Session {
