@@ -202,10 +202,10 @@ module _ {D : Type 0} (look : D → View) (mine : ℕ → Bool) (id : List ℕ) 
   -- what a session leaves
   session_ends : (from : ℕ) (x z : Sight D) (is : List Input) (rs : List Reply) (d : Deeds) → x.state.clock ≤ from → AreRising from is
       → AllByRecursion (λ p. IsPlain p.1) (part id is rs) → Session look x is rs z d
-      → (z.state ≡ after_all x.state d.events) × (z.due ≡ due_after_all x.state x.due d.events)
+      → (z.state ≡ after_all x.state d.events) × (due_in z ≡ due_after_all x.state (due_in x) d.events)
   session_ends from x z [] [] d clock rises plain session = (
     ap (λ (w : Sight D). w.state) session.0 ∙ ap (λ (k : Deeds). after_all x.state k.events) (sym session.1),
-    ap (λ (w : Sight D). w.due) session.0 ∙ ap (λ (k : Deeds). due_after_all x.state x.due k.events) (sym session.1),
+    ap (λ (w : Sight D). due_in w) session.0 ∙ ap (λ (k : Deeds). due_after_all x.state (due_in x) k.events) (sym session.1),
   )
   session_ends from x z [] (r ∷ rs) d clock rises plain session = absurd session
   session_ends from x z (i ∷ is) [] d clock rises plain session = absurd session
@@ -217,9 +217,9 @@ module _ {D : Type 0} (look : D → View) (mine : ℕ → Bool) (id : List ℕ) 
         ends.0 ∙ ap (λ (s : State). after_all s later.events) did.state ∙ sym (after_all-append x.state first.events later.events)
             ∙ ap (λ (k : Deeds). after_all x.state k.events) (sym all),
         ends.1 ∙ ap (λ (u : Due). due_after_all mid.state u later.events) did.due
-            ∙ ap (λ (s : State). due_after_all s (due_after_all x.state x.due first.events) later.events) did.state
-            ∙ sym (due_after_all-append x.state x.due first.events later.events)
-            ∙ ap (λ (k : Deeds). due_after_all x.state x.due k.events) (sym all),
+            ∙ ap (λ (s : State). due_after_all s (due_after_all x.state (due_in x) first.events) later.events) did.state
+            ∙ sym (due_after_all-append x.state (due_in x) first.events later.events)
+            ∙ ap (λ (k : Deeds). due_after_all x.state (due_in x) k.events) (sym all),
       )
 
   -- commands in a row at one moment
@@ -274,8 +274,8 @@ pub alone_ends : {D : Type 0} (look : D → View) (x z : Sight D) (inputs : List
 alone_ends look x z inputs replies d id session plain rises =
     let fresh = session_fresh look (λ run. false) id x.state.clock x z inputs replies d (le_refl x.state.clock) rises plain session in
     let ends = session_ends look (λ run. false) id x.state.clock x z inputs replies d (le_refl x.state.clock) rises plain session in
-    let there : Stands (single_after_all (single_of x id) (events_of id d.events)) z.state z.due id =
-    subst (λ (s : State). Stands (single_after_all (single_of x id) (events_of id d.events)) s z.due id) (sym ends.0)
+    let there : Stands (single_after_all (single_of x id) (events_of id d.events)) z.state (due_in z) id =
+    subst (λ (s : State). Stands (single_after_all (single_of x id) (events_of id d.events)) s (due_in z) id) (sym ends.0)
     (subst (λ (u : Due). Stands (single_after_all (single_of x id) (events_of id d.events)) (after_all x.state d.events) u id) (sym ends.1)
-    (stands_all (single_of x id) x.state x.due id d.events (here x id) fresh)) in
+    (stands_all (single_of x id) x.state (due_in x) id d.events (here x id) fresh)) in
     record { resource = there.resource; due = there.due; calls = there.calls; runs = there.runs }

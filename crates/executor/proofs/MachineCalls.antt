@@ -30,15 +30,15 @@ use Rattle.executor.specs.Commands.{Obeys, Records}
 use Rattle.executor.specs.Lives.{Abandoned, Calls, Cleared, Does, Exchange, Row, Tidied, Took}
 use Rattle.executor.specs.Machine.{AnswersClosed, Fails, GoesOn, Left, Machine, MovesAll, MovesOpen, MovesWhile, TakesAll, TakesOne, TurnAt, TurnEnds, TurnsAll, and_then}
 use Rattle.executor.specs.Replies.{acknowledged, due_left, pending, recorded}
-use Rattle.executor.specs.RowCalls.{Adds, Answered, TakesRow, failed, moved, row_deeds, row_replies}
+use Rattle.executor.specs.RowCalls.{Adds, Answered, TakesRow, failed, row_deeds, row_replies}
 use Rattle.executor.specs.Sessions.{Deeds, Input, TakesATurn, TakesRequest, TakesWhile, both, command_deeds, no_deeds}
-use Rattle.executor.specs.Sights.{Sight}
+use Rattle.executor.specs.Sights.{Sight, due_in}
 use Rattle.executor.specs.TidyCalls.{Tidies, TidiesWhile}
 use Rattle.executor.specs.declared.session.InputOf.TheVariants as input
 
 -- an executor as the machine, and what its calls left
 abbrev pub machine_of : {D : Type 0} → Sight D → Machine
-machine_of x = record { is_open = x.is_open; state = x.state; due = x.due; told = x.told }
+machine_of x = record { is_open = x.is_open; state = x.state; due = due_in x; told = x.told }
 
 abbrev pub left_of : Deeds → Left
 left_of d = record { events = d.events; pending = d.pending }
@@ -97,8 +97,8 @@ module _ {D : Type 0} (look : D → View) where
       → TakesOne now c reply (machine_of x) (machine_of y) (left_of (command_deeds (Ok e) reply))
   records now c x y reply e is r was closes closed = by r.told
     where
-      so : Acknowledged x.state x.due e e.change
-      so = is_acknowledged x.state x.due e e.change
+      so : Acknowledged x.state (due_in x) e e.change
+      so = is_acknowledged x.state (due_in x) e e.change
 
       by : (reply ≡ acknowledged e.change) ⊎ ((reply ≡ Refused JournalFull) ⊎ ((reply ≡ Refused Memory) ⊎ (reply ≡ Refused Disk)))
           → TakesOne now c reply (machine_of x) (machine_of y) (left_of (command_deeds (Ok e) reply))
@@ -113,7 +113,7 @@ module _ {D : Type 0} (look : D → View) where
               refl,
               (
                 same_machine (machine_of y) _ (open_still ∙ sym was) (r.leaves.state ∙ ap (after_all x.state) row)
-                    (r.due ∙ ap (λ (a : Reply). due_left x.state e a x.due) told ∙ so.2) r.told_still,
+                    (r.due ∙ ap (λ (a : Reply). due_left x.state e a (due_in x)) told ∙ so.2) r.told_still,
                 same_left _ _ row (ap (pending e) told ∙ so.1),
               ),
             ),
@@ -163,8 +163,8 @@ module _ {D : Type 0} (look : D → View) where
     inl (
       refl,
       (
-        same_machine (machine_of y) _ (is ∙ sym t.was_open) (ap (λ (z : Sight D). z.state) t.records.same)
-            (ap (λ (z : Sight D). z.due) t.records.same) (ap (λ (z : Sight D). z.told) t.records.same),
+        same_machine (machine_of y) _ (is ∙ sym t.was_open) (ap (λ (z : Sight D). z.state) t.records.went.same) t.records.went.due
+            (ap (λ (z : Sight D). z.told) t.records.went.same),
         refl,
       ),
     ),
@@ -180,9 +180,9 @@ module _ {D : Type 0} (look : D → View) where
 
   -- a turn
   module _ (now : ℕ) (x y : Sight D) (entries : List Entry) (events pending : List Event) (state_is : y.state ≡ after_all x.state events)
-      (due_is : y.due ≡ due_after_all x.state x.due events) (was : x.is_open ≡ true) where
+      (due_is : due_in y ≡ due_after_all x.state (due_in x) events) (was : x.is_open ≡ true) where
     abbrev here : Scene
-    here = scene x.state x.due x.place (moment x.state now)
+    here = scene x.state (due_in x) x.place (moment x.state now)
 
     abbrev left : Left
     left = record { events = events; pending = pending }
@@ -203,7 +203,7 @@ module _ {D : Type 0} (look : D → View) where
           p.3,
           (
             same_machine (machine_of y) _ (open_still ∙ sym was) (state_is ∙ ap (after_all x.state) events_are)
-                (due_is ∙ ap (due_after_all x.state x.due) events_are) told_is,
+                (due_is ∙ ap (due_after_all x.state (due_in x)) events_are) told_is,
             same_left left _ events_are none,
           ),
         )
@@ -213,7 +213,7 @@ module _ {D : Type 0} (look : D → View) where
     turn_so turn_end.Closed closes closed does = does
     turn_so turn_end.BookFull closes closed does = (
       same_machine (machine_of y) _ (is_true y.is_open (λ bad. let no : turn_end.BookFull ≡ turn_end.Disk = closes bad in cc) ∙ sym was)
-          (state_is ∙ ap (after_all x.state) does.1) (due_is ∙ ap (due_after_all x.state x.due) does.1) does.3,
+          (state_is ∙ ap (after_all x.state) does.1) (due_is ∙ ap (due_after_all x.state (due_in x)) does.1) does.3,
       same_left left _ does.1 does.2,
     )
     turn_so turn_end.Done closes closed does =
@@ -263,7 +263,7 @@ module _ {D : Type 0} (look : D → View) where
   one_tidy true end x y d is t none was = inr (
     λ disk. false≢true (sym (t.closes.1 disk) ∙ is),
     (
-      same_machine (machine_of y) _ (is ∙ sym was) (ap (λ (z : Sight D). z.state) t.same) (ap (λ (z : Sight D). z.due) t.same)
+      same_machine (machine_of y) _ (is ∙ sym was) (ap (λ (z : Sight D). z.state) t.same) (ap (λ (z : Sight D). due_in z) t.same)
           (ap (λ (z : Sight D). z.told) t.same),
       ap left_of none,
     ),

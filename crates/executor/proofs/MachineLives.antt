@@ -16,7 +16,7 @@ use Rattle.executor.specs.Machine.{Machine, MovesAll, Opening, Runs, Seen, Servi
 use Rattle.executor.specs.Openings.{StartsLike, booted}
 use Rattle.executor.specs.Reports.{dropped, interrupted}
 use Rattle.executor.specs.SeenLives.{seen}
-use Rattle.executor.specs.Sights.{Sight}
+use Rattle.executor.specs.Sights.{Sight, due_in}
 use Rattle.executor.specs.declared.opening.OpenError.{OpenError}
 use Rattle.executor.specs.declared.opening.OpenError.TheVariants as why
 use Rattle.executor.proofs.Journaling.{WhatStands}
@@ -80,7 +80,7 @@ module _ {D : Type 0} (look : D → View) (law : WhatStands) (once : OneFinding)
 
   -- an executor as it was opened
   opened_so : (x : Service D) (s : Serves look x) (t : State) → x.opened.state ≡ booted t x.now
-      → x.opened.due ≡ due_at x.opened.state (moment t x.now)
+      → due_in x.opened ≡ due_at x.opened.state (moment t x.now)
       → machine_of x.opened ≡ opened_on t x.now
   opened_so x s t state due = same_machine (machine_of x.opened) (opened_on t x.now) s.opens.over.is_open state
       (due ∙ ap (λ (u : State). due_at u (moment t x.now)) state) s.opens.over.told
