@@ -124,7 +124,7 @@ monitor_stepped at (step.Recur m) r call h none = find_before (λ x. x.call == c
 monitor_stepped at (step.Cancel interval) r call h none = find_fewer (λ x. x.call == call) (λ x. not (x.interval == interval)) r.recurring h
 monitor_stepped at _ r call h none = h
 
-monitor_before : (at : ℕ) (c : Change) (was : Option Resource) (call : ℕ) → has_monitor (single_changed at c was) call ≡ true
+pub monitor_before : (at : ℕ) (c : Change) (was : Option Resource) (call : ℕ) → has_monitor (single_changed at c was) call ≡ true
     → single_sets at c was call ≡ None
     → has_monitor was call ≡ true
 monitor_before at (change.Register r) was call h none = absurd (cc)
@@ -150,7 +150,7 @@ runs_above : (s : State) (c : Change) (n : ℕ) → IsFresh s c → n ≤ s.next
 runs_above s (change.Step i (step.Begin call run)) n next h = omega arith
 runs_above s _ n next h = omega arith
 
-or_else_alike : (set a b : Option ℕ) → (set ≡ None → a ≡ b) → or_else set a ≡ or_else set b
+pub or_else_alike : (set a b : Option ℕ) → (set ≡ None → a ≡ b) → or_else set a ≡ or_else set b
 or_else_alike None a b h = h refl
 or_else_alike (Some n) a b h = refl
 
@@ -205,7 +205,7 @@ stands_on y s moments id e stands next = by_name e.change refl
     by_name (change.Step i what) is = by_own i (bytes_eq id i) (ap named is) refl
     by_name change.Boot is = absurd (subst (IsFresh s) is next)
 
-single-append : (y : Single) (es fs : List Event) → single_after_all y (es ++ fs) ≡ single_after_all (single_after_all y es) fs
+pub single-append : (y : Single) (es fs : List Event) → single_after_all y (es ++ fs) ≡ single_after_all (single_after_all y es) fs
 single-append y [] fs = refl
 single-append y (e ∷ es) fs = single-append (single_after y e) es fs
 

@@ -1,5 +1,5 @@
 -- What is asked of a list of events, computed of lists that break it.
-use Rattle.std.proofs.Common.{◌≡◌, ℕ, Bool, true, false, List, [], ◌∷◌, filter, length, inl, inr, refl, arith}
+use Rattle.std.proofs.Common.{◌≡◌, ℕ, true, false, List, [], ◌∷◌, filter, length, inl, inr, refl, arith}
 use Rattle.std.specs.Prelude.{codes}
 use Rattle.ocf_types.specs.Kinds.{Event}
 use Rattle.ocf_types.specs.State.{empty}
@@ -7,7 +7,7 @@ use Rattle.ocf_types.specs.declared.action.Task.TheVariants as task
 use Rattle.ocf_types.specs.declared.outcome.RunEnd.TheVariants.{Done}
 use Rattle.ocf_types.specs.declared.event.Change.TheVariants as change
 use Rattle.ocf_types.specs.declared.event.Step.TheVariants as step
-use Rattle.executor.specs.Histories.{BeginInOrder, EndsBetween, Follow, RunsAscend, has_end, interruptions, is_of}
+use Rattle.executor.specs.Histories.{BeginInOrder, EndsBetween, RunsAscend, interruptions, is_of}
 
 abbrev r1 : List ℕ
 r1 = codes "r1"

@@ -1,7 +1,7 @@
 -- What events that apply do to one resource.
-use Rattle.std.proofs.Common.{◌≡◌, ◌≢◌, ◌⊎◌, inl, inr, ℕ, ◌+◌, ◌≤◌, ◌<◌, ◌==◌, Bool, true, false, cond, not, List, [], ◌∷◌, ◌++◌, map, filter}
-use Rattle.std.proofs.Common.{Option, Some, None, option_map, flat_map, refl, sym, ap, subst, ◌∙◌, arith, add-zero}
-use Rattle.std.specs.Prelude.{⊤, IsSomeAnd}
+use Rattle.std.proofs.Common.{◌≡◌, ◌≢◌, ℕ, ◌+◌, ◌≤◌, ◌<◌, Bool, true, false, cond, not, List, [], ◌∷◌, ◌++◌, map}
+use Rattle.std.proofs.Common.{Option, Some, None, option_map, refl, sym, ap, subst, ◌∙◌, arith}
+use Rattle.std.specs.Prelude.{IsSomeAnd}
 use Rattle.std.specs.List.{AllByRecursion}
 use Rattle.std.specs.Map.{lookup}
 use Rattle.std.specs.Str.{bytes_eq}
@@ -11,9 +11,9 @@ use Rattle.ocf_types.specs.Applies.{ChangeApplies, StepApplies}
 use Rattle.ocf_types.specs.Kinds.{Change, Event, Registration, Step}
 use Rattle.ocf_types.specs.LawfulState.{IsAscending}
 use Rattle.ocf_types.specs.Laws.{each_weaken}
-use Rattle.ocf_types.specs.RegistryLaws.{found, other_stays, same_id}
+use Rattle.ocf_types.specs.RegistryLaws.{found, other_stays}
 use Rattle.ocf_types.specs.Resource.{Resource, booted, is_busy}
-use Rattle.ocf_types.specs.State.{Registry, State, after, at_id, changed, on_history, registered, resource_at, runs_drawn, stepped}
+use Rattle.ocf_types.specs.State.{State, after, at_id, changed, on_history, registered, resource_at, runs_drawn, stepped}
 use Rattle.ocf_types.specs.declared.event.Change.TheVariants as change
 use Rattle.ocf_types.specs.declared.event.Step.TheVariants as step
 use Rattle.executor.specs.Histories.{Follow, RunsAscend, run_of, runs_begun}

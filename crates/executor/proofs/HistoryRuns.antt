@@ -1,31 +1,22 @@
 -- What runs in a resource, as events that apply change it: ends between begins, and what boots tell.
-use Rattle.std.proofs.Common.{◌≡◌, ◌≢◌, ℕ, ◌+◌, ◌≤◌, ◌<◌, ◌==◌, ◌&&◌, ◌||◌, nat_lt, length, Bool, true, false, cond, not, is_some, List, [], ◌∷◌, ◌++◌, map, filter}
-use Rattle.std.proofs.Common.{Option, Some, None, option_map, option_and_then, option_to_list, flat_map, refl, sym, ap, ap₂, subst, ◌∙◌, arith, le_trans}
-use Rattle.std.specs.Prelude.{⊤, IsSome, IsSomeAnd}
-use Rattle.std.specs.List.{AllByRecursion, IsDistinct, list_any}
-use Rattle.std.specs.Map.{keys_of, lookup}
+use Rattle.std.proofs.Common.{◌≡◌, ℕ, ◌==◌, ◌&&◌, ◌||◌, nat_lt, length, Bool, true, false, cond, List, [], ◌∷◌, ◌++◌}
+use Rattle.std.proofs.Common.{Option, Some, None, option_map, option_and_then, refl, sym, ap, subst, ◌∙◌}
+use Rattle.std.specs.Prelude.{IsSome, IsSomeAnd}
+use Rattle.std.specs.Map.{lookup}
 use Rattle.std.specs.Str.{bytes_eq}
-use Rattle.std.proofs.lemmas.Bool.{false≢true, ne_eqb, both_ways}
-use Rattle.std.proofs.lemmas.Cmp.{nat_list_eq_equiv}
-use Rattle.std.proofs.lemmas.List.{append-nil, map-append}
-use Rattle.std.proofs.lemmas.List.Elements.{filter-append}
-use Rattle.std.proofs.lemmas.Map.Keys.{IsDistinct-head, IsDistinct-tail, IsDistinct-push}
-use Rattle.std.proofs.lemmas.Slice.Eq.{bytes_eq-Decides}
+use Rattle.std.proofs.lemmas.Bool.{false≢true, both_ways}
 use Rattle.ocf_types.specs.Applies.{ChangeApplies, IsReady, StepApplies}
 use Rattle.ocf_types.specs.Kinds.{Change, Event, Step}
-use Rattle.ocf_types.specs.LawfulState.{IsLawfulState, IsLawfulResource}
-use Rattle.ocf_types.specs.Laws.{after_all-append, same_number, some_is}
-use Rattle.ocf_types.specs.RegistryLaws.{absent_any, call_of, distinct_filter, found, keys-at_id, same_id}
+use Rattle.ocf_types.specs.Laws.{same_number, some_is}
+use Rattle.ocf_types.specs.RegistryLaws.{call_of, found, same_id}
 use Rattle.ocf_types.specs.Resource.{History, Resource, begun_from, booted, is_busy, of_call}
-use Rattle.ocf_types.specs.State.{Registry, State, after, after_all, changed, on_history, registered, resource_at, runs_drawn, stepped}
+use Rattle.ocf_types.specs.State.{State, after, after_all, changed, on_history, registered, resource_at, stepped}
 use Rattle.ocf_types.specs.declared.event.Change.TheVariants as change
 use Rattle.ocf_types.specs.declared.event.Step.TheVariants as step
 use Rattle.ocf_types.specs.declared.operation.Op.{Op}
 use Rattle.ocf_types.specs.declared.operation.Recur.{Recur}
 use Rattle.ocf_types.specs.declared.operation.Running.{Running}
-use Rattle.ocf_types.specs.declared.reply.Notice.{Notice}
-use Rattle.executor.specs.Histories.{EndsBetween, Follow, InterruptedOnce, ends_run, has_end, interruptions, is_of, told_by}
-use Rattle.executor.specs.Reports.{interrupted, interrupted_in, interruption}
+use Rattle.executor.specs.Histories.{EndsBetween, Follow, ends_run, has_end}
 use Rattle.executor.proofs.HistoryLemmas.{Turned, turned}
 
 -- what runs in a resource, if it is there

@@ -1,7 +1,7 @@
 -- What boots tell of a run: once, where it has no end before.
-use Rattle.std.proofs.Common.{◌≡◌, ◌≢◌, ℕ, ◌+◌, ◌≤◌, ◌<◌, ◌==◌, ◌&&◌, ◌||◌, Bool, true, false, cond, not, List, [], ◌∷◌, ◌++◌, map, filter}
-use Rattle.std.proofs.Common.{Option, Some, None, option_map, option_and_then, option_to_list, flat_map, refl, sym, ap, ap₂, subst, ◌∙◌, arith, append_assoc}
-use Rattle.std.specs.List.{AllByRecursion, IsDistinct, list_any}
+use Rattle.std.proofs.Common.{◌≡◌, ◌≢◌, ℕ, ◌+◌, ◌≤◌, ◌<◌, Bool, true, false, cond, not, List, [], ◌∷◌, ◌++◌, map, filter}
+use Rattle.std.proofs.Common.{Option, Some, None, option_to_list, flat_map, refl, sym, ap, ap₂, subst, ◌∙◌, arith, append_assoc}
+use Rattle.std.specs.List.{AllByRecursion, IsDistinct}
 use Rattle.std.specs.Map.{keys_of, lookup}
 use Rattle.std.specs.Str.{bytes_eq}
 use Rattle.std.proofs.lemmas.Bool.{false≢true, ne_eqb}
@@ -11,12 +11,12 @@ use Rattle.std.proofs.lemmas.List.Elements.{filter-append}
 use Rattle.std.proofs.lemmas.Map.Keys.{IsDistinct-head, IsDistinct-tail, IsDistinct-push}
 use Rattle.std.proofs.lemmas.Slice.Eq.{bytes_eq-Decides}
 use Rattle.ocf_types.specs.Applies.{ChangeApplies}
-use Rattle.ocf_types.specs.Kinds.{Change, Event, Step}
+use Rattle.ocf_types.specs.Kinds.{Change, Event}
 use Rattle.ocf_types.specs.LawfulState.{IsLawfulState, IsLawfulResource, IsLawfulRunning}
-use Rattle.ocf_types.specs.Laws.{after_all-append, same_number, some_is}
+use Rattle.ocf_types.specs.Laws.{same_number, some_is}
 use Rattle.ocf_types.specs.RegistryLaws.{absent_any, distinct_filter, keys-at_id, same_id}
 use Rattle.ocf_types.specs.Resource.{Resource, booted}
-use Rattle.ocf_types.specs.State.{Registry, State, after, after_all, changed, on_history, registered, resource_at, runs_drawn, stepped}
+use Rattle.ocf_types.specs.State.{Registry, State, after, after_all, changed, on_history, registered, runs_drawn, stepped}
 use Rattle.ocf_types.specs.declared.event.Change.TheVariants as change
 use Rattle.ocf_types.specs.declared.event.Step.TheVariants as step
 use Rattle.ocf_types.specs.declared.operation.Running.{Running}

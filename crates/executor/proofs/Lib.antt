@@ -34,3 +34,5 @@ pub mod MachineCalls
 pub mod MachineLives
 pub mod MachineFollows
 pub mod MachineRuns
+pub mod AloneJoins
+pub mod FoundLawful

@@ -1,5 +1,5 @@
 -- Each call of an executor is a step of the machine.
-use Rattle.std.proofs.Common.{◌≡◌, ◌≢◌, ◌⊎◌, inl, inr, ◌+◌, ◌≤◌, ℕ, Bool, true, false, List, [], ◌∷◌, ◌++◌, length, map, Result, Ok, Err, refl, sym, ap, subst, ◌∙◌}
+use Rattle.std.proofs.Common.{◌≡◌, ◌⊎◌, inl, inr, ◌+◌, ◌≤◌, ℕ, Bool, true, false, List, [], ◌∷◌, ◌++◌, length, Result, Ok, Err, refl, sym, ap, subst, ◌∙◌}
 use Rattle.std.proofs.lemmas.Bool.{false≢true}
 use Rattle.std.proofs.lemmas.List.{append-nil}
 use Rattle.ocf_types.specs.Answer.{event_of, moment}
@@ -7,31 +7,27 @@ use Rattle.ocf_types.specs.Due.{Due, due_after}
 use Rattle.ocf_types.specs.Kinds.{Change, Command, Event, Reply}
 use Rattle.ocf_types.specs.Limits.{num_max}
 use Rattle.ocf_types.specs.State.{State, after_all}
-use Rattle.ocf_types.specs.declared.command.Question.{Question}
 use Rattle.ocf_types.specs.declared.command.RequestOf.TheVariants as asked
 use Rattle.ocf_types.specs.declared.event.Change.TheVariants as change
 use Rattle.ocf_types.specs.declared.event.Step.TheVariants as step
 use Rattle.ocf_types.specs.declared.refusal.Refusal.{Refusal}
 use Rattle.ocf_types.specs.declared.refusal.Refusal.TheVariants.{Disk, JournalFull, Memory}
-use Rattle.ocf_types.specs.declared.reply.Notice.{Notice}
-use Rattle.ocf_types.specs.declared.reply.ReplyOf.TheVariants.{Refused, Done, Accepted}
+use Rattle.ocf_types.specs.declared.reply.ReplyOf.TheVariants.{Refused}
 use Rattle.ocf_types.specs.declared.reply.TidyEnd.{TidyEnd}
-use Rattle.ocf_types.specs.declared.reply.TidyEnd.TheVariants as tidy
 use Rattle.ocf_types.specs.declared.reply.TurnEnd.{TurnEnd}
 use Rattle.ocf_types.specs.declared.reply.TurnEnd.TheVariants as turn_end
 use Rattle.disk_model.specs.View.{View}
 use Rattle.child_keeper.specs.declared.answer.Entry.{Entry}
 use Rattle.exec_turn.specs.Actives.{Active}
-use Rattle.exec_turn.specs.Picks.{ArePicks, begins}
+use Rattle.exec_turn.specs.Picks.{ArePicks}
 use Rattle.exec_turn.specs.Polls.{results}
-use Rattle.exec_turn.specs.Starts.{refusals}
 use Rattle.exec_turn.specs.Turn.{IsTurn, PickedAt, behind, Scene, Whole, due_after_all, scene}
 use Rattle.executor.specs.Commands.{Obeys, Records}
 use Rattle.executor.specs.Lives.{Abandoned, Calls, Cleared, Does, Exchange, Row, Tidied, Took}
-use Rattle.executor.specs.Machine.{AnswersClosed, Fails, GoesOn, Left, Machine, MovesAll, MovesOpen, MovesWhile, TakesAll, TakesOne, TurnAt, TurnEnds, TurnsAll, and_then}
+use Rattle.executor.specs.Machine.{AnswersClosed, Fails, GoesOn, Left, Machine, MovesAll, MovesOpen, MovesWhile, TakesAll, TakesOne, TurnEnds, TurnsWhole}
 use Rattle.executor.specs.Replies.{acknowledged, due_left, pending, recorded}
 use Rattle.executor.specs.RowCalls.{Adds, Answered, TakesRow, failed, row_deeds, row_replies}
-use Rattle.executor.specs.Sessions.{Deeds, Input, TakesATurn, TakesRequest, TakesWhile, both, command_deeds, no_deeds}
+use Rattle.executor.specs.Sessions.{Deeds, TakesATurn, TakesRequest, TakesWhile, command_deeds, no_deeds}
 use Rattle.executor.specs.Sights.{Sight, due_in}
 use Rattle.executor.specs.TidyCalls.{Tidies, TidiesWhile}
 use Rattle.executor.specs.declared.session.InputOf.TheVariants as input
@@ -188,18 +184,16 @@ module _ {D : Type 0} (look : D → View) where
     left = record { events = events; pending = pending }
 
     whole_turn : (end : TurnEnd) → y.is_open ≡ true → Whole end here entries events pending y.told
-        → TurnsAll end (moment x.state now) (machine_of x) (machine_of y) left
+        → TurnsWhole end (moment x.state now) (machine_of x) (machine_of y) left
     whole_turn end open_still (t, entries_are, events_are, none, told_is) =
         let p = picks_so end (behind here (results here.at t.polled)) t.begun t.picked in (
-          record {
-            polled = t.polled;
-            begun = t.begun;
-            left_out = p.0;
-            started = t.started;
-            polls = t.each_polled.each;
-            begins_next = (p.1, p.2);
-            starts = t.each_started;
-          },
+          t.polled,
+          t.begun,
+          p.0,
+          t.started,
+          t.each_polled.each,
+          (p.1, p.2),
+          t.each_started,
           p.3,
           (
             same_machine (machine_of y) _ (open_still ∙ sym was) (state_is ∙ ap (after_all x.state) events_are)
@@ -225,25 +219,18 @@ module _ {D : Type 0} (look : D → View) where
     turn_so turn_end.Memory closes closed does =
         whole_turn turn_end.Memory (is_true y.is_open (λ bad. let no : turn_end.Memory ≡ turn_end.Disk = closes bad in cc)) does
     turn_so turn_end.Disk closes closed (inl (ps, each, entries_are, events_are, pending_is, told_is)) =
-        (closed refl, inl (ps, each.each, same_left left _ events_are pending_is))
+        (closed refl, (ps, each.each, inl (same_left left _ events_are pending_is)))
     turn_so turn_end.Disk closes closed (inr (inl (ps, end, bs, each, picked, entries_are, events_are, pending_is, told_is))) =
         let p = picks_so end (behind here (results here.at ps)) bs picked in
-        (closed refl, inr (inl (ps, bs, p.0, each.each, (p.1, p.2), same_left left _ events_are pending_is)))
+        (closed refl, (ps, each.each, inr (bs, p.0, (p.1, p.2), inl (same_left left _ events_are pending_is))))
     turn_so turn_end.Disk closes closed (inr (inr (end, t, entries_are, events_are, pending_is, told_is))) =
         let p = picks_so end (behind here (results here.at t.polled)) t.begun t.picked in (
           closed refl,
-          inr (inr (
-            record {
-              polled = t.polled;
-              begun = t.begun;
-              left_out = p.0;
-              started = t.started;
-              polls = t.each_polled.each;
-              begins_next = (p.1, p.2);
-              starts = t.each_started;
-            },
-            same_left left _ events_are pending_is,
-          )),
+          (
+            t.polled,
+            t.each_polled.each,
+            inr (t.begun, p.0, (p.1, p.2), inr (t.started, t.each_started, same_left left _ events_are pending_is)),
+          ),
         )
 
   one_turn : (now : ℕ) (x y : Sight D) (reply : Reply) (d : Deeds) → TakesATurn look now x y reply d → x.is_open ≡ true

@@ -1,30 +1,28 @@
 -- What the machine's calls leave applies, each change behind those before it.
-use Rattle.std.proofs.Common.{◌≡◌, ◌≢◌, ◌⊎◌, inl, inr, ℕ, ◌+◌, ◌≤◌, ◌<◌, ◌==◌, Bool, true, false, List, [], ◌∷◌, ◌++◌, length, map, flat_map}
-use Rattle.std.proofs.Common.{Option, Some, None, Ok, option_map, option_and_then, option_to_list, is_none, is_some, leb, IsSome, IsSomeAnd, IsTrue}
-use Rattle.std.proofs.Common.{refl, sym, ap, subst, ◌∙◌, arith, append_assoc}
-use Rattle.std.specs.Prelude.{⊤}
+use Rattle.std.proofs.Common.{◌≡◌, ◌⊎◌, inl, inr, ℕ, ◌+◌, ◌≤◌, ◌<◌, Bool, true, false, List, [], ◌∷◌, ◌++◌, length, map, flat_map}
+use Rattle.std.proofs.Common.{Option, Some, None, Ok, option_map, is_none, is_some, leb, IsSome, IsSomeAnd}
+use Rattle.std.proofs.Common.{refl, sym, ap, subst, ◌∙◌, arith}
 use Rattle.std.specs.List.{AllByRecursion, IsDistinct}
 use Rattle.std.specs.Map.{keys_of, lookup}
 use Rattle.std.specs.Option.{option_map_or}
 use Rattle.std.specs.Str.{bytes_eq}
-use Rattle.std.proofs.lemmas.Bool.{eqb-false, leb-false, false≢true}
+use Rattle.std.proofs.lemmas.Bool.{eqb-false, leb-false}
 use Rattle.std.proofs.lemmas.Map.Keys.{IsDistinct-cons, IsDistinct-head, IsDistinct-tail}
 use Rattle.std.proofs.lemmas.Slice.Eq.{bytes_eq-Decides}
 use Rattle.ocf_types.specs.Answer.{asked_event, event_of, tests}
-use Rattle.ocf_types.specs.Applies.{ChangeApplies, IsNext, IsReady, StepApplies}
+use Rattle.ocf_types.specs.Applies.{ChangeApplies, IsReady, StepApplies}
 use Rattle.ocf_types.specs.Due.{Due, IsPick, IsPickOf, due_pairs}
-use Rattle.ocf_types.specs.Kinds.{Change, Command, Event, Reply}
+use Rattle.ocf_types.specs.Kinds.{Change, Command, Event}
 use Rattle.ocf_types.specs.Laws.{distinct_none, each_append, each_weaken}
 use Rattle.ocf_types.specs.Limits.{num_max}
 use Rattle.ocf_types.specs.RegistryLaws.{found, none_is, other_stays, other_way, passed, same_id}
-use Rattle.ocf_types.specs.Resource.{Resource, is_busy, of_call, of_interval, queued_of}
+use Rattle.ocf_types.specs.Resource.{Resource, is_busy, of_interval, queued_of}
 use Rattle.ocf_types.specs.Spelling.{spelled_event}
 use Rattle.ocf_types.specs.State.{Registry, State, after, after_all, calls_drawn, named, resource_at, stepped}
 use Rattle.ocf_types.specs.declared.command.CommandOf.TheVariants as command
 use Rattle.ocf_types.specs.declared.event.Change.TheVariants as change
 use Rattle.ocf_types.specs.declared.event.Step.TheVariants as step
 use Rattle.ocf_types.specs.declared.operation.Op.{Op}
-use Rattle.ocf_types.specs.declared.operation.Recur.{Recur}
 use Rattle.ocf_types.specs.declared.operation.Running.{Running}
 use Rattle.ocf_types.specs.declared.outcome.RunEnd.{RunEnd}
 use Rattle.exec_turn.specs.Actives.{Active, active, active_in, active_of, all_in, result_of}

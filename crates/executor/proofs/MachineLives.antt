@@ -1,22 +1,22 @@
 -- Whole lives are runs of the machine.
-use Rattle.std.proofs.Common.{◌≡◌, inl, inr, ℕ, true, List, [], ◌∷◌, ◌++◌, Option, Some, None, refl, sym, ap, subst, ◌∙◌, append_assoc}
+use Rattle.std.proofs.Common.{◌≡◌, inl, inr, ℕ, List, [], ◌∷◌, ◌++◌, Option, Some, None, refl, sym, ap, subst, ◌∙◌, append_assoc}
 use Rattle.std.proofs.lemmas.List.{append-nil}
 use Rattle.ocf_types.specs.Answer.{moment}
-use Rattle.ocf_types.specs.Due.{Due, due_at}
+use Rattle.ocf_types.specs.Due.{due_at}
 use Rattle.ocf_types.specs.Kinds.{Event}
 use Rattle.ocf_types.specs.Laws.{after_all-append}
 use Rattle.ocf_types.specs.State.{State, after_all}
-use Rattle.ocf_types.specs.declared.reply.Notice.{Notice}
 use Rattle.disk_model.specs.Image.{Image}
 use Rattle.disk_model.specs.View.{Lawful, View}
 use Rattle.exec_journal.specs.Found.{FoundAs}
 use Rattle.exec_journal.specs.Opening.{OpensLike}
 use Rattle.executor.specs.Lives.{EndsOpening, InOpening, InService, IsLife, LifeLeaves, Lived, MayBoot, Serves, Service, Sitting, Stands, boots}
-use Rattle.executor.specs.Machine.{Machine, MovesAll, Opening, Runs, Seen, Serving, Sits, StandsOf, opened_on}
+use Rattle.executor.specs.Machine.{Machine, MovesAll}
+use Rattle.executor.specs.Runs.{Opening, Runs, Seen, StandsOf, opened_on}
 use Rattle.executor.specs.Openings.{StartsLike, booted}
 use Rattle.executor.specs.Reports.{dropped, interrupted}
 use Rattle.executor.specs.SeenLives.{seen}
-use Rattle.executor.specs.Sights.{Sight, due_in}
+use Rattle.executor.specs.Sights.{due_in}
 use Rattle.executor.specs.declared.opening.OpenError.{OpenError}
 use Rattle.executor.specs.declared.opening.OpenError.TheVariants as why
 use Rattle.executor.proofs.Journaling.{WhatStands}

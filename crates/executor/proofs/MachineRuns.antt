@@ -1,5 +1,5 @@
 -- What stands of a run of the machine applies.
-use Rattle.std.proofs.Common.{◌≡◌, ◌⊎◌, inl, inr, ℕ, ◌+◌, ◌≤◌, Bool, true, false, List, [], ◌∷◌, ◌++◌, map, flat_map, length, Option, Some, None}
+use Rattle.std.proofs.Common.{◌≡◌, inl, inr, ℕ, ◌≤◌, Bool, true, false, List, [], ◌∷◌, ◌++◌, map, Option, Some, None}
 use Rattle.std.proofs.Common.{Result, Ok, Err, option_to_list, refl, sym, ap, subst, ◌∙◌, append_assoc}
 use Rattle.std.specs.Prelude.{if◌then◌else◌}
 use Rattle.std.specs.List.{AllByRecursion, IsDistinct}
@@ -15,21 +15,22 @@ use Rattle.ocf_types.specs.Laws.{after_all-append}
 use Rattle.ocf_types.specs.LawfulState.{IsLawfulState}
 use Rattle.ocf_types.specs.Limits.{num_max}
 use Rattle.ocf_types.specs.State.{State, after_all}
-use Rattle.ocf_types.specs.declared.command.Question.{Question}
 use Rattle.ocf_types.specs.declared.command.RequestOf.TheVariants as asked
 use Rattle.ocf_types.specs.declared.outcome.RunEnd.{RunEnd}
 use Rattle.ocf_types.specs.declared.outcome.StartFault.{StartFault}
 use Rattle.ocf_types.specs.declared.refusal.Refusal.{Refusal}
 use Rattle.ocf_types.specs.declared.reply.TurnEnd.{TurnEnd}
 use Rattle.ocf_types.specs.declared.reply.TurnEnd.TheVariants as turn_end
-use Rattle.exec_turn.specs.Actives.{Active, active}
+use Rattle.exec_turn.specs.Actives.{Active}
 use Rattle.exec_turn.specs.Picks.{begins}
 use Rattle.exec_turn.specs.Polls.{Polled, ending, ends_of, results}
 use Rattle.exec_turn.specs.Starts.{Started, refusals, refused_end}
 use Rattle.executor.specs.Histories.{Follow, IsInOrder}
 use Rattle.executor.specs.Lives.{Abandoned, Cleared, Exchange, Row, Tidied, Took, boots}
-use Rattle.executor.specs.Machine.{AnswersClosed, BeginsNext, Fails, GoesOn, Left, Machine, MovesAll, MovesOpen, MovesWhile, Opening, PollsAll, Runs, Seen, Serving, Sits}
-use Rattle.executor.specs.Machine.{StandsOf, TakesAll, TurnAt, TurnEnds, TurnFails, TurnsAll, and_then, behind, opened_on}
+use Rattle.executor.specs.Machine.{BeginsNext, GoesOn, Left, Machine, MovesAll, MovesOpen, MovesWhile, PollsAll}
+use Rattle.executor.specs.Runs.{Opening, Runs, Seen, Serving, Sits}
+use Rattle.executor.specs.Machine.{TakesAll, TurnEnds, TurnFails, TurnsWhole, and_then, behind}
+use Rattle.executor.specs.Runs.{opened_on}
 use Rattle.executor.specs.Openings.{booted}
 use Rattle.executor.specs.RowCalls.{Adds, Answered}
 use Rattle.executor.specs.declared.session.InputOf.TheVariants as input
@@ -109,15 +110,16 @@ two_follow at m ps bs out each next fine =
     follow_both m.state (results at ps) (begins at bs) one
     (begun_so at (behind m (results at ps)) bs out next (fine_on m.state (results at ps) one fine)).follow
 
-three_follow : (at : ℕ) (m : Machine) (t : TurnAt at m) → Fine m.state
-    → Follow m.state (results at t.polled ++ begins at t.begun ++ refusals at t.started)
-three_follow at m t fine =
-    let one = results_follow at m t.polled t.polls fine in
-    let two = begun_so at (behind m (results at t.polled)) t.begun t.left_out t.begins_next (fine_on m.state (results at t.polled) one fine) in
-    subst (Follow m.state) (sym (append_assoc (results at t.polled) (begins at t.begun) (refusals at t.started)))
-    (follow_both m.state (results at t.polled) (begins at t.begun ++ refusals at t.started) one
-    (follow_both (after_all m.state (results at t.polled)) (begins at t.begun) (refusals at t.started) two.follow
-    (refusals_follow at (after_all (after_all m.state (results at t.polled)) (begins at t.begun)) t.begun t.started t.starts two.run two.apart)))
+three_follow : (at : ℕ) (m : Machine) (ps : List Polled) (bs out : List Active) (xs : List Started) → PollsAll m ps
+    → BeginsNext at (behind m (results at ps)) bs out → map (λ x. x.what) xs ≡ bs → Fine m.state
+    → Follow m.state (results at ps ++ begins at bs ++ refusals at xs)
+three_follow at m ps bs out xs each next starts fine =
+    let one = results_follow at m ps each fine in
+    let two = begun_so at (behind m (results at ps)) bs out next (fine_on m.state (results at ps) one fine) in
+    subst (Follow m.state) (sym (append_assoc (results at ps) (begins at bs) (refusals at xs)))
+    (follow_both m.state (results at ps) (begins at bs ++ refusals at xs) one
+    (follow_both (after_all m.state (results at ps)) (begins at bs) (refusals at xs) two.follow
+    (refusals_follow at (after_all (after_all m.state (results at ps)) (begins at bs)) bs xs starts two.run two.apart)))
 
 abbrev nothing : Left
 nothing = record { events = []; pending = [] }
@@ -154,28 +156,28 @@ takes_all m n now cs rs left opened (meant, es, answered, inl (told, goes)) =
 takes_all m n now cs rs left opened (meant, es, answered, inr (told, fails)) =
     went_wrong m n [] es left opened fails.0 fails.1 (λ fine. answered_follow m.state now cs meant es fine.low answered)
 
-turns_all : (end : TurnEnd) (at : ℕ) (m n : Machine) (left : Left) → m.is_open ≡ true → TurnsAll end at m n left → Went m n left
-turns_all end at m n left opened (t, whole, goes) =
-    went_on m n (results at t.polled ++ begins at t.begun ++ refusals at t.started) left opened (ap (λ (k : Machine). k.state) goes.0) goes.1
-    (λ fine. three_follow at m t fine)
+turns_whole : (end : TurnEnd) (at : ℕ) (m n : Machine) (left : Left) → m.is_open ≡ true → TurnsWhole end at m n left → Went m n left
+turns_whole end at m n left opened (ps, bs, out, xs, each, next, starts, whole, goes) =
+    went_on m n (results at ps ++ begins at bs ++ refusals at xs) left opened (ap (λ (k : Machine). k.state) goes.0) goes.1
+    (λ fine. three_follow at m ps bs out xs each next starts fine)
 
 turn_fails : (at : ℕ) (m n : Machine) (left : Left) → m.is_open ≡ true → n.is_open ≡ false → TurnFails at m left → Went m n left
-turn_fails at m n left opened shut (inl (ps, each, is)) =
+turn_fails at m n left opened shut (ps, each, inl is) =
     went_wrong m n [] (results at ps) left opened shut is (λ fine. results_follow at m ps each fine)
-turn_fails at m n left opened shut (inr (inl (ps, bs, out, each, next, is))) =
+turn_fails at m n left opened shut (ps, each, inr (bs, out, next, inl is)) =
     went_wrong m n (results at ps) (begins at bs) left opened shut is (λ fine. two_follow at m ps bs out each next fine)
-turn_fails at m n left opened shut (inr (inr (t, is))) =
-    went_wrong m n (results at t.polled ++ begins at t.begun) (refusals at t.started) left opened shut is
-    (λ fine. three_follow at m t fine)
+turn_fails at m n left opened shut (ps, each, inr (bs, out, next, inr (xs, starts, is))) =
+    went_wrong m n (results at ps ++ begins at bs) (refusals at xs) left opened shut is
+    (λ fine. three_follow at m ps bs out xs each next starts fine)
 
 turn_ends : (end : TurnEnd) (at : ℕ) (m n : Machine) (left : Left) → m.is_open ≡ true → TurnEnds end at m n left → Went m n left
 turn_ends turn_end.Closed at m n left opened bad = absurd bad
 turn_ends turn_end.BookFull at m n left opened goes = went_on m n [] left opened (ap (λ (k : Machine). k.state) goes.0) goes.1 (λ fine. tt)
 turn_ends turn_end.Disk at m n left opened (shut, fails) = turn_fails at m n left opened shut fails
-turn_ends turn_end.Done at m n left opened turns = turns_all turn_end.Done at m n left opened turns
-turn_ends turn_end.RunsSpent at m n left opened turns = turns_all turn_end.RunsSpent at m n left opened turns
-turn_ends turn_end.Full at m n left opened turns = turns_all turn_end.Full at m n left opened turns
-turn_ends turn_end.Memory at m n left opened turns = turns_all turn_end.Memory at m n left opened turns
+turn_ends turn_end.Done at m n left opened turns = turns_whole turn_end.Done at m n left opened turns
+turn_ends turn_end.RunsSpent at m n left opened turns = turns_whole turn_end.RunsSpent at m n left opened turns
+turn_ends turn_end.Full at m n left opened turns = turns_whole turn_end.Full at m n left opened turns
+turn_ends turn_end.Memory at m n left opened turns = turns_whole turn_end.Memory at m n left opened turns
 
 moves_open : (e : Exchange) (m n : Machine) (left : Left) → m.is_open ≡ true → MovesOpen e m n left → Went m n left
 moves_open (Took (input.Request now (asked.Question q)) reply) m n left opened h = goes_on m n [] left opened h.1 (λ fine. tt)

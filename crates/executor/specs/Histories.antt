@@ -6,7 +6,6 @@ use Rattle.std.specs.Str.{bytes_eq}
 use Rattle.ocf_types.specs.Applies.{ChangeApplies}
 use Rattle.ocf_types.specs.Kinds.{Change, Event}
 use Rattle.ocf_types.specs.LawfulState.{IsAscending}
-use Rattle.ocf_types.specs.Resource.{Resource}
 use Rattle.ocf_types.specs.State.{State, after, resource_at}
 use Rattle.ocf_types.specs.declared.event.Change.TheVariants as change
 use Rattle.ocf_types.specs.declared.event.Step.TheVariants as step

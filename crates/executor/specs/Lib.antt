@@ -16,4 +16,5 @@ pub mod CallLaws
 pub mod Histories
 pub mod Joins
 pub mod Machine
+pub mod Runs
 pub mod SeenLives

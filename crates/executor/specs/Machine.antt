@@ -1,7 +1,8 @@
--- The machine of an executor: what each call, stop and opening does to a state. It knows no disk, journal, book or place.
-use Rattle.std.specs.Prelude.{◌≡◌, ◌≢◌, ◌⊎◌, ◌+◌, ◌≤◌, ℕ, Bool, true, false, List, [], ◌∷◌, ◌++◌, length, map, Option, Ok, ⊤}
+-- The machine of an executor: what each call does to it. It knows no disk, journal, book or place. `Runs` says what stops and
+-- openings do.
+use Rattle.std.specs.Prelude.{◌≡◌, ◌≢◌, ◌⊎◌, ◌+◌, ◌≤◌, ℕ, Bool, true, false, List, [], ◌∷◌, ◌++◌, length, map, Ok, ⊤}
 use Rattle.ocf_types.specs.Answer.{event_of, moment, reply_to}
-use Rattle.ocf_types.specs.Due.{Due, due_at}
+use Rattle.ocf_types.specs.Due.{Due}
 use Rattle.ocf_types.specs.Kinds.{Command, Event, Reply}
 use Rattle.ocf_types.specs.Limits.{num_max}
 use Rattle.ocf_types.specs.State.{State, after_all}
@@ -18,12 +19,9 @@ use Rattle.exec_turn.specs.Picks.{ArePicks, begins}
 use Rattle.exec_turn.specs.Polls.{Polled, result_notices, results}
 use Rattle.exec_turn.specs.Starts.{Started, refusal_notices, refusals}
 use Rattle.exec_turn.specs.Turn.{due_after_all}
-use Rattle.executor.specs.Lives.{Abandoned, Cleared, Exchange, MayBoot, Row, Tidied, Took, boots}
-use Rattle.executor.specs.Openings.{booted}
-use Rattle.executor.specs.Reports.{dropped, interrupted}
+use Rattle.executor.specs.Lives.{Abandoned, Cleared, Exchange, Row, Tidied, Took}
 use Rattle.executor.specs.RowCalls.{Answered, failed}
 use Rattle.executor.specs.Sessions.{closed_reply}
-use Rattle.executor.specs.declared.opening.OpenError.{OpenError}
 use Rattle.executor.specs.declared.session.InputOf.TheVariants as input
 
 -- whether it takes requests, its state, when each recurring monitor is due, and what the last turn told
@@ -66,35 +64,26 @@ abbrev pub BeginsNext : ℕ → Machine → List Active → List Active → Type
 BeginsNext at m begun left_out = ArePicks m.due at m.state.next_run m.state.resources (begun ++ left_out)
     × (m.state.next_run + length begun ≤ num_max)
 
--- A turn at a moment: polls, begins behind their results, and a start of each that was begun.
-pub record TurnAt (at : ℕ) (m : Machine) : Type 0 where
-  pub polled : List Polled
-  pub begun : List Active
-  pub left_out : List Active
-  pub started : List Started
-  pub polls : PollsAll m polled
-  pub begins_next : BeginsNext at (behind m (results at polled)) begun left_out
-  pub starts : map (λ x. x.what) started ≡ begun
+-- a whole turn: polls, begins behind their results, and a start of each; it is done where nothing is left out
+abbrev pub TurnsWhole : TurnEnd → ℕ → Machine → Machine → Left → Type 0
+TurnsWhole end at m n left = (ps : List Polled) × (bs : List Active) × (out : List Active) × (xs : List Started) × PollsAll m ps
+    × BeginsNext at (behind m (results at ps)) bs out × (map (λ x. x.what) xs ≡ bs) × (end ≡ turn_end.Done → out ≡ [])
+    × GoesOn (results at ps ++ begins at bs ++ refusals at xs) (record m { told = result_notices at ps ++ refusal_notices at xs }) n left
 
--- what a turn leaves whose row of results, of begins, or of refused starts fails
+-- a turn in which the disk fails, at the row of results, of begins, or of refused starts
 abbrev pub TurnFails : ℕ → Machine → Left → Type 0
-TurnFails at m left =
-    ((ps : List Polled) × PollsAll m ps × (left ≡ record { events = []; pending = results at ps }))
-    ⊎ (((ps : List Polled) × (bs : List Active) × (out : List Active) × PollsAll m ps × BeginsNext at (behind m (results at ps)) bs out
-    × (left ≡ record { events = results at ps; pending = begins at bs }))
-    ⊎ ((t : TurnAt at m) × (left ≡ record { events = results at t.polled ++ begins at t.begun; pending = refusals at t.started })))
+TurnFails at m left = (ps : List Polled) × PollsAll m ps × ((left ≡ record { events = []; pending = results at ps })
+    ⊎ ((bs : List Active) × (out : List Active) × BeginsNext at (behind m (results at ps)) bs out
+    × ((left ≡ record { events = results at ps; pending = begins at bs })
+    ⊎ ((xs : List Started) × (map (λ x. x.what) xs ≡ bs)
+    × (left ≡ record { events = results at ps ++ begins at bs; pending = refusals at xs })))))
 
--- what a turn does, by its end
-abbrev pub TurnsAll : TurnEnd → ℕ → Machine → Machine → Left → Type 0
-TurnsAll end at m n left = (t : TurnAt at m) × (end ≡ turn_end.Done → t.left_out ≡ [])
-    × GoesOn (results at t.polled ++ begins at t.begun ++ refusals at t.started)
-    (record m { told = result_notices at t.polled ++ refusal_notices at t.started }) n left
-
+-- a turn, by its end
 abbrev pub TurnEnds : TurnEnd → ℕ → Machine → Machine → Left → Type 0
 TurnEnds turn_end.Closed at m n left = ⊥
 TurnEnds turn_end.BookFull at m n left = GoesOn [] (record m { told = [] }) n left
 TurnEnds turn_end.Disk at m n left = (n.is_open ≡ false) × TurnFails at m left
-TurnEnds end at m n left = TurnsAll end at m n left
+TurnEnds end at m n left = TurnsWhole end at m n left
 
 -- what a call does: of an open machine, and of a closed one
 abbrev pub MovesOpen : Exchange → Machine → Machine → Left → Type 0
@@ -124,30 +113,3 @@ abbrev pub MovesAll : List Exchange → Machine → Machine → Left → Type 0
 MovesAll [] m n left = (n ≡ m) × (left ≡ record { events = []; pending = [] })
 MovesAll (e ∷ es) m n left = (mid : Machine) × (first : Left) × (later : Left) × MovesWhile m.is_open e m mid first
     × MovesAll es mid n later × (left ≡ and_then first later)
-
--- a sitting, as it is seen: an opening that was refused or stopped, at a moment; or one with its report, calls that returned, and
--- calls that were under way when it was stopped
-pub data Seen : Type 0 where
-  Opening : ℕ → Option OpenError → Seen
-  Serving : ℕ → List Notice → List Notice → List Exchange → List Exchange → Seen
-
--- the machine as it is opened on a state: what ran or was queued has ended, and all monitors are due
-abbrev pub opened_on : State → ℕ → Machine
-opened_on s now = record { is_open = true; state = booted s now; due = due_at (booted s now) (moment s now); told = [] }
-
--- so much of what calls left stands behind a stop: all that stood when they returned, and a front part of the rest
-abbrev pub StandsOf : Left → Left → List Event → Type 0
-StandsOf returned under_way p = (later : List Event) × (others : List Event) × (p ≡ returned.events ++ later)
-    × (p ++ others ≡ (and_then returned under_way).events ++ (and_then returned under_way).pending)
-
--- what stands of a sitting: the boot, and so much of what its calls left
-abbrev pub Sits : Seen → State → List Event → Type 0
-Sits (Opening now end) s zs = (zs ≡ []) ⊎ (MayBoot end × (zs ≡ boots s now))
-Sits (Serving now ran queued calls begun) s zs = (ran ≡ interrupted s (moment s now)) × (queued ≡ dropped s (moment s now))
-    × (m : Machine) × (n : Machine) × (done : Left) × (under_way : Left) × (p : List Event)
-    × MovesAll calls (opened_on s now) m done × MovesAll begun m n under_way × StandsOf done under_way p × (zs ≡ boots s now ++ p)
-
--- a run of the machine from a state on, the last sitting first, and what stands of it
-abbrev pub Runs : State → List Seen → List Event → Type 0
-Runs start [] zs = zs ≡ []
-Runs start (x ∷ older) zs = (ys : List Event) × (more : List Event) × Runs start older ys × Sits x (after_all start ys) more × (zs ≡ ys ++ more)

@@ -3,7 +3,7 @@ use Rattle.std.specs.Prelude.{List, [], ◌∷◌}
 use Rattle.ocf_types.specs.State.{State}
 use Rattle.disk_model.specs.View.{View}
 use Rattle.executor.specs.Lives.{InOpening, InService, IsLife, Sitting}
-use Rattle.executor.specs.Machine.{Opening, Seen, Serving}
+use Rattle.executor.specs.Runs.{Opening, Seen, Serving}
 
 -- of each sitting what was asked and answered, and of a service its report, the last sitting first
 abbrev pub seen : {D : Type 0} → (look : D → View) → (start : State) → (life : List (Sitting D)) → IsLife look start life → List Seen

@@ -1,5 +1,5 @@
 //! Laws of sessions and of whole lives, each the contract of a function that does nothing.
-ghost use Rattle.std.specs.Prelude.{◌≢◌, ◌≤◌, ℕ, List, Option, [], Some};
+ghost use Rattle.std.specs.Prelude.{◌≢◌, ◌≤◌, ◌++◌, ℕ, List, Option, [], Some};
 ghost use Rattle.std.specs.List.{AllByRecursion};
 ghost use Rattle.ocf_types.specs.Kinds.{Command, Event, Reply};
 ghost use Rattle.ocf_types.specs.LawfulState.{IsLawfulState};
@@ -8,6 +8,7 @@ ghost use Rattle.ocf_types.specs.declared.reply.Notice.{Notice};
 ghost use Rattle.disk_model.specs.Image.{Image};
 ghost use Rattle.two_parts.specs.declared.damage.Damage.{Damage};
 ghost use Rattle.child_keeper.specs.Children.{ChildrenView};
+ghost use Rattle.child_keeper.specs.declared.answer.Entry.{Entry};
 ghost use Rattle.exec_journal.specs.Found.{FoundAs, IsFirstPart, IsFreshPair};
 ghost use Rattle.exec_journal.specs.Opening.{Opens};
 ghost use Rattle.exec_journal.specs.Room.{Roomy};
@@ -19,7 +20,7 @@ ghost use Rattle.executor.specs.Parts.{Apart, AreRising, IsPlain, entries_of_run
 ghost use Rattle.executor.specs.RowCalls.{Answered};
 ghost use Rattle.executor.specs.Sessions.{Deeds, Input, Session};
 ghost use Rattle.executor.specs.Sights.{Sight};
-ghost use Rattle.executor.specs.Singles.{Alone, cut, single_after_all, single_of};
+ghost use Rattle.executor.specs.Singles.{Alone, Single, cut, single_after_all, single_of};
 ghost use Rattle.executor.specs.declared.opening.OpenError.{OpenError};
 ghost use Rattle.executor.specs.declared.opening.OpenError.TheVariants as why;
 
@@ -37,7 +38,7 @@ pub fn each_alone<D: Disk>()
         → AreRising x.state.clock inputs
         → Alone id (single_of x id) (part id inputs replies) (entries_of_runs (own_runs id x.state d.events) d.entries)
         (events_of id d.events) }
-    // it stands then where the session ends, so that a resource's parts of two sessions are one run
+    // it stands then where the session ends
     ensures ends { (x z : Sight D) (inputs : List Input) (replies : List Reply) (d : Deeds) (id : List ℕ)
         → Session D.view x inputs replies z d → AllByRecursion (λ p. IsPlain p.1) (part id inputs replies) → AreRising x.state.clock inputs
         → StandsAt (single_after_all (single_of x id) (events_of id d.events)) (single_of z id) }
@@ -45,6 +46,13 @@ pub fn each_alone<D: Disk>()
     ensures row { (now : ℕ) (x : Sight D) (commands : List Command) (replies : List Reply) (es : List Event) (id : List ℕ)
         → Answered now x.state commands replies es → AllByRecursion (λ p. IsPlain p.1) (part id (inputs_at now commands) replies)
         → x.state.clock ≤ cut now → Alone id (single_of x id) (part id (inputs_at now commands) replies) [] (events_of id es) }
+{}
+
+/// A resource's part of one session and its part of another, which begins where the first one ends, are one run of the machine
+/// that has this resource alone.
+pub fn parts_join()
+    ensures { (id : List ℕ) (x y : Single) (is js : List (Input × Reply)) (es fs : List Entry) (vs us : List Event) → Alone id x is es vs
+        → StandsAt (single_after_all x vs) y → Alone id y js fs us → Alone id x (is ++ js) (es ++ fs) (vs ++ us) }
 {}
 
 /// A session is the calls of its inputs.

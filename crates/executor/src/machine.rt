@@ -7,11 +7,12 @@ ghost use Rattle.disk_model.specs.Image.{Image};
 ghost use Rattle.exec_journal.specs.Found.{FoundAs};
 ghost use Rattle.executor.specs.Histories.{Follow, IsInOrder};
 ghost use Rattle.executor.specs.Lives.{IsLife, LifeLeaves, Lived, Sitting};
-ghost use Rattle.executor.specs.Machine.{Runs, Seen};
+ghost use Rattle.executor.specs.Runs.{Runs, Seen};
 ghost use Rattle.executor.specs.SeenLives.{seen};
 
 use disk_model::Disk;
 use exec_journal::laws::{found_once, what_stands};
+use ocf_types::laws::{lawful_states, layouts};
 
 /// What stands of a run of the machine from a lawful state applies, each change behind those before it.
 pub fn runs_apply()
@@ -28,14 +29,15 @@ pub fn lives_are_runs<D: Disk>()
     what_stands();
 }
 
-/// So what stands of a life that begins with a lawful state keeps what an administrator asks: no run number was begun twice,
-/// also behind an opening; between two begins of a resource stands its result or a boot; a run that has no end before a boot
-/// is told as interrupted by that boot alone; and queued actions began in the order of their calls.
+/// So what stands of each life keeps what an administrator asks: no run number was begun twice, also behind an opening; between
+/// two begins of a resource stands its result or a boot; a run that has no end before a boot is told as interrupted by that boot
+/// alone; and queued actions began in the order of their calls.
 pub fn lives_in_order<D: Disk>()
-    ensures { (start : State) (life : List (Sitting D)) (is : IsLife D.view start life) (c : Image) → IsLawfulState start
-        → LifeLeaves D.view start life c
+    ensures { (start : State) (life : List (Sitting D)) (is : IsLife D.view start life) (c : Image) → LifeLeaves D.view start life c
         → (zs : List Event) × Lived start life zs × FoundAs (after_all start zs) c × IsInOrder start zs }
 {
     found_once();
     what_stands();
+    lawful_states();
+    layouts();
 }

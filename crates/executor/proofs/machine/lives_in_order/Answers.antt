@@ -1,4 +1,5 @@
 use Rattle.executor.specs.SeenLives.{seen}
+use Rattle.executor.proofs.FoundLawful.{LawfulLaws, start_lawful}
 use Rattle.executor.proofs.Journaling.{WhatStands}
 use Rattle.executor.proofs.Lives.{OneFinding}
 use Rattle.executor.proofs.MachineLives.{life_runs}
@@ -10,6 +11,9 @@ returns g c =
     let law : WhatStands =
     record { found = c.what_stands.ensures.found; once = c.what_stands.ensures.once; fresh = c.what_stands.ensures.fresh; stays = c.what_stands.ensures.stays } in
     let once : OneFinding = c.found_once.ensures in
-    λ start life is image lawful left.
+    let laws : LawfulLaws =
+    record { empty = c.lawful_states.ensures.empty; after = c.lawful_states.ensures.after; stays = c.layouts.ensures.stays; carried = c.layouts.ensures.lawful } in
+    λ start life is image left.
     let b = life_runs g.D.Disk.view law once g.met.D.Disk.lawful start life is image left in
+    let lawful = start_lawful laws g.D.Disk.view law g.met.D.Disk.lawful start life is image left in
     (b.0, b.2, b.3, in_order start (seen g.D.Disk.view start life is) b.0 lawful b.1)

@@ -1,0 +1,125 @@
+-- Parts of two sessions join to one run of the machine of one resource.
+use Rattle.std.proofs.Common.{◌≡◌, ◌⊎◌, inl, inr, ℕ, ◌≤◌, true, List, [], ◌∷◌, ◌++◌, Option, Some, sym, ap, subst, ◌∙◌, append_assoc, le_refl, le_trans}
+use Rattle.ocf_types.specs.Due.{IsPick}
+use Rattle.ocf_types.specs.Kinds.{Change, Event, Reply}
+use Rattle.ocf_types.specs.Resource.{Resource}
+use Rattle.ocf_types.specs.declared.command.RequestOf.TheVariants as asked
+use Rattle.ocf_types.specs.declared.event.Change.TheVariants as change
+use Rattle.ocf_types.specs.declared.event.Step.TheVariants as step
+use Rattle.child_keeper.specs.declared.answer.Entry.{Entry}
+use Rattle.executor.specs.Joins.{StandsAt}
+use Rattle.executor.specs.Sessions.{Input}
+use Rattle.executor.specs.Singles.{Alone, Single, SingleBegin, SingleRest, SingleTakes, above_call, above_run, cut, has_monitor}
+use Rattle.executor.specs.Singles.{single_after, single_after_all, single_answer, single_changed, single_sets}
+use Rattle.executor.specs.declared.session.InputOf.TheVariants as input
+use Rattle.executor.proofs.AloneChanges.{monitor_before, or_else_alike, single-append}
+use Rattle.executor.proofs.AlonePicks.{pick_same}
+
+-- a machine that stands where another does goes on to stand there
+above_call_kept : (c : Change) (m n : ℕ) → m ≤ n → above_call c m ≤ above_call c n
+above_call_kept (change.Step id (step.Exec o)) m n le = le_refl _
+above_call_kept (change.Step id (step.Recur r)) m n le = le_refl _
+above_call_kept _ m n le = le
+
+above_run_kept : (c : Change) (m n : ℕ) → m ≤ n → above_run c m ≤ above_run c n
+above_run_kept (change.Step id (step.Begin call run)) m n le = le_refl _
+above_run_kept _ m n le = le
+
+stands_one : (x y : Single) (e : Event) → StandsAt x y → StandsAt (single_after x e) (single_after y e)
+stands_one x y e s = record {
+  resource = ap (single_changed e.at e.change) s.resource;
+  due = λ call there.
+      rw (s.resource, there)
+      (or_else_alike (single_sets e.at e.change y.resource call) (x.due call) (y.due call)
+      (λ none. s.due call (monitor_before e.at e.change y.resource call there none)));
+  calls = above_call_kept e.change x.next_call y.next_call s.calls;
+  runs = above_run_kept e.change x.next_run y.next_run s.runs;
+}
+
+stands_on : (x y : Single) (es : List Event) → StandsAt x y → StandsAt (single_after_all x es) (single_after_all y es)
+stands_on x y [] s = s
+stands_on x y (e ∷ es) s = stands_on (single_after x e) (single_after y e) es (stands_one x y e s)
+
+-- and takes what the other takes
+pick_there : (x y : Single) (at : ℕ) (r : Resource) (pick : Option ℕ) → StandsAt x y → y.resource ≡ Some r → IsPick r y.due at pick → IsPick r x.due at pick
+pick_there x y at r pick s is picked = pick_same r y.due x.due at pick
+    (λ call known. s.due call (subst (λ (o : Option Resource). has_monitor o call ≡ true) (sym is) known)) picked
+
+goes_there : (id : List ℕ) (at : ℕ) (x y : Single) (entries : List Entry) (events : List Event) → StandsAt x y
+    → SingleRest at y entries events ⊎ SingleBegin id at y entries events → SingleRest at x entries events ⊎ SingleBegin id at x entries events
+goes_there id at x y entries events s (inl r) = inl (record {
+  none_picked = λ q is. let there = sym s.resource ∙ is in pick_there x y at q _ s there (r.none_picked q there);
+  no_entries = r.no_entries;
+  no_events = r.no_events;
+})
+goes_there id at x y entries events s (inr b) = inr (record {
+  resource = b.resource;
+  is = s.resource ∙ b.is;
+  call = b.call;
+  picked = pick_there x y at b.resource (Some b.call) s b.is b.picked;
+  run = b.run;
+  above = le_trans s.runs b.above;
+  clock = b.clock;
+  answer = b.answer;
+  one_entry = b.one_entry;
+  begins = b.begins;
+})
+
+takes_there : (id : List ℕ) (x y : Single) (i : Input) (r : Reply) (entries : List Entry) (events : List Event) → StandsAt x y
+    → SingleTakes id y i r entries events → SingleTakes id x i r entries events
+takes_there id x y (input.Request now (asked.Command c)) r entries events s (none, c_takes) = (
+  none,
+  record {
+    call = c_takes.call;
+    above = le_trans s.calls c_takes.above;
+    follows = rw s.resource c_takes.follows;
+  },
+)
+takes_there id x y (input.Request now (asked.Question q)) r entries events s (none, no_events, answers) =
+    (none, no_events, answers ∙ ap (λ (o : Option Resource). single_answer o q) (sym s.resource))
+takes_there id x y (input.Turn now) r entries events s t = record {
+  done = t.done;
+  polled = t.polled;
+  started = t.started;
+  results = t.results;
+  begins = t.begins;
+  all_entries = t.all_entries;
+  all_events = t.all_events;
+  polls = rw s.resource t.polls;
+  goes_on =
+      goes_there id (cut now) (single_after_all x t.results) (single_after_all y t.results) t.started t.begins (stands_on x y t.results s) t.goes_on;
+}
+
+alone_there : (id : List ℕ) (x y : Single) (is : List (Input × Reply)) (entries : List Entry) (events : List Event) → StandsAt x y
+    → Alone id y is entries events → Alone id x is entries events
+alone_there id x y [] entries events s h = h
+alone_there id x y (i ∷ is) entries events s (es, fs, vs, us, entries_are, events_are, takes, rest) = (
+  es,
+  fs,
+  vs,
+  us,
+  entries_are,
+  events_are,
+  takes_there id x y i.0 i.1 es vs s takes,
+  alone_there id (single_after_all x vs) (single_after_all y vs) is fs us (stands_on x y vs s) rest,
+)
+
+-- one part, and another from where it ended
+pub parts_join : (id : List ℕ) (x y : Single) (is js : List (Input × Reply)) (es fs : List Entry) (vs us : List Event) → Alone id x is es vs
+    → StandsAt (single_after_all x vs) y → Alone id y js fs us → Alone id x (is ++ js) (es ++ fs) (vs ++ us)
+parts_join id x y [] js es fs vs us (no_entries, no_events) s h =
+    subst (λ (l : List Entry). Alone id x js (l ++ fs) (vs ++ us)) (sym no_entries)
+    (subst (λ (l : List Event). Alone id x js fs (l ++ us)) (sym no_events)
+    (alone_there id x y js fs us (subst (λ (l : List Event). StandsAt (single_after_all x l) y) no_events s) h))
+parts_join id x y (i ∷ is) js es fs vs us (e1, e2, v1, v2, entries_are, events_are, takes, rest) s h =
+    let there : StandsAt (single_after_all (single_after_all x v1) v2) y =
+    subst (λ (z : Single). StandsAt z y) (ap (single_after_all x) events_are ∙ single-append x v1 v2) s in (
+      e1,
+      e2 ++ fs,
+      v1,
+      v2 ++ us,
+      ap (λ (l : List Entry). l ++ fs) entries_are ∙ append_assoc e1 e2 fs,
+      ap (λ (l : List Event). l ++ us) events_are ∙ append_assoc v1 v2 us,
+      takes,
+      parts_join id (single_after_all x v1) y is js e2 fs v2 us rest there h,
+    )

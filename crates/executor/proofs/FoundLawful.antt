@@ -1,0 +1,66 @@
+-- What a life begins with is lawful.
+use Rattle.std.proofs.Common.{◌≡◌, List, [], ◌∷◌, flat_map, sym, subst}
+use Rattle.ocf_types.specs.Applies.{Applies, AppliesIn}
+use Rattle.ocf_types.specs.Kinds.{Event}
+use Rattle.ocf_types.specs.LawfulState.{IsLawfulState, IsLawfulStateIn}
+use Rattle.ocf_types.specs.State.{State, after, after_all_in, after_in, empty}
+use Rattle.ocf_types.specs.declared.layout.Layout.{Layout}
+use Rattle.ocf_types.specs.declared.layout.Layout.TheVariants.{First, Second}
+use Rattle.disk_model.specs.Image.{Image}
+use Rattle.disk_model.specs.View.{Lawful, View}
+use Rattle.two_parts.specs.Choice.{choice}
+use Rattle.two_parts.specs.declared.choice.Choice.{Choice}
+use Rattle.two_parts.specs.declared.choice.Choice.TheVariants.{Broken, Current, Fresh}
+use Rattle.exec_journal.specs.Found.{Damaged, Finds, FoundAs, Whole}
+use Rattle.exec_journal.specs.Front.{AllApplyIn}
+use Rattle.exec_journal.specs.Laws.{same_whole}
+use Rattle.executor.specs.Lives.{InOpening, InService, IsLife, LifeLeaves, Sitting}
+use Rattle.executor.proofs.Journaling.{WhatStands}
+use Rattle.executor.proofs.LifeServices.{whole_leads}
+
+-- the model's laws of lawful states
+pub record LawfulLaws : Type 0 where
+  pub empty : IsLawfulState empty
+  pub after : (s : State) (e : Event) → IsLawfulState s → Applies s e → IsLawfulState (after s e)
+  pub stays : (s : State) (e : Event) → IsLawfulStateIn First s → AppliesIn First s e → IsLawfulStateIn First (after_in First s e)
+  pub carried : (s : State) → IsLawfulStateIn First s → IsLawfulState s
+
+module _ (laws : LawfulLaws) where
+  one_stays : (layout : Layout) (s : State) (e : Event) → IsLawfulStateIn layout s → AppliesIn layout s e → IsLawfulStateIn layout (after_in layout s e)
+  one_stays First s e lawful applies = laws.stays s e lawful applies
+  one_stays Second s e lawful applies = laws.after s e lawful applies
+
+  all_stay : (layout : Layout) (s : State) (es : List Event) → IsLawfulStateIn layout s → AllApplyIn layout s es
+      → IsLawfulStateIn layout (after_all_in layout s es)
+  all_stay layout s [] lawful apply = lawful
+  all_stay layout s (e ∷ es) lawful apply = all_stay layout (after_in layout s e) es (one_stays layout s e lawful apply.0) apply.1
+
+  in_second : (layout : Layout) (s : State) → IsLawfulStateIn layout s → IsLawfulState s
+  in_second First s lawful = laws.carried s lawful
+  in_second Second s lawful = lawful
+
+  -- what is found is lawful
+  pub found_lawful : (s : State) (c : Image) → FoundAs s c → IsLawfulState s
+  found_lawful s c found = by (choice c) found
+    where
+      by : (h : Choice) → Finds h c (Whole s) → IsLawfulState s
+      by (Broken d) is = absurd (let bad : Whole s ≡ Damaged d = is in cc)
+      by Fresh is = subst IsLawfulState (sym (same_whole s empty is)) laws.empty
+      by (Current part head) whole =
+          let front = whole.is_front in
+          subst IsLawfulState (sym front.folds)
+          (in_second whole.layout (after_all_in whole.layout front.first (flat_map (λ es. es) front.rows))
+          (all_stay whole.layout front.first (flat_map (λ es. es) front.rows) front.lawful front.apply))
+
+  module _ {D : Type 0} (look : D → View) (law : WhatStands) (lawful : (d : D) → (look d).honest → Lawful (look d)) (start : State) where
+    -- so is what a life begins with, where something is left of it
+    pub start_lawful : (life : List (Sitting D)) → IsLife look start life → (c : Image) → LifeLeaves look start life c → IsLawfulState start
+    start_lawful [] is c left = found_lawful start c left.0
+    start_lawful (InOpening old new now end ∷ older) (is, from, ends, honest) c left =
+        let reads = (look old).reads in
+        start_lawful older is reads (from reads (lawful old (ends.did.goes.passed.honest honest)).reads_now)
+    start_lawful (InService x ∷ older) (is, from, serves, honest) c left =
+        let whole = whole_leads look law lawful x serves in
+        let was_honest = serves.opens.did.goes.passed.honest (whole.leaves.goes.passed.honest honest) in
+        let reads = (look x.disk).reads in
+        start_lawful older is reads (from reads (lawful x.disk was_honest).reads_now)
