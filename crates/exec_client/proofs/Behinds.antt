@@ -1,0 +1,162 @@
+-- What stands behind what is told, piece by piece.
+use Rattle.std.proofs.Common.{◌≡◌, inl, inr, ℕ, false, List, [], ◌∷◌, ◌++◌, map, Result, Ok, Err, refl, sym, subst}
+use Rattle.std.proofs.lemmas.List.{append-nil, map-append}
+use Rattle.std.specs.List.{flat_map}
+use Rattle.ocf_types.specs.Answer.{event_of}
+use Rattle.ocf_types.specs.Kinds.{Command, Event, Reply}
+use Rattle.ocf_types.specs.State.{State, after_all}
+use Rattle.ocf_types.specs.declared.outcome.RunEnd.{RunEnd}
+use Rattle.ocf_types.specs.declared.refusal.Refusal.{Refusal}
+use Rattle.ocf_types.specs.declared.refusal.Refusal.TheVariants.{Disk, Memory}
+use Rattle.ocf_types.specs.declared.reply.Notice.{Notice}
+use Rattle.ocf_types.specs.declared.reply.ReplyOf.TheVariants as reply
+use Rattle.ocf_types.specs.declared.reply.TurnEnd.{TurnEnd}
+use Rattle.ocf_types.specs.declared.reply.TurnEnd.TheVariants as turn_end
+use Rattle.child_keeper.specs.declared.answer.Entry.{Entry}
+use Rattle.exec_turn.specs.Actives.{Active, notice_of, result_of}
+use Rattle.exec_turn.specs.Picks.{begins}
+use Rattle.exec_turn.specs.Polls.{Polled, ends_of, result_notices, results}
+use Rattle.exec_turn.specs.Starts.{Started, refusal_notices, refusals, refused_end}
+use Rattle.exec_turn.specs.Turn.{IsTurn, Scene, Whole}
+use Rattle.executor.specs.Replies.{IsReplyTo, KeepsRunning, recorded}
+use Rattle.executor.specs.RowCalls.{Adds, Answered as RowAnswered, disk_each, failed}
+use Rattle.executor.proofs.Keeping.{command_keeps}
+use Rattle.exec_client.specs.Behind.{Behind, TellsOf, claims, nothing, says_else, tells, untold}
+use Rattle.exec_client.specs.Said.{Said, Noticed, answered}
+
+-- nothing told is behind any events
+pub none_told : (es : List Event) → Behind [] es
+none_told [] = nothing
+none_told (e ∷ es) = untold e [] es (none_told es)
+
+-- one behind the other
+pub both_behind : (ss : List Said) (es : List Event) (ts : List Said) (fs : List Event) → Behind ss es → Behind ts fs
+    → Behind (ss ++ ts) (es ++ fs)
+both_behind _ _ ts fs nothing later = later
+both_behind _ _ ts fs (untold e ss es b) later = untold e (ss ++ ts) (es ++ fs) (both_behind ss es ts fs b later)
+both_behind _ _ ts fs (tells s e ss es t b) later = tells s e (ss ++ ts) (es ++ fs) t (both_behind ss es ts fs b later)
+both_behind _ _ ts fs (says_else s ss es none b) later = says_else s (ss ++ ts) (es ++ fs) none (both_behind ss es ts fs b later)
+
+-- behind more events
+pub behind_more : (ss : List Said) (es fs : List Event) → Behind ss es → Behind ss (es ++ fs)
+behind_more ss es fs b =
+    subst (λ (ts : List Said). Behind ts (es ++ fs)) (append-nil ss) (both_behind ss es [] fs b (none_told fs))
+
+pub behind_after : (ss : List Said) (fs es : List Event) → Behind ss es → Behind ss (fs ++ es)
+behind_after ss fs es b = both_behind [] fs ss es (none_told fs) b
+
+-- one that is told of one event, or says nothing of any
+one_told : (s : Said) (e : Event) → TellsOf s e → Behind (s ∷ []) (e ∷ [])
+one_told s e t = tells s e [] [] t nothing
+
+pub says_none : (s : Said) → claims s ≡ false → Behind (s ∷ []) []
+says_none s none = says_else s [] [] none nothing
+
+-- a command that is this event
+pub reply_behind : (e : Event) (r : Reply) → KeepsRunning e.change → IsReplyTo e r → Behind (answered r ∷ []) (recorded e r)
+reply_behind e (reply.Refused why) keeps is = says_none (answered (reply.Refused why)) refl
+reply_behind e reply.Done keeps (inl is) = one_told (answered reply.Done) e (keeps, is)
+reply_behind e reply.Done keeps (inr (inl is)) = absurd cc
+reply_behind e reply.Done keeps (inr (inr (inl is))) = absurd cc
+reply_behind e reply.Done keeps (inr (inr (inr is))) = absurd cc
+reply_behind e (reply.Accepted call key) keeps (inl is) = one_told (answered (reply.Accepted call key)) e (keeps, is)
+reply_behind e (reply.Accepted call key) keeps (inr (inl is)) = absurd cc
+reply_behind e (reply.Accepted call key) keeps (inr (inr (inl is))) = absurd cc
+reply_behind e (reply.Accepted call key) keeps (inr (inr (inr is))) = absurd cc
+reply_behind e (reply.List ids) keeps is = untold e (answered (reply.List ids) ∷ []) [] (says_none (answered (reply.List ids)) refl)
+reply_behind e (reply.Info info) keeps is = untold e (answered (reply.Info info) ∷ []) [] (says_none (answered (reply.Info info)) refl)
+reply_behind e (reply.History rs) keeps is = untold e (answered (reply.History rs) ∷ []) [] (says_none (answered (reply.History rs)) refl)
+reply_behind e (reply.Turn end) keeps is = untold e (answered (reply.Turn end) ∷ []) [] (says_none (answered (reply.Turn end)) refl)
+
+-- a command of a row
+add_behind : (s : State) (now : ℕ) (c : Command) (x : Result Event Refusal) (r : Reply) (es : List Event) → event_of s now c ≡ x
+    → Adds x r es → Behind (answered r ∷ []) es
+add_behind s now c (Err why) r es is (refused, none) =
+    subst (λ (t : Reply). Behind (answered t ∷ []) es) (sym refused)
+    (subst (λ (fs : List Event). Behind (answered (reply.Refused why) ∷ []) fs) (sym none) (says_none (answered (reply.Refused why)) refl))
+add_behind s now c (Ok e) r es is (inl (told, one)) =
+    subst (λ (fs : List Event). Behind (answered r ∷ []) fs) (sym one) (one_told (answered r) e (command_keeps s now c e is, told))
+add_behind s now c (Ok e) r es is (inr (refused, registers, none)) =
+    subst (λ (t : Reply). Behind (answered t ∷ []) es) (sym refused)
+    (subst (λ (fs : List Event). Behind (answered (reply.Refused Memory) ∷ []) fs) (sym none) (says_none (answered (reply.Refused Memory)) refl))
+
+-- commands in a row
+pub row_behind : (now : ℕ) (s : State) (cs : List Command) (rs : List Reply) (es : List Event) → RowAnswered now s cs rs es
+    → Behind (map answered rs) es
+row_behind now s [] [] es none = subst (λ (fs : List Event). Behind [] fs) (sym none) nothing
+row_behind now s (c ∷ cs) (r ∷ rs) es (first, later, adds, rest, is) =
+    subst (λ (fs : List Event). Behind (map answered (r ∷ rs)) fs) (sym is)
+    (both_behind (answered r ∷ []) first (map answered rs) later (add_behind s now c (event_of s now c) r first refl adds)
+    (row_behind now (after_all s first) cs rs later rest))
+row_behind now s [] (r ∷ rs) es none = absurd none
+row_behind now s (c ∷ cs) [] es none = absurd none
+
+-- refusals
+disk_behind : (rs : List Reply) → Behind (map answered (disk_each rs)) []
+disk_behind [] = nothing
+disk_behind (r ∷ rs) = says_else (answered (reply.Refused Disk)) (map answered (disk_each rs)) [] refl (disk_behind rs)
+
+pub failed_behind : (rs : List Reply) → Behind (map answered (failed rs)) []
+failed_behind [] = nothing
+failed_behind (reply.Refused why ∷ rs) =
+    says_else (answered (reply.Refused why)) (map answered (failed rs)) [] refl (failed_behind rs)
+failed_behind (reply.Done ∷ rs) = disk_behind (reply.Done ∷ rs)
+failed_behind (reply.Accepted call key ∷ rs) = disk_behind (reply.Accepted call key ∷ rs)
+failed_behind (reply.List ids ∷ rs) = disk_behind (reply.List ids ∷ rs)
+failed_behind (reply.Info info ∷ rs) = disk_behind (reply.Info info ∷ rs)
+failed_behind (reply.History results ∷ rs) = disk_behind (reply.History results ∷ rs)
+failed_behind (reply.Turn end ∷ rs) = disk_behind (reply.Turn end ∷ rs)
+
+-- the ends of an action
+ends_behind : (at : ℕ) (a : Active) (ends : List RunEnd) → Behind (map Noticed (map (notice_of at a) ends)) (map (result_of at a) ends)
+ends_behind at a [] = nothing
+ends_behind at a (end ∷ ends) =
+    tells (Noticed (notice_of at a end)) (result_of at a end) _ _ (record { end = end; is = refl; ended = refl }) (ends_behind at a ends)
+
+-- the ends of several
+all_behind : {X : Type 0} (at : ℕ) (who : X → Active) (ends : X → List RunEnd) (xs : List X)
+    → Behind (map Noticed (flat_map (λ x. map (notice_of at (who x)) (ends x)) xs)) (flat_map (λ x. map (result_of at (who x)) (ends x)) xs)
+all_behind at who ends [] = nothing
+all_behind at who ends (x ∷ xs) =
+    subst (λ (ss : List Said). Behind ss (flat_map (λ x. map (result_of at (who x)) (ends x)) (x ∷ xs)))
+    (sym (map-append Noticed (map (notice_of at (who x)) (ends x)) (flat_map (λ x. map (notice_of at (who x)) (ends x)) xs)))
+    (both_behind _ _ _ _ (ends_behind at (who x) (ends x)) (all_behind at who ends xs))
+
+results_behind : (at : ℕ) (ps : List Polled) → Behind (map Noticed (result_notices at ps)) (results at ps)
+results_behind at ps = all_behind at (λ p. p.who) (λ p. ends_of at p) ps
+
+refusals_behind : (at : ℕ) (xs : List Started) → Behind (map Noticed (refusal_notices at xs)) (refusals at xs)
+refusals_behind at xs = all_behind at (λ x. x.what) (λ x. refused_end x.answer) xs
+
+-- results, then what was begun
+begun_behind : (at : ℕ) (ps : List Polled) (bs : List Active) → Behind (map Noticed (result_notices at ps)) (results at ps ++ begins at bs)
+begun_behind at ps bs =
+    behind_more (map Noticed (result_notices at ps)) (results at ps) (begins at bs) (results_behind at ps)
+
+-- these notices and events, by what they are
+moved : (told told2 : List Notice) (es es2 : List Event) → told ≡ told2 → es ≡ es2 → Behind (map Noticed told2) es2 → Behind (map Noticed told) es
+moved told told2 es es2 same same2 b =
+    subst (λ (ns : List Notice). Behind (map Noticed ns) es) (sym same) (subst (λ (fs : List Event). Behind (map Noticed told2) fs) (sym same2) b)
+
+whole_behind : (end : TurnEnd) (x : Scene) (entries : List Entry) (events pending : List Event) (told : List Notice)
+    → Whole end x entries events pending told → Behind (map Noticed told) events
+whole_behind end x entries events pending told (t, _, es, _, ns) =
+    moved told _ events _ ns es
+    (subst (λ (ss : List Said). Behind ss (results x.at t.polled ++ begins x.at t.begun ++ refusals x.at t.started))
+    (sym (map-append Noticed (result_notices x.at t.polled) (refusal_notices x.at t.started)))
+    (both_behind _ _ _ _ (begun_behind x.at t.polled t.begun) (refusals_behind x.at t.started)))
+
+-- a turn
+pub turn_behind : (end : TurnEnd) (x : Scene) (entries : List Entry) (events pending : List Event) (told : List Notice)
+    → IsTurn end x entries events pending told → Behind (map Noticed told) events
+turn_behind turn_end.Closed x entries events pending told none = absurd none
+turn_behind turn_end.BookFull x entries events pending told (_, es, _, ns) = moved told [] events [] ns es nothing
+turn_behind turn_end.Done x entries events pending told whole = whole_behind turn_end.Done x entries events pending told whole
+turn_behind turn_end.RunsSpent x entries events pending told whole = whole_behind turn_end.RunsSpent x entries events pending told whole
+turn_behind turn_end.Full x entries events pending told whole = whole_behind turn_end.Full x entries events pending told whole
+turn_behind turn_end.Memory x entries events pending told whole = whole_behind turn_end.Memory x entries events pending told whole
+turn_behind turn_end.Disk x entries events pending told (inl (ps, _, _, es, _, ns)) = moved told [] events [] ns es nothing
+turn_behind turn_end.Disk x entries events pending told (inr (inl (ps, end, bs, _, _, _, es, _, ns))) =
+    moved told _ events _ ns es (results_behind x.at ps)
+turn_behind turn_end.Disk x entries events pending told (inr (inr (end, t, _, es, _, ns))) =
+    moved told _ events _ ns es (begun_behind x.at t.polled t.begun)

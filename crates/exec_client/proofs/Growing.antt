@@ -1,0 +1,199 @@
+-- What each call of an executor does, and what may be told of it then.
+use Rattle.std.proofs.Common.{◌≡◌, ◌↔◌, ℕ, Bool, true, false, List, [], ◌∷◌, ◌++◌, map, Result, Ok, Err, refl, sym, ap, subst, ◌∙◌}
+use Rattle.std.proofs.lemmas.List.{append-nil, map-append}
+use Rattle.std.specs.List.{AllByRecursion, flat_map}
+use Rattle.ocf_types.specs.Answer.{event_of}
+use Rattle.ocf_types.specs.Kinds.{Command, Event, Reply, Request}
+use Rattle.ocf_types.specs.declared.command.RequestOf.TheVariants as asked
+use Rattle.ocf_types.specs.declared.refusal.Refusal.{Refusal}
+use Rattle.ocf_types.specs.declared.refusal.Refusal.TheVariants.{Disk}
+use Rattle.ocf_types.specs.declared.reply.ReplyOf.TheVariants as reply
+use Rattle.ocf_types.specs.declared.reply.TidyEnd.{TidyEnd}
+use Rattle.ocf_types.specs.declared.reply.TurnEnd.{TurnEnd}
+use Rattle.disk_model.specs.View.{View}
+use Rattle.executor.specs.CallLaws.{both_none, calls_behind}
+use Rattle.executor.specs.Commands.{Obeys, Serves, ServesWhile}
+use Rattle.executor.specs.Lives.{Abandoned, Calls, Cleared, Does, Exchange, Row, Tidied, Took}
+use Rattle.executor.specs.RowCalls.{TakesRow, row_deeds, row_replies}
+use Rattle.executor.specs.Rows.{IsAt, TakesCommands, replies_of}
+use Rattle.executor.specs.Sessions.{Deeds, TakesWhile, both, command_deeds, no_deeds}
+use Rattle.executor.specs.Sights.{Sight}
+use Rattle.executor.specs.TidyCalls.{Tidies, TidiesWhile}
+use Rattle.executor.specs.TurnCalls.{TakesTurn, abandoned, with_empty_book}
+use Rattle.executor.specs.declared.session.InputOf.TheVariants as input
+use Rattle.executor.proofs.Keeping.{command_keeps}
+use Rattle.exec_client.specs.Behind.{Behind, claims, nothing}
+use Rattle.exec_client.specs.Heard.{Heard, IsTold}
+use Rattle.exec_client.specs.MayTell.{AllStand, MayBeReplied, MayReply, MaySay, MayTell, StandsBehind}
+use Rattle.exec_client.specs.Said.{Answered, Said, Noticed, answered, said_in}
+use Rattle.exec_client.specs.declared.told.Told.{Told}
+use Rattle.exec_commands.specs.declared.reply.LineReply.{LineReply}
+use Rattle.exec_client.proofs.Behinds.{both_behind, failed_behind, reply_behind, row_behind, says_none, turn_behind}
+use Rattle.exec_client.proofs.Saying.{no_claim}
+
+-- a refusal
+refused_behind : (r : Reply) (why : Refusal) → r ≡ reply.Refused why → Behind (answered r ∷ []) []
+refused_behind r why is =
+    subst (λ (t : Reply). Behind (answered t ∷ []) []) (sym is) (says_none (answered (reply.Refused why)) refl)
+
+-- events that are these
+events_are : (ss : List Said) (d e : Deeds) → d ≡ e → Behind ss e.events → Behind ss d.events
+events_are ss d e same behind = subst (λ (f : Deeds). Behind ss f.events) (sym same) behind
+
+module _ {D : Type 0} (look : D → View) where
+  -- no call, one call, and calls behind others
+  pub none_stands : (x y : Sight D) (said : List Said) → y ≡ x → Behind said [] → StandsBehind look x y said
+  none_stands x y said same behind = record { calls = []; deeds = no_deeds; leads = (same, refl); behind = behind }
+
+  one_stands : (x y : Sight D) (e : Exchange) (d : Deeds) (said : List Said) → Does look e x y d → Behind said d.events
+      → StandsBehind look x y said
+  one_stands x y e d said does behind =
+      record { calls = e ∷ []; deeds = d; leads = (y, d, no_deeds, does, (refl, refl), sym (both_none d)); behind = behind }
+
+  pub both_stand : (x y z : Sight D) (ss ts : List Said) → StandsBehind look x y ss → StandsBehind look y z ts
+      → StandsBehind look x z (ss ++ ts)
+  both_stand x y z ss ts one two = record {
+    calls = one.calls ++ two.calls;
+    deeds = both one.deeds two.deeds;
+    leads = calls_behind look x y z one.calls two.calls one.deeds two.deeds one.leads two.leads;
+    behind = both_behind ss one.deeds.events ts two.deeds.events one.behind two.behind;
+  }
+
+  -- nothing is told of the later calls
+  pub still_stand : (x y z : Sight D) (ss : List Said) → StandsBehind look x y ss → StandsBehind look y z [] → StandsBehind look x z ss
+  still_stand x y z ss one two =
+      subst (λ (said : List Said). StandsBehind look x z said) (append-nil ss) (both_stand x y z ss [] one two)
+
+  -- as it is told
+  pub as_told : (x y : Sight D) (ss ts : List Said) → ts ≡ ss → StandsBehind look x y ss → StandsBehind look x y ts
+  as_told x y ss ts same stands = subst (λ (said : List Said). StandsBehind look x y said) (sym same) stands
+
+  -- a command
+  obeys_behind : (now : ℕ) (c : Command) (x y : Sight D) (r : Reply) (found : Result Event Refusal) → event_of x.state now c ≡ found
+      → Obeys look found x y r → Behind (answered r ∷ []) (command_deeds found r).events
+  obeys_behind now c x y r (Err why) is (refused, same) = refused_behind r why refused
+  obeys_behind now c x y r (Ok e) is records = reply_behind e r (command_keeps x.state now c e is) records.told
+
+  -- a request
+  while_taken : (b : Bool) (now : ℕ) (request : Request) (x y : Sight D) (r : Reply) → ServesWhile b look now request x y r
+      → (b ≡ true → ((y.is_open ≡ false) ↔ (r ≡ reply.Refused Disk)))
+      → (d : Deeds) × TakesWhile b look (input.Request now request) x y r d × Behind (answered r ∷ []) d.events
+  while_taken true now (asked.Question question) x y r serves closes = (
+    no_deeds,
+    record { serves = serves; closes = closes refl; does = refl },
+    says_none (answered r) (no_claim x question r serves.0),
+  )
+  while_taken true now (asked.Command c) x y r serves closes = (
+    command_deeds (event_of x.state now c) r,
+    record { serves = serves; closes = closes refl; does = refl },
+    obeys_behind now c x y r (event_of x.state now c) refl serves,
+  )
+  while_taken false now request x y r serves closes = (no_deeds, (serves.0, serves.1, refl), refused_behind r _ serves.0)
+
+  pub serves_stands : (now : ℕ) (request : Request) (x y : Sight D) (r : Reply) → Serves look now request x y r
+      → (x.is_open ≡ true → ((y.is_open ≡ false) ↔ (r ≡ reply.Refused Disk))) → StandsBehind look x y (answered r ∷ [])
+  serves_stands now request x y r serves closes =
+      let (d, takes, behind) = while_taken x.is_open now request x y r serves closes in
+      one_stands x y (Took (input.Request now request) r) d (answered r ∷ []) takes behind
+
+  -- commands in a row
+  row_stands : (now : ℕ) (cs : List Command) (x y : Sight D) (rs : List Reply) (d : Deeds) → TakesRow look now cs x y rs d
+      → Behind (map answered rs) d.events
+  row_stands now cs x y rs d takes = by y.is_open refl
+    where
+      told_so : (b : Bool) → y.is_open ≡ b → Behind (map answered (row_replies b takes.meant)) (row_deeds b takes.events).events
+          → Behind (map answered rs) d.events
+      told_so b is behind =
+          events_are (map answered rs) d (row_deeds b takes.events) (takes.does ∙ ap (λ (o : Bool). row_deeds o takes.events) is)
+          (subst (λ (ts : List Reply). Behind (map answered ts) (row_deeds b takes.events).events)
+          (sym (takes.told ∙ ap (λ (o : Bool). row_replies o takes.meant) is)) behind)
+
+      by : (b : Bool) → y.is_open ≡ b → Behind (map answered rs) d.events
+      by true is = told_so true is (row_behind now x.state cs takes.meant takes.events takes.answered)
+      by false is = told_so false is (failed_behind takes.meant)
+
+  -- one of the calls that commands are taken by
+  taken_behind : (b : Bool) (at : ℕ) (c : Command) (x y : Sight D) (r : Reply) (d : Deeds)
+      → TakesWhile b look (input.Request at (asked.Command c)) x y r d → Behind (answered r ∷ []) d.events
+  taken_behind true at c x y r d takes =
+      events_are (answered r ∷ []) d (command_deeds (event_of x.state at c) r) takes.does
+      (obeys_behind at c x y r (event_of x.state at c) refl takes.serves)
+  taken_behind false at c x y r d (refused, same, none) = events_are (answered r ∷ []) d no_deeds none (refused_behind r _ refused)
+
+  one_behind : (now : ℕ) (e : Exchange) (x y : Sight D) (d : Deeds) → IsAt now e → Does look e x y d
+      → Behind (map answered (replies_of e)) d.events
+  one_behind now (Took (input.Request at (asked.Command c)) r) x y d is does = taken_behind x.is_open at c x y r d does
+  one_behind now (Took (input.Request at (asked.Question q)) r) x y d is does = absurd is
+  one_behind now (Took (input.Turn at) r) x y d is does = absurd is
+  one_behind now (Row at cs rs) x y d is does = row_stands at cs x y rs d does
+  one_behind now (Tidied end) x y d is does = absurd is
+  one_behind now Cleared x y d is does = absurd is
+  one_behind now Abandoned x y d is does = absurd is
+
+  calls_told : (now : ℕ) (es : List Exchange) (x y : Sight D) (d : Deeds) → AllByRecursion (IsAt now) es → Calls look x es y d
+      → Behind (map answered (flat_map replies_of es)) d.events
+  calls_told now [] x y d at (same, none) = events_are [] d no_deeds none nothing
+  calls_told now (e ∷ es) x y d at (mid, first, later, does, calls, is) =
+      subst (λ (ss : List Said). Behind ss d.events) (sym (map-append answered (replies_of e) (flat_map replies_of es)))
+      (events_are (map answered (replies_of e) ++ map answered (flat_map replies_of es)) d (both first later) is
+      (both_behind (map answered (replies_of e)) first.events (map answered (flat_map replies_of es)) later.events
+      (one_behind now e x mid first at.0 does) (calls_told now es mid y later at.1 calls)))
+
+  pub commands_stand : (now : ℕ) (cs : List Command) (x y : Sight D) (rs : List Reply) → TakesCommands look now cs x y rs
+      → StandsBehind look x y (map answered rs)
+  commands_stand now cs x y rs takes = record {
+    calls = takes.exchanges;
+    deeds = takes.deeds;
+    leads = takes.calls;
+    behind = subst (λ (ts : List Reply). Behind (map answered ts) takes.deeds.events) takes.answered
+        (calls_told now takes.exchanges x y takes.deeds takes.at_once takes.calls);
+  }
+
+  -- a turn, a tidy, and an emptied book
+  pub turn_stands : (now : ℕ) (x y : Sight D) (end : TurnEnd) → x.is_open ≡ true → TakesTurn look now x y end
+      → StandsBehind look x y (map Noticed y.told)
+  turn_stands now x y end is_open takes =
+      let d : Deeds = record { entries = takes.turns.entries; events = takes.turns.events; pending = takes.turns.pending } in
+      one_stands x y (Took (input.Turn now) (reply.Turn end)) d (map Noticed y.told)
+      (subst (λ (o : Bool). TakesWhile o look (input.Turn now) x y (reply.Turn end) d) (sym is_open)
+      (record { end = end; takes = takes; replies = refl; does = refl }))
+      (turn_behind end _ takes.turns.entries takes.turns.events takes.turns.pending y.told takes.turns.does)
+
+  pub tidy_stands : (x y : Sight D) (end : TidyEnd) → x.is_open ≡ true → Tidies look x y end → StandsBehind look x y []
+  tidy_stands x y end is_open tidies =
+      one_stands x y (Tidied end) no_deeds [] (subst (λ (o : Bool). TidiesWhile o look x y end) (sym is_open) tidies, refl) nothing
+
+  pub cleared_stands : (x y : Sight D) → y ≡ with_empty_book x → StandsBehind look x y []
+  cleared_stands x y cleared = one_stands x y Cleared no_deeds [] (cleared, refl) nothing
+
+  -- what may be told now, of an executor that went on by calls
+  pub may_tell : (heard : Heard D) (x y : Sight D) (what : Told) → AllStand look heard x → StandsBehind look x y (said_in what)
+      → MaySay look heard.opened y what → MayTell look heard y what
+  may_tell heard x y what stands more says =
+      record { stands = both_stand heard.opened x y heard.told (said_in what) stands more; says = says }
+
+  -- and once it is told all stands
+  pub told_all_stand : (heard heard' : Heard D) (x : Sight D) (what : Told) → MayTell look heard x what → IsTold heard heard' (said_in what)
+      → AllStand look heard' x
+  told_all_stand heard heard' x what may told =
+      subst (λ (o : Sight D). StandsBehind look o x heard'.told) (sym told.0)
+      (subst (λ (ss : List Said). StandsBehind look heard.opened x ss) (sym told.1) may.stands)
+
+  -- calls of which nothing is told
+  pub all_still_stand : (heard : Heard D) (x y : Sight D) → AllStand look heard x → StandsBehind look x y [] → AllStand look heard y
+  all_still_stand heard x y stands more = still_stand heard.opened x y heard.told stands more
+
+  -- a reply to a line, of an executor that went on by calls
+  pub may_reply : (heard : Heard D) (x y : Sight D) (given : LineReply) → AllStand look heard x
+      → StandsBehind look x y (Answered given ∷ []) → MayReply y given → MayBeReplied look heard y given
+  may_reply heard x y given stands more says = (both_stand heard.opened x y heard.told (Answered given ∷ []) stands more, says)
+
+  -- one that says nothing of what is recorded
+  pub may_reply_none : (heard : Heard D) (x : Sight D) (given : LineReply) → AllStand look heard x → claims (Answered given) ≡ false
+      → MayReply x given → MayBeReplied look heard x given
+  may_reply_none heard x given stands none says =
+      may_reply heard x x given stands (none_stands x x (Answered given ∷ []) refl (says_none (Answered given) none)) says
+
+  -- all children are given up
+  pub abandoned_stands : (x y : Sight D) → y ≡ abandoned x → StandsBehind look x y []
+  abandoned_stands x y given_up = one_stands x y Abandoned no_deeds [] (given_up, refl) nothing

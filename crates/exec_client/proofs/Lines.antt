@@ -1,0 +1,21 @@
+-- The lines of what is told.
+use Rattle.std.proofs.Common.{◌≡◌, ℕ, List, [], ◌∷◌, ◌++◌, map, Result, Ok, Err, OnOk, Option, refl, sym, ap, subst}
+use Rattle.std.specs.Io.KnownBytes.{Appends}
+use Rattle.std.specs.List.{flat_map}
+use Rattle.exec_commands.specs.declared.notice.NoticeForm.{NoticeForm}
+use Rattle.exec_client.specs.Said.{Said, line_of}
+
+-- the lines of items that are told so
+pub lines_are : {X : Type 0} (form : NoticeForm) (tell : X → Said) (xs : List X)
+    → flat_map (line_of form) (map tell xs) ≡ flat_map (λ x. line_of form (tell x)) xs
+lines_are form tell [] = refl
+lines_are form tell (x ∷ xs) = ap (λ (l : List ℕ). line_of form (tell x) ++ l) (lines_are form tell xs)
+
+-- what is written of several that are told so
+pub writes_all : {X T E : Type 0} (form : NoticeForm) (tell : X → Said) (xs : List X) (more : List Said) (r : Result T E)
+    (a b : Option (List ℕ)) → more ≡ map tell xs → OnOk r (Appends a b (flat_map (λ x. line_of form (tell x)) xs))
+    → OnOk r (Appends a b (flat_map (line_of form) more))
+writes_all form tell xs more (Ok done) a b is written =
+    subst (λ (ss : List Said). Appends a b (flat_map (line_of form) ss)) (sym is)
+    (subst (λ (l : List ℕ). Appends a b l) (sym (lines_are form tell xs)) written)
+writes_all form tell xs more (Err e) a b is written = tt

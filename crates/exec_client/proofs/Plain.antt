@@ -1,0 +1,125 @@
+-- The replies to commands say nothing of what the state holds.
+use Rattle.std.proofs.Common.{◌≡◌, inl, inr, ℕ, zero, suc, Bool, true, false, List, [], ◌∷◌, ◌++◌, Result, Ok, Err, sym, subst}
+use Rattle.std.specs.Prelude.{replicate}
+use Rattle.std.specs.List.{AllByRecursion, flat_map}
+use Rattle.ocf_types.specs.Answer.{event_of}
+use Rattle.ocf_types.specs.Kinds.{Change, Command, Event, Reply}
+use Rattle.ocf_types.specs.State.{State, after_all}
+use Rattle.ocf_types.specs.declared.command.RequestOf.TheVariants as asked
+use Rattle.ocf_types.specs.declared.event.Change.TheVariants as change
+use Rattle.ocf_types.specs.declared.event.Step.TheVariants as step
+use Rattle.ocf_types.specs.declared.refusal.Refusal.{Refusal}
+use Rattle.ocf_types.specs.declared.refusal.Refusal.TheVariants.{Disk}
+use Rattle.ocf_types.specs.declared.reply.ReplyOf.TheVariants as reply
+use Rattle.disk_model.specs.View.{View}
+use Rattle.executor.specs.Commands.{Obeys}
+use Rattle.executor.specs.Lives.{Abandoned, Calls, Cleared, Does, Exchange, Row, Tidied, Took}
+use Rattle.executor.specs.Replies.{IsReplyTo, acknowledged}
+use Rattle.executor.specs.RowCalls.{Adds, Answered, disk_each, failed, row_replies}
+use Rattle.executor.specs.Rows.{IsAt, TakesCommands, replies_of}
+use Rattle.executor.specs.Sessions.{Deeds, TakesWhile}
+use Rattle.executor.specs.Sights.{Sight}
+use Rattle.executor.specs.declared.session.InputOf.TheVariants as input
+use Rattle.exec_client.specs.MayTell.{MayAnswer}
+
+all_both : {X : Type 0} (P : X → Type 0) (xs ys : List X) → AllByRecursion P xs → AllByRecursion P ys → AllByRecursion P (xs ++ ys)
+all_both P [] ys one two = two
+all_both P (x ∷ xs) ys one two = (one.0, all_both P xs ys one.1 two)
+
+module _ {D : Type 0} (z : Sight D) where
+  abbrev Plain : Reply → Type 0
+  Plain r = MayAnswer z r
+
+  is_plain : (r s : Reply) → r ≡ s → Plain s → Plain r
+  is_plain r s same plain = subst Plain (sym same) plain
+
+  ack_plain : (c : Change) → Plain (acknowledged c)
+  ack_plain (change.Register r) = tt
+  ack_plain (change.Unregister id) = tt
+  ack_plain change.Boot = tt
+  ack_plain (change.Step id (step.SetParams ps)) = tt
+  ack_plain (change.Step id (step.Exec o)) = tt
+  ack_plain (change.Step id (step.Recur m)) = tt
+  ack_plain (change.Step id (step.Cancel interval)) = tt
+  ack_plain (change.Step id step.Forget) = tt
+  ack_plain (change.Step id (step.Begin call run)) = tt
+  ack_plain (change.Step id (step.Result run end)) = tt
+  ack_plain (change.Step id (step.Withdraw call)) = tt
+
+  -- a command's
+  pub reply_plain : (e : Event) (r : Reply) → IsReplyTo e r → Plain r
+  reply_plain e r (inl is) = is_plain r (acknowledged e.change) is (ack_plain e.change)
+  reply_plain e r (inr (inl is)) = is_plain r _ is tt
+  reply_plain e r (inr (inr (inl is))) = is_plain r _ is tt
+  reply_plain e r (inr (inr (inr is))) = is_plain r _ is tt
+
+  pub obeys_plain : (look : D → View) (x y : Sight D) (r : Reply) (found : Result Event Refusal) → Obeys look found x y r → Plain r
+  obeys_plain look x y r (Err why) (refused, same) = is_plain r _ refused tt
+  obeys_plain look x y r (Ok e) records = reply_plain e r records.told
+
+  -- those of a row
+  adds_plain : (found : Result Event Refusal) (r : Reply) (es : List Event) → Adds found r es → Plain r
+  adds_plain (Err why) r es (refused, none) = is_plain r _ refused tt
+  adds_plain (Ok e) r es (inl (told, one)) = is_plain r _ told (ack_plain e.change)
+  adds_plain (Ok e) r es (inr (refused, registers, none)) = is_plain r _ refused tt
+
+  answered_plain : (now : ℕ) (s : State) (cs : List Command) (rs : List Reply) (es : List Event) → Answered now s cs rs es
+      → AllByRecursion Plain rs
+  answered_plain now s [] [] es none = tt
+  answered_plain now s (c ∷ cs) (r ∷ rs) es (first, later, adds, rest, is) =
+      (adds_plain (event_of s now c) r first adds, answered_plain now (after_all s first) cs rs later rest)
+  answered_plain now s [] (r ∷ rs) es none = absurd none
+  answered_plain now s (c ∷ cs) [] es none = absurd none
+
+  disk_plain : (rs : List Reply) → AllByRecursion Plain (disk_each rs)
+  disk_plain [] = tt
+  disk_plain (r ∷ rs) = (tt, disk_plain rs)
+
+  failed_plain : (rs : List Reply) → AllByRecursion Plain (failed rs)
+  failed_plain [] = tt
+  failed_plain (reply.Refused why ∷ rs) = (tt, failed_plain rs)
+  failed_plain (reply.Done ∷ rs) = (tt, disk_plain rs)
+  failed_plain (reply.Accepted call key ∷ rs) = (tt, disk_plain rs)
+  failed_plain (reply.List ids ∷ rs) = (tt, disk_plain rs)
+  failed_plain (reply.Info info ∷ rs) = (tt, disk_plain rs)
+  failed_plain (reply.History results ∷ rs) = (tt, disk_plain rs)
+  failed_plain (reply.Turn end ∷ rs) = (tt, disk_plain rs)
+
+  pub refused_plain : (n : ℕ) → AllByRecursion Plain (replicate n (reply.Refused Disk))
+  refused_plain zero = tt
+  refused_plain (suc n) = (tt, refused_plain n)
+
+  row_plain : (b : Bool) (now : ℕ) (s : State) (cs : List Command) (meant : List Reply) (es : List Event) → Answered now s cs meant es
+      → AllByRecursion Plain (row_replies b meant)
+  row_plain true now s cs meant es given = answered_plain now s cs meant es given
+  row_plain false now s cs meant es given = failed_plain meant
+
+  module _ (look : D → View) where
+    taken_plain : (b : Bool) (at : ℕ) (c : Command) (x y : Sight D) (r : Reply) (d : Deeds)
+        → TakesWhile b look (input.Request at (asked.Command c)) x y r d → Plain r
+    taken_plain true at c x y r d takes = obeys_plain look x y r (event_of x.state at c) takes.serves
+    taken_plain false at c x y r d (refused, same, none) = is_plain r _ refused tt
+
+    one_plain : (now : ℕ) (e : Exchange) (x y : Sight D) (d : Deeds) → IsAt now e → Does look e x y d → AllByRecursion Plain (replies_of e)
+    one_plain now (Took (input.Request at (asked.Command c)) r) x y d is does = (taken_plain x.is_open at c x y r d does, tt)
+    one_plain now (Took (input.Request at (asked.Question q)) r) x y d is does = absurd is
+    one_plain now (Took (input.Turn at) r) x y d is does = absurd is
+    one_plain now (Row at cs rs) x y d is does =
+        subst (λ (ts : List Reply). AllByRecursion Plain ts) (sym does.told)
+        (row_plain y.is_open at x.state cs does.meant does.events does.answered)
+    one_plain now (Tidied end) x y d is does = absurd is
+    one_plain now Cleared x y d is does = absurd is
+    one_plain now Abandoned x y d is does = absurd is
+
+    calls_plain : (now : ℕ) (es : List Exchange) (x y : Sight D) (d : Deeds) → AllByRecursion (IsAt now) es → Calls look x es y d
+        → AllByRecursion Plain (flat_map replies_of es)
+    calls_plain now [] x y d at calls = tt
+    calls_plain now (e ∷ es) x y d at (mid, first, later, does, calls, is) =
+        all_both Plain (replies_of e) (flat_map replies_of es) (one_plain now e x mid first at.0 does)
+        (calls_plain now es mid y later at.1 calls)
+
+    pub commands_plain : (now : ℕ) (cs : List Command) (x y : Sight D) (rs : List Reply) → TakesCommands look now cs x y rs
+        → AllByRecursion Plain rs
+    commands_plain now cs x y rs takes =
+        subst (λ (ts : List Reply). AllByRecursion Plain ts) takes.answered
+        (calls_plain now takes.exchanges x y takes.deeds takes.at_once takes.calls)

@@ -1,0 +1,61 @@
+-- What may be said.
+use Rattle.std.proofs.Common.{◌≡◌, ◌⊎◌, inl, inr, true, false, Option, None, Some, refl, sym, ap, subst, ◌∙◌}
+use Rattle.std.specs.Option.{option_map_or}
+use Rattle.ocf_types.specs.Answer.{info_of, reply_to}
+use Rattle.ocf_types.specs.Kinds.{Reply}
+use Rattle.ocf_types.specs.Resource.{Resource}
+use Rattle.ocf_types.specs.State.{State, resource_at}
+use Rattle.ocf_types.specs.declared.command.Question.{Question}
+use Rattle.ocf_types.specs.declared.command.Question.TheVariants as question
+use Rattle.ocf_types.specs.declared.refusal.Refusal.TheVariants.{Memory, UnknownResource}
+use Rattle.ocf_types.specs.declared.reply.ReplyOf.TheVariants as reply
+use Rattle.exec_state.specs.Answers.{IsReplyOrMemory}
+use Rattle.executor.specs.Sights.{Sight}
+use Rattle.exec_client.specs.Behind.{claims}
+use Rattle.exec_client.specs.MayTell.{MayAnswer}
+use Rattle.exec_client.specs.Said.{answered}
+
+-- an answer to a question, or want of memory
+is_or_memory : (r given : Reply) → IsReplyOrMemory r given → (given ≡ r) ⊎ (given ≡ reply.Refused Memory)
+is_or_memory (reply.Refused why) given is = inl is
+is_or_memory reply.Done given is = is
+is_or_memory (reply.Accepted call key) given is = is
+is_or_memory (reply.List ids) given is = is
+is_or_memory (reply.Info info) given is = is
+is_or_memory (reply.History results) given is = is
+is_or_memory (reply.Turn end) given is = is
+
+-- what is said of a resource, or that there is none
+said_none : (o : Option Resource) (say : Resource → Reply) → ((r : Resource) → claims (answered (say r)) ≡ false)
+    → claims (answered (option_map_or say o (reply.Refused UnknownResource))) ≡ false
+said_none None say none = refl
+said_none (Some r) say none = none r
+
+-- an answer says of nothing that it is recorded
+answer_none : (s : State) (q : Question) → claims (answered (reply_to s q)) ≡ false
+answer_none s question.List = refl
+answer_none s (question.Info id) = said_none (resource_at s id) (λ r. reply.Info (info_of id r)) (λ r. refl)
+answer_none s (question.History id) = said_none (resource_at s id) (λ r. reply.History r.history.ended) (λ r. refl)
+
+pub no_claim : {D : Type 0} (x : Sight D) (q : Question) (given : Reply) → IsReplyOrMemory (reply_to x.state q) given
+    → claims (answered given) ≡ false
+no_claim x q given is = elim (is_or_memory (reply_to x.state q) given is) [
+  | inl same ↦ ap (λ (r : Reply). claims (answered r)) same ∙ answer_none x.state q
+  | inr memory ↦ ap (λ (r : Reply). claims (answered r)) memory
+]
+
+module _ {D : Type 0} (x : Sight D) (question : Question) (is_open : x.is_open ≡ true) where
+  from_state : (given : Reply) → given ≡ reply_to x.state question → MayAnswer x given
+  from_state (reply.Refused why) is = tt
+  from_state reply.Done is = tt
+  from_state (reply.Accepted call key) is = tt
+  from_state (reply.List ids) is = (is_open, question, is)
+  from_state (reply.Info info) is = (is_open, question, is)
+  from_state (reply.History results) is = (is_open, question, is)
+  from_state (reply.Turn end) is = tt
+
+  pub may_answer : (given : Reply) → IsReplyOrMemory (reply_to x.state question) given → MayAnswer x given
+  may_answer given is = elim (is_or_memory (reply_to x.state question) given is) [
+    | inl same ↦ from_state given same
+    | inr memory ↦ subst (λ (r : Reply). MayAnswer x r) (sym memory) tt
+  ]

@@ -1,0 +1,53 @@
+-- `of` makes a value of no bytes, at the value that is seen.
+use Rattle.std.proofs.Common.{List, [], ◌∷◌, refl}
+use Rattle.std.proofs.raw_atomic.Walks.{proved}
+use mir.MapTy.{inst_fn}
+use mir.Syntax.{a_type, named}
+use mir.Val.{Val, vstruct, vcons, vnil}
+use types.Kit.{‵, raw, ◌⊛◌, ◌$◌, ◌∵◌, !, qed, done, move, keep, split, suffices}
+use types.Part.{agg}
+use types.Run.{enter, no_more, and_then, returns}
+use types.ByLocal.{alloc_all, pass_all, free_all, look_at, get, sets}
+use denote.Exit.{yes}
+use denote.Param.{layouts}
+use denote.RattleType.{owns}
+use denote.Ref.{shr_vals, shr_Tells}
+use denote.Shadow.{pure_i}
+use denote.Signature.{plain, types_at}
+use denote.Triple.Entry.{alive}
+use denote.Triple.Walked.{Stays, walk_of, says, stay_none_ref, Goes-none_ref, ends_at}
+use Rattle.exec_client.specs.contracts.seen.Seen.{the_row as R}
+use Rattle.exec_client.specs.contracts.seen.Seen.of as f
+use Rattle.exec_client.proofs.seen.Seen.of.Statement.{statement}
+use Rattle.exec_client.proofs.seen.Seen.of.Code as code
+
+-- how the machine stores it
+abbrev stored : Val
+stored = vstruct (vcons (vstruct vnil) vnil)
+
+pub of_spec : {M : Type 1} → statement M
+of_spec 𝓤 𝓛 𝓜 𝓡 wired T L =
+    let P = f.T-row T in
+    let stayed : Stays (f.ended T).signature.params (f.ended T).kept =
+    (stay_none_ref (0 ∷ []) tt (plain (λ _. P)) yes, tt) in
+    let args = layouts (a_type ∷ []) (T, tt) in
+    let c = f.clauses T 𝓛 𝓜.mem 𝓡.returns in let W = walk_of 𝓛 (f.ended T) stayed c in
+    proved 𝓛 (f.ended T) stayed c 𝓜 𝓡
+    (Goes-none_ref 𝓛 2 (0 ∷ []) tt (plain (λ _. P)) yes, tt)
+    (f.Key.name args) (inst_fn args code.function) (code.unfolded 𝓤 𝓛.H 𝓜 𝓡 wired (T, tt))
+    (λ κs. (shr_vals, tt)) (λ κs. (shr_Tells (named 0) κs.0 P, tt))
+    (λ κs qs bounds a g are.
+    let made : (R P).Denot = record { «of» = record {}; value = a.0.now } in
+    let vs : List Val × Unit {0} = (shr_vals a.0, tt) in
+    let y : W.Ghost = ((κs, qs, bounds, a, vs), g) in
+    qed 𝓛 ((raw (alive 𝓛 (f.ended T).signature κs qs) ⊛ ‵
+    (owns (types_at (f.ended T).signature.params κs) a vs)) ∷ raw ((c κs a).requires g) ∷ []) ∵
+    keep ! (0 ∷ []) $ split ! $ keep ! (0 ∷ 1 ∷ []) $
+    enter ! _ _ _ _ _ $ alloc_all !
+    (λ l. pass_all ! refl ((tt, tt), tt) $
+    sets ! (agg ! (no_more !)) refl (tt, tt) $ sets ! (agg ! (and_then ! (get ! refl) (no_more !))) refl (tt, (tt, tt)) $
+    returns ! (look_at ! 0 refl) $ free_all ! refl $
+    pure_i ! ((R P).own_val made (stored ∷ [])) ((λ vss. (tt, ((λ uss. (tt, tt)), tt))), tt)
+    (((vstruct vnil ∷ [], tt), (refl, ((tt, (refl, tt)), tt))), tt) $
+    suffices ! _ (ends_at 𝓛 (f.ended T) stayed c y stored made (tt, tt) (tt, tt)) $ says ! refl $
+    move ! (1 ∷ 2 ∷ 0 ∷ []) $ done !))

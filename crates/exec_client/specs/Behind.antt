@@ -1,0 +1,38 @@
+-- What stands behind what is told: each acknowledgement and each notice of a result has an event of its own.
+use Rattle.std.specs.Prelude.{◌≡◌, Bool, true, false, List, [], ◌∷◌}
+use Rattle.ocf_types.specs.Kinds.{Event}
+use Rattle.ocf_types.specs.declared.event.Change.TheVariants as change
+use Rattle.ocf_types.specs.declared.event.Step.TheVariants as step
+use Rattle.ocf_types.specs.declared.outcome.Outcome.TheVariants.{Run}
+use Rattle.ocf_types.specs.declared.outcome.RunEnd.{RunEnd}
+use Rattle.ocf_types.specs.declared.reply.Notice.{Notice}
+use Rattle.ocf_types.specs.declared.reply.ReplyOf.TheVariants.{Accepted, Done}
+use Rattle.executor.specs.Replies.{KeepsRunning, acknowledged}
+use Rattle.exec_commands.specs.declared.reply.LineReply.TheVariants.{Request}
+use Rattle.exec_client.specs.Said.{Said, Answered, Noticed}
+
+-- it says that something is recorded: an acknowledgement of a command, or a notice of a result
+abbrev pub claims : Said → Bool
+claims (Answered (Request Done)) = true
+claims (Answered (Request (Accepted call key))) = true
+claims (Noticed notice) = true
+claims _ = false
+
+-- the notice is of the result that this event is: of that resource's run, which ended so at that moment
+pub record IsOfResult (n : Notice) (e : Event) : Type 0 where
+  pub end : RunEnd
+  pub is : e ≡ record { at = n.result.at; change = change.Step n.id (step.Result n.result.run end) }
+  pub ended : n.result.outcome ≡ Run end
+
+-- it says that this event is recorded: a command's, which it acknowledges, or a result
+abbrev pub TellsOf : Said → Event → Type 0
+TellsOf (Answered (Request reply)) e = KeepsRunning e.change × (reply ≡ acknowledged e.change)
+TellsOf (Noticed notice) e = IsOfResult notice e
+TellsOf _ e = ⊥
+
+-- Whatever is told and says that something is recorded says it of one of these events: each of another, in their order.
+pub data Behind : List Said → List Event → Type 0 where
+  nothing : Behind [] []
+  untold : (e : Event) (ss : List Said) (es : List Event) → Behind ss es → Behind ss (e ∷ es)
+  tells : (s : Said) (e : Event) (ss : List Said) (es : List Event) → TellsOf s e → Behind ss es → Behind (s ∷ ss) (e ∷ es)
+  says_else : (s : Said) (ss : List Said) (es : List Event) → claims s ≡ false → Behind ss es → Behind (s ∷ ss) es

@@ -1,0 +1,22 @@
+-- What a client has heard.
+use Rattle.std.specs.Prelude.{◌≡◌, ℕ, List, ◌++◌, Option}
+use Rattle.std.specs.Io.KnownBytes.{Appends}
+use Rattle.std.specs.List.{flat_map}
+use Rattle.executor.specs.Sights.{Sight}
+use Rattle.exec_commands.specs.declared.notice.NoticeForm.{NoticeForm}
+use Rattle.exec_client.specs.Said.{Said, line_of}
+
+-- the executor as it was opened, what was told of it since, in its order, and what the writer holds, where that is known
+pub record Heard (D : Type 0) : Type 0 where
+  pub opened : Sight D
+  pub told : List Said
+  pub written : Option (List ℕ)
+
+-- this was told behind all else
+abbrev pub IsTold : {D : Type 0} → Heard D → Heard D → List Said → Type 0
+IsTold old new more = (new.opened ≡ old.opened) × (new.told ≡ old.told ++ more)
+
+-- It was told, and what is written grew by just the lines that say it.
+pub record Hears {D : Type 0} (form : NoticeForm) (old new : Heard D) (more : List Said) : Type 0 where
+  pub told : IsTold old new more
+  pub written : Appends old.written new.written (flat_map (line_of form) more)

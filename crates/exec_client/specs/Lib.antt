@@ -1,0 +1,5 @@
+pub mod Said
+pub mod Behind
+pub mod Heard
+pub mod MayTell
+pub mod Lives

@@ -1,0 +1,68 @@
+-- When a client may be told something.
+use Rattle.std.specs.Prelude.{◌≡◌, ◌⊎◌, ℕ, true, ⊤, List, [], ◌∷◌, ◌++◌}
+use Rattle.std.specs.List.{AllByRecursion}
+use Rattle.ocf_types.specs.Answer.{reply_to}
+use Rattle.ocf_types.specs.Kinds.{Reply}
+use Rattle.ocf_types.specs.declared.command.Question.{Question}
+use Rattle.ocf_types.specs.declared.reply.Notice.{Notice}
+use Rattle.ocf_types.specs.declared.reply.ReplyOf.TheVariants as reply
+use Rattle.disk_model.specs.View.{View}
+use Rattle.child_keeper.specs.Children.{ChildrenView}
+use Rattle.executor.specs.Lives.{Calls, Exchange}
+use Rattle.executor.specs.Openings.{Opened}
+use Rattle.executor.specs.Sessions.{Deeds}
+use Rattle.executor.specs.Sights.{Sight}
+use Rattle.exec_commands.specs.declared.reply.LineReply.{LineReply}
+use Rattle.exec_commands.specs.declared.reply.LineReply.TheVariants.{Request}
+use Rattle.exec_client.specs.Behind.{Behind}
+use Rattle.exec_client.specs.Heard.{Heard}
+use Rattle.exec_client.specs.Said.{Answered, Said, said_in}
+use Rattle.exec_client.specs.declared.told.Told.{Told}
+use Rattle.exec_client.specs.declared.told.Told.TheVariants as told
+
+-- Calls lead from one sight of an executor to another, and what they recorded stands behind what was told.
+pub record StandsBehind {D : Type 0} (look : D → View) (old new : Sight D) (said : List Said) : Type 0 where
+  pub calls : List Exchange
+  pub deeds : Deeds
+  pub leads : Calls look old calls new deeds
+  pub behind : Behind said deeds.events
+
+-- it is what an open executor answers to some question, from its state
+abbrev pub IsAnswer : {D : Type 0} → Sight D → Reply → Type 0
+IsAnswer x given = (x.is_open ≡ true) × (question : Question) × (given ≡ reply_to x.state question)
+
+-- what a reply has to be that says what the state holds
+abbrev pub MayAnswer : {D : Type 0} → Sight D → Reply → Type 0
+MayAnswer x (reply.List ids) = IsAnswer x (reply.List ids)
+MayAnswer x (reply.Info info) = IsAnswer x (reply.Info info)
+MayAnswer x (reply.History results) = IsAnswer x (reply.History results)
+MayAnswer x _ = ⊤
+
+abbrev pub MayReply : {D : Type 0} → Sight D → LineReply → Type 0
+MayReply x (Request given) = MayAnswer x given
+MayReply x _ = ⊤
+
+-- an opening that gave this executor reported these as interrupted, or as dropped
+abbrev pub IsReported : {D : Type 0} → (D → View) → Sight D → List Notice → Type 0
+IsReported {D} look x notices = (old : D) × (from : ChildrenView) × (now : ℕ) × (ran : List Notice) × (queued : List Notice)
+    × Opened look (look old) from now x ran queued × ((notices ≡ ran) ⊎ (notices ≡ queued))
+
+-- answers are from the state at which the executor is settled, a report is that of its opening
+abbrev pub MaySay : {D : Type 0} → (D → View) → Sight D → Sight D → Told → Type 0
+MaySay look opened x (told.Reply given) = MayReply x given.now
+MaySay look opened x (told.Replies given) = AllByRecursion (MayAnswer x) given.now
+MaySay look opened x (told.Notices notices) = ⊤
+MaySay look opened x (told.Report notices) = IsReported look opened notices.now
+
+-- all that was told stands behind what the executor recorded since it was opened
+abbrev pub AllStand : {D : Type 0} → (D → View) → Heard D → Sight D → Type 0
+AllStand look heard x = StandsBehind look heard.opened x heard.told
+
+-- This may be told to a client of an executor that is seen so: all that was told stands, and this, too.
+pub record MayTell {D : Type 0} (look : D → View) (heard : Heard D) (x : Sight D) (what : Told) : Type 0 where
+  pub stands : StandsBehind look heard.opened x (heard.told ++ said_in what)
+  pub says : MaySay look heard.opened x what
+
+-- the same of a reply to a line
+abbrev pub MayBeReplied : {D : Type 0} → (D → View) → Heard D → Sight D → LineReply → Type 0
+MayBeReplied look heard x given = StandsBehind look heard.opened x (heard.told ++ Answered given ∷ []) × MayReply x given

@@ -1,0 +1,24 @@
+//! The law of what clients were told, the contract of a function that does nothing else.
+ghost use Rattle.std.specs.Prelude.{List};
+ghost use Rattle.ocf_types.specs.Kinds.{Event};
+ghost use Rattle.ocf_types.specs.State.{State, after_all};
+ghost use Rattle.disk_model.specs.Image.{Image};
+ghost use Rattle.exec_journal.specs.Found.{FoundAs};
+ghost use Rattle.executor.specs.Lives.{IsLife, LifeLeaves, Lived, Sitting};
+ghost use Rattle.exec_client.specs.Behind.{Behind};
+ghost use Rattle.exec_client.specs.Lives.{ToldOver};
+ghost use Rattle.exec_client.specs.Said.{Said};
+
+use disk_model::Disk;
+use executor::laws::whole_life;
+
+/// Behind a whole life, of openings, calls and stops at any moment, every pair that may be left is found as the state after
+/// what stands of it, and each acknowledgement and each notice that a client was told in any sitting has an event of its own
+/// in that, in the order in which they were told.
+pub fn told_stands<D: Disk>()
+    ensures stands { (start : State) (life : List (Sitting D)) (told : List Said) → IsLife D.view start life → ToldOver life told
+        → (c : Image) → LifeLeaves D.view start life c
+        → (zs : List Event) × Lived start life zs × FoundAs (after_all start zs) c × Behind told zs }
+{
+    whole_life::<D>();
+}

@@ -1,0 +1,13 @@
+//! What a client of an executor is told, and when it may be: nothing is acknowledged that is not recorded.
+#![tactic(auto)]
+
+mod client;
+pub mod laws;
+mod seen;
+mod teller;
+mod telling;
+mod told;
+
+pub use client::Client;
+pub use teller::Teller;
+pub use told::Told;

@@ -1,0 +1,44 @@
+//! What was told, for contracts alone.
+ghost use Rattle.std.specs.Prelude.{◌≡◌, List, [], ◌++◌};
+ghost use Rattle.std.specs.Borrow.{ftrue};
+ghost use Rattle.exec_client.specs.Said.{Said};
+
+use crate::told::Told;
+use std::marker::Model;
+
+/// What was told, in its order.
+///
+/// Nothing of it is kept when the program runs. So `new` and `with` have no body to speak of, and are proved by hand.
+#[derive(Drop)]
+pub struct Telling {
+    pub ghost said: { List Said },
+}
+
+impl Model for Telling {
+    ghost also_owns = { λ _. ftrue };
+}
+
+impl Telling {
+    ghost use Rattle.exec_client.specs.Said.{said_in};
+
+    /// Nothing was told.
+    pub fn new() -> Telling
+        ensures { result.said ≡ [] }
+    {
+        Telling {}
+    }
+
+    // The same, and then this.
+    fn with(&self, what: &Told) -> Telling
+        ensures { result.said ≡ self.now.said ++ said_in what.now }
+    {
+        Telling {}
+    }
+
+    /// This is told next.
+    pub fn note(&mut self, what: &Told)
+        ensures { self.new.said ≡ self.old.said ++ said_in what.now }
+    {
+        *self = self.with(what);
+    }
+}
