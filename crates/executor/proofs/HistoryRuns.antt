@@ -40,7 +40,7 @@ or_true : (a : Bool) → (a || true) ≡ true
 or_true true = refl
 or_true false = refl
 
-rests : (h : History) → is_busy h ≡ false → h.running ≡ None
+pub rests : (h : History) → is_busy h ≡ false → h.running ≡ None
 rests h idle = by h.running refl
   where
     by : (o : Option Running) → h.running ≡ o → o ≡ None

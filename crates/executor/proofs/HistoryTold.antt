@@ -198,7 +198,7 @@ module _ (id : List ℕ) (run : ℕ) where
       let halves = both_false (ends_run id run e.change) (has_end id run es) none in
       ap₂ (λ (a b : List Notice). a ++ b) (no_boot s e.at e.change halves.0) (none_between (after s e) es halves.1)
 
-interruptions-append : (s : State) (es fs : List Event) → interruptions s (es ++ fs) ≡ interruptions s es ++ interruptions (after_all s es) fs
+pub interruptions-append : (s : State) (es fs : List Event) → interruptions s (es ++ fs) ≡ interruptions s es ++ interruptions (after_all s es) fs
 interruptions-append s [] fs = refl
 interruptions-append s (e ∷ es) fs =
     ap (λ (l : List Notice). told_by s e.at e.change ++ l) (interruptions-append (after s e) es fs)

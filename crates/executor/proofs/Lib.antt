@@ -36,3 +36,4 @@ pub mod MachineFollows
 pub mod MachineRuns
 pub mod AloneJoins
 pub mod FoundLawful
+pub mod MachineReports

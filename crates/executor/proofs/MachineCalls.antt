@@ -132,6 +132,7 @@ module _ {D : Type 0} (look : D → View) where
             e ∷ [],
             answers x.state now c (acknowledged e.change) (e ∷ []) (Ok e) is (inl (refl, refl)),
             inr (
+              (λ none. let bad : e ∷ [] ≡ [] = none in cc),
               ap (λ (a : Reply). a ∷ []) disk ∙ sym so.3,
               (closed disk, same_left _ _ (ap (recorded e) disk) (ap (pending e) disk)),
             ),
@@ -165,7 +166,16 @@ module _ {D : Type 0} (look : D → View) where
       ),
     ),
   )
-  row_so false now cs rs x y d t is = (t.meant, t.events, t.answered, inr (refl, (is, refl)))
+  row_so false now cs rs x y d t is = (
+    t.meant,
+    t.events,
+    t.answered,
+    inr (
+      (λ none. false≢true (sym is ∙ ap (λ (z : Sight D). z.is_open) (t.records.unchanged none) ∙ t.was_open)),
+      refl,
+      (is, refl),
+    ),
+  )
 
   one_row : (now : ℕ) (cs : List Command) (rs : List Reply) (x y : Sight D) (d : Deeds) → TakesRow look now cs x y rs d
       → TakesAll now cs rs (machine_of x) (machine_of y) (left_of d)

@@ -153,7 +153,7 @@ takes_all : (m n : Machine) (now : ℕ) (cs : List Command) (rs : List Reply) (l
     → Went m n left
 takes_all m n now cs rs left opened (meant, es, answered, inl (told, goes)) =
     goes_on m n es left opened goes (λ fine. answered_follow m.state now cs meant es fine.low answered)
-takes_all m n now cs rs left opened (meant, es, answered, inr (told, fails)) =
+takes_all m n now cs rs left opened (meant, es, answered, inr (some, told, fails)) =
     went_wrong m n [] es left opened fails.0 fails.1 (λ fine. answered_follow m.state now cs meant es fine.low answered)
 
 turns_whole : (end : TurnEnd) (at : ℕ) (m n : Machine) (left : Left) → m.is_open ≡ true → TurnsWhole end at m n left → Went m n left

@@ -90,7 +90,7 @@ abbrev pub monitored : State → List ℕ → List Event → List ℕ
 monitored s id es = monitors_at s id ++ flat_map (λ e. call_monitored id e.change) es
 
 -- the first is the second with some left out
-abbrev pub IsWithin : List ℕ → List ℕ → Type 0
+abbrev pub IsWithin : {A : Type 0} → List A → List A → Type 0
 IsWithin [] ys = ⊤
 IsWithin (x ∷ xs) [] = ⊥
 IsWithin (x ∷ xs) (y ∷ ys) = ((x ≡ y) × IsWithin xs ys) ⊎ IsWithin (x ∷ xs) ys

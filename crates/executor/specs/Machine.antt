@@ -46,10 +46,10 @@ GoesOn es m n left = (n ≡ behind m es) × (left ≡ record { events = es; pend
 abbrev pub Fails : List Event → Machine → Left → Type 0
 Fails es n left = (n.is_open ≡ false) × (left ≡ record { events = []; pending = es })
 
--- commands at one moment: each is answered by the state behind those before it, and they stand together
+-- commands at one moment: each is answered by the state behind those before it, and their events, if any, stand or fail together
 abbrev pub TakesAll : ℕ → List Command → List Reply → Machine → Machine → Left → Type 0
 TakesAll now cs rs m n left = (meant : List Reply) × (es : List Event) × Answered now m.state cs meant es
-    × (((rs ≡ meant) × GoesOn es m n left) ⊎ ((rs ≡ failed meant) × Fails es n left))
+    × (((rs ≡ meant) × GoesOn es m n left) ⊎ ((es ≢ []) × (rs ≡ failed meant) × Fails es n left))
 
 -- one command, which may find the journal full
 abbrev pub TakesOne : ℕ → Command → Reply → Machine → Machine → Left → Type 0

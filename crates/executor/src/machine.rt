@@ -5,10 +5,10 @@ ghost use Rattle.ocf_types.specs.LawfulState.{IsLawfulState};
 ghost use Rattle.ocf_types.specs.State.{State, after_all};
 ghost use Rattle.disk_model.specs.Image.{Image};
 ghost use Rattle.exec_journal.specs.Found.{FoundAs};
-ghost use Rattle.executor.specs.Histories.{Follow, IsInOrder};
+ghost use Rattle.executor.specs.Histories.{Follow, IsInOrder, IsWithin, interruptions};
 ghost use Rattle.executor.specs.Lives.{IsLife, LifeLeaves, Lived, Sitting};
 ghost use Rattle.executor.specs.Runs.{Runs, Seen};
-ghost use Rattle.executor.specs.SeenLives.{seen};
+ghost use Rattle.executor.specs.SeenLives.{reports, seen};
 
 use disk_model::Disk;
 use exec_journal::laws::{found_once, what_stands};
@@ -17,6 +17,12 @@ use ocf_types::laws::{lawful_states, layouts};
 /// What stands of a run of the machine from a lawful state applies, each change behind those before it.
 pub fn runs_apply()
     ensures { (start : State) (xs : List Seen) (zs : List Event) → IsLawfulState start → Runs start xs zs → Follow start zs }
+{}
+
+/// What openings report as interrupted is what boots tell, each at most once and in their order. What is left out is what boots
+/// tell of openings that were refused or stopped, which report nothing.
+pub fn reports_told()
+    ensures { (start : State) (xs : List Seen) (zs : List Event) → Runs start xs zs → IsWithin (reports xs) (interruptions start zs) }
 {}
 
 /// Each life is a run of the machine: whatever its last stop leaves is found as the state after what stands of such a run, in

@@ -1,0 +1,74 @@
+-- What openings report as interrupted is what boots tell.
+use Rattle.std.proofs.Common.{◌≡◌, inl, inr, ℕ, Bool, true, false, List, [], ◌∷◌, ◌++◌, map, Option, Some, None, flat_map, option_to_list, refl, sym, ap, ap₂, subst, ◌∙◌}
+use Rattle.std.specs.Prelude.{if◌then◌else◌}
+use Rattle.std.specs.List.{list_any}
+use Rattle.std.proofs.lemmas.List.{append-nil}
+use Rattle.ocf_types.specs.Answer.{moment}
+use Rattle.ocf_types.specs.Boot.{any_busy, boot_at}
+use Rattle.ocf_types.specs.Kinds.{Event}
+use Rattle.ocf_types.specs.Resource.{is_busy}
+use Rattle.ocf_types.specs.State.{Registry, State, after_all}
+use Rattle.ocf_types.specs.declared.operation.Running.{Running}
+use Rattle.ocf_types.specs.declared.reply.Notice.{Notice}
+use Rattle.executor.specs.Histories.{IsWithin, interruptions}
+use Rattle.executor.specs.Lives.{boots}
+use Rattle.executor.specs.Reports.{interrupted, interrupted_in, interruption}
+use Rattle.executor.specs.Runs.{Opening, Runs, Seen, Serving}
+use Rattle.executor.specs.SeenLives.{reports}
+use Rattle.executor.proofs.HistoryRuns.{both_false, rests}
+use Rattle.executor.proofs.HistoryTold.{interruptions-append}
+
+-- lists with some left out, one behind the other
+within_all : (xs : List Notice) → IsWithin xs xs
+within_all [] = tt
+within_all (x ∷ xs) = inl (refl, within_all xs)
+
+within_behind : (ys xs zs : List Notice) → IsWithin xs zs → IsWithin xs (ys ++ zs)
+within_behind [] xs zs h = h
+within_behind (y ∷ ys) [] zs h = tt
+within_behind (y ∷ ys) (x ∷ xs) zs h = inr (within_behind ys (x ∷ xs) zs h)
+
+within_both : (ms bs cs ds : List Notice) → IsWithin ms bs → IsWithin cs ds → IsWithin (ms ++ cs) (bs ++ ds)
+within_both [] bs cs ds h k = within_behind bs cs ds k
+within_both (a ∷ ms) [] cs ds h k = absurd h
+within_both (a ∷ ms) (b ∷ bs) cs ds (inl h) k = inl (h.0, within_both ms bs cs ds h.1 k)
+within_both (a ∷ ms) (b ∷ bs) cs ds (inr h) k = inr (within_both (a ∷ ms) bs cs ds h k)
+
+within_more : (ms bs cs : List Notice) → IsWithin ms bs → IsWithin ms (bs ++ cs)
+within_more ms bs cs h = subst (λ (l : List Notice). IsWithin l (bs ++ cs)) (append-nil ms) (within_both ms bs [] cs h tt)
+
+-- where nothing is queued or running nothing is interrupted
+none_interrupted : (at : ℕ) (rs : Registry) → list_any (λ e. is_busy e.1.history) rs ≡ false → flat_map (interrupted_in at) rs ≡ []
+none_interrupted at [] idle = refl
+none_interrupted at (e ∷ es) idle =
+    let halves = both_false (is_busy e.1.history) (list_any (λ x. is_busy x.1.history) es) idle in
+    ap₂ (λ (a b : List Notice). a ++ b)
+    (ap (λ (o : Option Running). map (interruption e.0 at) (option_to_list o)) (rests e.1.history halves.0)) (none_interrupted at es halves.1)
+
+boots_tell : (s : State) (now : ℕ) → IsWithin (interrupted s (moment s now)) (interruptions s (boots s now))
+boots_tell s now = by (any_busy s) refl
+  where
+    by : (b : Bool) → any_busy s ≡ b
+        → IsWithin (interrupted s (moment s now)) (interruptions s (option_to_list (if b then Some (boot_at (moment s now)) else None)))
+    by true busy = within_more (interrupted s (moment s now)) (interrupted s (moment s now)) [] (within_all (interrupted s (moment s now)))
+    by false idle =
+        subst (λ (l : List Notice). IsWithin l []) (sym (none_interrupted (moment s now) s.resources idle)) tt
+
+pub reports_told : (start : State) (xs : List Seen) (zs : List Event) → Runs start xs zs → IsWithin (reports xs) (interruptions start zs)
+reports_told start [] zs none = tt
+reports_told start (Opening now end ∷ older) zs (ys, more, before, sits, is) =
+    subst (λ (l : List Event). IsWithin (reports older) (interruptions start l)) (sym is)
+    (subst (IsWithin (reports older)) (sym (interruptions-append start ys more))
+    (within_more (reports older) (interruptions start ys) (interruptions (after_all start ys) more) (reports_told start older ys before)))
+reports_told start (Serving now ran queued calls begun ∷ older) zs (ys, more, before, sits, is) =
+    let s = after_all start ys in
+    let p = sits.6 in
+    let more_is : more ≡ boots s now ++ p = sits.10 in
+    let here : IsWithin ran (interruptions s more) =
+    subst (λ (l : List Event). IsWithin ran (interruptions s l)) (sym more_is)
+    (subst (IsWithin ran) (sym (interruptions-append s (boots s now) p))
+    (within_more ran (interruptions s (boots s now)) (interruptions (after_all s (boots s now)) p)
+    (subst (λ (l : List Notice). IsWithin l (interruptions s (boots s now))) (sym sits.0) (boots_tell s now)))) in
+    subst (λ (l : List Event). IsWithin (reports older ++ ran) (interruptions start l)) (sym is)
+    (subst (IsWithin (reports older ++ ran)) (sym (interruptions-append start ys more))
+    (within_both (reports older) (interruptions start ys) ran (interruptions s more) (reports_told start older ys before) here))
