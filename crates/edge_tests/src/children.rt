@@ -303,7 +303,10 @@ fn a_child_that_cannot_be_asked_is_lost_and_killed(rt: HostRuntime) {
 #[test]
 fn a_kill_that_is_refused_is_asked_and_told_and_its_run_has_timed_out(rt: HostRuntime) {
     let wanted = (Outcome::Run(RunEnd::TimedOut), [1, 2, 1, 0], 1);
-    assert_eq!(rt; refused(rt.alloc(), Course::Unkilled, &[0, 1_000]), Some(wanted));
+    assert_eq!(rt;
+        refused(rt.alloc(), Course::Unkilled, &[0, 1_000]),
+        Some(wanted)
+    );
 }
 
 // How many kills are asked of the system, and how many lines are told, when so many children are given up; how long it took.

@@ -8,7 +8,9 @@ use child_keeper::Entry;
 use exec_commands::{Line, LineReply, read_command};
 use executor::{Executor, OpenError, Report};
 use ocf_env::Site;
-use ocf_types::{Command, Notice, Question, Refusal, Reply, ReplyOf, Request, RequestOf, TidyEnd, TurnEnd};
+use ocf_types::{
+    Command, Notice, Question, Refusal, Reply, ReplyOf, Request, RequestOf, TidyEnd, TurnEnd,
+};
 use std::alloc::{AllocError, Global};
 
 /// An executor on a shared disk with the world's children, and the site of its agents.
