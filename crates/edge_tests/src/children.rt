@@ -1,10 +1,7 @@
 // What children of the system ask of the system, over one that starts nothing and counts.
 use crate::runs::nowhere;
-use child_keeper::{Children, Log, Processes, Waited, run_meta};
-use disk_model::MemDisk;
-use exec_commands::{Line, read_command};
-use executor::{Executor, Input, InputOf};
-use ocf_types::{AgentType, MetaFault, Outcome, Provider, Request, RunEnd};
+use child_keeper::{Waited, run_meta};
+use ocf_types::{AgentType, MetaFault, Provider};
 use std::alloc::{Allocator, Global};
 use std::cell::Cell;
 use std::fmt::Display;
@@ -21,10 +18,6 @@ enum Course {
     Mortal,
     // It runs on, whatever is done to it.
     Immortal,
-    // It runs on, and its kill is refused.
-    Unkilled,
-    // It runs on, and cannot be asked.
-    Unasked,
 }
 
 // What comes behind the bytes that a process writes.
@@ -159,9 +152,6 @@ impl<'a> OpenProcess for FakeProcess<'a> {
 
     fn try_wait(&mut self) -> io::Result<Option<ExitStatus>> {
         count(&self.system.asks);
-        if let Course::Unasked = self.system.course {
-            return Err(io::Error::from(ErrorKind::BrokenPipe));
-        }
         if self.asked_dying {
             return Ok(Some(ExitStatus::from_raw(9)));
         }
@@ -172,10 +162,7 @@ impl<'a> OpenProcess for FakeProcess<'a> {
 
     fn kill(&mut self) -> io::Result<()> {
         count(&self.system.kills);
-        match self.system.course {
-            Course::Unkilled => Err(io::Error::from(ErrorKind::PermissionDenied)),
-            _ => Ok(()),
-        }
+        Ok(())
     }
 }
 
@@ -207,119 +194,6 @@ impl<'a> process::Processes for &'a FakeSystem {
         let output = stdout.makes_pipe().then_some(output);
         Ok(Child::from_parts(process, None, output, None))
     }
-}
-
-fn request(alloc: Global, line: &str) -> Option<Request> {
-    match read_command(alloc, line.as_bytes()) {
-        Ok(Line::Request(request)) => Some(request),
-        _ => None,
-    }
-}
-
-// Starts of so many resources with a timeout of a second, and turns at these moments.
-fn inputs(alloc: Global, resources: u32, turns: &[u64]) -> Option<Vec<Input>> {
-    let mut inputs = Vec::new(alloc);
-    for n in 0..resources {
-        let lines = [
-            format!(in alloc;
-                "{{\"op\":\"register\",\"id\":\"r{n}\",\"provider\":\"pacemaker\",\"type\":\"Dummy\"}}"
-            ).ok()?,
-            format!(in alloc;
-                "{{\"op\":\"exec\",\"id\":\"r{n}\",\"action\":\"start\",\"timeout\":1000}}"
-            ).ok()?,
-        ];
-        for line in &lines {
-            let request = request(alloc, line.as_str())?;
-            inputs.push(InputOf::Request { now: 0, request }).ok()?;
-        }
-    }
-    for now in turns {
-        inputs.push(InputOf::Turn { now: *now }).ok()?;
-    }
-    Some(inputs)
-}
-
-// An executor that has taken such inputs over children of this system.
-fn played<'a>(
-    alloc: Global,
-    system: &'a FakeSystem,
-    resources: u32,
-    turns: &[u64],
-) -> Option<Executor<MemDisk, Processes<&'a FakeSystem>>> {
-    let children = Processes::new(system, alloc, Log::none(), 16).ok()?;
-    match Executor::open(alloc, MemDisk::new(alloc), children, nowhere(alloc), 0) {
-        Ok((mut executor, _)) => {
-            executor
-                .session(inputs(alloc, resources, turns)?, &mut Vec::new(alloc))
-                .ok()?;
-            Some(executor)
-        }
-        Err(_) => None,
-    }
-}
-
-// What is asked of the system by a start, two polls and a kill, and then at each emptying of the book; how many lines are
-// told then, and how long it took.
-fn asked(alloc: Global, course: Course) -> Option<([[u32; 4]; 4], u32, u64)> {
-    let system = FakeSystem::new(course, Behind::Fault);
-    let executor = played(alloc, &system, 1, &[0, 1, 1_001])?;
-    let mut children = executor.close().1;
-    let mut counts = [system.counts(); 4];
-    for count in &mut counts[1..] {
-        children.clear_book();
-        *count = system.counts();
-    }
-    Some((counts, system.told.get(), system.clock.get()))
-}
-
-#[test]
-fn a_killed_child_is_asked_for_until_it_has_ended(rt: HostRuntime) {
-    let counts = [[1, 4, 1, 0]; 4];
-    assert_eq!(rt; asked(rt.alloc(), Course::Mortal), Some((counts, 0, 20)));
-}
-
-#[test]
-fn a_child_that_outlives_its_kill_is_told_once_after_a_tenth_of_a_second(rt: HostRuntime) {
-    let counts = [[1, 30, 1, 0], [1, 31, 1, 0], [1, 32, 1, 0], [1, 33, 1, 0]];
-    let wanted = Some((counts, 1, 100_000));
-    assert_eq!(rt; asked(rt.alloc(), Course::Immortal), wanted);
-}
-
-// How an action ends over a system that refuses, behind turns at these moments; what was asked of the system, and how many lines
-// were told.
-fn refused(alloc: Global, course: Course, turns: &[u64]) -> Option<(Outcome, [u32; 4], u32)> {
-    let system = FakeSystem::new(course, Behind::Fault);
-    let executor = played(alloc, &system, 1, turns)?;
-    let outcome = executor.notices().first()?.result.outcome;
-    Some((outcome, system.counts(), system.told.get()))
-}
-
-#[test]
-fn a_child_that_cannot_be_asked_is_lost_and_killed(rt: HostRuntime) {
-    let wanted = (Outcome::Run(RunEnd::Lost), [1, 2, 1, 0], 0);
-    assert_eq!(rt; refused(rt.alloc(), Course::Unasked, &[0, 1]), Some(wanted));
-}
-
-#[test]
-fn a_kill_that_is_refused_is_asked_and_told_and_its_run_has_timed_out(rt: HostRuntime) {
-    let wanted = (Outcome::Run(RunEnd::TimedOut), [1, 2, 1, 0], 1);
-    assert_eq!(rt;
-        refused(rt.alloc(), Course::Unkilled, &[0, 1_000]),
-        Some(wanted)
-    );
-}
-
-// How many kills are asked of the system, and how many lines are told, when so many children are given up; how long it took.
-fn given_up(alloc: Global, resources: u32) -> Option<(u32, u32, u64)> {
-    let system = FakeSystem::new(Course::Immortal, Behind::Fault);
-    let mut executor = played(alloc, &system, resources, &[0])?;
-    executor.abandon();
-    Some((system.kills.get(), system.told.get(), system.clock.get()))
-}
-
-#[test]
-fn children_that_are_given_up_are_waited_for_together(rt: HostRuntime) {
-    assert_eq!(rt; given_up(rt.alloc(), 3), Some((3, 3, 100_000)));
 }
 
 // How the metadata of an agent are read that is given a second; what is asked of the system, how many lines are told, and how
