@@ -3,6 +3,7 @@ ghost use Rattle.std.specs.Prelude.{⊤};
 
 use child_keeper::{Poll, Script, Scripted};
 use disk_model::MemDisk;
+use exec_client::Teller;
 use exec_commands::NoticeForm;
 use exec_lines::{Input, Output};
 use exec_output::Fault;
@@ -97,7 +98,8 @@ fn ended_in_way<R: Input, W: Output>(
     };
     match Executor::open(alloc, disk, children, nowhere(alloc), 5_000) {
         Ok((executor, report)) => {
-            Some(run_lines(&setting, reader, writer, executor, &report).ended)
+            let mut client = Teller::new(alloc, writer, &executor);
+            Some(run_lines(&setting, reader, &mut client, executor, &report).ended)
         }
         Err(_) => None,
     }

@@ -28,7 +28,7 @@ use Rattle.exec_client.specs.MayTell.{AllStand, MayBeReplied, MayReply, MaySay, 
 use Rattle.exec_client.specs.Said.{Answered, Said, Noticed, answered, said_in}
 use Rattle.exec_client.specs.declared.told.Told.{Told}
 use Rattle.exec_commands.specs.declared.reply.LineReply.{LineReply}
-use Rattle.exec_client.proofs.Behinds.{both_behind, failed_behind, reply_behind, row_behind, says_none, turn_behind}
+use Rattle.exec_client.proofs.Behinds.{both_behind, failed_behind, none_told, reply_behind, row_behind, says_none, turn_behind}
 use Rattle.exec_client.proofs.Saying.{no_claim}
 
 -- a refusal
@@ -63,6 +63,11 @@ module _ {D : Type 0} (look : D → View) where
   pub still_stand : (x y z : Sight D) (ss : List Said) → StandsBehind look x y ss → StandsBehind look y z [] → StandsBehind look x z ss
   still_stand x y z ss one two =
       subst (λ (said : List Said). StandsBehind look x z said) (append-nil ss) (both_stand x y z ss [] one two)
+
+  -- nothing need be told of them
+  pub untold_stand : (x y : Sight D) (ss : List Said) → StandsBehind look x y ss → StandsBehind look x y []
+  untold_stand x y ss stands =
+      record { calls = stands.calls; deeds = stands.deeds; leads = stands.leads; behind = none_told stands.deeds.events }
 
   -- as it is told
   pub as_told : (x y : Sight D) (ss ts : List Said) → ts ≡ ss → StandsBehind look x y ss → StandsBehind look x y ts
@@ -159,9 +164,12 @@ module _ {D : Type 0} (look : D → View) where
       (record { end = end; takes = takes; replies = refl; does = refl }))
       (turn_behind end _ takes.turns.entries takes.turns.events takes.turns.pending y.told takes.turns.does)
 
+  pub tidied_stands : (x y : Sight D) (end : TidyEnd) → TidiesWhile x.is_open look x y end → StandsBehind look x y []
+  tidied_stands x y end tidies = one_stands x y (Tidied end) no_deeds [] (tidies, refl) nothing
+
   pub tidy_stands : (x y : Sight D) (end : TidyEnd) → x.is_open ≡ true → Tidies look x y end → StandsBehind look x y []
   tidy_stands x y end is_open tidies =
-      one_stands x y (Tidied end) no_deeds [] (subst (λ (o : Bool). TidiesWhile o look x y end) (sym is_open) tidies, refl) nothing
+      tidied_stands x y end (subst (λ (o : Bool). TidiesWhile o look x y end) (sym is_open) tidies)
 
   pub cleared_stands : (x y : Sight D) → y ≡ with_empty_book x → StandsBehind look x y []
   cleared_stands x y cleared = one_stands x y Cleared no_deeds [] (cleared, refl) nothing

@@ -43,3 +43,9 @@ impl Output for &mut [u8] {
         true
     }
 }
+
+impl<W: Output> Output for &mut W {
+    fn is_heard(&self) -> bool {
+        (**self).is_heard()
+    }
+}

@@ -1,162 +1,221 @@
--- What is done with lines is done by calls of the executor.
-use Rattle.std.proofs.Common.{◌≡◌, ℕ, ◌+◌, Bool, true, false, not, List, ◌∷◌, refl, sym, ap, subst, Result, Ok, Err}
+-- What is done with lines is done by calls of the executor, and what is told of it stands behind what they recorded.
+use Rattle.std.proofs.Common.{◌≡◌, ℕ, ◌+◌, Bool, true, false, not, List, [], ◌∷◌, ◌++◌, map, length, refl, sym, ap, subst, ◌∙◌}
+use Rattle.std.proofs.Common.{Result, Ok, Err, append_assoc}
+use Rattle.std.proofs.lemmas.List.{append-nil}
 use Rattle.ocf_types.specs.Boot.{any_busy}
+use Rattle.ocf_types.specs.Kinds.{Command, Reply, Request}
 use Rattle.ocf_types.specs.declared.refusal.Refusal.{Refusal}
+use Rattle.ocf_types.specs.declared.reply.ReplyOf.TheVariants.{Refused}
 use Rattle.ocf_types.specs.declared.reply.TurnEnd.{TurnEnd}
 use Rattle.disk_model.specs.View.{View}
-use Rattle.executor.specs.CallLaws.{by_both, by_clear, by_command, by_none, by_tidy, by_turn}
-use Rattle.executor.specs.Lives.{ByCalls}
 use Rattle.executor.specs.Sights.{Sight}
-use Rattle.executor.specs.TidyCalls.{TidiesWhile}
-use Rattle.executor.specs.TurnCalls.{TurnsWhile, with_empty_book}
+use Rattle.executor.specs.TurnCalls.{with_empty_book}
 use Rattle.exec_commands.specs.declared.ends.DrainEnd.{DrainEnd}
 use Rattle.exec_commands.specs.declared.line.Line.{Line}
 use Rattle.exec_commands.specs.declared.line.Line.TheVariants as line
 use Rattle.exec_commands.specs.declared.reply.LineReply.{LineReply}
-use Rattle.ocf_types.specs.Kinds.{Command, Request}
+use Rattle.exec_commands.specs.declared.reply.LineReply.TheVariants as answer
+use Rattle.exec_client.specs.Behind.{claims, nothing}
+use Rattle.exec_client.specs.Heard.{Heard, IsTold}
+use Rattle.exec_client.specs.MayTell.{StandsBehind}
+use Rattle.exec_client.specs.Said.{Answered, Noticed, Said, answered}
+use Rattle.exec_client.proofs.Behinds.{says_none}
+use Rattle.exec_client.proofs.Growing.{both_stand, none_stands, tidy_stands}
 use Rattle.exec_session.specs.Answers.{IsOpenReply, IsReply, ServesNow, Source}
-use Rattle.exec_session.specs.Drains.{Drains, GoesOn, MakesTurn, Spot, at_start, further}
+use Rattle.exec_session.specs.Drains.{Drains, GoesOn, MakesTurn, Spot, at_start, further, spot}
 use Rattle.exec_session.specs.Limits.{Limits, MakesRoom, is_tidy_due}
 use Rattle.exec_session.specs.Progress.{Place, Takes}
-use Rattle.exec_session.specs.Runs.{Reaches, closed_line, here, line as one_line, row, turn as one_turn}
+use Rattle.exec_session.specs.Runs.{GoesByCalls, Reaches, closed_line, here, line as one_line, row, turn as one_turn}
 use Rattle.exec_session.specs.Together.{AnswersTogether}
 use Rattle.exec_session.specs.declared.drain.Terms.{Terms}
 use Rattle.exec_session.specs.declared.lines.Progress.{Progress}
 use Rattle.exec_session.specs.declared.lines.Progress.TheVariants as progress
 use Rattle.exec_session.proofs.DrainLemmas.{closes, still_open}
+use Rattle.exec_session.proofs.TellLemmas.{Plain, cleared_room, closed_plain, is_plain, refused_stand, request_stands}
+use Rattle.exec_session.proofs.TellLemmas.{together_stand, turn_behind_room}
 
--- room is made by a call, or by none
-room_by_calls : {D : Type 0} (look : D → View) (limits : Limits) (x y : Sight D) → x.is_open ≡ true → MakesRoom look limits x y
-    → ByCalls look x y
-room_by_calls look limits x y is_open room = by (is_tidy_due limits x) refl
+-- room is made by a call, or by none, and nothing is told
+room_stands : {D : Type 0} (look : D → View) (limits : Limits) (x y : Sight D) → x.is_open ≡ true → MakesRoom look limits x y
+    → StandsBehind look x y []
+room_stands look limits x y is_open room = by (is_tidy_due limits x) refl
   where
-    by : (b : Bool) → is_tidy_due limits x ≡ b → ByCalls look x y
-    by true due =
-        let made = room.made due in
-        by_tidy look x y made.0 (subst (λ (o : Bool). TidiesWhile o look x y made.0) (sym is_open) made.1)
-    by false none = by_none look x y (room.none none)
+    by : (b : Bool) → is_tidy_due limits x ≡ b → StandsBehind look x y []
+    by true due = let made = room.made due in tidy_stands look x y made.0 is_open made.1
+    by false none = none_stands look x y [] (room.none none) nothing
 
-module _ {D : Type 0} (look : D → View) (limits : Limits) where
-  -- the executor goes from one sight to another by calls
-  abbrev Goes : Sight D → Sight D → Type 0
-  Goes old new = ByCalls look old new
+module _ {D : Type 0} (look : D → View) where
+  abbrev Goes : Spot D → Spot D → Type 0
+  Goes p q = GoesByCalls look p q
 
-  -- a request, where room was made first
-  request_by_calls : (request : Request) (old new : Sight D) (reply : LineReply) → old.is_open ≡ true
-      → ServesNow look limits request old new reply → Goes old new
-  request_by_calls request old new reply is_open serves =
-      by_both look old serves.middle new
-      (room_by_calls look limits old serves.middle is_open serves.room) (by serves.middle.is_open refl)
-    where
-      by : (b : Bool) → serves.middle.is_open ≡ b → ByCalls look serves.middle new
-      by true open_still =
-          by_command look serves.now request serves.middle new serves.given (serves.serves open_still) (λ _. serves.closes)
-      by false closed = by_none look serves.middle new (serves.fails closed).1
+  -- no call, one behind the other, and calls of which this is told
+  here_still : (p : Spot D) → Goes p p
+  here_still p = record {
+    said = [];
+    told = (refl, sym (append-nil p.heard.told));
+    stands = none_stands look p.executor p.executor [] refl nothing;
+  }
 
-  -- commands that were answered together
-  together_by_calls : (commands : List Command) (p q : Spot D) → p.executor.is_open ≡ true
-      → AnswersTogether look limits commands p q → Goes p.executor q.executor
-  together_by_calls commands p q is_open answers =
-      by_both look p.executor answers.serves.middle q.executor
-      (room_by_calls look limits p.executor answers.serves.middle is_open answers.serves.room)
-      (by answers.serves.middle.is_open refl)
-    where
-      by : (b : Bool) → answers.serves.middle.is_open ≡ b → ByCalls look answers.serves.middle q.executor
-      by true open_still = let takes = answers.serves.takes open_still in (takes.exchanges, takes.deeds, takes.calls)
-      by false closed = by_none look answers.serves.middle q.executor (answers.serves.fails closed).1
+  stays : (p q : Spot D) → q ≡ p → Goes p q
+  stays p q same = subst (λ (r : Spot D). Goes p r) (sym same) (here_still p)
 
-  -- a turn of a drain
-  turn_by_calls : (now : ℕ) (p q : Spot D) (end : TurnEnd) → p.executor.is_open ≡ true
-      → MakesTurn look limits now p q end → Goes p.executor q.executor
-  turn_by_calls now p q end is_open made =
-      by_both look old cleared last (by_clear look old cleared refl)
-      (by_both look cleared made.middle last (room_by_calls look limits cleared made.middle is_open made.room)
-      (by made.middle.is_open refl))
-    where
-      old : Sight D
-      old = p.executor
+  both_go : (p m q : Spot D) → Goes p m → Goes m q → Goes p q
+  both_go p m q one two = record {
+    said = one.said ++ two.said;
+    told = (
+      two.told.0 ∙ one.told.0,
+      two.told.1 ∙ ap (λ (ss : List Said). ss ++ two.said) one.told.1 ∙ append_assoc p.heard.told one.said two.said,
+    );
+    stands = both_stand look p.executor m.executor q.executor one.said two.said one.stands two.stands;
+  }
 
-      cleared : Sight D
-      cleared = with_empty_book old
+  told_go : (p q : Spot D) (more : List Said) → IsTold p.heard q.heard more → StandsBehind look p.executor q.executor more → Goes p q
+  told_go p q more told stands = record { said = more; told = told; stands = stands }
 
-      last : Sight D
-      last = q.executor
+  -- nothing is told
+  quiet_go : (p q : Spot D) → q.heard ≡ p.heard → StandsBehind look p.executor q.executor [] → Goes p q
+  quiet_go p q same stands =
+      told_go p q [] (subst (λ (h : Heard D). IsTold p.heard h []) (sym same) (refl, sym (append-nil p.heard.told))) stands
 
-      by : (b : Bool) → made.middle.is_open ≡ b → ByCalls look made.middle last
-      by true open_still =
-          by_turn look now made.middle last end
-          (subst (λ (o : Bool). TurnsWhile o look now made.middle last end) (sym open_still) (made.takes open_still))
-      by false closed = by_none look made.middle last (made.fails closed).1
+  -- a reply is told that says nothing of what is recorded
+  plain_go : (s : Spot D) (h : Heard D) (reply : LineReply) → Plain s.executor reply → IsTold s.heard h (Answered reply ∷ [])
+      → Goes s (spot s.executor h)
+  plain_go s h reply plain told =
+      told_go s (spot s.executor h) (Answered reply ∷ []) told
+      (none_stands look s.executor s.executor (Answered reply ∷ []) refl (says_none (Answered reply) plain.0))
 
-  -- turns that go on, each behind an executor that is open still
-  pub turns_by_calls : (t : Terms) (start : ℕ) (p : Spot D) (turns now : ℕ) (q : Spot D)
-      → p.executor.is_open ≡ true → GoesOn look limits t start p turns now q
-      → Goes p.executor q.executor × (q.executor.is_open ≡ true)
-  turns_by_calls t start p _ _ _ is_open at_start = (by_none look p.executor p.executor refl, is_open)
-  turns_by_calls t start p _ _ _ is_open (further n before after m q end gone_on made on) =
-      let so_far = turns_by_calls t start p n before m is_open gone_on in
-      let idle = not (any_busy q.executor.state) in (
-        by_both look p.executor m.executor q.executor so_far.0
-            (turn_by_calls before m q end so_far.1 made),
-        still_open t (n + 1) after end idle q.executor.is_open (closes look limits before m q end made) on,
-      )
+  module _ (limits : Limits) where
+    -- a request, where room was made first
+    request_goes : (request : Request) (x y : Sight D) (reply : LineReply) → x.is_open ≡ true → ServesNow look limits request x y reply
+        → StandsBehind look x y (Answered reply ∷ [])
+    request_goes request x y reply is_open serves =
+        subst (λ (r : LineReply). StandsBehind look x y (Answered r ∷ [])) (sym serves.told) (by serves.middle.is_open refl)
+      where
+        room : StandsBehind look x serves.middle []
+        room = room_stands look limits x serves.middle is_open serves.room
 
-  drain_by_calls : (t : Terms) (start : ℕ) (p q : Spot D) (end : DrainEnd) → p.executor.is_open ≡ true
-      → Drains look limits t start p q end → Goes p.executor q.executor
-  drain_by_calls t start p q end is_open drains =
-      let so_far = turns_by_calls t start p drains.turns drains.now drains.last is_open drains.gone_on in
-      by_both look p.executor drains.last.executor q.executor so_far.0
-      (turn_by_calls drains.now drains.last q drains.turn_end so_far.1 drains.made)
+        by : (b : Bool) → serves.middle.is_open ≡ b → StandsBehind look x y (answered serves.given ∷ [])
+        by true open_still =
+            request_stands look serves.now request x serves.middle y serves.given room (serves.serves open_still) serves.closes
+        by false closed =
+            let (refused, same) = serves.fails closed in
+            subst (λ (z : Sight D). StandsBehind look x z (answered serves.given ∷ [])) (sym same)
+            (refused_stand look x serves.middle 1 (serves.given ∷ []) (ap (λ (r : Reply). r ∷ []) refused) room)
 
-  -- what an open executor answers to a line
-  open_by_calls : (source : Source) (p q : Spot D) (found : Result Line Refusal) (reply : LineReply)
-      → p.executor.is_open ≡ true → IsOpenReply look source limits p q found reply → Goes p.executor q.executor
-  open_by_calls source p q (Ok (line.Request request)) reply is_open answered =
-      request_by_calls request p.executor q.executor reply is_open answered.0
-  open_by_calls source p q (Ok (line.Drain limit)) reply is_open (now, end, told, drains) = drain_by_calls _ _ p q end is_open drains
-  open_by_calls source p q (Ok (line.Watch limit)) reply is_open (now, end, told, drains) = drain_by_calls _ _ p q end is_open drains
-  open_by_calls source p q (Ok line.Tidy) reply is_open ((end, told, tidies), same) =
-      by_tidy look p.executor q.executor end
-      (subst (λ (o : Bool). TidiesWhile o look p.executor q.executor end) (sym is_open) tidies)
-  open_by_calls source p q (Ok (line.Meta provider agent limit)) reply is_open answered =
-      by_none look p.executor q.executor
-      (ap (λ (s : Spot D). s.executor) answered.1)
-  open_by_calls source p q (Err why) reply is_open answered =
-      by_none look p.executor q.executor
-      (ap (λ (s : Spot D). s.executor) answered.1)
+    -- commands that were answered together
+    together_goes : (commands : List Command) (p q : Spot D) → p.executor.is_open ≡ true → AnswersTogether look limits commands p q
+        → Goes p q
+    together_goes commands p q is_open answers =
+        told_go p q (map answered answers.given) answers.hears.told (by answers.serves.middle.is_open refl)
+      where
+        middle : Sight D
+        middle = answers.serves.middle
 
-  reply_by_calls : (source : Source) (p q : Spot D) (found : Result Line Refusal) (reply : LineReply)
-      → IsReply look source limits p q found reply → Goes p.executor q.executor
-  reply_by_calls source p q found reply is = by p.executor.is_open refl
-    where
-      by : (b : Bool) → p.executor.is_open ≡ b → Goes p.executor q.executor
-      by true is_open = open_by_calls source p q found reply is_open (is.while_open is_open)
-      by false closed =
-          by_none look p.executor q.executor
-          (ap (λ (s : Spot D). s.executor) (is.once_closed closed).1)
+        room : StandsBehind look p.executor middle []
+        room = room_stands look limits p.executor middle is_open answers.serves.room
 
-  -- what stands next in the input
-  next_by_calls : (source : Source) (p q : Place D) (s : Progress) → Takes look source limits p q s
-      → Goes p.executor q.executor
-  next_by_calls source p q progress.Answered takes = reply_by_calls source _ _ takes.found takes.reply takes.answered
-  next_by_calls source p q progress.PassedOver takes =
-      by_none look p.executor q.executor (ap (λ (e : Sight D). e) takes.1.0)
-  next_by_calls source p q progress.End takes =
-      by_none look p.executor q.executor (ap (λ (e : Sight D). e) takes.1.0)
+        by : (b : Bool) → middle.is_open ≡ b → StandsBehind look p.executor q.executor (map answered answers.given)
+        by true open_still =
+            together_stand look answers.serves.now commands p.executor middle q.executor answers.given room
+            (answers.serves.takes open_still)
+        by false closed =
+            let (refused, same) = answers.serves.fails closed in
+            subst (λ (z : Sight D). StandsBehind look p.executor z (map answered answers.given)) (sym same)
+            (refused_stand look p.executor middle (length commands) answers.given refused room)
 
-  -- line after line, and turns between them
-  pub lines_by_calls : (source : Source) (p : Place D) (n : ℕ) (q : Place D) → Reaches look source limits p n q
-      → Goes p.executor q.executor
-  lines_by_calls source p _ _ here = by_none look p.executor p.executor refl
-  lines_by_calls source p _ _ (one_line n m q s reaches may takes) =
-      by_both look p.executor m.executor q.executor (lines_by_calls source p n m reaches)
-      (next_by_calls source m q s takes)
-  lines_by_calls source p _ _ (row n m q first others reaches is_open may answers) =
-      by_both look p.executor m.executor q.executor (lines_by_calls source p n m reaches)
-      (together_by_calls (first ∷ others) _ _ is_open answers.answered)
-  lines_by_calls source p _ _ (closed_line n m q s reaches closed takes) =
-      by_both look p.executor m.executor q.executor (lines_by_calls source p n m reaches)
-      (next_by_calls source m q s takes)
-  lines_by_calls source p _ _ (one_turn n now m q end reaches may is_open made left) =
-      by_both look p.executor m.executor q.executor (lines_by_calls source p n m reaches)
-      (turn_by_calls now _ _ end is_open made)
+    -- a turn of a drain
+    turn_goes : (now : ℕ) (p q : Spot D) (end : TurnEnd) → p.executor.is_open ≡ true → MakesTurn look limits now p q end → Goes p q
+    turn_goes now p q end is_open made = by made.middle.is_open refl
+      where
+        cleared : Sight D
+        cleared = with_empty_book p.executor
+
+        room : StandsBehind look p.executor made.middle []
+        room = cleared_room look p.executor cleared made.middle refl (room_stands look limits cleared made.middle is_open made.room)
+
+        by : (b : Bool) → made.middle.is_open ≡ b → Goes p q
+        by true open_still =
+            told_go p q (map Noticed q.executor.told) (made.hears open_still).told
+            (turn_behind_room look now p.executor made.middle q.executor end room open_still (made.takes open_still))
+        by false closed =
+            let (ended, same, heard) = made.fails closed in
+            quiet_go p q heard (subst (λ (z : Sight D). StandsBehind look p.executor z []) (sym same) room)
+
+    -- turns that go on, each behind an executor that is open still
+    pub turns_go : (t : Terms) (start : ℕ) (p : Spot D) (turns now : ℕ) (q : Spot D)
+        → p.executor.is_open ≡ true → GoesOn look limits t start p turns now q
+        → Goes p q × (q.executor.is_open ≡ true)
+    turns_go t start p _ _ _ is_open at_start = (here_still p, is_open)
+    turns_go t start p _ _ _ is_open (further n before after m q end gone_on made on) =
+        let so_far = turns_go t start p n before m is_open gone_on in
+        let idle = not (any_busy q.executor.state) in (
+          both_go p m q so_far.0 (turn_goes before m q end so_far.1 made),
+          still_open t (n + 1) after end idle q.executor.is_open (closes look limits before m q end made) on,
+        )
+
+    drain_goes : (t : Terms) (start : ℕ) (p q : Spot D) (end : DrainEnd) → p.executor.is_open ≡ true
+        → Drains look limits t start p q end → Goes p q
+    drain_goes t start p q end is_open drains =
+        let so_far = turns_go t start p drains.turns drains.now drains.last is_open drains.gone_on in
+        both_go p drains.last q so_far.0 (turn_goes drains.now drains.last q drains.turn_end so_far.1 drains.made)
+
+    -- what an open executor answers to a line, and the reply behind it
+    open_goes : (source : Source) (p s : Spot D) (h : Heard D) (found : Result Line Refusal) (reply : LineReply)
+        → p.executor.is_open ≡ true → IsOpenReply look source limits p s found reply → IsTold s.heard h (Answered reply ∷ [])
+        → Goes p (spot s.executor h)
+    open_goes source p s h (Ok (line.Request request)) reply is_open (serves, same) told =
+        told_go p (spot s.executor h) (Answered reply ∷ []) (subst (λ (g : Heard D). IsTold g h (Answered reply ∷ [])) same told)
+        (request_goes request p.executor s.executor reply is_open serves)
+    open_goes source p s h (Ok (line.Drain limit)) reply is_open (now, end, is, drains) told =
+        both_go p s (spot s.executor h) (drain_goes _ _ p s end is_open drains)
+        (plain_go s h reply (is_plain s.executor reply (answer.Drain end) is (refl, tt)) told)
+    open_goes source p s h (Ok (line.Watch limit)) reply is_open (now, end, is, drains) told =
+        both_go p s (spot s.executor h) (drain_goes _ _ p s end is_open drains)
+        (plain_go s h reply (is_plain s.executor reply (answer.Drain end) is (refl, tt)) told)
+    open_goes source p s h (Ok line.Tidy) reply is_open ((end, is, tidies), same) told =
+        both_go p s (spot s.executor h) (quiet_go p s same (tidy_stands look p.executor s.executor end is_open tidies))
+        (plain_go s h reply (is_plain s.executor reply (answer.Tidy end) is (refl, tt)) told)
+    open_goes source p s h (Ok (line.Meta provider agent limit)) reply is_open ((meta, gives, is), same) told =
+        both_go p s (spot s.executor h) (stays p s same)
+        (plain_go s h reply (is_plain s.executor reply (answer.Meta meta) is (refl, tt)) told)
+    open_goes source p s h (Err why) reply is_open (is, same) told =
+        both_go p s (spot s.executor h) (stays p s same)
+        (plain_go s h reply (is_plain s.executor reply (answer.Request (Refused why)) is (refl, tt)) told)
+
+    reply_goes : (source : Source) (p s : Spot D) (h : Heard D) (found : Result Line Refusal) (reply : LineReply)
+        → IsReply look source limits p s found reply → IsTold s.heard h (Answered reply ∷ []) → Goes p (spot s.executor h)
+    reply_goes source p s h found reply is told = by p.executor.is_open refl
+      where
+        by : (b : Bool) → p.executor.is_open ≡ b → Goes p (spot s.executor h)
+        by true is_open = open_goes source p s h found reply is_open (is.while_open is_open) told
+        by false closed =
+            let (answers, same) = is.once_closed closed in
+            both_go p s (spot s.executor h) (stays p s same)
+            (plain_go s h reply (closed_plain s.executor source found reply answers) told)
+
+    -- what stands next in the input
+    abbrev Moves : Place D → Place D → Type 0
+    Moves p q = Goes (spot p.executor p.heard) (spot q.executor q.heard)
+
+    unmoved : (p q : Place D) → q.executor ≡ p.executor → q.heard ≡ p.heard → Moves p q
+    unmoved p q same heard =
+        quiet_go (spot p.executor p.heard) (spot q.executor q.heard) heard (none_stands look p.executor q.executor [] same nothing)
+
+    next_goes : (source : Source) (p q : Place D) (s : Progress) → Takes look source limits p q s → Moves p q
+    next_goes source p q progress.Answered takes =
+        reply_goes source (spot p.executor p.heard) (spot q.executor takes.noticed) q.heard takes.found takes.reply takes.answered
+        takes.hears.told
+    next_goes source p q progress.PassedOver takes = unmoved p q takes.1.0 takes.1.1
+    next_goes source p q progress.End takes = unmoved p q takes.1.0 takes.1.1
+
+    -- line after line, and turns between them
+    pub lines_go : (source : Source) (p : Place D) (n : ℕ) (q : Place D) → Reaches look source limits p n q → Moves p q
+    lines_go source p _ _ here = here_still (spot p.executor p.heard)
+    lines_go source p _ _ (one_line n m q s reaches may takes) =
+        both_go _ (spot m.executor m.heard) _ (lines_go source p n m reaches) (next_goes source m q s takes)
+    lines_go source p _ _ (row n m q first others reaches is_open may answers) =
+        both_go _ (spot m.executor m.heard) _ (lines_go source p n m reaches)
+        (together_goes (first ∷ others) _ _ is_open answers.answered)
+    lines_go source p _ _ (closed_line n m q s reaches closed takes) =
+        both_go _ (spot m.executor m.heard) _ (lines_go source p n m reaches) (next_goes source m q s takes)
+    lines_go source p _ _ (one_turn n now m q end reaches may is_open made left) =
+        both_go _ (spot m.executor m.heard) _ (lines_go source p n m reaches) (turn_goes now _ _ end is_open made)

@@ -3,3 +3,5 @@ pub mod LineLemmas
 pub mod WaitLemmas
 pub mod ServeLemmas
 pub mod CallLemmas
+pub mod TellLemmas
+pub mod HeardLemmas

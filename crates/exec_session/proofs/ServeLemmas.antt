@@ -7,6 +7,7 @@ use Rattle.ocf_types.specs.Kinds.{Command}
 use Rattle.disk_model.specs.View.{View}
 use Rattle.executor.specs.Sights.{Sight}
 use Rattle.exec_lines.specs.Pieces.{IsMidLine}
+use Rattle.exec_client.specs.Heard.{Heard}
 use Rattle.exec_session.specs.Answers.{Source}
 use Rattle.exec_session.specs.Drains.{spot, Spot}
 use Rattle.exec_session.specs.Limits.{Limits}
@@ -54,7 +55,7 @@ module _ {D : Type 0} (look : D → View) (source : Source) (limits : Limits) (p
   pub mid_more : (n m : ℕ) (commands : List Command) (kept : List ℕ) (q : Place D) → n ≤ m → ComeMid n commands kept q
       → ComeMid m commands kept q
   mid_more n m commands kept q le (left, mid, come) =
-      (left, mid, come_more look source limits p n m commands (place q.executor left q.written) le come)
+      (left, mid, come_more look source limits p n m commands (place q.executor left q.heard) le come)
 
   -- a line was taken, and the buffer is empty
   pub mid_taken : (most : ℕ) (commands : List Command) (kept : List ℕ) (q : Place D) (ended : Bool) → kept ≡ []
@@ -64,29 +65,29 @@ module _ {D : Type 0} (look : D → View) (source : Source) (limits : Limits) (p
 
   -- all that wait are answered
   pub mid_answered : (most : ℕ) → ((n : ℕ) → n + 1 ≤ most → MayTake limits.way n) → (commands : List Command) (kept : List ℕ)
-      (old new : Sight D) (now written written' : Option (List ℕ))
-      → (commands ≢ [] → old.is_open ≡ true) → ComeMid most commands kept (place old now written)
-      → AnswersAll look limits commands (spot old written) (spot new written') → ComeMid most [] kept (place new now written')
-  mid_answered most may commands kept old new now written written' is_open (left, mid, come) answers =
-      (left, mid, all_answered look source limits p most may commands old new left written written' is_open come answers)
+      (old new : Sight D) (now : Option (List ℕ)) (heard heard' : Heard D)
+      → (commands ≢ [] → old.is_open ≡ true) → ComeMid most commands kept (place old now heard)
+      → AnswersAll look limits commands (spot old heard) (spot new heard') → ComeMid most [] kept (place new now heard')
+  mid_answered most may commands kept old new now heard heard' is_open (left, mid, come) answers =
+      (left, mid, all_answered look source limits p most may commands old new left heard heard' is_open come answers)
 
   -- a look at the input leaves what is left
-  pub mid_same : (most : ℕ) (commands : List Command) (kept : List ℕ) (executor : Sight D) (written old new : Option (List ℕ))
-      → new ≡ old → ComeMid most commands kept (place executor old written) → ComeMid most commands kept (place executor new written)
-  mid_same most commands kept executor written old new same come =
-      subst (λ left. ComeMid most commands kept (place executor left written)) (sym same) come
+  pub mid_same : (most : ℕ) (commands : List Command) (kept : List ℕ) (executor : Sight D) (heard : Heard D) (old new : Option (List ℕ))
+      → new ≡ old → ComeMid most commands kept (place executor old heard) → ComeMid most commands kept (place executor new heard)
+  mid_same most commands kept executor heard old new same come =
+      subst (λ left. ComeMid most commands kept (place executor left heard)) (sym same) come
 
   -- a turn
   pub one_turn : limits.way ≡ Serve → (n : ℕ) (kept : List ℕ) (q q' : Place D) → q'.left ≡ q.left → ComeMid n [] kept q
-      → TurnsAlone look limits (spot q.executor q.written) (spot q'.executor q'.written) → ComeMid 0 [] kept q'
+      → TurnsAlone look limits (spot q.executor q.heard) (spot q'.executor q'.heard) → ComeMid 0 [] kept q'
   one_turn way n kept q q' same (left, mid, come) turns =
       (left, subst (IsMidLine left kept) (sym same) mid, by q.executor.is_open refl)
     where
       before : Place D
-      before = place q.executor left q.written
+      before = place q.executor left q.heard
 
       after : Place D
-      after = place q'.executor left q'.written
+      after = place q'.executor left q'.heard
 
       by : (b : Bool) → q.executor.is_open ≡ b → Come 0 [] after
       by true is_open =
@@ -103,8 +104,8 @@ module _ {D : Type 0} (look : D → View) (source : Source) (limits : Limits) (p
       by false closed =
           let stays = turns.once_closed closed in
           let executor : q'.executor ≡ q.executor = ap (λ (s : Spot D). s.executor) stays in
-          let written : q'.written ≡ q.written = ap (λ (s : Spot D). s.written) stays in
+          let told : q'.heard ≡ q.heard = ap (λ (s : Spot D). s.heard) stays in
           let (count, few, waits) = come in
           let still : Come 0 [] before = (count, inr closed, waits) in
-          let moved = subst (λ (e : Sight D). Come 0 [] (place e left q.written)) (sym executor) still in
-          subst (λ w. Come 0 [] (place q'.executor left w)) (sym written) moved
+          let moved = subst (λ (e : Sight D). Come 0 [] (place e left q.heard)) (sym executor) still in
+          subst (λ (h : Heard D). Come 0 [] (place q'.executor left h)) (sym told) moved

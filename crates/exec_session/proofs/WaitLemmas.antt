@@ -4,6 +4,7 @@ use Rattle.std.proofs.Common.{refl, sym, ap, subst, ◌∙◌, inl, inr, arith, 
 use Rattle.ocf_types.specs.Kinds.{Command}
 use Rattle.disk_model.specs.View.{View}
 use Rattle.executor.specs.Sights.{Sight}
+use Rattle.exec_client.specs.Heard.{Heard}
 use Rattle.exec_session.specs.Answers.{Source}
 use Rattle.exec_session.specs.Drains.{Spot, spot}
 use Rattle.exec_session.specs.Limits.{Limits}
@@ -73,10 +74,10 @@ module _ {D : Type 0} (look : D → View) (source : Source) (limits : Limits) (p
 
   -- a command more waits
   pub one_waits : (most : ℕ) (commands commands' : List Command) (command : Command) (executor : Sight D)
-      (left now written : Option (List ℕ)) → executor.is_open ≡ true → ReadsCommand left now command
-      → commands' ≡ commands ++ command ∷ [] → Come most commands (place executor left written)
-      → Come (most + 1) commands' (place executor now written)
-  one_waits most commands commands' command executor left now written is_open read same (count, few, waits) = (
+      (left now : Option (List ℕ)) (heard : Heard D) → executor.is_open ≡ true → ReadsCommand left now command
+      → commands' ≡ commands ++ command ∷ [] → Come most commands (place executor left heard)
+      → Come (most + 1) commands' (place executor now heard)
+  one_waits most commands commands' command executor left now heard is_open read same (count, few, waits) = (
     count,
     more few,
     record {
@@ -92,24 +93,24 @@ module _ {D : Type 0} (look : D → View) (source : Source) (limits : Limits) (p
 
   -- all that wait are answered
   pub all_answered : (most : ℕ) → ((n : ℕ) → n + 1 ≤ most → MayTake limits.way n) → (commands : List Command)
-      (old new : Sight D) (left written written' : Option (List ℕ))
-      → (commands ≢ [] → old.is_open ≡ true) → Come most commands (place old left written)
-      → AnswersAll look limits commands (spot old written) (spot new written') → Come most [] (place new left written')
-  all_answered most may [] old new left written written' is_open (count, few, waits) same =
+      (old new : Sight D) (left : Option (List ℕ)) (heard heard' : Heard D)
+      → (commands ≢ [] → old.is_open ≡ true) → Come most commands (place old left heard)
+      → AnswersAll look limits commands (spot old heard) (spot new heard') → Come most [] (place new left heard')
+  all_answered most may [] old new left heard heard' is_open (count, few, waits) same =
       let executor : new ≡ old = ap (λ (s : Spot D). s.executor) same in
-      let wrote : written' ≡ written = ap (λ (s : Spot D). s.written) same in
-      let moved = subst (λ (e : Sight D). Come most [] (place e left written)) (sym executor) (count, few, waits) in
-      subst (λ w. Come most [] (place new left w)) (sym wrote) moved
-  all_answered most may (first ∷ others) old new left written written' is_open (count, inr closed, waits) answers =
+      let told : heard' ≡ heard = ap (λ (s : Spot D). s.heard) same in
+      let moved = subst (λ (e : Sight D). Come most [] (place e left heard)) (sym executor) (count, few, waits) in
+      subst (λ (h : Heard D). Come most [] (place new left h)) (sym told) moved
+  all_answered most may (first ∷ others) old new left heard heard' is_open (count, inr closed, waits) answers =
       absurd (true≢false (sym (is_open (λ none. cc)) ∙ closed))
-  all_answered most may (first ∷ others) old new left written written' is_open (count, inl few, waits) answers = (
+  all_answered most may (first ∷ others) old new left heard heard' is_open (count, inl few, waits) answers = (
     count + length others + 1,
     inl (omega (arith, few)),
     record {
       left = left;
       read = refl;
       reached =
-          row count (place old waits.left written) (place new left written') first others waits.reached (is_open (λ none. cc))
+          row count (place old waits.left heard) (place new left heard') first others waits.reached (is_open (λ none. cc))
           (may (count + length others) (omega (arith, few))) (record { read = waits.read; answered = answers });
     },
   )
@@ -120,7 +121,7 @@ module _ {D : Type 0} (look : D → View) (source : Source) (limits : Limits) (p
   at_line most q (count, few, waits) = (
     count,
     fewer few,
-    subst (λ left. Reaches look source limits p count (place q.executor left q.written)) (sym waits.read) waits.reached,
+    subst (λ left. Reaches look source limits p count (place q.executor left q.heard)) (sym waits.read) waits.reached,
   )
     where
       fewer : (count + 0 ≤ most) ⊎ Closed q.executor → (count ≤ most) ⊎ Closed q.executor

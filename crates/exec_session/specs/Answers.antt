@@ -81,14 +81,14 @@ pub record ServesNow {D : Type 0} (look : D → View) (limits : Limits) (request
 abbrev pub TidiesNow : {D : Type 0} → (D → View) → Sight D → Sight D → LineReply → Type 0
 TidiesNow look old new reply = (end : TidyEnd) × (reply ≡ answer.Tidy end) × Tidies look old new end
 
--- what an open executor answers to a line: from the spot of its start to that at which the reply is written
+-- what an open executor answers to a line: from the spot of its start to that at which the reply is told
 abbrev pub IsOpenReply : {D : Type 0} → (D → View) → Source → Limits → Spot D
     → Spot D → Result Line Refusal → LineReply → Type 0
 IsOpenReply look source limits p q (Ok (line.Request request)) reply =
-    ServesNow look limits request p.executor q.executor reply × (q.written ≡ p.written)
+    ServesNow look limits request p.executor q.executor reply × (q.heard ≡ p.heard)
 IsOpenReply look source limits p q (Ok (line.Drain limit)) reply = DrainsFor look true limit limits p q reply
 IsOpenReply look source limits p q (Ok (line.Watch limit)) reply = DrainsFor look false limit limits p q reply
-IsOpenReply look source limits p q (Ok line.Tidy) reply = TidiesNow look p.executor q.executor reply × (q.written ≡ p.written)
+IsOpenReply look source limits p q (Ok line.Tidy) reply = TidiesNow look p.executor q.executor reply × (q.heard ≡ p.heard)
 IsOpenReply look source limits p q (Ok (line.Meta provider agent limit)) reply =
     IsMetaReply source provider agent limit reply × (q ≡ p)
 IsOpenReply look source limits p q (Err why) reply = (reply ≡ refused why) × (q ≡ p)

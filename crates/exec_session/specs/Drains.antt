@@ -1,36 +1,35 @@
 -- What a drain does, turn by turn.
-use Rattle.std.specs.Prelude.{◌≡◌, ℕ, ◌+◌, Bool, true, false, not, ◌&&◌, nat_le, List, Option, Some, None, if◌then◌else◌}
-use Rattle.std.specs.Io.KnownBytes.{Appends}
-use Rattle.std.specs.List.{flat_map}
+use Rattle.std.specs.Prelude.{◌≡◌, ℕ, ◌+◌, Bool, true, false, not, ◌&&◌, nat_le, map, Option, Some, None, if◌then◌else◌}
 use Rattle.ocf_types.specs.Boot.{any_busy}
 use Rattle.ocf_types.specs.declared.reply.TurnEnd.{TurnEnd}
 use Rattle.ocf_types.specs.declared.reply.TurnEnd.TheVariants.{Disk, Done}
 use Rattle.disk_model.specs.View.{View}
 use Rattle.executor.specs.Sights.{Sight}
 use Rattle.executor.specs.TurnCalls.{TakesTurn, with_empty_book}
-use Rattle.exec_commands.specs.Replies.{formed_line}
 use Rattle.exec_commands.specs.declared.ends.DrainEnd.{DrainEnd}
 use Rattle.exec_commands.specs.declared.ends.DrainEnd.TheVariants.{Idle, Limit, Turns, Turn}
+use Rattle.exec_client.specs.Heard.{Heard, Hears}
+use Rattle.exec_client.specs.Said.{Noticed}
 use Rattle.exec_session.specs.Limits.{Limits, MakesRoom}
 use Rattle.exec_session.specs.declared.drain.Terms.{Terms}
 
--- where an answer stands: its executor, and what the writer holds
+-- where an answer stands: its executor, and what the client has heard
 pub record Spot (D : Type 0) : Type 0 where
   pub executor : Sight D
-  pub written : Option (List ℕ)
+  pub heard : Heard D
 
-abbrev pub spot : {D : Type 0} → Sight D → Option (List ℕ) → Spot D
-spot executor written = record { executor = executor; written = written }
+abbrev pub spot : {D : Type 0} → Sight D → Heard D → Spot D
+spot executor heard = record { executor = executor; heard = heard }
 
--- A turn at this moment: the book is emptied and room is made, then the turn is made, and its notices are written. Where a
--- disk fault closed the executor as room was made, no turn is made and nothing is written.
+-- A turn at this moment: the book is emptied and room is made, then the turn is made, and its notices are told. Where a
+-- disk fault closed the executor as room was made, no turn is made and nothing is told.
 pub record MakesTurn {D : Type 0} (look : D → View) (limits : Limits) (now : ℕ) (p q : Spot D)
     (end : TurnEnd) : Type 0 where
   pub middle : Sight D
   pub room : MakesRoom look limits (with_empty_book p.executor) middle
   pub takes : middle.is_open ≡ true → TakesTurn look now middle q.executor end
-  pub written : middle.is_open ≡ true → Appends p.written q.written (flat_map (formed_line limits.form) q.executor.told)
-  pub fails : middle.is_open ≡ false → (end ≡ Disk) × (q.executor ≡ middle) × (q.written ≡ p.written)
+  pub hears : middle.is_open ≡ true → Hears limits.form p.heard q.heard (map Noticed q.executor.told)
+  pub fails : middle.is_open ≡ false → (end ≡ Disk) × (q.executor ≡ middle) × (q.heard ≡ p.heard)
 
 -- how a drain ends behind its turn of this number, which ended so and left the executor idle or not, at the moment that
 -- the clock shows then; none where it goes on

@@ -1,13 +1,14 @@
 -- How a run goes on, line by line of the input.
-use Rattle.std.specs.Prelude.{◌≡◌, ◌≢◌, ℕ, ◌<◌, ⊤, List, [], length, Option, Some, None, Result}
-use Rattle.std.specs.Io.KnownBytes.{Appends, IsAtEnd}
+use Rattle.std.specs.Prelude.{◌≡◌, ◌≢◌, ℕ, ◌<◌, ⊤, List, [], ◌∷◌, length, Option, Some, None, Result}
+use Rattle.std.specs.Io.KnownBytes.{IsAtEnd}
 use Rattle.ocf_types.specs.declared.refusal.Refusal.{Refusal}
 use Rattle.disk_model.specs.View.{View}
 use Rattle.executor.specs.Sights.{Sight}
 use Rattle.exec_lines.specs.Lines.{first_line, after_first_line}
-use Rattle.exec_commands.specs.Replies.{reply_line}
 use Rattle.exec_commands.specs.declared.line.Line.{Line}
 use Rattle.exec_commands.specs.declared.reply.LineReply.{LineReply}
+use Rattle.exec_client.specs.Heard.{Heard, Hears}
+use Rattle.exec_client.specs.Said.{Answered}
 use Rattle.exec_session.specs.declared.lines.Found.{Found}
 use Rattle.exec_session.specs.declared.lines.Found.TheVariants as found
 use Rattle.exec_session.specs.declared.lines.Progress.{Progress}
@@ -32,28 +33,28 @@ ReadsInput old new found.End = IsAtEnd old
 ReadsInput old new found.Empty = PassesLine old new
 ReadsInput old new (found.Line line) = ReadsLine old new line
 
--- where a run is: its executor, what the reader has left, and what the writer holds
+-- where a run is: its executor, what the reader has left, and what the client has heard
 pub record Place (D : Type 0) : Type 0 where
   pub executor : Sight D
   pub left : Option (List ℕ)
-  pub written : Option (List ℕ)
+  pub heard : Heard D
 
-abbrev pub place : {D : Type 0} → Sight D → Option (List ℕ) → Option (List ℕ) → Place D
-place executor left written = record { executor = executor; left = left; written = written }
+abbrev pub place : {D : Type 0} → Sight D → Option (List ℕ) → Heard D → Place D
+place executor left heard = record { executor = executor; left = left; heard = heard }
 
--- The next line is read, and what the writer holds grows by the notices of a drain, and then by just the reply.
+-- The next line is read, and the client is told the notices of a drain, and then just the reply.
 pub record Answers {D : Type 0} (look : D → View) (source : Source) (limits : Limits)
     (p q : Place D) : Type 0 where
   pub found : Result Line Refusal
   pub reply : LineReply
-  pub noticed : Option (List ℕ)
+  pub noticed : Heard D
   pub read : ReadsLine p.left q.left found
-  pub answered : IsReply look source limits (spot p.executor p.written) (spot q.executor noticed) found reply
-  pub written : Appends noticed q.written (reply_line reply)
+  pub answered : IsReply look source limits (spot p.executor p.heard) (spot q.executor noticed) found reply
+  pub hears : Hears limits.form noticed q.heard (Answered reply ∷ [])
 
--- the executor and what the writer holds are the same
+-- the executor and what the client has heard are the same
 abbrev pub Stays : {D : Type 0} → Place D → Place D → Type 0
-Stays p q = (q.executor ≡ p.executor) × (q.written ≡ p.written)
+Stays p q = (q.executor ≡ p.executor) × (q.heard ≡ p.heard)
 
 -- what was done with what stands next in the input
 abbrev pub Takes : {D : Type 0} → (D → View) → Source → Limits → Place D → Place D

@@ -1,16 +1,15 @@
 -- Whole runs.
-use Rattle.std.specs.Prelude.{◌≡◌, ℕ, ◌+◌, ◌<◌, ⊤, List, ◌∷◌, ◌++◌, length, Option, true, false, Result, Ok, Err}
-use Rattle.std.specs.Io.KnownBytes.{Appends}
-use Rattle.std.specs.List.{flat_map}
+use Rattle.std.specs.Prelude.{◌≡◌, ℕ, ◌+◌, ◌<◌, ⊤, List, [], ◌∷◌, ◌++◌, length, map, Option, true, false, Result, Ok, Err}
 use Rattle.disk_model.specs.View.{View}
 use Rattle.child_keeper.specs.Children.{ChildrenView, given_up}
-use Rattle.executor.specs.Lives.{ByCalls}
+use Rattle.executor.specs.Openings.{Opened}
 use Rattle.executor.specs.Sights.{Sight}
 use Rattle.executor.specs.declared.report.Report.{Report}
 use Rattle.ocf_types.specs.Kinds.{Command}
 use Rattle.ocf_types.specs.declared.reply.TurnEnd.{TurnEnd}
-use Rattle.exec_commands.specs.Replies.{formed_line}
-use Rattle.exec_commands.specs.declared.notice.NoticeForm.{NoticeForm}
+use Rattle.exec_client.specs.Heard.{Heard, Hears, IsTold}
+use Rattle.exec_client.specs.MayTell.{StandsBehind}
+use Rattle.exec_client.specs.Said.{Reported, Said}
 use Rattle.exec_output.specs.declared.fault.Fault.{Fault}
 use Rattle.exec_output.specs.declared.fault.Fault.TheVariants.{Disk, Memory, InputOrOutput, ReplyMemory}
 use Rattle.exec_session.specs.declared.lines.Progress.{Progress}
@@ -19,14 +18,23 @@ use Rattle.exec_session.specs.declared.session.Run.{Run as RunResult}
 use Rattle.exec_session.specs.declared.setting.Way.{Way}
 use Rattle.exec_session.specs.declared.setting.Way.TheVariants.{Run, Serve}
 use Rattle.exec_session.specs.Answers.{Source}
-use Rattle.exec_session.specs.Drains.{MakesTurn, spot}
+use Rattle.exec_session.specs.Drains.{MakesTurn, Spot, spot}
 use Rattle.exec_session.specs.Limits.{Limits}
 use Rattle.exec_session.specs.Progress.{Place, Takes, place}
 use Rattle.exec_session.specs.Together.{AnswersRow}
 
--- what the opening's report is written as
-abbrev pub report_text : {M : Type 0} → NoticeForm → Report M → List ℕ
-report_text form r = flat_map (formed_line form) r.interrupted.items ++ flat_map (formed_line form) r.dropped.items
+-- what is told of the opening's report: what was interrupted, and then what was dropped
+abbrev pub report_told : {M : Type 0} → Report M → List Said
+report_told r = map Reported r.interrupted.items ++ map Reported r.dropped.items
+
+-- the report is that of the opening that gave this executor
+abbrev pub IsReportOf : {D M : Type 0} → (D → View) → Sight D → Report M → Type 0
+IsReportOf {D} look x r =
+    (old : D) × (from : ChildrenView) × (now : ℕ) × Opened look (look old) from now x r.interrupted.items r.dropped.items
+
+-- a client of the executor that was just opened, who was told nothing yet
+abbrev pub IsNew : {D : Type 0} → Heard D → Sight D → Type 0
+IsNew heard x = (heard.opened ≡ x) × (heard.told ≡ [])
 
 -- how many lines an open executor answers at most between two turns of a run that serves
 abbrev pub lines_a_turn : ℕ
@@ -56,7 +64,7 @@ pub data Reaches {D : Type 0} (look : D → View) (source : Source) (limits : Li
       → m.executor.is_open ≡ false → Takes look source limits m q s → Reaches look source limits p 0 q
   turn : (n now : ℕ) (m q : Place D) (end : TurnEnd) → Reaches look source limits p n m → MakesTurns limits.way
       → m.executor.is_open ≡ true
-      → MakesTurn look limits now (spot m.executor m.written) (spot q.executor q.written) end → q.left ≡ m.left
+      → MakesTurn look limits now (spot m.executor m.heard) (spot q.executor q.heard) end → q.left ≡ m.left
       → Reaches look source limits p 0 q
 
 -- so up to the end of the input
@@ -67,12 +75,12 @@ pub record ReachesEnd {D : Type 0} (look : D → View) (source : Source) (limits
   pub reached : Reaches look source limits p count last
   pub end : Takes look source limits last q End
 
--- the report is written first, and then all lines are answered
+-- the report is told first, and then all lines are answered
 pub record Runs {D N : Type 0} (look : D → View) (source : Source) (limits : Limits) (report : Report N)
     (p q : Place D) : Type 0 where
-  pub reported : Option (List ℕ)
-  pub report_first : Appends p.written reported (report_text limits.form report)
-  pub lines : ReachesEnd look source limits (record p { written = reported }) q
+  pub reported : Heard D
+  pub report_first : Hears limits.form p.heard reported (report_told report)
+  pub lines : ReachesEnd look source limits (record p { heard = reported }) q
 
 -- how a run ends that leads from one place to another
 abbrev pub EndsAs : {D N T : Type 0} → (D → View) → Source → Limits → Report N → Place D
@@ -85,20 +93,26 @@ EndsAs look source limits report p q (Err InputOrOutput) = ⊤
 EndsAs look source limits report p q (Err ReplyMemory) = ⊤
 EndsAs look source limits report p q (Err _) = ⊥
 
--- A run that begins at this place ended, with what the reader has left then and what the writer holds: at its end all
+-- A run that begins at this place ended, with what the reader has left then and what the client has heard: at its end all
 -- children are given up, and they and the disk are handed back.
 pub record Ended {D C N : Type 0} (look : D → View) (tend : C → ChildrenView) (source : Source) (limits : Limits) (report : Report N)
-    (p : Place D) (left written : Option (List ℕ)) (run : RunResult D C) : Type 0 where
+    (p : Place D) (left : Option (List ℕ)) (heard : Heard D) (run : RunResult D C) : Type 0 where
   pub last : Sight D
-  pub ends : EndsAs look source limits report p (place last left written) run.ended
+  pub ends : EndsAs look source limits report p (place last left heard) run.ended
   pub disk : run.disk ≡ last.disk
   pub children : tend run.children ≡ given_up last.children
 
--- However a run ends, its executor did nothing but calls, from this sight of it on, and is closed: this disk and these children
--- are those that it handed back.
-pub record ClosesByCalls {D : Type 0} (look : D → View) (old : Sight D) (disk : D) (children : ChildrenView) : Type 0 where
+-- Calls alone lead from one spot to another, with these exchanges, and what was told meanwhile stands behind what they recorded.
+pub record GoesByCalls {D : Type 0} (look : D → View) (p q : Spot D) : Type 0 where
+  pub said : List Said
+  pub told : IsTold p.heard q.heard said
+  pub stands : StandsBehind look p.executor q.executor said
+
+-- However a run ends, its executor did nothing but calls since it was opened, and is closed; and all that its client was told
+-- stands behind what they recorded. This disk and these children are those that it handed back.
+pub record ClosesByCalls {D : Type 0} (look : D → View) (opened : Sight D) (heard : Heard D) (disk : D) (children : ChildrenView) : Type 0 where
   pub last : Sight D
-  pub calls : ByCalls look old last
+  pub stands : StandsBehind look opened last heard.told
   pub is_closed : last.is_open ≡ false
   pub disk_is : disk ≡ last.disk
   pub children_are : children ≡ last.children

@@ -15,7 +15,7 @@ use Rattle.exec_session.specs.Waiting.{HasCome}
 abbrev pub HasComeMid : {D : Type 0} → (D → View) → Source → Limits → Place D → ℕ
     → List Command → List ℕ → Place D → Type 0
 HasComeMid look source limits p most commands kept q =
-    (left : Option (List ℕ)) × IsMidLine left kept q.left × HasCome look source limits p most commands (place q.executor left q.written)
+    (left : Option (List ℕ)) × IsMidLine left kept q.left × HasCome look source limits p most commands (place q.executor left q.heard)
 
 -- it has come so far, or to the end of the input
 abbrev pub ComesMidOrEnds : {D : Type 0} → (D → View) → Source → Limits → Place D → ℕ

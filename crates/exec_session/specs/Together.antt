@@ -1,7 +1,5 @@
 -- Commands that arrived together, and are answered together.
-use Rattle.std.specs.Prelude.{◌≡◌, ℕ, List, [], ◌∷◌, length, replicate, Option, true, false, Ok}
-use Rattle.std.specs.Io.KnownBytes.{Appends}
-use Rattle.std.specs.List.{flat_map}
+use Rattle.std.specs.Prelude.{◌≡◌, ℕ, List, [], ◌∷◌, length, map, replicate, Option, true, false, Ok}
 use Rattle.ocf_types.specs.Kinds.{Command, Reply}
 use Rattle.ocf_types.specs.declared.command.RequestOf.TheVariants as asked
 use Rattle.ocf_types.specs.declared.refusal.Refusal.TheVariants.{Disk}
@@ -9,8 +7,9 @@ use Rattle.ocf_types.specs.declared.reply.ReplyOf.TheVariants.{Refused}
 use Rattle.disk_model.specs.View.{View}
 use Rattle.executor.specs.Rows.{TakesCommands}
 use Rattle.executor.specs.Sights.{Sight}
-use Rattle.exec_commands.specs.Replies.{request_line}
 use Rattle.exec_commands.specs.declared.line.Line.TheVariants as line
+use Rattle.exec_client.specs.Heard.{Hears}
+use Rattle.exec_client.specs.Said.{answered}
 use Rattle.exec_session.specs.Drains.{Spot, spot}
 use Rattle.exec_session.specs.Limits.{Limits, MakesRoom}
 use Rattle.exec_session.specs.Progress.{Place, ReadsLine}
@@ -36,12 +35,12 @@ pub record ServesTogether {D : Type 0} (look : D → View) (limits : Limits) (co
   pub takes : middle.is_open ≡ true → TakesCommands look now commands middle new given
   pub fails : middle.is_open ≡ false → (given ≡ replicate (length commands) (Refused Disk)) × (new ≡ middle)
 
--- They are served, and behind that what the writer holds grows by just the lines of their replies, in their order.
+-- They are served, and behind that the client is told just their replies, in their order.
 pub record AnswersTogether {D : Type 0} (look : D → View) (limits : Limits) (commands : List Command)
     (p q : Spot D) : Type 0 where
   pub given : List Reply
   pub serves : ServesTogether look limits commands p.executor q.executor given
-  pub written : Appends p.written q.written (flat_map request_line given)
+  pub hears : Hears limits.form p.heard q.heard (map answered given)
 
 -- all commands that wait are answered together, where there are any
 abbrev pub AnswersAll : {D : Type 0} → (D → View) → Limits → List Command → Spot D
@@ -53,4 +52,4 @@ AnswersAll look limits (first ∷ others) p q = AnswersTogether look limits (fir
 pub record AnswersRow {D : Type 0} (look : D → View) (limits : Limits) (commands : List Command)
     (p q : Place D) : Type 0 where
   pub read : ReadsCommands p.left commands q.left
-  pub answered : AnswersTogether look limits commands (spot p.executor p.written) (spot q.executor q.written)
+  pub answered : AnswersTogether look limits commands (spot p.executor p.heard) (spot q.executor q.heard)

@@ -20,12 +20,12 @@ pub record MayWait {D : Type 0} (x : Sight D) (commands : List Command) : Type 0
   pub while_open : x.is_open ≡ false → commands ≡ []
 
 -- A run has come from a place so far that these commands wait: they were read, one behind the other, and since then nothing was
--- done with the executor and nothing written.
+-- done with the executor and nothing told.
 pub record Waits {D : Type 0} (look : D → View) (source : Source) (limits : Limits)
     (p : Place D) (count : ℕ) (commands : List Command) (q : Place D) : Type 0 where
   pub left : Option (List ℕ)
   pub read : ReadsCommands left commands q.left
-  pub reached : Reaches look source limits p count (place q.executor left q.written)
+  pub reached : Reaches look source limits p count (place q.executor left q.heard)
 
 -- it has come so far, with at most so many lines since its last turn, those that wait too, or with a closed executor
 abbrev pub HasCome : {D : Type 0} → (D → View) → Source → Limits → Place D → ℕ

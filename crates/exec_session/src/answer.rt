@@ -1,6 +1,7 @@
 //! What a line is answered.
-ghost use Rattle.std.specs.Prelude.{◌≡◌, true, IfOk};
-ghost use Rattle.executor.specs.Lives.{ByCalls};
+ghost use Rattle.std.specs.Prelude.{◌≡◌, [], ◌∷◌, true, IfOk};
+ghost use Rattle.exec_client.specs.MayTell.{AllStand, MayBeReplied, MayReply, StandsBehind};
+ghost use Rattle.exec_client.specs.Said.{Answered};
 ghost use Rattle.exec_session.specs.Answers.{DrainsFor, IsClosedReply, IsMetaReply, IsOpenReply, IsReply, ServesNow, closed_drain};
 ghost use Rattle.exec_session.specs.Answers.{closed_tidy, refused};
 ghost use Rattle.exec_session.specs.Drains.{spot};
@@ -12,8 +13,9 @@ use crate::room::make_room;
 use crate::setting::Setting;
 use child_keeper::Children;
 use disk_model::Disk;
+use exec_client::Client;
 use exec_commands::{DrainEnd, Line, LineReply};
-use exec_lines::{Output, moment_now};
+use exec_lines::moment_now;
 use exec_output::Stopped;
 use executor::Executor;
 use ocf_types::{AgentType, Provider, Refusal, Reply, Request, TidyEnd, TurnEnd};
@@ -73,17 +75,19 @@ fn closed_reply<K: Clock, M: Metadata>(
 }
 
 // Drains from now on, for so many milliseconds at most.
-fn drain_reply<W: Output, D: Disk + Drop, C: Children + Drop, K: Clock, M: Metadata>(
+fn drain_reply<D: Disk + Drop, C: Children + Drop, T: Client<D, C>, K: Clock, M: Metadata>(
     setting: &Setting<K, M>,
-    writer: &mut W,
+    client: &mut T,
     executor: &mut Executor<D, C>,
     ends_idle: bool,
     limit: u32,
 ) -> Result<LineReply, Stopped>
     requires open { executor.old.is_open ≡ true }
-    ensures calls { ByCalls D.view executor.old executor.new }
+    requires stands { AllStand D.view (T.heard client.old) executor.old }
+    ensures stands { AllStand D.view (T.heard client.new) executor.new }
+    ensures opened { (T.heard client.new).opened ≡ (T.heard client.old).opened }
     ensures reply { IfOk result (DrainsFor D.view ends_idle limit (limits_of setting.now)
-        (spot executor.old (W.contents writer.old)) (spot executor.new (W.contents writer.new))) }
+        (spot executor.old (T.heard client.old)) (spot executor.new (T.heard client.new))) }
 {
     let start = moment_now(setting.clock).get();
     let terms = Terms {
@@ -91,7 +95,7 @@ fn drain_reply<W: Output, D: Disk + Drop, C: Children + Drop, K: Clock, M: Metad
         until: start + u64::from(limit),
         most: setting.most_turns,
     };
-    let end = drain(setting, writer, executor, terms, start)?;
+    let end = drain(setting, client, executor, terms, start)?;
     Ok(LineReply::Drain(end))
 }
 
@@ -103,7 +107,8 @@ fn request_reply<D: Disk + Drop, C: Children + Drop, K: Clock, M>(
     request: Request,
 ) -> LineReply
     requires open { executor.old.is_open ≡ true }
-    ensures calls { ByCalls D.view executor.old executor.new }
+    ensures stands { StandsBehind D.view executor.old executor.new (Answered result ∷ []) }
+    ensures says { MayReply executor.new result }
     ensures serves { ServesNow D.view (limits_of setting.now) request executor.old executor.new result }
 {
     if !make_room(setting, executor) {
@@ -113,22 +118,25 @@ fn request_reply<D: Disk + Drop, C: Children + Drop, K: Clock, M>(
     LineReply::Request(executor.command(now, request))
 }
 
-// What a line is answered. What is written before the reply are a drain's notices.
-fn open_reply<W: Output, D: Disk + Drop, C: Children + Drop, K: Clock, M: Metadata>(
+// What a line is answered, which may be told then. What is told before the reply are a drain's notices.
+fn open_reply<D: Disk + Drop, C: Children + Drop, T: Client<D, C>, K: Clock, M: Metadata>(
     setting: &Setting<K, M>,
-    writer: &mut W,
+    client: &mut T,
     executor: &mut Executor<D, C>,
     line: Result<Line, Refusal>,
 ) -> Result<LineReply, Stopped>
     requires open { executor.old.is_open ≡ true }
-    ensures calls { ByCalls D.view executor.old executor.new }
+    requires stands { AllStand D.view (T.heard client.old) executor.old }
+    ensures stands { AllStand D.view (T.heard client.new) executor.new }
+    ensures opened { (T.heard client.new).opened ≡ (T.heard client.old).opened }
+    ensures may_tell { IfOk result (MayBeReplied D.view (T.heard client.new) executor.new) }
     ensures reply { IfOk result (IsOpenReply D.view (M.gives setting.now.metadata.now) (limits_of setting.now)
-        (spot executor.old (W.contents writer.old)) (spot executor.new (W.contents writer.new)) line) }
+        (spot executor.old (T.heard client.old)) (spot executor.new (T.heard client.new)) line) }
 {
     match line {
         Ok(Line::Request(request)) => Ok(request_reply(setting, executor, request)),
-        Ok(Line::Drain(limit)) => drain_reply(setting, writer, executor, true, limit),
-        Ok(Line::Watch(limit)) => drain_reply(setting, writer, executor, false, limit),
+        Ok(Line::Drain(limit)) => drain_reply(setting, client, executor, true, limit),
+        Ok(Line::Watch(limit)) => drain_reply(setting, client, executor, false, limit),
         Ok(Line::Tidy) => Ok(LineReply::Tidy(executor.tidy())),
         Ok(
             Line::Meta {
@@ -141,19 +149,22 @@ fn open_reply<W: Output, D: Disk + Drop, C: Children + Drop, K: Clock, M: Metada
     }
 }
 
-/// What a line is answered. What is written before the reply are a drain's notices.
-pub fn reply_to<W: Output, D: Disk + Drop, C: Children + Drop, K: Clock, M: Metadata>(
+/// What a line is answered, which may be told then. What is told before the reply are a drain's notices.
+pub fn reply_to<D: Disk + Drop, C: Children + Drop, T: Client<D, C>, K: Clock, M: Metadata>(
     setting: &Setting<K, M>,
-    writer: &mut W,
+    client: &mut T,
     executor: &mut Executor<D, C>,
     line: Result<Line, Refusal>,
 ) -> Result<LineReply, Stopped>
-    ensures calls { ByCalls D.view executor.old executor.new }
+    requires stands { AllStand D.view (T.heard client.old) executor.old }
+    ensures stands { AllStand D.view (T.heard client.new) executor.new }
+    ensures opened { (T.heard client.new).opened ≡ (T.heard client.old).opened }
+    ensures may_tell { IfOk result (MayBeReplied D.view (T.heard client.new) executor.new) }
     ensures reply { IfOk result (IsReply D.view (M.gives setting.now.metadata.now) (limits_of setting.now)
-        (spot executor.old (W.contents writer.old)) (spot executor.new (W.contents writer.new)) line) }
+        (spot executor.old (T.heard client.old)) (spot executor.new (T.heard client.new)) line) }
 {
     if executor.is_open() {
-        open_reply(setting, writer, executor, line)
+        open_reply(setting, client, executor, line)
     } else {
         Ok(closed_reply(setting, &line))
     }

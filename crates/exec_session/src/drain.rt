@@ -1,6 +1,6 @@
 //! Drains and watches: turns, each with its notices.
 ghost use Rattle.std.specs.Prelude.{◌≡◌, true, IfOk};
-ghost use Rattle.executor.specs.Lives.{ByCalls};
+ghost use Rattle.exec_client.specs.MayTell.{AllStand};
 ghost use Rattle.exec_session.specs.Drains.{Drains, end_behind, spot};
 ghost use Rattle.exec_session.specs.Limits.{limits_of};
 
@@ -10,8 +10,9 @@ use crate::setting::Setting;
 use crate::turn::make_turn;
 use child_keeper::Children;
 use disk_model::Disk;
+use exec_client::Client;
 use exec_commands::DrainEnd;
-use exec_lines::{Output, moment_now};
+use exec_lines::moment_now;
 use exec_output::Stopped;
 use executor::Executor;
 use ocf_types::{NUM_MAX, TurnEnd};
@@ -50,26 +51,28 @@ impl Terms {
 }
 
 /// Makes turns up to the end of a drain that begins at this moment. Between two turns in which nothing happened it pauses.
-/// It stops where nobody can read any more what it writes.
-pub fn drain<W: Output, D: Disk + Drop, C: Children + Drop, K: Clock, M: Metadata>(
+/// It stops where nobody can hear any more what it tells.
+pub fn drain<D: Disk + Drop, C: Children + Drop, T: Client<D, C>, K: Clock, M: Metadata>(
     setting: &Setting<K, M>,
-    writer: &mut W,
+    client: &mut T,
     executor: &mut Executor<D, C>,
     terms: Terms,
     start: u64,
 ) -> Result<DrainEnd, Stopped>
     requires open { executor.old.is_open ≡ true }
-    ensures calls { ByCalls D.view executor.old executor.new }
+    requires stands { AllStand D.view (T.heard client.old) executor.old }
+    ensures stands { AllStand D.view (T.heard client.new) executor.new }
+    ensures opened { (T.heard client.new).opened ≡ (T.heard client.old).opened }
     ensures drains { IfOk result (λ end. Drains D.view (limits_of setting.now) terms start
-        (spot executor.old (W.contents writer.old)) (spot executor.new (W.contents writer.new)) end) }
+        (spot executor.old (T.heard client.old)) (spot executor.new (T.heard client.new)) end) }
 {
     let mut now = start;
     let mut pause = Pause::new();
     for turns in 0..NUM_MAX {
         pause.before_turn(setting.clock);
-        let end = make_turn(setting, writer, executor, now)?;
+        let end = make_turn(setting, client, executor, now)?;
         rest(setting.clock, pause.behind_turn(setting.clock, executor));
-        if !writer.is_heard() {
+        if !client.is_heard() {
             return Err(Stopped::InputOrOutput);
         }
         now = moment_now(setting.clock).get();

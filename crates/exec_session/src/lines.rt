@@ -2,7 +2,7 @@
 ghost use Rattle.std.specs.Prelude.{◌≡◌, ℕ, ◌+◌, ◌<◌, [], List, true, length, Option, IfOk, OnOk};
 ghost use Rattle.exec_lines.specs.Buffer.{line_bytes};
 ghost use Rattle.exec_lines.specs.Pieces.{IsNext};
-ghost use Rattle.executor.specs.Lives.{ByCalls};
+ghost use Rattle.exec_client.specs.MayTell.{AllStand};
 ghost use Rattle.exec_session.specs.Gathered.{waiting};
 ghost use Rattle.exec_session.specs.Limits.{limits_of};
 ghost use Rattle.exec_session.specs.Progress.{Place, ReadsInput, Takes, place};
@@ -16,9 +16,10 @@ use crate::setting::Setting;
 use crate::together::answer_gathered;
 use child_keeper::Children;
 use disk_model::Disk;
+use exec_client::{Client, Told};
 use exec_commands::{Line, read_command};
-use exec_lines::{LineBuffer, Next, Output};
-use exec_output::{Stopped, send_reply};
+use exec_lines::{LineBuffer, Next};
+use exec_output::Stopped;
 use executor::Executor;
 use ocf_types::{Command, Refusal, Request};
 use std::alloc::Global;
@@ -60,31 +61,33 @@ pub fn found_in(alloc: Global, buffer: &LineBuffer, next: Next) -> Found
 }
 
 // Answers what stands next in the input. A line of no bytes is passed over.
-fn answer_found<W: Output, D: Disk + Drop, C: Children + Drop, K: Clock, M: Metadata>(
+fn answer_found<D: Disk + Drop, C: Children + Drop, T: Client<D, C>, K: Clock, M: Metadata>(
     setting: &Setting<K, M>,
-    writer: &mut W,
+    client: &mut T,
     executor: &mut Executor<D, C>,
     found: Found,
 ) -> Result<Progress, Stopped>
-    ensures calls { ByCalls D.view executor.old executor.new }
+    requires stands { AllStand D.view (T.heard client.old) executor.old }
+    ensures stands { AllStand D.view (T.heard client.new) executor.new }
+    ensures opened { (T.heard client.new).opened ≡ (T.heard client.old).opened }
     ensures progress { (left now : Option (List ℕ)) → ReadsInput left now found
         → IfOk result (Takes D.view (M.gives setting.now.metadata.now) (limits_of setting.now)
-        (place executor.old left (W.contents writer.old)) (place executor.new now (W.contents writer.new))) }
+        (place executor.old left (T.heard client.old)) (place executor.new now (T.heard client.new))) }
 {
     let line = match found {
         Found::End => return Ok(Progress::End),
         Found::Empty => return Ok(Progress::PassedOver),
         Found::Line(line) => line,
     };
-    let reply = reply_to(setting, writer, executor, line)?;
-    send_reply(setting.alloc, writer, &reply)?;
+    let reply = reply_to(setting, client, executor, line)?;
+    client.tell(executor, setting.form, &Told::Reply(&reply))?;
     Ok(Progress::Answered)
 }
 
 // Has a command wait behind the others, and answers all of them unless the next line is there already.
-fn take_command<W: Output, D: Disk + Drop, C: Children + Drop, K: Clock, M: Metadata>(
+fn take_command<D: Disk + Drop, C: Children + Drop, T: Client<D, C>, K: Clock, M: Metadata>(
     setting: &Setting<K, M>,
-    writer: &mut W,
+    client: &mut T,
     executor: &mut Executor<D, C>,
     gathered: &mut Gathered,
     command: Command,
@@ -92,70 +95,76 @@ fn take_command<W: Output, D: Disk + Drop, C: Children + Drop, K: Clock, M: Meta
 ) -> Result<(), Stopped>
     requires open { executor.old.is_open ≡ true }
     requires few { length (waiting gathered.old) < 64 }
+    requires stands { AllStand D.view (T.heard client.old) executor.old }
     ensures waits { MayWait executor.new (waiting gathered.new) }
-    ensures calls { ByCalls D.view executor.old executor.new }
+    ensures stands { AllStand D.view (T.heard client.new) executor.new }
+    ensures opened { (T.heard client.new).opened ≡ (T.heard client.old).opened }
     ensures takes { (p : Place D) (most : ℕ) (left now : Option (List ℕ))
         → MayTakeBehind setting.now.way most → ReadsCommand left now command
         → HasCome D.view (M.gives setting.now.metadata.now) (limits_of setting.now) p most
-        (waiting gathered.old) (place executor.old left (W.contents writer.old))
+        (waiting gathered.old) (place executor.old left (T.heard client.old))
         → OnOk result (HasCome D.view (M.gives setting.now.metadata.now) (limits_of setting.now) p (most + 1)
-        (waiting gathered.new) (place executor.new now (W.contents writer.new))) }
+        (waiting gathered.new) (place executor.new now (T.heard client.new))) }
 {
     gathered.push(command);
     if has_next && !gathered.is_full() {
         return Ok(());
     }
-    answer_gathered(setting, writer, executor, gathered)
+    answer_gathered(setting, client, executor, gathered)
 }
 
 // Answers the commands that wait, and then what stands next in the input. Whether the input ended.
-fn take_other<W: Output, D: Disk + Drop, C: Children + Drop, K: Clock, M: Metadata>(
+fn take_other<D: Disk + Drop, C: Children + Drop, T: Client<D, C>, K: Clock, M: Metadata>(
     setting: &Setting<K, M>,
-    writer: &mut W,
+    client: &mut T,
     executor: &mut Executor<D, C>,
     gathered: &mut Gathered,
     found: Found,
 ) -> Result<bool, Stopped>
     requires waits { MayWait executor.old (waiting gathered.old) }
+    requires stands { AllStand D.view (T.heard client.old) executor.old }
     ensures none { waiting gathered.new ≡ [] }
-    ensures calls { ByCalls D.view executor.old executor.new }
+    ensures stands { AllStand D.view (T.heard client.new) executor.new }
+    ensures opened { (T.heard client.new).opened ≡ (T.heard client.old).opened }
     ensures takes { (p : Place D) (most : ℕ) (left now : Option (List ℕ))
         → MayTakeBehind setting.now.way most → ReadsInput left now found
         → HasCome D.view (M.gives setting.now.metadata.now) (limits_of setting.now) p most
-        (waiting gathered.old) (place executor.old left (W.contents writer.old))
+        (waiting gathered.old) (place executor.old left (T.heard client.old))
         → IfOk result (ComesOrEnds D.view (M.gives setting.now.metadata.now) (limits_of setting.now) p (most + 1)
-        (waiting gathered.new) (place executor.new now (W.contents writer.new))) }
+        (waiting gathered.new) (place executor.new now (T.heard client.new))) }
 {
-    answer_gathered(setting, writer, executor, gathered)?;
-    let progress = answer_found(setting, writer, executor, found)?;
+    answer_gathered(setting, client, executor, gathered)?;
+    let progress = answer_found(setting, client, executor, found)?;
     Ok(progress == Progress::End)
 }
 
 /// Takes what stands next in the input: a command waits while the next line is there already, and else all that wait are
 /// answered together; anything else is answered behind them. Whether the input ended.
-pub fn take_found<W: Output, D: Disk + Drop, C: Children + Drop, K: Clock, M: Metadata>(
+pub fn take_found<D: Disk + Drop, C: Children + Drop, T: Client<D, C>, K: Clock, M: Metadata>(
     setting: &Setting<K, M>,
-    writer: &mut W,
+    client: &mut T,
     executor: &mut Executor<D, C>,
     gathered: &mut Gathered,
     found: Found,
     has_next: bool,
 ) -> Result<bool, Stopped>
     requires waits { MayWait executor.old (waiting gathered.old) }
+    requires stands { AllStand D.view (T.heard client.old) executor.old }
     ensures waits { MayWait executor.new (waiting gathered.new) }
-    ensures calls { ByCalls D.view executor.old executor.new }
+    ensures stands { AllStand D.view (T.heard client.new) executor.new }
+    ensures opened { (T.heard client.new).opened ≡ (T.heard client.old).opened }
     ensures takes { (p : Place D) (most : ℕ) (left now : Option (List ℕ))
         → MayTakeBehind setting.now.way most → ReadsInput left now found
         → HasCome D.view (M.gives setting.now.metadata.now) (limits_of setting.now) p most
-        (waiting gathered.old) (place executor.old left (W.contents writer.old))
+        (waiting gathered.old) (place executor.old left (T.heard client.old))
         → IfOk result (ComesOrEnds D.view (M.gives setting.now.metadata.now) (limits_of setting.now) p (most + 1)
-        (waiting gathered.new) (place executor.new now (W.contents writer.new))) }
+        (waiting gathered.new) (place executor.new now (T.heard client.new))) }
 {
     match found {
         Found::Line(Ok(Line::Request(Request::Command(command)))) if executor.is_open() => {
-            take_command(setting, writer, executor, gathered, command, has_next)?;
+            take_command(setting, client, executor, gathered, command, has_next)?;
             Ok(false)
         }
-        found => take_other(setting, writer, executor, gathered, found),
+        found => take_other(setting, client, executor, gathered, found),
     }
 }

@@ -1,23 +1,29 @@
-//! What an opening reports, as it goes out.
-ghost use Rattle.std.specs.Prelude.{OnOk};
-ghost use Rattle.std.specs.Io.KnownBytes.{Appends};
-ghost use Rattle.exec_session.specs.Runs.{report_text};
+//! What an opening reports, as it is told.
+ghost use Rattle.std.specs.Prelude.{◌≡◌, OnOk};
+ghost use Rattle.exec_client.specs.Heard.{Hears};
+ghost use Rattle.exec_client.specs.MayTell.{AllStand};
+ghost use Rattle.exec_session.specs.Runs.{IsReportOf, report_told};
 
+use child_keeper::Children;
+use disk_model::Disk;
+use exec_client::{Client, Told};
 use exec_commands::NoticeForm;
-use exec_output::{Stopped, send_notices};
-use executor::Report;
-use std::alloc::Global;
-use std::io::Write;
+use exec_output::Stopped;
+use executor::{Executor, Report};
 
-/// Writes what an opening reports, a notice a line: what was interrupted, and then what was dropped.
-pub fn send_report<W: Write>(
-    alloc: Global,
-    writer: &mut W,
+/// Tells what an opening reports: what was interrupted, and then what was dropped.
+pub fn tell_report<D: Disk + Drop, C: Children + Drop, T: Client<D, C>>(
+    client: &mut T,
+    executor: &Executor<D, C>,
     form: NoticeForm,
     report: &Report,
 ) -> Result<(), Stopped>
-    ensures { OnOk result (Appends (W.contents writer.old) (W.contents writer.new) (report_text form report.now)) }
+    requires stands { AllStand D.view (T.heard client.old) executor.now }
+    requires reported { IsReportOf D.view (T.heard client.old).opened report.now }
+    ensures stands { AllStand D.view (T.heard client.new) executor.now }
+    ensures opened { (T.heard client.new).opened ≡ (T.heard client.old).opened }
+    ensures told { OnOk result (Hears form (T.heard client.old) (T.heard client.new) (report_told report.now)) }
 {
-    send_notices(alloc, writer, form, report.interrupted.as_slice())?;
-    send_notices(alloc, writer, form, report.dropped.as_slice())
+    client.tell(executor, form, &Told::Report(report.interrupted.as_slice()))?;
+    client.tell(executor, form, &Told::Report(report.dropped.as_slice()))
 }

@@ -1,6 +1,6 @@
 //! Room in the journal, which a run makes by itself.
-ghost use Rattle.std.specs.Prelude.{◌≡◌, true};
-ghost use Rattle.executor.specs.Lives.{ByCalls};
+ghost use Rattle.std.specs.Prelude.{◌≡◌, [], true};
+ghost use Rattle.exec_client.specs.MayTell.{StandsBehind};
 ghost use Rattle.exec_session.specs.Limits.{MakesRoom, is_tidy_due, limits_of};
 
 use crate::setting::Setting;
@@ -32,7 +32,7 @@ pub fn make_room<D: Disk + Drop, C: Children + Drop, K, M>(
     executor: &mut Executor<D, C>,
 ) -> bool
     requires open { executor.old.is_open ≡ true }
-    ensures calls { ByCalls D.view executor.old executor.new }
+    ensures stands { StandsBehind D.view executor.old executor.new [] }
     ensures makes { MakesRoom D.view (limits_of setting.now) executor.old executor.new }
     ensures value { result ≡ executor.new.is_open }
 {

@@ -1,7 +1,7 @@
 //! Serving: lines are answered while agents run, and turns are made by the run itself.
 ghost use Rattle.std.specs.Prelude.{◌≡◌, ◌+◌, ◌≤◌, ℕ, [], true, false, IfOk, OnOk};
 ghost use Rattle.exec_lines.specs.Buffer.{line_bytes};
-ghost use Rattle.executor.specs.Lives.{ByCalls};
+ghost use Rattle.exec_client.specs.MayTell.{AllStand};
 ghost use Rattle.exec_session.specs.Drains.{spot};
 ghost use Rattle.exec_session.specs.Gathered.{waiting};
 ghost use Rattle.exec_session.specs.Limits.{limits_of};
@@ -19,7 +19,8 @@ use crate::together::answer_gathered;
 use crate::turn::make_turn;
 use child_keeper::Children;
 use disk_model::Disk;
-use exec_lines::{Input, LineBuffer, Output, gather_line, moment_now};
+use exec_client::Client;
+use exec_lines::{Input, LineBuffer, gather_line, moment_now};
 use exec_output::Stopped;
 use executor::Executor;
 use ocf_types::NUM_MAX;
@@ -33,22 +34,24 @@ const READS_A_TURN: u32 = 64;
 const LONGEST_IDLE: u32 = 1_000;
 
 // Goes on with the line in the buffer by one read, and takes it once it is whole. Whether the input ended.
-fn take_read<R: Input, W: Output, D: Disk + Drop, C: Children + Drop, K: Clock, M: Metadata>(
+fn take_read<R: Input, D: Disk + Drop, C: Children + Drop, T: Client<D, C>, K: Clock, M: Metadata>(
     setting: &Setting<K, M>,
     reader: &mut R,
-    writer: &mut W,
+    client: &mut T,
     executor: &mut Executor<D, C>,
     buffer: &mut LineBuffer,
     gathered: &mut Gathered,
 ) -> Result<bool, Stopped>
     requires waits { MayWait executor.old (waiting gathered.old) }
+    requires stands { AllStand D.view (T.heard client.old) executor.old }
     ensures waits { MayWait executor.new (waiting gathered.new) }
-    ensures calls { ByCalls D.view executor.old executor.new }
+    ensures stands { AllStand D.view (T.heard client.new) executor.new }
+    ensures opened { (T.heard client.new).opened ≡ (T.heard client.old).opened }
     ensures takes { (p : Place D) (most : ℕ) → MayTakeBehind setting.now.way most
         → HasComeMid D.view (M.gives setting.now.metadata.now) (limits_of setting.now) p most (waiting gathered.old)
-        (line_bytes buffer.old) (place executor.old (R.remaining reader.old) (W.contents writer.old))
+        (line_bytes buffer.old) (place executor.old (R.remaining reader.old) (T.heard client.old))
         → IfOk result (ComesMidOrEnds D.view (M.gives setting.now.metadata.now) (limits_of setting.now) p (most + 1)
-        (waiting gathered.new) (line_bytes buffer.new) (place executor.new (R.remaining reader.new) (W.contents writer.new))) }
+        (waiting gathered.new) (line_bytes buffer.new) (place executor.new (R.remaining reader.new) (T.heard client.new))) }
 {
     let Some(next) = gather_line(reader, buffer)? else {
         return Ok(false);
@@ -56,33 +59,42 @@ fn take_read<R: Input, W: Output, D: Disk + Drop, C: Children + Drop, K: Clock, 
     let found = found_in(setting.alloc, buffer, next);
     buffer.clear();
     let has_next = reader.has_line();
-    take_found(setting, writer, executor, gathered, found, has_next)
+    take_found(setting, client, executor, gathered, found, has_next)
 }
 
 // Takes the lines that are there. Whether the input ended; else commands may wait still.
-fn take_waiting<R: Input, W: Output, D: Disk + Drop, C: Children + Drop, K: Clock, M: Metadata>(
+fn take_waiting<
+    R: Input,
+    D: Disk + Drop,
+    C: Children + Drop,
+    T: Client<D, C>,
+    K: Clock,
+    M: Metadata,
+>(
     setting: &Setting<K, M>,
     reader: &mut R,
-    writer: &mut W,
+    client: &mut T,
     executor: &mut Executor<D, C>,
     buffer: &mut LineBuffer,
     gathered: &mut Gathered,
 ) -> Result<bool, Stopped>
     requires way { setting.now.way ≡ Way.Serve }
     requires none { waiting gathered.old ≡ [] }
+    requires stands { AllStand D.view (T.heard client.old) executor.old }
     ensures waits { MayWait executor.new (waiting gathered.new) }
-    ensures calls { ByCalls D.view executor.old executor.new }
+    ensures stands { AllStand D.view (T.heard client.new) executor.new }
+    ensures opened { (T.heard client.new).opened ≡ (T.heard client.old).opened }
     ensures takes { (p : Place D)
         → HasComeMid D.view (M.gives setting.now.metadata.now) (limits_of setting.now) p 0 []
-        (line_bytes buffer.old) (place executor.old (R.remaining reader.old) (W.contents writer.old))
+        (line_bytes buffer.old) (place executor.old (R.remaining reader.old) (T.heard client.old))
         → IfOk result (ComesMidOrEnds D.view (M.gives setting.now.metadata.now) (limits_of setting.now) p 64
-        (waiting gathered.new) (line_bytes buffer.new) (place executor.new (R.remaining reader.new) (W.contents writer.new))) }
+        (waiting gathered.new) (line_bytes buffer.new) (place executor.new (R.remaining reader.new) (T.heard client.new))) }
 {
     for _reads in 0..READS_A_TURN {
         if !reader.is_ready(0) {
             return Ok(false);
         }
-        if take_read(setting, reader, writer, executor, buffer, gathered)? {
+        if take_read(setting, reader, client, executor, buffer, gathered)? {
             return Ok(true);
         }
     }
@@ -90,48 +102,59 @@ fn take_waiting<R: Input, W: Output, D: Disk + Drop, C: Children + Drop, K: Cloc
 }
 
 // Answers the lines that are there. Whether the input ended.
-fn answer_waiting<R: Input, W: Output, D: Disk + Drop, C: Children + Drop, K: Clock, M: Metadata>(
+fn answer_waiting<
+    R: Input,
+    D: Disk + Drop,
+    C: Children + Drop,
+    T: Client<D, C>,
+    K: Clock,
+    M: Metadata,
+>(
     setting: &Setting<K, M>,
     reader: &mut R,
-    writer: &mut W,
+    client: &mut T,
     executor: &mut Executor<D, C>,
     buffer: &mut LineBuffer,
     gathered: &mut Gathered,
 ) -> Result<bool, Stopped>
     requires way { setting.now.way ≡ Way.Serve }
     requires none { waiting gathered.old ≡ [] }
+    requires stands { AllStand D.view (T.heard client.old) executor.old }
     ensures none { IfOk result (λ ended. ended ≡ false → waiting gathered.new ≡ []) }
-    ensures calls { ByCalls D.view executor.old executor.new }
+    ensures stands { AllStand D.view (T.heard client.new) executor.new }
+    ensures opened { (T.heard client.new).opened ≡ (T.heard client.old).opened }
     ensures takes { (p : Place D)
         → HasComeMid D.view (M.gives setting.now.metadata.now) (limits_of setting.now) p 0 []
-        (line_bytes buffer.old) (place executor.old (R.remaining reader.old) (W.contents writer.old))
+        (line_bytes buffer.old) (place executor.old (R.remaining reader.old) (T.heard client.old))
         → IfOk result (ComesMidOrEnds D.view (M.gives setting.now.metadata.now) (limits_of setting.now) p 64 []
-        (line_bytes buffer.new) (place executor.new (R.remaining reader.new) (W.contents writer.new))) }
+        (line_bytes buffer.new) (place executor.new (R.remaining reader.new) (T.heard client.new))) }
 {
-    if take_waiting(setting, reader, writer, executor, buffer, gathered)? {
+    if take_waiting(setting, reader, client, executor, buffer, gathered)? {
         return Ok(true);
     }
-    answer_gathered(setting, writer, executor, gathered)?;
+    answer_gathered(setting, client, executor, gathered)?;
     Ok(false)
 }
 
 // Makes a turn, where the executor is open.
-fn make_own_turn<W: Output, D: Disk + Drop, C: Children + Drop, K: Clock, M>(
+fn make_own_turn<D: Disk + Drop, C: Children + Drop, T: Client<D, C>, K: Clock, M>(
     setting: &Setting<K, M>,
-    writer: &mut W,
+    client: &mut T,
     executor: &mut Executor<D, C>,
     pause: &mut Pause,
 ) -> Result<(), Stopped>
-    ensures calls { ByCalls D.view executor.old executor.new }
+    requires stands { AllStand D.view (T.heard client.old) executor.old }
+    ensures stands { AllStand D.view (T.heard client.new) executor.new }
+    ensures opened { (T.heard client.new).opened ≡ (T.heard client.old).opened }
     ensures turns { OnOk result (TurnsAlone D.view (limits_of setting.now)
-        (spot executor.old (W.contents writer.old)) (spot executor.new (W.contents writer.new))) }
+        (spot executor.old (T.heard client.old)) (spot executor.new (T.heard client.new))) }
 {
     if !executor.is_open() {
         return Ok(());
     }
     pause.before_turn(setting.clock);
     let now = moment_now(setting.clock).get();
-    make_turn(setting, writer, executor, now)?;
+    make_turn(setting, client, executor, now)?;
     Ok(())
 }
 
@@ -158,11 +181,11 @@ fn wait_micros<D: Disk + Drop, C: Children + Drop, K: Clock, M>(
     }
 }
 
-// Waits until a line is there, something may have ended, or a monitor is due. It stops where nobody reads what is written.
-fn wait<R: Input, W: Output, D: Disk + Drop, C: Children + Drop, K: Clock, M>(
+// Waits until a line is there, something may have ended, or a monitor is due. It stops where nobody hears what is told.
+fn wait<R: Input, D: Disk + Drop, C: Children + Drop, T: Client<D, C>, K: Clock, M>(
     setting: &Setting<K, M>,
     reader: &mut R,
-    writer: &W,
+    client: &T,
     executor: &Executor<D, C>,
     pause: &mut Pause,
 ) -> Result<(), Stopped>
@@ -174,7 +197,7 @@ fn wait<R: Input, W: Output, D: Disk + Drop, C: Children + Drop, K: Clock, M>(
     } else {
         reader.is_ready((micros / 1_000).min(u64::from(LONGEST_IDLE)) as u32);
     }
-    if writer.is_heard() {
+    if client.is_heard() {
         Ok(())
     } else {
         Err(Stopped::InputOrOutput)
@@ -184,10 +207,17 @@ fn wait<R: Input, W: Output, D: Disk + Drop, C: Children + Drop, K: Clock, M>(
 /// Answers the lines of the input up to its end, each once it is whole, and makes a turn behind at most 64 of them; while no
 /// line is there it makes turns, too, and waits between them as long as nothing happens. Behind a disk fault it goes on
 /// without turns. The buffer is empty, and no command waits.
-pub fn serve_all<R: Input, W: Output, D: Disk + Drop, C: Children + Drop, K: Clock, M: Metadata>(
+pub fn serve_all<
+    R: Input,
+    D: Disk + Drop,
+    C: Children + Drop,
+    T: Client<D, C>,
+    K: Clock,
+    M: Metadata,
+>(
     setting: &Setting<K, M>,
     reader: &mut R,
-    writer: &mut W,
+    client: &mut T,
     executor: &mut Executor<D, C>,
     buffer: &mut LineBuffer,
     gathered: &mut Gathered,
@@ -195,18 +225,20 @@ pub fn serve_all<R: Input, W: Output, D: Disk + Drop, C: Children + Drop, K: Clo
     requires way { setting.now.way ≡ Way.Serve }
     requires empty { line_bytes buffer.old ≡ [] }
     requires none { waiting gathered.old ≡ [] }
-    ensures calls { ByCalls D.view executor.old executor.new }
+    requires stands { AllStand D.view (T.heard client.old) executor.old }
+    ensures stands { AllStand D.view (T.heard client.new) executor.new }
+    ensures opened { (T.heard client.new).opened ≡ (T.heard client.old).opened }
     ensures lines { OnOk result (ReachesEnd D.view (M.gives setting.now.metadata.now) (limits_of setting.now)
-        (place executor.old (R.remaining reader.old) (W.contents writer.old))
-        (place executor.new (R.remaining reader.new) (W.contents writer.new))) }
+        (place executor.old (R.remaining reader.old) (T.heard client.old))
+        (place executor.new (R.remaining reader.new) (T.heard client.new))) }
 {
     let mut pause = Pause::new();
     for _ in 0..NUM_MAX {
-        if answer_waiting(setting, reader, writer, executor, buffer, gathered)? {
+        if answer_waiting(setting, reader, client, executor, buffer, gathered)? {
             return Ok(());
         }
-        make_own_turn(setting, writer, executor, &mut pause)?;
-        wait(setting, reader, writer, executor, &mut pause)?;
+        make_own_turn(setting, client, executor, &mut pause)?;
+        wait(setting, reader, client, executor, &mut pause)?;
     }
     Err(Stopped::InputOrOutput)
 }

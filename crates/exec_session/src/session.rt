@@ -1,22 +1,23 @@
 //! Command lines answered one by one.
 ghost use Rattle.std.specs.Prelude.{◌≡◌, ℕ, ◌+◌, [], IfOk, OnOk};
 ghost use Rattle.exec_lines.specs.Buffer.{line_bytes};
-ghost use Rattle.executor.specs.Lives.{ByCalls};
+ghost use Rattle.exec_client.specs.MayTell.{AllStand};
 ghost use Rattle.exec_session.specs.Gathered.{waiting};
 ghost use Rattle.exec_session.specs.Limits.{limits_of};
 ghost use Rattle.exec_session.specs.Progress.{Place, place};
-ghost use Rattle.exec_session.specs.Runs.{ClosesByCalls, Ended, EndsAs, ReachesEnd, Runs};
+ghost use Rattle.exec_session.specs.Runs.{ClosesByCalls, Ended, EndsAs, IsNew, IsReportOf, ReachesEnd, Runs};
 ghost use Rattle.exec_session.specs.Waiting.{ComesOrEnds, HasCome, MayTakeBehind, MayWait};
 
 use crate::gathered::Gathered;
 use crate::lines::{found_in, take_found};
 use crate::metadata::Metadata;
-use crate::report::send_report;
+use crate::report::tell_report;
 use crate::serve::serve_all;
 use crate::setting::{Setting, Way};
 use child_keeper::Children;
 use disk_model::Disk;
-use exec_lines::{Input, LineBuffer, Output, next_line};
+use exec_client::Client;
+use exec_lines::{Input, LineBuffer, next_line};
 use exec_output::{Fault, Stopped};
 use executor::{Executor, Report};
 use ocf_types::NUM_MAX;
@@ -33,47 +34,51 @@ pub struct Run<D: Drop, C: Drop> {
 }
 
 // Reads the next line and takes it. Whether the input ended.
-fn take_next<R: Input, W: Output, D: Disk + Drop, C: Children + Drop, K: Clock, M: Metadata>(
+fn take_next<R: Input, D: Disk + Drop, C: Children + Drop, T: Client<D, C>, K: Clock, M: Metadata>(
     setting: &Setting<K, M>,
     reader: &mut R,
-    writer: &mut W,
+    client: &mut T,
     executor: &mut Executor<D, C>,
     buffer: &mut LineBuffer,
     gathered: &mut Gathered,
 ) -> Result<bool, Stopped>
     requires waits { MayWait executor.old (waiting gathered.old) }
+    requires stands { AllStand D.view (T.heard client.old) executor.old }
     ensures waits { MayWait executor.new (waiting gathered.new) }
-    ensures calls { ByCalls D.view executor.old executor.new }
+    ensures stands { AllStand D.view (T.heard client.new) executor.new }
+    ensures opened { (T.heard client.new).opened ≡ (T.heard client.old).opened }
     ensures takes { (p : Place D) (most : ℕ) → MayTakeBehind setting.now.way most
         → HasCome D.view (M.gives setting.now.metadata.now) (limits_of setting.now) p most
-        (waiting gathered.old) (place executor.old (R.remaining reader.old) (W.contents writer.old))
+        (waiting gathered.old) (place executor.old (R.remaining reader.old) (T.heard client.old))
         → IfOk result (ComesOrEnds D.view (M.gives setting.now.metadata.now) (limits_of setting.now) p (most + 1)
-        (waiting gathered.new) (place executor.new (R.remaining reader.new) (W.contents writer.new))) }
+        (waiting gathered.new) (place executor.new (R.remaining reader.new) (T.heard client.new))) }
 {
     let next = next_line(reader, buffer)?;
     let found = found_in(setting.alloc, buffer, next);
     let has_next = reader.has_line();
-    take_found(setting, writer, executor, gathered, found, has_next)
+    take_found(setting, client, executor, gathered, found, has_next)
 }
 
 // Answers line after line, up to the end of the input. No command waits.
-fn answer_all<R: Input, W: Output, D: Disk + Drop, C: Children + Drop, K: Clock, M: Metadata>(
+fn answer_all<R: Input, D: Disk + Drop, C: Children + Drop, T: Client<D, C>, K: Clock, M: Metadata>(
     setting: &Setting<K, M>,
     reader: &mut R,
-    writer: &mut W,
+    client: &mut T,
     executor: &mut Executor<D, C>,
     buffer: &mut LineBuffer,
     gathered: &mut Gathered,
 ) -> Result<(), Stopped>
     requires way { setting.now.way ≡ Way.Run }
     requires none { waiting gathered.old ≡ [] }
-    ensures calls { ByCalls D.view executor.old executor.new }
+    requires stands { AllStand D.view (T.heard client.old) executor.old }
+    ensures stands { AllStand D.view (T.heard client.new) executor.new }
+    ensures opened { (T.heard client.new).opened ≡ (T.heard client.old).opened }
     ensures lines { OnOk result (ReachesEnd D.view (M.gives setting.now.metadata.now) (limits_of setting.now)
-        (place executor.old (R.remaining reader.old) (W.contents writer.old))
-        (place executor.new (R.remaining reader.new) (W.contents writer.new))) }
+        (place executor.old (R.remaining reader.old) (T.heard client.old))
+        (place executor.new (R.remaining reader.new) (T.heard client.new))) }
 {
     for _ in 0..NUM_MAX {
-        if take_next(setting, reader, writer, executor, buffer, gathered)? {
+        if take_next(setting, reader, client, executor, buffer, gathered)? {
             return Ok(());
         }
     }
@@ -82,39 +87,48 @@ fn answer_all<R: Input, W: Output, D: Disk + Drop, C: Children + Drop, K: Clock,
 
 // Answers the lines of the input, up to its end, in the way that is set. The buffer is empty, and no command
 // waits.
-fn answer_in_way<R: Input, W: Output, D: Disk + Drop, C: Children + Drop, K: Clock, M: Metadata>(
-    setting: &Setting<K, M>,
-    reader: &mut R,
-    writer: &mut W,
-    executor: &mut Executor<D, C>,
-    buffer: &mut LineBuffer,
-    gathered: &mut Gathered,
-) -> Result<(), Stopped>
-    requires empty { line_bytes buffer.old ≡ [] }
-    requires none { waiting gathered.old ≡ [] }
-    ensures calls { ByCalls D.view executor.old executor.new }
-    ensures lines { OnOk result (ReachesEnd D.view (M.gives setting.now.metadata.now) (limits_of setting.now)
-        (place executor.old (R.remaining reader.old) (W.contents writer.old))
-        (place executor.new (R.remaining reader.new) (W.contents writer.new))) }
-{
-    match setting.way {
-        Way::Run => answer_all(setting, reader, writer, executor, buffer, gathered),
-        Way::Serve => serve_all(setting, reader, writer, executor, buffer, gathered),
-    }
-}
-
-// Writes the report, and then answers all lines. The buffer is empty, and no command waits.
-fn report_and_answer<
+fn answer_in_way<
     R: Input,
-    W: Output,
     D: Disk + Drop,
     C: Children + Drop,
+    T: Client<D, C>,
     K: Clock,
     M: Metadata,
 >(
     setting: &Setting<K, M>,
     reader: &mut R,
-    writer: &mut W,
+    client: &mut T,
+    executor: &mut Executor<D, C>,
+    buffer: &mut LineBuffer,
+    gathered: &mut Gathered,
+) -> Result<(), Stopped>
+    requires empty { line_bytes buffer.old ≡ [] }
+    requires none { waiting gathered.old ≡ [] }
+    requires stands { AllStand D.view (T.heard client.old) executor.old }
+    ensures stands { AllStand D.view (T.heard client.new) executor.new }
+    ensures opened { (T.heard client.new).opened ≡ (T.heard client.old).opened }
+    ensures lines { OnOk result (ReachesEnd D.view (M.gives setting.now.metadata.now) (limits_of setting.now)
+        (place executor.old (R.remaining reader.old) (T.heard client.old))
+        (place executor.new (R.remaining reader.new) (T.heard client.new))) }
+{
+    match setting.way {
+        Way::Run => answer_all(setting, reader, client, executor, buffer, gathered),
+        Way::Serve => serve_all(setting, reader, client, executor, buffer, gathered),
+    }
+}
+
+// Tells the report, and then answers all lines. The buffer is empty, and no command waits.
+fn report_and_answer<
+    R: Input,
+    D: Disk + Drop,
+    C: Children + Drop,
+    T: Client<D, C>,
+    K: Clock,
+    M: Metadata,
+>(
+    setting: &Setting<K, M>,
+    reader: &mut R,
+    client: &mut T,
     executor: &mut Executor<D, C>,
     report: &Report,
     buffer: &mut LineBuffer,
@@ -122,28 +136,41 @@ fn report_and_answer<
 ) -> Result<(), Stopped>
     requires empty { line_bytes buffer.old ≡ [] }
     requires none { waiting gathered.old ≡ [] }
-    ensures calls { ByCalls D.view executor.old executor.new }
+    requires reported { IsReportOf D.view (T.heard client.old).opened report.now }
+    requires stands { AllStand D.view (T.heard client.old) executor.old }
+    ensures stands { AllStand D.view (T.heard client.new) executor.new }
+    ensures opened { (T.heard client.new).opened ≡ (T.heard client.old).opened }
     ensures runs { OnOk result (Runs D.view (M.gives setting.now.metadata.now) (limits_of setting.now) report.now
-        (place executor.old (R.remaining reader.old) (W.contents writer.old))
-        (place executor.new (R.remaining reader.new) (W.contents writer.new))) }
+        (place executor.old (R.remaining reader.old) (T.heard client.old))
+        (place executor.new (R.remaining reader.new) (T.heard client.new))) }
 {
-    send_report(setting.alloc, writer, setting.form, report)?;
-    answer_in_way(setting, reader, writer, executor, buffer, gathered)?;
+    tell_report(client, executor, setting.form, report)?;
+    answer_in_way(setting, reader, client, executor, buffer, gathered)?;
     Ok(())
 }
 
 // Writes the report, and then answers all lines; how the program ends behind that.
-fn answer_lines<R: Input, W: Output, D: Disk + Drop, C: Children + Drop, K: Clock, M: Metadata>(
+fn answer_lines<
+    R: Input,
+    D: Disk + Drop,
+    C: Children + Drop,
+    T: Client<D, C>,
+    K: Clock,
+    M: Metadata,
+>(
     setting: &Setting<K, M>,
     reader: &mut R,
-    writer: &mut W,
+    client: &mut T,
     executor: &mut Executor<D, C>,
     report: &Report,
 ) -> Result<(), Fault>
-    ensures calls { ByCalls D.view executor.old executor.new }
+    requires reported { IsReportOf D.view (T.heard client.old).opened report.now }
+    requires stands { AllStand D.view (T.heard client.old) executor.old }
+    ensures stands { AllStand D.view (T.heard client.new) executor.new }
+    ensures opened { (T.heard client.new).opened ≡ (T.heard client.old).opened }
     ensures ends { EndsAs D.view (M.gives setting.now.metadata.now) (limits_of setting.now) report.now
-        (place executor.old (R.remaining reader.old) (W.contents writer.old))
-        (place executor.new (R.remaining reader.new) (W.contents writer.new)) result }
+        (place executor.old (R.remaining reader.old) (T.heard client.old))
+        (place executor.new (R.remaining reader.new) (T.heard client.new)) result }
 {
     let Ok(mut buffer) = LineBuffer::new(setting.alloc) else {
         return Err(Fault::Memory);
@@ -154,7 +181,7 @@ fn answer_lines<R: Input, W: Output, D: Disk + Drop, C: Children + Drop, K: Cloc
     let answered = report_and_answer(
         setting,
         reader,
-        writer,
+        client,
         executor,
         report,
         &mut buffer,
@@ -168,25 +195,34 @@ fn answer_lines<R: Input, W: Output, D: Disk + Drop, C: Children + Drop, K: Cloc
     }
 }
 
-/// Writes what the opening reports, and then answers each line of the input, up to its end; a run that serves makes turns by
+/// Tells a client what the opening reports, and then answers each line of the input, up to its end; a run that serves makes turns by
 /// itself, too. Commands that stand whole in what was read, one behind the other, are recorded together, and their replies
 /// flushed together; any other reply is flushed before the next line is answered, and a turn's notices before the next turn.
 /// Where the disk failed the end of the input is a fault; input or output that fails is another, and so is a reply that finds
 /// no memory. In any case all children are given up then, and the executor closed.
-pub fn run_lines<R: Input, W: Output, D: Disk + Drop, C: Children + Drop, K: Clock, M: Metadata>(
+pub fn run_lines<
+    R: Input,
+    D: Disk + Drop,
+    C: Children + Drop,
+    T: Client<D, C>,
+    K: Clock,
+    M: Metadata,
+>(
     setting: &Setting<K, M>,
     reader: &mut R,
-    writer: &mut W,
+    client: &mut T,
     mut executor: Executor<D, C>,
     report: &Report,
 ) -> Run<D, C>
+    requires fresh { IsNew (T.heard client.old) executor }
+    requires reported { IsReportOf D.view executor report.now }
     ensures ends { Ended D.view C.view (M.gives setting.now.metadata.now) (limits_of setting.now) report.now
-        (place executor (R.remaining reader.old) (W.contents writer.old))
-        (R.remaining reader.new) (W.contents writer.new) result }
-    ensures calls { ClosesByCalls D.view executor result.disk (C.view result.children) }
+        (place executor (R.remaining reader.old) (T.heard client.old))
+        (R.remaining reader.new) (T.heard client.new) result }
+    ensures told { ClosesByCalls D.view executor (T.heard client.new) result.disk (C.view result.children) }
     ensures none_lives { (C.view result.children).live ≡ [] }
 {
-    let ended = answer_lines(setting, reader, writer, &mut executor, report);
+    let ended = answer_lines(setting, reader, client, &mut executor, report);
     executor.abandon();
     let (disk, children) = executor.close();
     Run {

@@ -1,6 +1,8 @@
 //! Commands that arrived together, answered together.
-ghost use Rattle.std.specs.Prelude.{◌≡◌, ◌≢◌, [], true, OnOk};
-ghost use Rattle.executor.specs.Lives.{ByCalls};
+ghost use Rattle.std.specs.Prelude.{◌≡◌, ◌≢◌, [], map, true, OnOk};
+ghost use Rattle.std.specs.List.{AllByRecursion};
+ghost use Rattle.exec_client.specs.MayTell.{AllStand, MayAnswer, StandsBehind};
+ghost use Rattle.exec_client.specs.Said.{answered};
 ghost use Rattle.exec_session.specs.Drains.{spot};
 ghost use Rattle.exec_session.specs.Gathered.{replied, waiting};
 ghost use Rattle.exec_session.specs.Limits.{limits_of};
@@ -11,10 +13,10 @@ use crate::room::make_room;
 use crate::setting::Setting;
 use child_keeper::Children;
 use disk_model::Disk;
+use exec_client::{Client, Told};
 use exec_lines::moment_now;
-use exec_output::{Stopped, send_replies};
+use exec_output::Stopped;
 use executor::Executor;
-use std::io::Write;
 use std::rt::Clock;
 
 // Makes room, and then does what the commands ask at the moment that the clock shows. Where the disk fails as room is made
@@ -25,7 +27,8 @@ fn serve_gathered<D: Disk + Drop, C: Children + Drop, K: Clock, M>(
     gathered: &mut Gathered,
 )
     requires open { executor.old.is_open ≡ true }
-    ensures calls { ByCalls D.view executor.old executor.new }
+    ensures stands { StandsBehind D.view executor.old executor.new (map answered (replied gathered.new)) }
+    ensures says { AllByRecursion (MayAnswer executor.new) (replied gathered.new) }
     ensures serves { ServesTogether D.view (limits_of setting.now) (waiting gathered.old) executor.old executor.new
         (replied gathered.new) }
     ensures none { waiting gathered.new ≡ [] }
@@ -38,23 +41,25 @@ fn serve_gathered<D: Disk + Drop, C: Children + Drop, K: Clock, M>(
     gathered.take_all(executor, now);
 }
 
-/// Answers the commands that wait. They are recorded together, and no reply is written before that; the replies are flushed
+/// Answers the commands that wait. They are recorded together, and no reply is told before that; the replies are told
 /// together.
-pub fn answer_gathered<W: Write, D: Disk + Drop, C: Children + Drop, K: Clock, M>(
+pub fn answer_gathered<D: Disk + Drop, C: Children + Drop, T: Client<D, C>, K: Clock, M>(
     setting: &Setting<K, M>,
-    writer: &mut W,
+    client: &mut T,
     executor: &mut Executor<D, C>,
     gathered: &mut Gathered,
 ) -> Result<(), Stopped>
     requires open { waiting gathered.old ≢ [] → executor.old.is_open ≡ true }
-    ensures calls { ByCalls D.view executor.old executor.new }
+    requires stands { AllStand D.view (T.heard client.old) executor.old }
+    ensures stands { AllStand D.view (T.heard client.new) executor.new }
+    ensures opened { (T.heard client.new).opened ≡ (T.heard client.old).opened }
     ensures none { waiting gathered.new ≡ [] }
     ensures answers { OnOk result (AnswersAll D.view (limits_of setting.now) (waiting gathered.old)
-        (spot executor.old (W.contents writer.old)) (spot executor.new (W.contents writer.new))) }
+        (spot executor.old (T.heard client.old)) (spot executor.new (T.heard client.new))) }
 {
     if gathered.is_empty() {
         return Ok(());
     }
     serve_gathered(setting, executor, gathered);
-    send_replies(setting.alloc, writer, gathered.replies())
+    client.tell(executor, setting.form, &Told::Replies(gathered.replies()))
 }

@@ -1,6 +1,6 @@
 //! One turn, with its notices.
 ghost use Rattle.std.specs.Prelude.{◌≡◌, true, IfOk};
-ghost use Rattle.executor.specs.Lives.{ByCalls};
+ghost use Rattle.exec_client.specs.MayTell.{AllStand};
 ghost use Rattle.exec_session.specs.Drains.{MakesTurn, spot};
 ghost use Rattle.exec_session.specs.Limits.{limits_of};
 
@@ -8,28 +8,30 @@ use crate::room::make_room;
 use crate::setting::Setting;
 use child_keeper::Children;
 use disk_model::Disk;
-use exec_output::{Stopped, send_notices};
+use exec_client::{Client, Told};
+use exec_output::Stopped;
 use executor::Executor;
 use ocf_types::TurnEnd;
-use std::io::Write;
 
-/// Makes room and then a turn at this moment, and writes its notices. Where the disk fails as room is made there is no turn.
-pub fn make_turn<W: Write, D: Disk + Drop, C: Children + Drop, K, M>(
+/// Makes room and then a turn at this moment, and tells its notices. Where the disk fails as room is made there is no turn.
+pub fn make_turn<D: Disk + Drop, C: Children + Drop, T: Client<D, C>, K, M>(
     setting: &Setting<K, M>,
-    writer: &mut W,
+    client: &mut T,
     executor: &mut Executor<D, C>,
     now: u64,
 ) -> Result<TurnEnd, Stopped>
     requires open { executor.old.is_open ≡ true }
-    ensures calls { ByCalls D.view executor.old executor.new }
+    requires stands { AllStand D.view (T.heard client.old) executor.old }
+    ensures stands { AllStand D.view (T.heard client.new) executor.new }
+    ensures opened { (T.heard client.new).opened ≡ (T.heard client.old).opened }
     ensures made { IfOk result (λ end. MakesTurn D.view (limits_of setting.now) now
-        (spot executor.old (W.contents writer.old)) (spot executor.new (W.contents writer.new)) end) }
+        (spot executor.old (T.heard client.old)) (spot executor.new (T.heard client.new)) end) }
 {
     executor.clear_book();
     if !make_room(setting, executor) {
         return Ok(TurnEnd::Disk);
     }
     let end = executor.turn(now);
-    send_notices(setting.alloc, writer, setting.form, executor.notices())?;
+    client.tell(executor, setting.form, &Told::Notices(executor.notices()))?;
     Ok(end)
 }

@@ -11,6 +11,7 @@ use Rattle.exec_options.specs.declared.options.Options.{Options}
 use Rattle.exec_output.specs.Faults.{IsRunEnd}
 use Rattle.exec_output.specs.declared.fault.Fault.{Fault}
 use Rattle.exec_output.specs.declared.fault.Fault.TheVariants as fault
+use Rattle.exec_client.specs.Heard.{Heard}
 use Rattle.exec_session.specs.declared.session.Run.{Run}
 use Rattle.exec_session.specs.Answers.{Source}
 use Rattle.exec_session.specs.Limits.{Limits}
@@ -41,10 +42,10 @@ ends look source limits report p q (Err fault.ReplyMemory) how = tt
 ends look source limits report p q (Err fault.ChildrenIgnored) how = absurd how
 
 pub run_ends : {D C N : Type 0} (look : D → View) (tend : C → ChildrenView) (source : Source) (limits : Limits) (report : Report N)
-    (p : Place D) (left written : Option (List ℕ)) (run : Run D C)
-    → Ended look tend source limits report p left written run → IsRunEnd run.ended
-run_ends look tend source limits report p left written run ended =
-    ends look source limits report p (place ended.last left written) run.ended ended.ends
+    (p : Place D) (left : Option (List ℕ)) (heard : Heard D) (run : Run D C)
+    → Ended look tend source limits report p left heard run → IsRunEnd run.ended
+run_ends look tend source limits report p left heard run ended =
+    ends look source limits report p (place ended.last left heard) run.ended ended.ends
 
 -- words that give no options
 pub refused_ends : {T : Type 0} (words : List (List ℕ)) (f : WordsFault) (r : Result T Fault) → IsFault words f → IsToldAs f r

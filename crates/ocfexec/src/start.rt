@@ -9,6 +9,7 @@ use crate::orphans::wait_for_orphans;
 use crate::signals::children_ignored;
 use child_keeper::{Log, Processes};
 use disk_model::Disk;
+use exec_client::Teller;
 use exec_commands::NoticeForm;
 use exec_lines::{Patient, RunClock, moment_now};
 use exec_options::{JournalPlace, Options, Subcommand, WordsFault, read_words};
@@ -292,8 +293,9 @@ fn run_agents<D: Disk + TellsError + Drop>(
                 most_turns: MOST_TURNS,
                 tidy_at: options.tidy_at,
             };
-            let mut writer = Patient::new(io::writer(rt), libc::STDOUT_FILENO);
-            let run = run_lines(&setting, &mut reader, &mut writer, executor, &report);
+            let output = Patient::new(io::writer(rt), libc::STDOUT_FILENO);
+            let mut client = Teller::new(alloc, output, &executor);
+            let run = run_lines(&setting, &mut reader, &mut client, executor, &report);
             told(rt, options, &run.disk, run.ended)
         }
         Err(fault) => told(rt, options, &fault.disk, Err(opening_fault(fault.why))),

@@ -5,6 +5,7 @@ use crate::pairs::open_pair;
 use crate::sitting::NoMetadata;
 use anyhow::{Result, bail, ensure};
 use disk_model::MemDisk;
+use exec_client::Teller;
 use exec_commands::NoticeForm;
 use exec_session::{Setting, Way, run_lines};
 use executor::Executor;
@@ -33,7 +34,8 @@ fn answered(alloc: Global, lines: &[u8], output: &mut Vec<u8>) -> Result<MemDisk
     let disk = MemDisk::new(alloc);
     match Executor::open(alloc, disk, agents(alloc, 1)?, nowhere(alloc), 1_000) {
         Ok((executor, report)) => {
-            let run = run_lines(&setting, &mut reader, output, executor, &report);
+            let mut client = Teller::new(alloc, output, &executor);
+            let run = run_lines(&setting, &mut reader, &mut client, executor, &report);
             match run.ended {
                 Ok(()) => Ok(run.disk),
                 Err(_) => bail!("a run over a good disk ended with a fault"),

@@ -9,6 +9,7 @@ use crate::plan::Plan;
 use crate::watched::WatchedDisk;
 use anyhow::{Result, bail};
 use disk_model::{Disk, MemDisk};
+use exec_client::Teller;
 use exec_commands::NoticeForm;
 use exec_lines::{RunClock, moment_now};
 use exec_session::{Metadata, Setting, run_lines};
@@ -45,13 +46,8 @@ pub fn sit(alloc: Global, disk: MemDisk, plan: Plan, output: &mut Vec<u8>) -> Re
         kept,
     };
     let children = agents(alloc, plan.seed)?;
-    match Executor::open(
-        alloc,
-        disk,
-        children,
-        nowhere(alloc),
-        moment_now(&clock).get(),
-    ) {
+    let now = moment_now(&clock).get();
+    match Executor::open(alloc, disk, children, nowhere(alloc), now) {
         Ok((executor, report)) => {
             let shown = RunClock::new(&clock, executor.clock());
             let setting = Setting {
@@ -69,7 +65,8 @@ pub fn sit(alloc: Global, disk: MemDisk, plan: Plan, output: &mut Vec<u8>) -> Re
                 stopped: &stopped,
                 until: plan.length,
             };
-            let run = run_lines(&setting, &mut client, output, executor, &report);
+            let mut teller = Teller::new(alloc, output, &executor);
+            let run = run_lines(&setting, &mut client, &mut teller, executor, &report);
             Ok((run.disk.clock(), run.disk.kept))
         }
         Err(fault) => match fault.why {

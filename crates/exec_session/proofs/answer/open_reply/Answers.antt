@@ -1,6 +1,67 @@
-use Rattle.executor.specs.CallLaws.{by_tidy}
+use Rattle.std.proofs.Common.{[], ◌∷◌, refl}
+use Rattle.exec_commands.specs.declared.reply.LineReply.TheVariants as answer
+use Rattle.exec_client.specs.MayTell.{MayBeReplied}
+use Rattle.exec_client.specs.Said.{Answered}
+use Rattle.exec_client.proofs.Growing.{all_still_stand, may_reply, may_reply_none, tidied_stands, untold_stand}
+use Rattle.exec_session.specs.Answers.{DrainsFor}
+use Rattle.exec_session.specs.Drains.{spot}
+use Rattle.exec_session.specs.Limits.{limits_of}
+use Rattle.exec_session.proofs.TellLemmas.{is_plain}
+use Rattle.exec_session.proofs.WaitLemmas.{if_ok}
 use Rattle.exec_session.proofs.answer.open_reply.Goals as goal
 
-pub returns-in-Ok-Tidy-clause-calls : goal.returns-in-Ok-Tidy-clause-calls
-returns-in-Ok-Tidy-clause-calls g c =
-    by_tidy g.D.Disk.view c.args.executor.now c.tidy.new.self c.tidy.result c.tidy.ensures.tidies
+pub returns-in-Ok-Request-clause-stands : goal.returns-in-Ok-Request-clause-stands
+returns-in-Ok-Request-clause-stands g c =
+    let look = g.D.Disk.view in
+    let new = c.request_reply.new.executor in
+    all_still_stand look (g.T.Client.heard c.args.client.now) c.args.executor.now new c.requires.stands
+    (untold_stand look c.args.executor.now new (Answered c.request_reply.result ∷ []) c.request_reply.ensures.stands)
+
+pub returns-in-Ok-Request-clause-may_tell : goal.returns-in-Ok-Request-clause-may_tell
+returns-in-Ok-Request-clause-may_tell g c =
+    may_reply g.D.Disk.view (g.T.Client.heard c.args.client.now) c.args.executor.now c.request_reply.new.executor c.request_reply.result
+    c.requires.stands c.request_reply.ensures.stands c.request_reply.ensures.says
+
+pub returns-in-Ok-Drain-clause-may_tell : goal.returns-in-Ok-Drain-clause-may_tell
+returns-in-Ok-Drain-clause-may_tell g c =
+    let x = c.drain_reply.new.executor in
+    let heard = g.T.Client.heard c.drain_reply.new.client in
+    if_ok _ (MayBeReplied g.D.Disk.view heard x) c.drain_reply.result (λ reply (now, end, is, drains).
+    let plain = is_plain x reply (answer.Drain end) is (refl, tt) in
+    may_reply_none g.D.Disk.view heard x reply c.drain_reply.ensures.stands plain.0 plain.1) c.drain_reply.ensures.reply
+
+pub returns-in-Ok-Watch-clause-may_tell : goal.returns-in-Ok-Watch-clause-may_tell
+returns-in-Ok-Watch-clause-may_tell g c =
+    let called = c.drain_reply-in-Ok-Watch in
+    let x = called.new.executor in
+    let heard = g.T.Client.heard called.new.client in
+    if_ok _ (MayBeReplied g.D.Disk.view heard x) called.result (λ reply (now, end, is, drains).
+    let plain = is_plain x reply (answer.Drain end) is (refl, tt) in
+    may_reply_none g.D.Disk.view heard x reply called.ensures.stands plain.0 plain.1) called.ensures.reply
+
+pub returns-in-Ok-Tidy-clause-stands : goal.returns-in-Ok-Tidy-clause-stands
+returns-in-Ok-Tidy-clause-stands g c =
+    let look = g.D.Disk.view in
+    all_still_stand look (g.T.Client.heard c.args.client.now) c.args.executor.now c.tidy.new.self c.requires.stands
+    (tidied_stands look c.args.executor.now c.tidy.new.self c.tidy.result c.tidy.ensures.tidies)
+
+pub returns-in-Ok-Tidy-clause-may_tell : goal.returns-in-Ok-Tidy-clause-may_tell
+returns-in-Ok-Tidy-clause-may_tell g c =
+    let look = g.D.Disk.view in
+    let heard = g.T.Client.heard c.args.client.now in
+    let stands = all_still_stand look heard c.args.executor.now c.tidy.new.self c.requires.stands
+    (tidied_stands look c.args.executor.now c.tidy.new.self c.tidy.result c.tidy.ensures.tidies) in
+    may_reply_none look heard c.tidy.new.self (answer.Tidy c.tidy.result) stands refl tt
+
+pub returns-in-Ok-Meta-clause-may_tell : goal.returns-in-Ok-Meta-clause-may_tell
+returns-in-Ok-Meta-clause-may_tell g c =
+    let (meta, gives, is) = c.meta_reply.ensures in
+    let plain = is_plain c.args.executor.now c.meta_reply.result (answer.Meta meta) is (refl, tt) in
+    may_reply_none g.D.Disk.view (g.T.Client.heard c.args.client.now) c.args.executor.now c.meta_reply.result c.requires.stands
+    plain.0 plain.1
+
+pub returns-in-Err-clause-may_tell : goal.returns-in-Err-clause-may_tell
+returns-in-Err-clause-may_tell g c =
+    let plain = is_plain c.args.executor.now c.refused.result _ c.refused.ensures (refl, tt) in
+    may_reply_none g.D.Disk.view (g.T.Client.heard c.args.client.now) c.args.executor.now c.refused.result c.requires.stands
+    plain.0 plain.1

@@ -1,7 +1,7 @@
-use Rattle.exec_session.proofs.CallLemmas.{lines_by_calls}
+use Rattle.exec_session.proofs.CallLemmas.{lines_go}
 use Rattle.exec_session.proofs.laws.lines_are_calls.Goals as goal
 
 pub returns : goal.returns
 returns g c =
     λ limits n p q reaches.
-    lines_by_calls g.D.Disk.view limits (g.M.Metadata.gives c.args.metadata.now) p n q reaches
+    lines_go g.D.Disk.view limits (g.M.Metadata.gives c.args.metadata.now) p n q reaches

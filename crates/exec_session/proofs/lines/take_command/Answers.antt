@@ -9,7 +9,7 @@ pub returns-then-not-is_full-clause-takes : goal.returns-then-not-is_full-clause
 returns-then-not-is_full-clause-takes g c = λ p most left now may read come.
     one_waits g.D.Disk.view (g.M.Metadata.gives c.args.setting.now.metadata.now) (limits_of c.args.setting.now) p most
     (waiting c.args.gathered.now) (waiting c.push.new.self) c.args.command c.args.executor.now left now
-    (g.W.Write.contents c.args.writer.now) c.requires.open read c.push.ensures come
+    (g.T.Client.heard c.args.client.now) c.requires.open read c.push.ensures come
 
 pub returns-clause-takes : goal.returns-clause-takes
 returns-clause-takes g c = λ p most left now may read come.
@@ -17,8 +17,8 @@ returns-clause-takes g c = λ p most left now may read come.
     let source = g.M.Metadata.gives c.args.setting.now.metadata.now in
     let limits = limits_of c.args.setting.now in
     let new = c.answer_gathered.new in
-    let written = g.W.Write.contents c.args.writer.now in
-    let written' = g.W.Write.contents new.writer in
+    let written = g.T.Client.heard c.args.client.now in
+    let written' = g.T.Client.heard new.client in
     let waits = one_waits look source limits p most (waiting c.args.gathered.now) (waiting c.push.new.self) c.args.command
     c.args.executor.now left now written c.requires.open read c.push.ensures come in
     on_ok c.answer_gathered.result (λ answers.

@@ -1,5 +1,4 @@
 use Rattle.std.proofs.Common.{arith, subst}
-use Rattle.executor.specs.CallLaws.{by_both}
 use Rattle.exec_lines.specs.Buffer.{line_bytes}
 use Rattle.exec_session.specs.Gathered.{waiting}
 use Rattle.exec_session.specs.Limits.{limits_of}
@@ -12,7 +11,7 @@ use Rattle.exec_session.proofs.serve.answer_waiting.Goals as goal
 pub returns-then-branch-clause-takes : goal.returns-then-branch-clause-takes
 returns-then-branch-clause-takes g c = λ p come.
     let q = place c.take_waiting.new.executor
-    (g.R.Read.remaining c.take_waiting.new.reader) (g.W.Write.contents c.take_waiting.new.writer) in
+    (g.R.Read.remaining c.take_waiting.new.reader) (g.T.Client.heard c.take_waiting.new.client) in
     subst (ComesMidOrEnds g.D.Disk.view (g.M.Metadata.gives c.args.setting.now.metadata.now)
     (limits_of c.args.setting.now) p 64 (waiting c.take_waiting.new.gathered) (line_bytes c.take_waiting.new.buffer) q) c.if-branch.true
     (c.in_ok-take_waiting.ensures.takes p come)
@@ -20,27 +19,18 @@ returns-then-branch-clause-takes g c = λ p come.
 pub answer_gathered-requires : goal.answer_gathered-requires
 answer_gathered-requires g c = record {
   «open» = open_while c.take_waiting.new.executor (waiting c.take_waiting.new.gathered) c.in_ok-take_waiting.ensures.waits;
+  stands = c.in_ok-take_waiting.ensures.stands;
 }
-
-pub returns-in_err-answer_gathered-clause-calls : goal.returns-in_err-answer_gathered-clause-calls
-returns-in_err-answer_gathered-clause-calls g c =
-    by_both g.D.Disk.view c.args.executor.now c.take_waiting.new.executor
-    c.answer_gathered.new.executor c.take_waiting.ensures.calls c.answer_gathered.ensures.calls
-
-pub returns-clause-calls : goal.returns-clause-calls
-returns-clause-calls g c =
-    by_both g.D.Disk.view c.args.executor.now c.take_waiting.new.executor
-    c.answer_gathered.new.executor c.take_waiting.ensures.calls c.answer_gathered.ensures.calls
 
 pub returns-clause-takes : goal.returns-clause-takes
 returns-clause-takes g c = λ p come.
     let source = g.M.Metadata.gives c.args.setting.now.metadata.now in
     let now = g.R.Read.remaining c.take_waiting.new.reader in
-    let q = place c.take_waiting.new.executor now (g.W.Write.contents c.take_waiting.new.writer) in
+    let q = place c.take_waiting.new.executor now (g.T.Client.heard c.take_waiting.new.client) in
     let still = subst (ComesMidOrEnds g.D.Disk.view source (limits_of c.args.setting.now) p 64 (waiting c.take_waiting.new.gathered)
     (line_bytes c.take_waiting.new.buffer) q) c.if-branch.false (c.in_ok-take_waiting.ensures.takes p come) in
     mid_answered g.D.Disk.view source (limits_of c.args.setting.now) p 64 (λ n few. may_serve c.args.setting.now.way 63 c.requires.way (omega arith) n (omega (arith, few)))
     (waiting c.take_waiting.new.gathered) (line_bytes c.take_waiting.new.buffer) c.take_waiting.new.executor c.answer_gathered.new.executor now
-    (g.W.Write.contents c.take_waiting.new.writer) (g.W.Write.contents c.answer_gathered.new.writer)
+    (g.T.Client.heard c.take_waiting.new.client) (g.T.Client.heard c.answer_gathered.new.client)
     (open_while c.take_waiting.new.executor (waiting c.take_waiting.new.gathered) c.in_ok-take_waiting.ensures.waits) still
     c.in_ok-answer_gathered.ensures.answers

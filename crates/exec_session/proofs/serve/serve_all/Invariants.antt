@@ -1,6 +1,6 @@
 use Rattle.std.proofs.Common.{◌≡◌, []}
 use Rattle.exec_lines.specs.Buffer.{line_bytes}
-use Rattle.executor.specs.Lives.{ByCalls}
+use Rattle.exec_client.specs.MayTell.{AllStand}
 use Rattle.exec_session.specs.Gathered.{waiting}
 use Rattle.exec_session.specs.Limits.{limits_of}
 use Rattle.exec_session.specs.Progress.{place}
@@ -12,8 +12,9 @@ abbrev pub invariant-loop : goal.invariant-loop
 invariant-loop g l = record {
   way : l.setting.way ≡ Serve;
   none : waiting l.gathered ≡ [];
-  calls : ByCalls g.D.Disk.view l.fn.executor l.executor;
+  stands : AllStand g.D.Disk.view (g.T.Client.heard l.client) l.executor;
+  opened : (g.T.Client.heard l.client).opened ≡ (g.T.Client.heard l.fn.client).opened;
   come : HasComeMid g.D.Disk.view (g.M.Metadata.gives l.setting.metadata.now) (limits_of l.setting)
-      (place l.fn.executor (g.R.Read.remaining l.fn.reader) (g.W.Write.contents l.fn.writer)) 0 []
-      (line_bytes l.buffer) (place l.executor (g.R.Read.remaining l.reader) (g.W.Write.contents l.writer));
+      (place l.fn.executor (g.R.Read.remaining l.fn.reader) (g.T.Client.heard l.fn.client)) 0 []
+      (line_bytes l.buffer) (place l.executor (g.R.Read.remaining l.reader) (g.T.Client.heard l.client));
 }

@@ -12,7 +12,7 @@ use Rattle.exec_session.proofs.serve.take_read.Goals as goal
 pub returns-in_default-clause-takes : goal.returns-in_default-clause-takes
 returns-in_default-clause-takes g c = λ p most may (left, mid, come).
     let executor = c.args.executor.now in
-    let written = g.W.Write.contents c.args.writer.now in (
+    let written = g.T.Client.heard c.args.client.now in (
       left,
       at_none c.in_ok-next.field-0 _ _ c.in_default.is (c.in_ok-next.ensures.gathers left mid),
       come_more g.D.Disk.view (g.M.Metadata.gives c.args.setting.now.metadata.now) (limits_of c.args.setting.now) p most
@@ -27,7 +27,7 @@ returns-clause-takes g c = λ p most may (left, mid, come).
     let now = g.R.Read.remaining c.gather_line.new.reader in
     let commands = waiting c.take_found.new.gathered in
     let kept = line_bytes c.clear.new.self in
-    let q = place c.take_found.new.executor now (g.W.Write.contents c.take_found.new.writer) in
+    let q = place c.take_found.new.executor now (g.T.Client.heard c.take_found.new.client) in
     let next = at_some c.in_ok-next.field-0 c.in-Some.next _ _ c.in-Some.is (c.in_ok-next.ensures.gathers left mid) in
     if_ok (ComesOrEnds look source limits p (most + 1) commands q) (ComesMidOrEnds look source limits p (most + 1) commands kept q)
     c.take_found.result (λ ended. mid_taken look source limits p (most + 1) commands kept q ended c.clear.ensures)

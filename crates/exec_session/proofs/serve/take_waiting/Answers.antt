@@ -1,5 +1,4 @@
-use Rattle.std.proofs.Common.{◌+◌, arith, refl, subst, sym}
-use Rattle.executor.specs.CallLaws.{by_both, by_none}
+use Rattle.std.proofs.Common.{◌+◌, arith, refl, subst, sym, ◌∙◌}
 use Rattle.exec_lines.specs.Buffer.{line_bytes}
 use Rattle.exec_session.specs.Gathered.{waiting}
 use Rattle.exec_session.specs.Limits.{limits_of}
@@ -12,11 +11,12 @@ use Rattle.exec_session.proofs.serve.take_waiting.Goals as goal
 pub loop-reads-init : goal.loop-reads-init
 loop-reads-init g c =
     let source = g.M.Metadata.gives c.args.setting.now.metadata.now in
-    let q = place c.args.executor.now (g.R.Read.remaining c.args.reader.now) (g.W.Write.contents c.args.writer.now) in
+    let q = place c.args.executor.now (g.R.Read.remaining c.args.reader.now) (g.T.Client.heard c.args.client.now) in
     record {
       way = c.requires.way;
       waits = none_waits c.args.executor.now (waiting c.args.gathered.now) c.requires.none;
-      calls = by_none g.D.Disk.view c.args.executor.now c.args.executor.now refl;
+      stands = c.requires.stands;
+      opened = refl;
       come = λ p come.
           subst (λ commands. HasComeMid g.D.Disk.view source (limits_of c.args.setting.now) p 0 commands (line_bytes c.args.buffer.now) q)
           (sym c.requires.none) come;
@@ -25,48 +25,37 @@ loop-reads-init g c =
 pub returns-then-not-is_ready-clause-takes : goal.returns-then-not-is_ready-clause-takes
 returns-then-not-is_ready-clause-takes g c = λ p come.
     mid_same _ _ _ p 64 (waiting c.loop-reads.gathered) (line_bytes c.loop-reads.buffer) c.loop-reads.executor
-    (g.W.Write.contents c.loop-reads.writer) (g.R.Read.remaining c.loop-reads.reader) (g.R.Read.remaining c.is_ready.new.self)
+    (g.T.Client.heard c.loop-reads.client) (g.R.Read.remaining c.loop-reads.reader) (g.R.Read.remaining c.is_ready.new.self)
     c.is_ready.ensures.same
     (mid_more _ _ _ p c.loop-reads._reads 64 _ _ _ (omega (arith, c.loop-reads-test.true)) (c.loop-reads.invariant.come p come))
-
-pub returns-in_err-take_read-clause-calls : goal.returns-in_err-take_read-clause-calls
-returns-in_err-take_read-clause-calls g c =
-    by_both g.D.Disk.view c.args.executor.now c.loop-reads.executor
-    c.take_read.new.executor c.loop-reads.invariant.calls c.take_read.ensures.calls
-
-pub returns-then-branch-clause-calls : goal.returns-then-branch-clause-calls
-returns-then-branch-clause-calls g c =
-    by_both g.D.Disk.view c.args.executor.now c.loop-reads.executor
-    c.take_read.new.executor c.loop-reads.invariant.calls c.take_read.ensures.calls
 
 pub returns-then-branch-clause-takes : goal.returns-then-branch-clause-takes
 returns-then-branch-clause-takes g c = λ p come.
     let n = c.loop-reads._reads in
-    let q = place c.take_read.new.executor (g.R.Read.remaining c.take_read.new.reader) (g.W.Write.contents c.take_read.new.writer) in
+    let q = place c.take_read.new.executor (g.R.Read.remaining c.take_read.new.reader) (g.T.Client.heard c.take_read.new.client) in
     subst (ComesMidOrEnds g.D.Disk.view (g.M.Metadata.gives c.args.setting.now.metadata.now)
     (limits_of c.args.setting.now) p (n + 1) (waiting c.take_read.new.gathered) (line_bytes c.take_read.new.buffer) q) c.if-branch.true
     (c.in_ok-take_read.ensures.takes p n (may_serve c.args.setting.now.way n c.loop-reads.invariant.way (omega (arith, c.loop-reads-test.true)))
     (mid_same _ _ _ p n (waiting c.loop-reads.gathered) (line_bytes c.loop-reads.buffer) c.loop-reads.executor
-    (g.W.Write.contents c.loop-reads.writer) (g.R.Read.remaining c.loop-reads.reader) (g.R.Read.remaining c.is_ready.new.self)
+    (g.T.Client.heard c.loop-reads.client) (g.R.Read.remaining c.loop-reads.reader) (g.R.Read.remaining c.is_ready.new.self)
     c.is_ready.ensures.same (c.loop-reads.invariant.come p come)))
 
 pub loop-reads-preserved : goal.loop-reads-preserved
 loop-reads-preserved g c =
     let n = c.loop-reads._reads in
-    let q = place c.take_read.new.executor (g.R.Read.remaining c.take_read.new.reader) (g.W.Write.contents c.take_read.new.writer) in
+    let q = place c.take_read.new.executor (g.R.Read.remaining c.take_read.new.reader) (g.T.Client.heard c.take_read.new.client) in
     record {
       way = c.loop-reads.invariant.way;
       waits = c.in_ok-take_read.ensures.waits;
-      calls =
-          by_both g.D.Disk.view c.args.executor.now c.loop-reads.executor
-          c.take_read.new.executor c.loop-reads.invariant.calls c.take_read.ensures.calls;
+      stands = c.in_ok-take_read.ensures.stands;
+      opened = c.in_ok-take_read.ensures.opened ∙ c.loop-reads.invariant.opened;
       come = λ p come.
           subst (ComesMidOrEnds g.D.Disk.view (g.M.Metadata.gives c.args.setting.now.metadata.now) (limits_of c.args.setting.now)
           p (n + 1) (waiting c.take_read.new.gathered) (line_bytes c.take_read.new.buffer) q) c.if-branch.false
           (c.in_ok-take_read.ensures.takes p n
           (may_serve c.args.setting.now.way n c.loop-reads.invariant.way (omega (arith, c.loop-reads-test.true)))
           (mid_same _ _ _ p n (waiting c.loop-reads.gathered) (line_bytes c.loop-reads.buffer) c.loop-reads.executor
-          (g.W.Write.contents c.loop-reads.writer) (g.R.Read.remaining c.loop-reads.reader) (g.R.Read.remaining c.is_ready.new.self)
+          (g.T.Client.heard c.loop-reads.client) (g.R.Read.remaining c.loop-reads.reader) (g.R.Read.remaining c.is_ready.new.self)
           c.is_ready.ensures.same (c.loop-reads.invariant.come p come)));
     }
 

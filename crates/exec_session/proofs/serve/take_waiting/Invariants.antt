@@ -1,6 +1,6 @@
 use Rattle.std.proofs.Common.{◌≡◌, []}
 use Rattle.exec_lines.specs.Buffer.{line_bytes}
-use Rattle.executor.specs.Lives.{ByCalls}
+use Rattle.exec_client.specs.MayTell.{AllStand}
 use Rattle.exec_session.specs.Gathered.{waiting}
 use Rattle.exec_session.specs.Limits.{limits_of}
 use Rattle.exec_session.specs.Progress.{Place, place}
@@ -13,11 +13,12 @@ abbrev pub invariant-loop-reads : goal.invariant-loop-reads
 invariant-loop-reads g l = record {
   way : l.setting.way ≡ Serve;
   waits : MayWait l.executor (waiting l.gathered);
-  calls : ByCalls g.D.Disk.view l.fn.executor l.executor;
+  stands : AllStand g.D.Disk.view (g.T.Client.heard l.client) l.executor;
+  opened : (g.T.Client.heard l.client).opened ≡ (g.T.Client.heard l.fn.client).opened;
   come : (p : Place g.row.D.Denot)
       → HasComeMid g.D.Disk.view (g.M.Metadata.gives l.setting.metadata.now) (limits_of l.setting) p 0 []
-      (line_bytes l.fn.buffer) (place l.fn.executor (g.R.Read.remaining l.fn.reader) (g.W.Write.contents l.fn.writer))
+      (line_bytes l.fn.buffer) (place l.fn.executor (g.R.Read.remaining l.fn.reader) (g.T.Client.heard l.fn.client))
       → HasComeMid g.D.Disk.view (g.M.Metadata.gives l.setting.metadata.now) (limits_of l.setting) p l._reads
       (waiting l.gathered) (line_bytes l.buffer)
-      (place l.executor (g.R.Read.remaining l.reader) (g.W.Write.contents l.writer));
+      (place l.executor (g.R.Read.remaining l.reader) (g.T.Client.heard l.client));
 }

@@ -1,5 +1,4 @@
-use Rattle.std.proofs.Common.{◌+◌, refl, subst}
-use Rattle.executor.specs.CallLaws.{by_both, by_none}
+use Rattle.std.proofs.Common.{◌+◌, refl, subst, ◌∙◌}
 use Rattle.exec_session.specs.Gathered.{waiting}
 use Rattle.exec_session.specs.Limits.{limits_of}
 use Rattle.exec_session.specs.Progress.{place}
@@ -10,12 +9,13 @@ use Rattle.exec_session.proofs.session.answer_all.Goals as goal
 pub loop-init : goal.loop-init
 loop-init g c =
     let source = g.M.Metadata.gives c.args.setting.now.metadata.now in
-    let p = place c.args.executor.now (g.R.Read.remaining c.args.reader.now) (g.W.Write.contents c.args.writer.now) in
+    let p = place c.args.executor.now (g.R.Read.remaining c.args.reader.now) (g.T.Client.heard c.args.client.now) in
     let limits = limits_of c.args.setting.now in
     record {
       way = c.requires.way;
       waits = none_waits c.args.executor.now (waiting c.args.gathered.now) c.requires.none;
-      calls = by_none g.D.Disk.view c.args.executor.now c.args.executor.now refl;
+      stands = c.requires.stands;
+      opened = refl;
       come = (
         0,
         come_none g.D.Disk.view source limits p 0 (waiting c.args.gathered.now) p c.requires.none
@@ -25,29 +25,23 @@ loop-init g c =
 
 pub returns-then-branch-clause-lines : goal.returns-then-branch-clause-lines
 returns-then-branch-clause-lines g c =
-    let p = place c.args.executor.now (g.R.Read.remaining c.args.reader.now) (g.W.Write.contents c.args.writer.now) in
-    let q = place c.take_next.new.executor (g.R.Read.remaining c.take_next.new.reader) (g.W.Write.contents c.take_next.new.writer) in
+    let p = place c.args.executor.now (g.R.Read.remaining c.args.reader.now) (g.T.Client.heard c.args.client.now) in
+    let q = place c.take_next.new.executor (g.R.Read.remaining c.take_next.new.reader) (g.T.Client.heard c.take_next.new.client) in
     let most = c.loop.invariant.come.0 in
     subst (ComesOrEnds g.D.Disk.view (g.M.Metadata.gives c.args.setting.now.metadata.now) (limits_of c.args.setting.now)
     p (most + 1) (waiting c.take_next.new.gathered) q) c.if-branch.true
     (c.in_ok-take_next.ensures.takes p most (may_run c.args.setting.now.way most c.loop.invariant.way) c.loop.invariant.come.1)
 
-pub returns-then-branch-clause-calls : goal.returns-then-branch-clause-calls
-returns-then-branch-clause-calls g c =
-    by_both g.D.Disk.view c.args.executor.now c.loop.executor c.take_next.new.executor
-    c.loop.invariant.calls c.take_next.ensures.calls
-
 pub loop-preserved : goal.loop-preserved
 loop-preserved g c =
-    let p = place c.args.executor.now (g.R.Read.remaining c.args.reader.now) (g.W.Write.contents c.args.writer.now) in
-    let q = place c.take_next.new.executor (g.R.Read.remaining c.take_next.new.reader) (g.W.Write.contents c.take_next.new.writer) in
+    let p = place c.args.executor.now (g.R.Read.remaining c.args.reader.now) (g.T.Client.heard c.args.client.now) in
+    let q = place c.take_next.new.executor (g.R.Read.remaining c.take_next.new.reader) (g.T.Client.heard c.take_next.new.client) in
     let most = c.loop.invariant.come.0 in
     record {
       way = c.loop.invariant.way;
       waits = c.in_ok-take_next.ensures.waits;
-      calls =
-          by_both g.D.Disk.view c.args.executor.now c.loop.executor
-          c.take_next.new.executor c.loop.invariant.calls c.take_next.ensures.calls;
+      stands = c.in_ok-take_next.ensures.stands;
+      opened = c.in_ok-take_next.ensures.opened ∙ c.loop.invariant.opened;
       come = (
         most + 1,
         subst (ComesOrEnds g.D.Disk.view (g.M.Metadata.gives c.args.setting.now.metadata.now) (limits_of c.args.setting.now)
@@ -55,8 +49,3 @@ loop-preserved g c =
             (c.in_ok-take_next.ensures.takes p most (may_run c.args.setting.now.way most c.loop.invariant.way) c.loop.invariant.come.1),
       );
     }
-
-pub returns-in_err-take_next-clause-calls : goal.returns-in_err-take_next-clause-calls
-returns-in_err-take_next-clause-calls g c =
-    by_both g.D.Disk.view c.args.executor.now c.loop.executor c.take_next.new.executor
-    c.loop.invariant.calls c.take_next.ensures.calls

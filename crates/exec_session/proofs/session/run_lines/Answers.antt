@@ -1,6 +1,8 @@
-use Rattle.std.proofs.Common.{ap, ◌∙◌}
-use Rattle.executor.specs.CallLaws.{by_abandon, by_both}
+use Rattle.std.proofs.Common.{ap, subst, ◌∙◌}
 use Rattle.executor.specs.Sights.{Sight}
+use Rattle.exec_client.proofs.Growing.{abandoned_stands, all_still_stand}
+use Rattle.exec_client.specs.MayTell.{StandsBehind}
+use Rattle.exec_session.proofs.TellLemmas.{new_stands}
 use Rattle.exec_session.proofs.session.run_lines.Goals as goal
 
 pub returns-clause-ends : goal.returns-clause-ends
@@ -11,15 +13,23 @@ returns-clause-ends g c = record {
   children = c.close-disk.ensures.children ∙ ap (λ (x : Sight g.row.D.Denot). x.children) c.abandon.ensures.abandoned;
 }
 
-pub returns-clause-calls : goal.returns-clause-calls
-returns-clause-calls g c =
+pub answer_lines-ended-requires-clause-stands : goal.answer_lines-ended-requires-clause-stands
+answer_lines-ended-requires-clause-stands g c =
+    new_stands g.D.Disk.view (g.T.Client.heard c.args.client.now) c.args.executor c.requires.fresh
+
+pub returns-clause-told : goal.returns-clause-told
+returns-clause-told g c =
+    let look = g.D.Disk.view in
+    let heard = g.T.Client.heard c.answer_lines-ended.new.client in
     let middle = c.answer_lines-ended.new.executor in
     let last = c.abandon.new.self in
+    let stands = all_still_stand look heard middle last c.answer_lines-ended.ensures.stands
+    (abandoned_stands look middle last c.abandon.ensures.abandoned) in
     record {
       last = last;
-      calls =
-          by_both g.D.Disk.view c.args.executor middle last c.answer_lines-ended.ensures.calls
-          (by_abandon g.D.Disk.view middle last c.abandon.ensures.abandoned);
+      stands =
+          subst (λ (o : Sight g.row.D.Denot). StandsBehind look o last heard.told)
+          (c.answer_lines-ended.ensures.opened ∙ c.requires.fresh.0) stands;
       is_closed = ap (λ (x : Sight g.row.D.Denot). x.is_open) c.abandon.ensures.abandoned;
       disk_is = c.close-disk.ensures.disk;
       children_are = c.close-disk.ensures.children;

@@ -1,12 +1,13 @@
-use Rattle.std.proofs.Common.{true≢false, List, refl, sym, ◌∙◌, subst}
-use Rattle.std.specs.Io.KnownBytes.{Appends}
-use Rattle.std.specs.List.{flat_map}
+use Rattle.std.proofs.Common.{true≢false, List, map, refl, sym, ◌∙◌, subst}
 use Rattle.ocf_types.specs.declared.reply.Notice.{Notice}
-use Rattle.executor.specs.CallLaws.{by_both, by_clear, by_turn}
 use Rattle.executor.specs.Sights.{Sight}
-use Rattle.executor.specs.TurnCalls.{TurnsWhile}
-use Rattle.exec_commands.specs.Replies.{formed_line}
+use Rattle.executor.specs.TurnCalls.{TakesTurn, TurnsWhile}
+use Rattle.exec_client.specs.Heard.{Hears}
+use Rattle.exec_client.specs.MayTell.{StandsBehind}
+use Rattle.exec_client.specs.Said.{Noticed}
+use Rattle.exec_client.proofs.Growing.{all_still_stand, may_tell}
 use Rattle.exec_session.specs.Limits.{MakesRoom, limits_of}
+use Rattle.exec_session.proofs.TellLemmas.{after_told, cleared_room, turn_behind_room}
 use Rattle.exec_session.proofs.turn.make_turn.Goals as goal
 
 pub returns-then-not-make_room-clause-made : goal.returns-then-not-make_room-clause-made
@@ -18,8 +19,30 @@ returns-then-not-make_room-clause-made g c =
           subst (λ (x : Sight g.row.D.Denot). MakesRoom g.D.Disk.view
           (limits_of c.args.setting.now) x middle) c.clear_book.ensures.cleared c.make_room.ensures.makes;
       takes = λ is_open. absurd (true≢false (sym is_open ∙ closed));
-      written = λ is_open. absurd (true≢false (sym is_open ∙ closed));
+      hears = λ is_open. absurd (true≢false (sym is_open ∙ closed));
       fails = λ _. (refl, refl, refl);
+    }
+
+pub returns-then-not-make_room-clause-stands : goal.returns-then-not-make_room-clause-stands
+returns-then-not-make_room-clause-stands g c =
+    let look = g.D.Disk.view in
+    let middle = c.make_room.new.executor in
+    all_still_stand look (g.T.Client.heard c.args.client.now) c.args.executor.now middle c.requires.stands
+    (cleared_room look c.args.executor.now c.clear_book.new.self middle c.clear_book.ensures.cleared c.make_room.ensures.stands)
+
+pub tell-requires : goal.tell-requires
+tell-requires g c =
+    let look = g.D.Disk.view in
+    let is_open = sym c.if-not-make_room.ensures.value in
+    let old = c.args.executor.now in
+    let middle = c.make_room.new.executor in
+    let last = c.turn-end.new.self in
+    let takes = subst (λ b. TurnsWhile b look c.args.now middle last c.turn-end.result) is_open c.turn-end.ensures.turns in
+    let room = cleared_room look old c.clear_book.new.self middle c.clear_book.ensures.cleared c.make_room.ensures.stands in
+    let told = turn_behind_room look c.args.now old middle last c.turn-end.result room is_open takes in record {
+      may_tell =
+          may_tell look (g.T.Client.heard c.args.client.now) old last _ c.requires.stands
+          (subst (λ (told : List Notice). StandsBehind look old last (map Noticed told)) (sym c.notices.ensures.value) told) tt;
     }
 
 pub returns-clause-made : goal.returns-clause-made
@@ -32,35 +55,36 @@ returns-clause-made g c =
           subst (λ (x : Sight g.row.D.Denot). MakesRoom g.D.Disk.view
           (limits_of c.args.setting.now) x middle) c.clear_book.ensures.cleared c.make_room.ensures.makes;
       takes = λ _. subst (λ b. TurnsWhile b g.D.Disk.view c.args.now middle last c.turn-end.result) is_open c.turn-end.ensures.turns;
-      written =
-          λ _. subst (λ (told : List Notice). Appends (g.W.Write.contents c.args.writer.now) (g.W.Write.contents c.send_notices.new.writer)
-          (flat_map (formed_line c.args.setting.now.form) told)) c.notices.ensures.value c.in_ok-send_notices.ensures;
+      hears =
+          λ _. subst (λ (told : List Notice). Hears c.args.setting.now.form (g.T.Client.heard c.args.client.now)
+          (g.T.Client.heard c.tell.new.self) (map Noticed told)) c.notices.ensures.value c.in_ok-tell.ensures.hears;
       fails = λ closed. absurd (true≢false (sym is_open ∙ closed));
     }
 
-pub returns-then-not-make_room-clause-calls : goal.returns-then-not-make_room-clause-calls
-returns-then-not-make_room-clause-calls g c =
+pub returns-in_err-tell-clause-stands : goal.returns-in_err-tell-clause-stands
+returns-in_err-tell-clause-stands g c =
+    let look = g.D.Disk.view in
+    let is_open = sym c.if-not-make_room.ensures.value in
     let old = c.args.executor.now in
-    let cleared = c.clear_book.new.self in
-    by_both g.D.Disk.view old cleared c.make_room.new.executor
-    (by_clear g.D.Disk.view old cleared c.clear_book.ensures.cleared) c.make_room.ensures.calls
-
-pub returns-in_err-send_notices-clause-calls : goal.returns-in_err-send_notices-clause-calls
-returns-in_err-send_notices-clause-calls g c =
-    let old = c.args.executor.now in
-    let cleared = c.clear_book.new.self in
     let middle = c.make_room.new.executor in
-    let room = by_both g.D.Disk.view old cleared middle (by_clear g.D.Disk.view old cleared c.clear_book.ensures.cleared)
-    c.make_room.ensures.calls in
     let last = c.turn-end.new.self in
-    by_both g.D.Disk.view old middle last room (by_turn g.D.Disk.view c.args.now middle last c.turn-end.result c.turn-end.ensures.turns)
+    let takes = subst (λ b. TurnsWhile b look c.args.now middle last c.turn-end.result) is_open c.turn-end.ensures.turns in
+    let room = cleared_room look old c.clear_book.new.self middle c.clear_book.ensures.cleared c.make_room.ensures.stands in
+    let told = turn_behind_room look c.args.now old middle last c.turn-end.result room is_open takes in
+    after_told look (g.T.Client.heard c.args.client.now) (g.T.Client.heard c.tell.new.self) old last _ c.requires.stands
+    (subst (λ (told : List Notice). StandsBehind look old last (map Noticed told)) (sym c.notices.ensures.value) told)
+    c.tell.ensures.told
 
-pub returns-clause-calls : goal.returns-clause-calls
-returns-clause-calls g c =
+pub returns-clause-stands : goal.returns-clause-stands
+returns-clause-stands g c =
+    let look = g.D.Disk.view in
+    let is_open = sym c.if-not-make_room.ensures.value in
     let old = c.args.executor.now in
-    let cleared = c.clear_book.new.self in
     let middle = c.make_room.new.executor in
-    let room = by_both g.D.Disk.view old cleared middle (by_clear g.D.Disk.view old cleared c.clear_book.ensures.cleared)
-    c.make_room.ensures.calls in
     let last = c.turn-end.new.self in
-    by_both g.D.Disk.view old middle last room (by_turn g.D.Disk.view c.args.now middle last c.turn-end.result c.turn-end.ensures.turns)
+    let takes = subst (λ b. TurnsWhile b look c.args.now middle last c.turn-end.result) is_open c.turn-end.ensures.turns in
+    let room = cleared_room look old c.clear_book.new.self middle c.clear_book.ensures.cleared c.make_room.ensures.stands in
+    let told = turn_behind_room look c.args.now old middle last c.turn-end.result room is_open takes in
+    after_told look (g.T.Client.heard c.args.client.now) (g.T.Client.heard c.tell.new.self) old last _ c.requires.stands
+    (subst (λ (told : List Notice). StandsBehind look old last (map Noticed told)) (sym c.notices.ensures.value) told)
+    c.tell.ensures.told

@@ -1,0 +1,127 @@
+-- What may be told of what a run did.
+use Rattle.std.proofs.Common.{◌≡◌, ◌↔◌, ℕ, zero, suc, Bool, true, false, List, [], ◌∷◌, map, Result, Ok, Err, refl, sym, subst}
+use Rattle.std.specs.Prelude.{replicate}
+use Rattle.std.specs.List.{AllByRecursion}
+use Rattle.ocf_types.specs.Answer.{event_of}
+use Rattle.ocf_types.specs.Kinds.{Command, Reply, Request}
+use Rattle.ocf_types.specs.declared.command.RequestOf.TheVariants as asked
+use Rattle.ocf_types.specs.declared.refusal.Refusal.{Refusal}
+use Rattle.ocf_types.specs.declared.refusal.Refusal.TheVariants.{Disk}
+use Rattle.ocf_types.specs.declared.reply.Notice.{Notice}
+use Rattle.ocf_types.specs.declared.reply.ReplyOf.TheVariants.{Refused}
+use Rattle.ocf_types.specs.declared.reply.TurnEnd.{TurnEnd}
+use Rattle.disk_model.specs.View.{View}
+use Rattle.executor.specs.Commands.{Serves, ServesOpen, ServesWhile}
+use Rattle.executor.specs.Rows.{TakesCommands}
+use Rattle.executor.specs.Sights.{Sight}
+use Rattle.executor.specs.TurnCalls.{TakesTurn, with_empty_book}
+use Rattle.exec_commands.specs.declared.line.Line.{Line}
+use Rattle.exec_commands.specs.declared.line.Line.TheVariants as line
+use Rattle.exec_commands.specs.declared.reply.LineReply.{LineReply}
+use Rattle.exec_commands.specs.declared.reply.LineReply.TheVariants as answer
+use Rattle.exec_client.specs.Behind.{Behind, claims, nothing, says_else}
+use Rattle.exec_client.specs.Heard.{Heard, Hears, IsTold}
+use Rattle.exec_client.specs.MayTell.{AllStand, MayAnswer, MayReply, StandsBehind}
+use Rattle.exec_client.specs.Said.{Answered, Noticed, Reported, Said, answered}
+use Rattle.exec_client.proofs.Behinds.{says_none}
+use Rattle.exec_client.proofs.Growing.{both_stand, cleared_stands, commands_stand, none_stands, serves_stands, turn_stands}
+use Rattle.exec_client.proofs.Plain.{commands_plain, obeys_plain, refused_plain}
+use Rattle.exec_client.proofs.Saying.{may_answer}
+use Rattle.exec_session.specs.Answers.{IsClosedReply, Source}
+use Rattle.exec_session.specs.Runs.{IsNew}
+
+-- refusals for the disk
+each_refused : (n : ℕ) → Behind (map answered (replicate n (Refused Disk))) []
+each_refused zero = nothing
+each_refused (suc n) = says_else (answered (Refused Disk)) (map answered (replicate n (Refused Disk))) [] refl (each_refused n)
+
+-- a reply that says nothing of what is recorded, and nothing of the state
+abbrev pub Plain : {D : Type 0} → Sight D → LineReply → Type 0
+Plain x given = (claims (Answered given) ≡ false) × MayReply x given
+
+pub is_plain : {D : Type 0} (x : Sight D) (r s : LineReply) → r ≡ s → Plain x s → Plain x r
+is_plain x r s same plain = subst (λ (t : LineReply). Plain x t) (sym same) plain
+
+-- what a closed executor answers
+pub closed_plain : {D : Type 0} (x : Sight D) (source : Source) (found : Result Line Refusal) (given : LineReply)
+    → IsClosedReply source found given → Plain x given
+closed_plain x source (Ok (line.Meta provider agent limit)) given (meta, gives, is) = is_plain x given (answer.Meta meta) is (refl, tt)
+closed_plain x source (Ok (line.Drain limit)) given is = is_plain x given _ is (refl, tt)
+closed_plain x source (Ok (line.Watch limit)) given is = is_plain x given _ is (refl, tt)
+closed_plain x source (Ok line.Tidy) given is = is_plain x given _ is (refl, tt)
+closed_plain x source (Ok (line.Request request)) given is = is_plain x given _ is (refl, tt)
+closed_plain x source (Err why) given is = is_plain x given _ is (refl, tt)
+
+module _ {D : Type 0} (look : D → View) where
+  -- one thing more is told, which says nothing of what is recorded
+  pub one_more : (x y : Sight D) (s : Said) → claims s ≡ false → StandsBehind look x y [] → StandsBehind look x y (s ∷ [])
+  one_more x y s none stands = both_stand look x y y [] (s ∷ []) stands (none_stands look y y (s ∷ []) refl (says_none s none))
+
+  -- a request, behind room that was made
+  pub request_stands : (now : ℕ) (request : Request) (x m y : Sight D) (r : Reply) → StandsBehind look x m []
+      → Serves look now request m y r → ((y.is_open ≡ false) ↔ (r ≡ Refused Disk)) → StandsBehind look x y (answered r ∷ [])
+  request_stands now request x m y r room serves closes =
+      both_stand look x m y [] (answered r ∷ []) room (serves_stands look now request m y r serves (λ _. closes))
+
+  open_says : (now : ℕ) (request : Request) (x y : Sight D) (r : Reply) → x.is_open ≡ true → ServesOpen look now request x y r
+      → MayAnswer y r
+  open_says now (asked.Question question) x y r is_open (answers, same) =
+      subst (λ (z : Sight D). MayAnswer z r) (sym same) (may_answer x question is_open r answers)
+  open_says now (asked.Command command) x y r is_open obeys = obeys_plain y look x y r (event_of x.state now command) obeys
+
+  pub request_says : (now : ℕ) (request : Request) (x y : Sight D) (r : Reply) → x.is_open ≡ true → Serves look now request x y r
+      → MayAnswer y r
+  request_says now request x y r is_open serves =
+      open_says now request x y r is_open (subst (λ (b : Bool). ServesWhile b look now request x y r) is_open serves)
+
+  -- commands that arrived together, behind room that was made
+  pub together_stand : (now : ℕ) (commands : List Command) (x m y : Sight D) (rs : List Reply) → StandsBehind look x m []
+      → TakesCommands look now commands m y rs → StandsBehind look x y (map answered rs)
+  together_stand now commands x m y rs room takes =
+      both_stand look x m y [] (map answered rs) room (commands_stand look now commands m y rs takes)
+
+  pub together_say : (now : ℕ) (commands : List Command) (x y : Sight D) (rs : List Reply) → TakesCommands look now commands x y rs
+      → AllByRecursion (MayAnswer y) rs
+  together_say now commands x y rs takes = commands_plain y look now commands x y rs takes
+
+  -- each of them refused for the disk
+  pub refused_stand : (x y : Sight D) (n : ℕ) (rs : List Reply) → rs ≡ replicate n (Refused Disk) → StandsBehind look x y []
+      → StandsBehind look x y (map answered rs)
+  refused_stand x y n rs same room =
+      subst (λ (ts : List Reply). StandsBehind look x y (map answered ts)) (sym same)
+      (both_stand look x y y [] (map answered (replicate n (Refused Disk))) room
+      (none_stands look y y (map answered (replicate n (Refused Disk))) refl (each_refused n)))
+
+  pub refused_say : (y : Sight D) (n : ℕ) (rs : List Reply) → rs ≡ replicate n (Refused Disk) → AllByRecursion (MayAnswer y) rs
+  refused_say y n rs same = subst (λ (ts : List Reply). AllByRecursion (MayAnswer y) ts) (sym same) (refused_plain y n)
+
+  -- room that was made behind an emptied book, and a turn behind it
+  pub cleared_room : (x c m : Sight D) → c ≡ with_empty_book x → StandsBehind look c m [] → StandsBehind look x m []
+  cleared_room x c m cleared room = both_stand look x c m [] [] (cleared_stands look x c cleared) room
+
+  pub turn_behind_room : (now : ℕ) (x m y : Sight D) (end : TurnEnd) → StandsBehind look x m [] → m.is_open ≡ true
+      → TakesTurn look now m y end → StandsBehind look x y (map Noticed y.told)
+  turn_behind_room now x m y end room is_open takes =
+      both_stand look x m y [] (map Noticed y.told) room (turn_stands look now m y end is_open takes)
+
+  -- nothing was told yet
+  pub new_stands : (heard : Heard D) (x : Sight D) → IsNew heard x → AllStand look heard x
+  new_stands heard x (opened, untold) =
+      subst (λ (o : Sight D). StandsBehind look o x heard.told) (sym opened)
+      (subst (λ (ss : List Said). StandsBehind look x x ss) (sym untold) (none_stands look x x [] refl nothing))
+
+  -- this was told of an executor that went on by calls
+  pub after_told : (heard heard' : Heard D) (x y : Sight D) (said : List Said) → AllStand look heard x → StandsBehind look x y said
+      → IsTold heard heard' said → AllStand look heard' y
+  after_told heard heard' x y said stands more told =
+      subst (λ (o : Sight D). StandsBehind look o y heard'.told) (sym told.0)
+      (subst (λ (ss : List Said). StandsBehind look heard.opened y ss) (sym told.1)
+      (both_stand look heard.opened x y heard.told said stands more))
+
+  -- what an opening reports says nothing of what was recorded since
+  reported : (ns : List Notice) → Behind (map Reported ns) []
+  reported [] = nothing
+  reported (n ∷ ns) = says_else (Reported n) (map Reported ns) [] refl (reported ns)
+
+  pub reported_stand : (x : Sight D) (ns : List Notice) → StandsBehind look x x (map Reported ns)
+  reported_stand x ns = none_stands look x x (map Reported ns) refl (reported ns)

@@ -1,0 +1,54 @@
+use Rattle.std.proofs.Common.{inl, inr, List, map, sym, subst, ◌∙◌}
+use Rattle.executor.specs.Sights.{Sight}
+use Rattle.exec_client.specs.Said.{Reported}
+use Rattle.exec_client.specs.MayTell.{IsReported}
+use Rattle.exec_client.proofs.Growing.{may_tell}
+use Rattle.exec_session.proofs.HeardLemmas.{hears_both}
+use Rattle.exec_session.proofs.TellLemmas.{after_told, reported_stand}
+use Rattle.exec_session.proofs.report.tell_report.Goals as goal
+
+pub tell-requires : goal.tell-requires
+tell-requires g c =
+    let look = g.D.Disk.view in
+    let (old, from, now, opens) = c.requires.reported in
+    let ns = c.as_slice.result.now in record {
+      may_tell =
+          may_tell look (g.T.Client.heard c.args.client.now) c.args.executor.now c.args.executor.now _ c.requires.stands
+          (reported_stand look c.args.executor.now ns) (old, from, now, _, _, opens, inl c.as_slice.ensures.value);
+    }
+
+pub returns-in_err-tell-clause-stands : goal.returns-in_err-tell-clause-stands
+returns-in_err-tell-clause-stands g c =
+    after_told g.D.Disk.view (g.T.Client.heard c.args.client.now) (g.T.Client.heard c.tell.new.self) c.args.executor.now
+    c.args.executor.now _ c.requires.stands (reported_stand g.D.Disk.view c.args.executor.now c.as_slice.result.now) c.tell.ensures.told
+
+pub tell-requires-2 : goal.tell-requires-2
+tell-requires-2 g c =
+    let look = g.D.Disk.view in
+    let before = g.T.Client.heard c.args.client.now in
+    let heard = g.T.Client.heard c.tell.new.self in
+    let x = c.args.executor.now in
+    let stands = after_told look before heard x x _ c.requires.stands (reported_stand look x c.as_slice.result.now) c.tell.ensures.told in
+    let (old, from, now, opens) = c.requires.reported in
+    let says : IsReported look before.opened c.as_slice-2.result.now = (old, from, now, _, _, opens, inr c.as_slice-2.ensures.value) in
+    record {
+      may_tell =
+          may_tell look heard x x _ stands (reported_stand look x c.as_slice-2.result.now)
+          (subst (λ (o : Sight g.row.D.Denot). IsReported look o c.as_slice-2.result.now) (sym c.tell.ensures.told.0) says);
+    }
+
+pub returns-clause-stands : goal.returns-clause-stands
+returns-clause-stands g c =
+    let look = g.D.Disk.view in
+    let heard = g.T.Client.heard c.tell.new.self in
+    let x = c.args.executor.now in
+    let stands = after_told look (g.T.Client.heard c.args.client.now) heard x x _ c.requires.stands
+    (reported_stand look x c.as_slice.result.now) c.tell.ensures.told in
+    after_told look heard (g.T.Client.heard c.tell-2.new.self) x x _ stands (reported_stand look x c.as_slice-2.result.now)
+    c.tell-2.ensures.told
+
+pub returns-clause-told : goal.returns-clause-told
+returns-clause-told g c =
+    hears_both c.args.form (g.T.Client.heard c.args.client.now) (g.T.Client.heard c.tell.new.self) (g.T.Client.heard c.tell-2.new.self)
+    c.as_slice.result.now c.as_slice-2.result.now c.args.report.now.interrupted.items c.args.report.now.dropped.items c.tell-2.result
+    c.as_slice.ensures.value c.as_slice-2.ensures.value c.in_ok-tell.ensures.hears c.tell-2.ensures.hears
