@@ -35,7 +35,7 @@ fn push_interrupted<A: Allocator + Copy>(
 }
 
 // Notices of what is queued in the resource at a place.
-#[tactic(auto, using(crate::proofs::Reporting::drop_more))]
+#[tactic(auto, using(crate::proofs::Openings::Reporting::drop_more))]
 fn push_dropped<A: Allocator + Copy>(
     notices: &mut Vec<Notice, A>,
     state: &State<A>,
@@ -68,7 +68,7 @@ impl<A: Allocator + Copy> Report<A> {
     }
 }
 
-#[tactic(auto, using(crate::proofs::Reporting::interrupted_more))]
+#[tactic(auto, using(crate::proofs::Openings::Reporting::interrupted_more))]
 fn all_interrupted<A: Allocator + Copy>(
     alloc: A,
     state: &State<A>,
@@ -83,7 +83,7 @@ fn all_interrupted<A: Allocator + Copy>(
     Ok(notices)
 }
 
-#[tactic(auto, using(crate::proofs::Reporting::dropped_more))]
+#[tactic(auto, using(crate::proofs::Openings::Reporting::dropped_more))]
 fn all_dropped<A: Allocator + Copy>(
     alloc: A,
     state: &State<A>,

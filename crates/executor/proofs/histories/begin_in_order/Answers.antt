@@ -1,4 +1,4 @@
-use Rattle.executor.proofs.HistoryOrder.{begin_in_order}
+use Rattle.executor.proofs.History.Order.{begin_in_order}
 use Rattle.executor.proofs.histories.begin_in_order.Goals as goal
 
 pub returns : goal.returns

@@ -1,4 +1,4 @@
-use Rattle.executor.proofs.HistoryRuns.{ends_between}
+use Rattle.executor.proofs.History.Runs.{ends_between}
 use Rattle.executor.proofs.histories.ends_between.Goals as goal
 
 pub returns : goal.returns

@@ -1,4 +1,4 @@
-use Rattle.executor.proofs.HistoryLemmas.{runs_ascend}
+use Rattle.executor.proofs.History.Events.{runs_ascend}
 use Rattle.executor.proofs.histories.runs_ascend.Goals as goal
 
 pub returns : goal.returns

@@ -1,4 +1,4 @@
-use Rattle.executor.proofs.SessionCalls.{session_is_calls}
+use Rattle.executor.proofs.Sessions.Calls.{session_is_calls}
 use Rattle.executor.proofs.laws.session_is_calls.Goals as goal
 
 pub returns : goal.returns

@@ -1,4 +1,4 @@
-use Rattle.executor.proofs.AloneRuns.{tended_apart}
+use Rattle.executor.proofs.Alone.Runs.{tended_apart}
 use Rattle.executor.proofs.laws.tended_apart.Goals as goal
 
 pub returns : goal.returns

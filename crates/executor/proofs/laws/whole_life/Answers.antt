@@ -1,5 +1,5 @@
 use Rattle.executor.proofs.Journaling.{WhatStands}
-use Rattle.executor.proofs.Lives.{OneFinding, first_begins, fresh_begins, life_leaves, opened_behind, opens_behind, looked_sits, refused_sits}
+use Rattle.executor.proofs.Lives.Whole.{OneFinding, first_begins, fresh_begins, life_leaves, opened_behind, opens_behind, looked_sits, refused_sits}
 use Rattle.executor.proofs.laws.whole_life.Goals as goal
 
 pub returns : goal.returns

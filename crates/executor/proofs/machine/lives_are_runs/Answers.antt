@@ -1,6 +1,6 @@
 use Rattle.executor.proofs.Journaling.{WhatStands}
-use Rattle.executor.proofs.Lives.{OneFinding}
-use Rattle.executor.proofs.MachineLives.{life_runs}
+use Rattle.executor.proofs.Lives.Whole.{OneFinding}
+use Rattle.executor.proofs.Machines.Lives.{life_runs}
 use Rattle.executor.proofs.machine.lives_are_runs.Goals as goal
 
 pub returns : goal.returns

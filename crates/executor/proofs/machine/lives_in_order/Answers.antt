@@ -1,9 +1,9 @@
 use Rattle.executor.specs.SeenLives.{seen}
-use Rattle.executor.proofs.FoundLawful.{LawfulLaws, start_lawful}
+use Rattle.executor.proofs.Lives.Lawful.{LawfulLaws, start_lawful}
 use Rattle.executor.proofs.Journaling.{WhatStands}
-use Rattle.executor.proofs.Lives.{OneFinding}
-use Rattle.executor.proofs.MachineLives.{life_runs}
-use Rattle.executor.proofs.MachineRuns.{in_order}
+use Rattle.executor.proofs.Lives.Whole.{OneFinding}
+use Rattle.executor.proofs.Machines.Lives.{life_runs}
+use Rattle.executor.proofs.Machines.Runs.{in_order}
 use Rattle.executor.proofs.machine.lives_in_order.Goals as goal
 
 pub returns : goal.returns

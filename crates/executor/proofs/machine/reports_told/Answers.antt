@@ -1,4 +1,4 @@
-use Rattle.executor.proofs.MachineReports.{reports_told}
+use Rattle.executor.proofs.Machines.Reports.{reports_told}
 use Rattle.executor.proofs.machine.reports_told.Goals as goal
 
 pub returns : goal.returns

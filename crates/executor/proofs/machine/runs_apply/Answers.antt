@@ -1,4 +1,4 @@
-use Rattle.executor.proofs.MachineRuns.{runs_apply}
+use Rattle.executor.proofs.Machines.Runs.{runs_apply}
 use Rattle.executor.proofs.machine.runs_apply.Goals as goal
 
 pub returns : goal.returns

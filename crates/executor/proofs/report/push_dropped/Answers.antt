@@ -1,6 +1,6 @@
 use Rattle.std.proofs.Common.{◌∙◌}
 use Rattle.ocf_types.specs.Places.{entry_at}
-use Rattle.executor.proofs.Reporting.{drop_more}
+use Rattle.executor.proofs.Openings.Reporting.{drop_more}
 use Rattle.executor.proofs.report.push_dropped.Goals as goal
 
 pub loop-i-preserved : goal.loop-i-preserved

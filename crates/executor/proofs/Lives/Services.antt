@@ -13,9 +13,9 @@ use Rattle.exec_journal.specs.Rows.{EitherSide}
 use Rattle.executor.specs.Lives.{Serves, Service, Stands}
 use Rattle.executor.specs.Sessions.{Deeds, both, no_deeds}
 use Rattle.executor.proofs.Journaling.{WhatStands}
-use Rattle.executor.proofs.LifeCalls.{calls_closed, calls_more}
-use Rattle.executor.proofs.LifeFronts.{EachBegun, FrontOf, GoesOn, all_begun, begin_among}
-use Rattle.executor.proofs.SessionLemmas.{Onward, leads_start, leads_still, onward}
+use Rattle.executor.proofs.Lives.Calls.{calls_closed, calls_more}
+use Rattle.executor.proofs.Lives.Fronts.{EachBegun, FrontOf, GoesOn, all_begun, begin_among}
+use Rattle.executor.proofs.Sessions.Growing.{Onward, leads_start, leads_still, onward}
 
 -- the events of some deeds, those that are pending behind them
 abbrev all_of : Deeds → List Event

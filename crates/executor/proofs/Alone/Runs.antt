@@ -24,10 +24,10 @@ use Rattle.ocf_types.specs.Laws.{distinct_none, each_append, each_weaken}
 use Rattle.exec_turn.specs.Actives.{Active, active, active_in, runs_of, active_of}
 use Rattle.exec_turn.specs.Lives.{Tends}
 use Rattle.executor.specs.Parts.{Apart, own_runs, run_begun}
-use Rattle.executor.proofs.AloneChanges.{AreFresh, IsFresh}
-use Rattle.executor.proofs.AloneLists.{each_first, each_into, each_last, each_map, each_out, each_unmap, filter-map, owned}
-use Rattle.executor.proofs.AloneRows.{AreOwn}
-use Rattle.executor.proofs.AloneTurns.{AllBeginOwn, BeginsOwn}
+use Rattle.executor.proofs.Alone.Changes.{AreFresh, IsFresh}
+use Rattle.executor.proofs.Alone.Lists.{each_first, each_into, each_last, each_map, each_out, each_unmap, filter-map, owned}
+use Rattle.executor.proofs.Alone.Rows.{AreOwn}
+use Rattle.executor.proofs.Alone.Turns.{AllBeginOwn, BeginsOwn}
 
 -- numbers that rise, the first not below this one
 abbrev Rises : ℕ → List ℕ → Type 0

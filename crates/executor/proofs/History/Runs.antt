@@ -17,7 +17,7 @@ use Rattle.ocf_types.specs.declared.operation.Op.{Op}
 use Rattle.ocf_types.specs.declared.operation.Recur.{Recur}
 use Rattle.ocf_types.specs.declared.operation.Running.{Running}
 use Rattle.executor.specs.Histories.{EndsBetween, Follow, ends_run, has_end}
-use Rattle.executor.proofs.HistoryLemmas.{Turned, turned}
+use Rattle.executor.proofs.History.Events.{Turned, turned}
 
 -- what runs in a resource, if it is there
 abbrev pub runs_in : Option Resource → Option Running

@@ -28,10 +28,10 @@ use Rattle.ocf_types.specs.declared.outcome.RunEnd.{RunEnd}
 use Rattle.exec_turn.specs.Actives.{Active, active, active_in, active_of, all_in, result_of}
 use Rattle.exec_turn.specs.Picks.{ArePicks, begin_of, begins, begun_in}
 use Rattle.executor.specs.Histories.{Follow}
-use Rattle.executor.proofs.AloneLists.{each_both, each_first, each_map, each_unmap}
-use Rattle.executor.proofs.AlonePicks.{begun_one, picks_ready}
-use Rattle.executor.proofs.HistoryLemmas.{lookup-own}
-use Rattle.executor.proofs.HistoryRuns.{running_at, runs_in}
+use Rattle.executor.proofs.Alone.Lists.{each_both, each_first, each_map, each_unmap}
+use Rattle.executor.proofs.Alone.Picks.{begun_one, picks_ready}
+use Rattle.executor.proofs.History.Events.{lookup-own}
+use Rattle.executor.proofs.History.Runs.{running_at, runs_in}
 
 -- events behind others
 pub follow_both : (s : State) (es fs : List Event) → Follow s es → Follow (after_all s es) fs → Follow s (es ++ fs)

@@ -25,7 +25,7 @@ use Rattle.executor.specs.RowCalls.{Adds, row_deeds}
 use Rattle.executor.specs.Sessions.{Deeds, TakesRequest, command_deeds}
 use Rattle.executor.specs.Sights.{Sight, due_in}
 use Rattle.executor.specs.Singles.{Follows, cut}
-use Rattle.executor.proofs.AloneChanges.{AreFresh, IsFresh}
+use Rattle.executor.proofs.Alone.Changes.{AreFresh, IsFresh}
 
 -- what a machine of one resource sees of an executor
 pub record Seen : Type 0 where

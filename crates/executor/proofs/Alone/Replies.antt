@@ -17,7 +17,7 @@ use Rattle.ocf_types.specs.declared.reply.ReplyOf.TheVariants as reply
 use Rattle.exec_state.specs.Answers.{IsReplyOrMemory}
 use Rattle.executor.specs.Parts.{IsPlain, commanded, is_about}
 use Rattle.executor.specs.Singles.{Follows, Single, SingleCommand, cut, single_answer, single_event, single_tests}
-use Rattle.executor.proofs.AloneRequests.{moment_is}
+use Rattle.executor.proofs.Alone.Requests.{moment_is}
 
 -- refused for a want that resources share
 abbrev IsShared : Result Event Refusal → Type 0

@@ -15,8 +15,8 @@ use Rattle.executor.specs.Lives.{boots}
 use Rattle.executor.specs.Reports.{interrupted, interrupted_in, interruption}
 use Rattle.executor.specs.Runs.{Opening, Runs, Seen, Serving}
 use Rattle.executor.specs.SeenLives.{reports}
-use Rattle.executor.proofs.HistoryRuns.{both_false, rests}
-use Rattle.executor.proofs.HistoryTold.{interruptions-append}
+use Rattle.executor.proofs.History.Runs.{both_false, rests}
+use Rattle.executor.proofs.History.Told.{interruptions-append}
 
 -- lists with some left out, one behind the other
 within_all : (xs : List Notice) → IsWithin xs xs

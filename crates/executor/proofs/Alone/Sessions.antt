@@ -27,13 +27,13 @@ use Rattle.executor.specs.Sessions.{Deeds, Input, Session, TakesWhile, closed_re
 use Rattle.executor.specs.Sights.{Sight, due_in}
 use Rattle.executor.specs.Singles.{Alone, Single, SingleCommand, SingleTakes, cut, single_after_all, single_of}
 use Rattle.executor.specs.declared.session.InputOf.TheVariants as input
-use Rattle.executor.proofs.AloneChanges.{AreFresh, Stands, stands_all}
-use Rattle.executor.proofs.AloneLists.{each_first, each_last, filter_alike}
-use Rattle.executor.proofs.AloneReplies.{single_command, single_question}
-use Rattle.executor.proofs.AloneRequests.{Commands, Does, Seen, added, commands, rested, seen, seen_behind}
-use Rattle.executor.proofs.AloneRows.{AreOwn, names_it}
-use Rattle.executor.proofs.AloneRuns.{is_mine, own_stays, runs_own}
-use Rattle.executor.proofs.AloneTurns.{AllBeginOwn, AreApart, BeginsOwn, fresh-append, ids_stay, turn_does, turn_done, turn_single}
+use Rattle.executor.proofs.Alone.Changes.{AreFresh, Stands, stands_all}
+use Rattle.executor.proofs.Alone.Lists.{each_first, each_last, filter_alike}
+use Rattle.executor.proofs.Alone.Replies.{single_command, single_question}
+use Rattle.executor.proofs.Alone.Requests.{Commands, Does, Seen, added, commands, rested, seen, seen_behind}
+use Rattle.executor.proofs.Alone.Rows.{AreOwn, names_it}
+use Rattle.executor.proofs.Alone.Runs.{is_mine, own_stays, runs_own}
+use Rattle.executor.proofs.Alone.Turns.{AllBeginOwn, AreApart, BeginsOwn, fresh-append, ids_stay, turn_does, turn_done, turn_single}
 
 -- the moment that an input hands in
 abbrev moment_of : Input → ℕ

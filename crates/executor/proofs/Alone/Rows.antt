@@ -24,9 +24,9 @@ use Rattle.exec_turn.specs.Starts.{Started, refusals, refused_end, starts}
 use Rattle.ocf_types.specs.Laws.{each_weaken}
 use Rattle.executor.specs.Parts.{events_of}
 use Rattle.executor.specs.Singles.{SinglePoll}
-use Rattle.executor.proofs.AloneChanges.{AreFresh, IsFresh}
-use Rattle.executor.proofs.AloneLists.{each_flat_map, each_map, each_of_all, each_unmap, filter-flat_map, filter-map, filter_alike}
-use Rattle.executor.proofs.AloneLists.{filter_same}
+use Rattle.executor.proofs.Alone.Changes.{AreFresh, IsFresh}
+use Rattle.executor.proofs.Alone.Lists.{each_flat_map, each_map, each_of_all, each_unmap, filter-flat_map, filter-map, filter_alike}
+use Rattle.executor.proofs.Alone.Lists.{filter_same}
 
 -- an event that names this id
 abbrev pub names_it : List ℕ → Event → Bool

@@ -20,9 +20,9 @@ use Rattle.executor.specs.Sights.{due_in}
 use Rattle.executor.specs.declared.opening.OpenError.{OpenError}
 use Rattle.executor.specs.declared.opening.OpenError.TheVariants as why
 use Rattle.executor.proofs.Journaling.{WhatStands}
-use Rattle.executor.proofs.LifeServices.{service_stands, whole_leads}
-use Rattle.executor.proofs.Lives.{OneFinding, behind_boots, one_state}
-use Rattle.executor.proofs.MachineCalls.{left_of, machine_of, moves_all, same_machine}
+use Rattle.executor.proofs.Lives.Services.{service_stands, whole_leads}
+use Rattle.executor.proofs.Lives.Whole.{OneFinding, behind_boots, one_state}
+use Rattle.executor.proofs.Machines.Calls.{left_of, machine_of, moves_all, same_machine}
 
 module _ {D : Type 0} (look : D → View) (law : WhatStands) (once : OneFinding) (lawful : (d : D) → (look d).honest → Lawful (look d))
     (start : State) where

@@ -13,7 +13,7 @@ use Rattle.executor.specs.RowCalls.{TakesRow, row_deeds}
 use Rattle.executor.specs.Sessions.{Deeds, TakesWhile, both, no_deeds}
 use Rattle.executor.specs.Sights.{Sight}
 use Rattle.executor.specs.TidyCalls.{Tidies, TidiesWhile}
-use Rattle.executor.proofs.SessionLemmas.{Onward, leads_open, leads_still, onward, onward_at, onward_joined}
+use Rattle.executor.proofs.Sessions.Growing.{Onward, leads_open, leads_still, onward, onward_at, onward_joined}
 
 module _ {D : Type 0} (look : D → View) where
   -- what a closed executor is asked leaves it closed, over the same disk, and does nothing

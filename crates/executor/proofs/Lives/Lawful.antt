@@ -16,7 +16,7 @@ use Rattle.exec_journal.specs.Front.{AllApplyIn}
 use Rattle.exec_journal.specs.Laws.{same_whole}
 use Rattle.executor.specs.Lives.{InOpening, InService, IsLife, LifeLeaves, Sitting}
 use Rattle.executor.proofs.Journaling.{WhatStands}
-use Rattle.executor.proofs.LifeServices.{whole_leads}
+use Rattle.executor.proofs.Lives.Services.{whole_leads}
 
 -- the model's laws of lawful states
 pub record LawfulLaws : Type 0 where

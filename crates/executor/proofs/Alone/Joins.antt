@@ -12,8 +12,8 @@ use Rattle.executor.specs.Sessions.{Input}
 use Rattle.executor.specs.Singles.{Alone, Single, SingleBegin, SingleRest, SingleTakes, above_call, above_run, cut, has_monitor}
 use Rattle.executor.specs.Singles.{single_after, single_after_all, single_answer, single_changed, single_sets}
 use Rattle.executor.specs.declared.session.InputOf.TheVariants as input
-use Rattle.executor.proofs.AloneChanges.{monitor_before, or_else_alike, single-append}
-use Rattle.executor.proofs.AlonePicks.{pick_same}
+use Rattle.executor.proofs.Alone.Changes.{monitor_before, or_else_alike, single-append}
+use Rattle.executor.proofs.Alone.Picks.{pick_same}
 
 -- a machine that stands where another does goes on to stand there
 above_call_kept : (c : Change) (m n : ℕ) → m ≤ n → above_call c m ≤ above_call c n

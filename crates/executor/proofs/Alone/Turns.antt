@@ -32,13 +32,13 @@ use Rattle.executor.specs.Parts.{IsPlain, events_of}
 use Rattle.executor.specs.Sessions.{Deeds, TakesATurn}
 use Rattle.executor.specs.Sights.{Sight, due_in}
 use Rattle.executor.specs.Singles.{Single, SingleTurn, cut, running_in, single_after_all}
-use Rattle.executor.proofs.AloneChanges.{AreFresh, IsFresh, Stands, stands_all}
-use Rattle.executor.proofs.AloneLists.{each_first, each_last, each_map, each_of_all, each_unmap, filter-map}
-use Rattle.executor.proofs.AloneBegins.{single_begins}
-use Rattle.executor.proofs.AlonePicks.{begins_fresh, chosen, own_of}
-use Rattle.executor.proofs.AloneRequests.{Does, moment_is, seen}
-use Rattle.executor.proofs.AloneRows.{AreOwn, IsEnd, begins_kept, ends_fresh, names_it, own_active, polls_kept, refusals_end, refusals_kept}
-use Rattle.executor.proofs.AloneRows.{results_end, results_kept, single_poll, starts_kept}
+use Rattle.executor.proofs.Alone.Changes.{AreFresh, IsFresh, Stands, stands_all}
+use Rattle.executor.proofs.Alone.Lists.{each_first, each_last, each_map, each_of_all, each_unmap, filter-map}
+use Rattle.executor.proofs.Alone.Begins.{single_begins}
+use Rattle.executor.proofs.Alone.Picks.{begins_fresh, chosen, own_of}
+use Rattle.executor.proofs.Alone.Requests.{Does, moment_is, seen}
+use Rattle.executor.proofs.Alone.Rows.{AreOwn, IsEnd, begins_kept, ends_fresh, names_it, own_active, polls_kept, refusals_end, refusals_kept}
+use Rattle.executor.proofs.Alone.Rows.{results_end, results_kept, single_poll, starts_kept}
 
 -- new events behind new events
 pub fresh-append : (s : State) (es fs : List Event) → AreFresh s es → AreFresh (after_all s es) fs → AreFresh s (es ++ fs)

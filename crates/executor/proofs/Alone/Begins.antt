@@ -15,7 +15,7 @@ use Rattle.exec_turn.specs.Actives.{Active, result_of}
 use Rattle.exec_turn.specs.Picks.{begins}
 use Rattle.exec_turn.specs.Starts.{Started, refusals, refused_end, starts}
 use Rattle.executor.specs.Singles.{Single, SingleBegin, SingleRest, has_monitor}
-use Rattle.executor.proofs.AlonePicks.{IsChosen, begun_one, pick_same}
+use Rattle.executor.proofs.Alone.Picks.{IsChosen, begun_one, pick_same}
 
 -- it begins nothing where nothing of it is begun
 rests : (y : Single) (at clock : ℕ) (bs : List Active) (zs : List Started) → bs ≡ [] → map (λ x. x.what) zs ≡ bs

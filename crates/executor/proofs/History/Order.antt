@@ -21,7 +21,7 @@ use Rattle.ocf_types.specs.declared.event.Step.TheVariants as step
 use Rattle.ocf_types.specs.declared.operation.Op.{Op}
 use Rattle.ocf_types.specs.declared.operation.Recur.{Recur}
 use Rattle.executor.specs.Histories.{BeginInOrder, Follow, IsWithin, call_begun, call_monitored, call_queued, monitored, monitors_at, queue_at}
-use Rattle.executor.proofs.HistoryLemmas.{Turned, turned}
+use Rattle.executor.proofs.History.Events.{Turned, turned}
 
 -- one more that is left out, any number of them, and some of them
 left_out : (xs ys : List ℕ) (y : ℕ) → IsWithin xs ys → IsWithin xs (y ∷ ys)

@@ -34,13 +34,13 @@ use Rattle.executor.specs.Runs.{opened_on}
 use Rattle.executor.specs.Openings.{booted}
 use Rattle.executor.specs.RowCalls.{Adds, Answered}
 use Rattle.executor.specs.declared.session.InputOf.TheVariants as input
-use Rattle.executor.proofs.AloneLists.{each_unmap}
-use Rattle.executor.proofs.HistoryLemmas.{runs_ascend}
-use Rattle.executor.proofs.HistoryOrder.{begin_in_order}
-use Rattle.executor.proofs.HistoryRuns.{ends_between, follow_first}
-use Rattle.executor.proofs.HistoryTold.{apart_all, interrupted_once}
-use Rattle.executor.proofs.Lives.{boots_is}
-use Rattle.executor.proofs.MachineFollows.{AtMostOne, BegunSo, RunsHere, all_run, begins_follow, command_applies, drawn, ends_follow, entries_found, follow_both, ids_of}
+use Rattle.executor.proofs.Alone.Lists.{each_unmap}
+use Rattle.executor.proofs.History.Events.{runs_ascend}
+use Rattle.executor.proofs.History.Order.{begin_in_order}
+use Rattle.executor.proofs.History.Runs.{ends_between, follow_first}
+use Rattle.executor.proofs.History.Told.{apart_all, interrupted_once}
+use Rattle.executor.proofs.Lives.Whole.{boots_is}
+use Rattle.executor.proofs.Machines.Follows.{AtMostOne, BegunSo, RunsHere, all_run, begins_follow, command_applies, drawn, ends_follow, entries_found, follow_both, ids_of}
 
 -- ids differ, and the next call is not above the greatest number
 pub record Fine (s : State) : Type 0 where

@@ -1,0 +1,187 @@
+-- Whole lives: what is found behind them.
+use Rattle.std.proofs.Common.{◌≡◌, inl, inr, ℕ, Bool, true, false, List, [], ◌∷◌, ◌++◌, Option, Some, None, refl, sym, ap, subst, ◌∙◌, append_assoc}
+use Rattle.std.specs.Prelude.{if◌then◌else◌, option_to_list}
+use Rattle.ocf_types.specs.Answer.{moment}
+use Rattle.ocf_types.specs.Boot.{any_busy, boot_at}
+use Rattle.ocf_types.specs.Kinds.{Event}
+use Rattle.ocf_types.specs.Laws.{after_all-append}
+use Rattle.ocf_types.specs.State.{State, after, after_all, empty}
+use Rattle.ocf_types.specs.declared.reply.Notice.{Notice}
+use Rattle.disk_model.specs.Image.{Image}
+use Rattle.disk_model.specs.View.{Lawful, View}
+use Rattle.child_keeper.specs.Children.{ChildrenView}
+use Rattle.two_parts.specs.declared.choice.Choice.{Choice}
+use Rattle.two_parts.specs.declared.damage.Damage.{Damage}
+use Rattle.exec_journal.specs.Found.{Damaged, Finding, Finds, FoundAs, IsFirstPart, IsFound, IsFreshPair, IsToWrite, Whole}
+use Rattle.exec_journal.specs.Laws.{same_whole}
+use Rattle.exec_journal.specs.Opening.{Opens, OpensLike}
+use Rattle.exec_journal.specs.Room.{Roomy}
+use Rattle.executor.specs.Lives.{BeginsAs, EndsOpening, GoesOnFrom, MayBoot, InOpening, InService, IsLife, LifeLeaves, Lived, OpensBehind, Sat, Sitting, boots}
+use Rattle.executor.specs.Openings.{NotOpened, Opened, StartsLike, booted}
+use Rattle.executor.specs.Reports.{dropped, interrupted}
+use Rattle.executor.specs.Sights.{Sight}
+use Rattle.executor.specs.declared.opening.OpenError.{OpenError}
+use Rattle.executor.specs.declared.opening.OpenError.TheVariants as why
+use Rattle.executor.proofs.Openings.Ends.{read_only}
+use Rattle.executor.proofs.Journaling.{WhatStands}
+use Rattle.executor.proofs.Lives.Services.{service_roomy, service_stands, whole_leads}
+
+-- one thing is found on a pair of parts
+abbrev pub OneFinding : Type 0
+OneFinding = (c : Image) (f g : Finding) → IsFound c f → IsFound c g → f ≡ g
+
+-- the state after the boot that is needed, if one is
+pub boots_is : (s : State) (now : ℕ) → after_all s (boots s now) ≡ booted s now
+boots_is s now = by (any_busy s)
+  where
+    at : ℕ
+    at = moment s now
+
+    by : (b : Bool) → after_all s (option_to_list (if b then Some (boot_at at) else None)) ≡ (if b then after s (boot_at at) else s)
+    by true = refl
+    by false = refl
+
+-- a life begins on a fresh pair, and on one of the first layout
+module _ (law : WhatStands) where
+  fresh_found : (c : Image) → IsFreshPair c → FoundAs empty c
+  fresh_found c fresh = subst (λ (h : Choice). Finds h c (Whole empty)) (sym fresh) refl
+
+  pub written_begins : (s : State) (c : Image) → FoundAs s c → IsToWrite c → BeginsAs s c
+  written_begins s c found to_write = (found, λ p t stands. absurd (law.stays p t c stands to_write))
+
+  pub fresh_begins : (c : Image) → IsFreshPair c → BeginsAs empty c
+  fresh_begins c fresh = written_begins empty c (fresh_found c fresh) (inl fresh)
+
+  pub first_begins : (s : State) (c : Image) → FoundAs s c → IsFirstPart c → BeginsAs s c
+  first_begins s c found first = written_begins s c found (inr (first, (s, found)))
+
+module _ {D : Type 0} (look : D → View) (law : WhatStands) (once : OneFinding) (lawful : (d : D) → (look d).honest → Lawful (look d))
+    (start : State) where
+  pub one_state : (s t : State) (c : Image) → FoundAs s c → FoundAs t c → s ≡ t
+  one_state s t c here there = same_whole s t (once c (Whole s) (Whole t) here there)
+
+  -- the state behind some events and the boot that it needs
+  pub behind_boots : (ys : List Event) (s : State) (now : ℕ) → s ≡ after_all start ys
+      → after_all start (ys ++ boots (after_all start ys) now) ≡ booted s now
+  behind_boots ys s now same =
+      after_all-append start ys (boots (after_all start ys) now) ∙ boots_is (after_all start ys) now
+      ∙ ap (λ (t : State). booted t now) (sym same)
+
+  -- what is found behind a life
+  abbrev Behind : List (Sitting D) → Image → Type 0
+  Behind life c = (zs : List Event) × Lived start life zs × FoundAs (after_all start zs) c
+
+  -- behind an opening that was refused or stopped: as before it
+  unbooted : (old new : D) (now : ℕ) (end : Option OpenError) (older : List (Sitting D)) → ((d : Image) → (look old).now d → Behind older d)
+      → (look old).honest → (c : Image) → OpensLike (look old) c → Behind (InOpening old new now end ∷ older) c
+  unbooted old new now end older from honest c (inl was) =
+      let b = from c was in (b.0, (b.0, b.1, inl refl), b.2)
+  unbooted old new now end older from honest c (inr (s, reads, found)) =
+      let b = from (look old).reads (lawful old honest).reads_now in
+      let same = one_state s (after_all start b.0) (look old).reads reads b.2 in
+      (b.0, (b.0, b.1, inl refl), subst (λ (t : State). FoundAs t c) same found)
+
+  -- or with its boot
+  may_boot : (old new : D) (now : ℕ) (end : Option OpenError) (older : List (Sitting D)) → ((d : Image) → (look old).now d → Behind older d)
+      → (look old).honest → MayBoot end → (c : Image) → StartsLike (look old) now c → Behind (InOpening old new now end ∷ older) c
+  may_boot old new now end older from honest may c (inl like) = unbooted old new now end older from honest c like
+  may_boot old new now end older from honest may c (inr (s, reads, inl found)) =
+      unbooted old new now end older from honest c (inr (s, reads, found))
+  may_boot old new now end older from honest may c (inr (s, reads, inr found)) =
+      let b = from (look old).reads (lawful old honest).reads_now in
+      let same = one_state s (after_all start b.0) (look old).reads reads b.2 in (
+        b.0 ++ boots (after_all start b.0) now,
+        (b.0, b.1, inr (may, refl)),
+        subst (λ (t : State). FoundAs t c) (sym (behind_boots b.0 s now same)) found,
+      )
+
+  -- by how it ended
+  in_opening : (old new : D) (now : ℕ) (end : Option OpenError) (older : List (Sitting D)) → ((d : Image) → (look old).now d → Behind older d)
+      → (look new).honest → (look old).honest → EndsOpening (look old) (look new) now end → (c : Image) → (look new).since (look old).clock c
+      → Behind (InOpening old new now end ∷ older) c
+  in_opening old new now None older from honest was ends c left =
+      may_boot old new now None older from was (tt {0}) c (ends.did.goes.from_start honest c left)
+  in_opening old new now (Some why.Disk) older from honest was ends c left =
+      may_boot old new now (Some why.Disk) older from was (tt {0}) c (ends.did.goes.from_start honest c left)
+  in_opening old new now (Some (why.Damaged d)) older from honest was ends c left =
+      unbooted old new now (Some (why.Damaged d)) older from was c ((ends.unbooted (λ none. none)).from_start honest c left)
+  in_opening old new now (Some why.Memory) older from honest was ends c left =
+      unbooted old new now (Some why.Memory) older from was c ((ends.unbooted (λ none. none)).from_start honest c left)
+  in_opening old new now (Some why.Foreign) older from honest was ends c left =
+      unbooted old new now (Some why.Foreign) older from was c ((ends.unbooted (λ none. none)).from_start honest c left)
+  in_opening old new now (Some why.Full) older from honest was ends c left =
+      unbooted old new now (Some why.Full) older from was c ((ends.unbooted (λ none. none)).from_start honest c left)
+
+  -- every pair that a life may leave is found so, and has room for its boot
+  pub life_leaves : (life : List (Sitting D)) → IsLife look start life → (c : Image) → LifeLeaves look start life c → Behind life c × Roomy c
+  life_leaves [] is c left = (([], refl, left.0), left.1)
+  life_leaves (InOpening old new now end ∷ older) (is, from, ends, honest) c left =
+      let did = ends.did in
+      let was_honest = did.goes.passed.honest honest in (
+        in_opening old new now end older (λ d d_now. (life_leaves older is d (from d d_now)).0) honest was_honest ends c left,
+        (did.roomy (λ _ d d_now. (life_leaves older is d (from d d_now)).1)).from_start honest c left,
+      )
+  life_leaves (InService x ∷ older) (is, from, serves, honest) c left =
+      let whole = whole_leads look law lawful x serves in
+      let opened_honest = whole.leaves.goes.passed.honest honest in
+      let was_honest = serves.opens.did.goes.passed.honest opened_honest in
+      let starts = serves.opens.starts opened_honest in
+      let before = (life_leaves older is (look x.disk).reads (from (look x.disk).reads (lawful x.disk was_honest).reads_now)).0 in
+      let ys = before.0 in
+      let same = one_state starts.state (after_all start ys) (look x.disk).reads starts.found before.2 in
+      let stands = service_stands look law lawful x serves honest c left in
+      let b = boots (after_all start ys) x.now in
+      let p = stands.0 in
+      let opened : after_all start (ys ++ b) ≡ x.opened.state = behind_boots ys starts.state x.now same ∙ sym starts.boot in
+      let all : after_all start (ys ++ (b ++ p)) ≡ after_all x.opened.state p =
+      ap (λ (l : List Event). after_all start l) (sym (append_assoc ys b p)) ∙ after_all-append start (ys ++ b) p
+      ∙ ap (λ (s : State). after_all s p) opened in (
+        (ys ++ (b ++ p), (ys, p, before.1, stands.1, refl), subst (λ (t : State). FoundAs t c) (sym all) stands.2),
+        service_roomy look law lawful x serves honest c left,
+      )
+
+  -- so an opening behind a life gives what stands of it, and reports what ran
+  pub opened_behind : (life : List (Sitting D)) (old : D) (from : ChildrenView) (now : ℕ) (x : Sight D) (ran queued : List Notice)
+      → IsLife look start life → GoesOnFrom look start life old → Opened look (look old) from now x ran queued → (look x.disk).honest
+      → OpensBehind start life now x.state ran queued
+  opened_behind life old from now x ran queued is goes_on opens honest =
+      let starts = opens.starts honest in
+      let reads = (look old).reads in
+      let before = (life_leaves life is reads (goes_on reads (lawful old (opens.did.goes.passed.honest honest)).reads_now)).0 in
+      let same = one_state starts.state (after_all start before.0) reads starts.found before.2 in
+      record {
+        stands = before.0;
+        lived = before.1;
+        state = starts.boot ∙ ap (λ (s : State). booted s now) same;
+        ran = starts.ran ∙ ap (λ (s : State). interrupted s (moment s now)) same;
+        queued = starts.queued ∙ ap (λ (s : State). dropped s (moment s now)) same;
+      }
+
+  -- and it finds no damage, and room for its boot
+  pub opens_behind : (life : List (Sitting D)) (old new : D) (from to : ChildrenView) (now : ℕ) (fault : OpenError) → IsLife look start life
+      → GoesOnFrom look start life old → NotOpened (look old) (look new) from to now fault → (look new).honest
+      → (fault ≡ why.Full → ⊥) × ((d : Damage) → fault ≡ why.Damaged d → ⊥)
+  opens_behind life old new from to now fault is goes_on fails honest =
+      let was_honest = fails.did.goes.passed.honest honest in
+      let reads = (life_leaves life is (look old).reads (goes_on (look old).reads (lawful old was_honest).reads_now)).0 in (
+        fails.never_full (λ _ c c_now. (life_leaves life is c (goes_on c c_now)).1) honest,
+        λ d bad. let same : Damaged d ≡ Whole (after_all start reads.0) =
+            once (look old).reads (Damaged d) (Whole (after_all start reads.0)) (fails.damaged honest d bad) reads.2 in
+            let none : ⊥ = cc in absurd none,
+      )
+
+-- an opening that was refused is a sitting
+pub refused_sits : {D : Type 0} (look : D → View) (old new : D) (from to : ChildrenView) (now : ℕ) (fault : OpenError)
+    → NotOpened (look old) (look new) from to now fault → Sat look (InOpening old new now (Some fault))
+refused_sits look old new from to now fault fails = record {
+  did = fails.did;
+  unbooted = λ never. fails.unbooted (λ is. never (subst (λ (f : OpenError). MayBoot (Some f)) (sym is) (tt {0})));
+}
+
+-- so is one of the journal alone
+pub looked_sits : {D : Type 0} (look : D → View) (old new : D) (now : ℕ) (end : Option OpenError) → Opens (look old) (look new)
+    → Sat look (InOpening old new now end)
+looked_sits look old new now end opens = record {
+  did = read_only (look old) (look new) now opens.goes opens.roomy opens.unwritten;
+  unbooted = λ _. opens.goes;
+}

@@ -1,0 +1,6 @@
+-- The machine: what an executor does, one step after the other, without its disk and its children.
+pub mod Calls
+pub mod Lives
+pub mod Follows
+pub mod Runs
+pub mod Reports

@@ -1,0 +1,4 @@
+-- An opening: its journal, its boot and its report.
+pub mod Reporting
+pub mod Booting
+pub mod Ends

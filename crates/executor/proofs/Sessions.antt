@@ -1,0 +1,3 @@
+-- Sessions, as lists of inputs.
+pub mod Growing
+pub mod Calls
