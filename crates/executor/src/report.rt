@@ -55,45 +55,20 @@ fn push_dropped<A: Allocator + Copy>(
 
 impl<A: Allocator + Copy> Report<A> {
     /// What an opening at that moment says of the state that it found. The only error is want of memory.
+    #[tactic(auto, using(crate::proofs::Openings::Reporting::told_more))]
     pub(crate) fn of(alloc: A, state: &State<A>, at: Moment) -> Result<Report<A>, AllocError>
         ensures interrupted { IfOk result (λ r. r.interrupted.items ≡ interrupted state.now.state at) }
         ensures dropped { IfOk result (λ r. r.dropped.items ≡ dropped state.now.state at) }
     {
-        let interrupted = all_interrupted(alloc, state, at)?;
-        let dropped = all_dropped(alloc, state, at)?;
+        let mut interrupted = Vec::new(alloc);
+        let mut dropped = Vec::new(alloc);
+        for place in 0..state.len() {
+            push_interrupted(&mut interrupted, state, place, at)?;
+            push_dropped(&mut dropped, state, place, at)?;
+        }
         Ok(Report {
             interrupted,
             dropped,
         })
     }
-}
-
-#[tactic(auto, using(crate::proofs::Openings::Reporting::interrupted_more))]
-fn all_interrupted<A: Allocator + Copy>(
-    alloc: A,
-    state: &State<A>,
-    at: Moment,
-) -> Result<Vec<Notice, A>, AllocError>
-    ensures all { IfOk result (λ notices. notices.items ≡ interrupted state.now.state at) }
-{
-    let mut notices = Vec::new(alloc);
-    for place in 0..state.len() {
-        push_interrupted(&mut notices, state, place, at)?;
-    }
-    Ok(notices)
-}
-
-#[tactic(auto, using(crate::proofs::Openings::Reporting::dropped_more))]
-fn all_dropped<A: Allocator + Copy>(
-    alloc: A,
-    state: &State<A>,
-    at: Moment,
-) -> Result<Vec<Notice, A>, AllocError>
-    ensures all { IfOk result (λ notices. notices.items ≡ dropped state.now.state at) }
-{
-    let mut notices = Vec::new(alloc);
-    for place in 0..state.len() {
-        push_dropped(&mut notices, state, place, at)?;
-    }
-    Ok(notices)
 }

@@ -8,28 +8,22 @@ use Rattle.ocf_types.specs.declared.operation.Op.{Op}
 use Rattle.ocf_types.specs.declared.reply.Notice.{Notice}
 use Rattle.std.proofs.lemmas.Option.{get_or_from_slice_get, slice_get-get_or, slice_get_within}
 use Rattle.ocf_types.specs.Places.{entry_at, no_entry}
+use Rattle.ocf_types.specs.Resource.{Resource}
 use Rattle.ocf_types.specs.State.{State}
-use Rattle.executor.specs.Reports.{dropped_in, drop_notice, interrupted_in}
+use Rattle.executor.specs.Reports.{drop_notice}
 
 -- the entry at a place
 entry_there : (s : State) (i : ℕ) → i < length s.resources → entry_at s i ≡ get_or s.resources i (entry_at s i)
 entry_there s i lt =
     sym (get_or_from_slice_get s.resources i (entry_at s i) (entry_at s i) (slice_get-get_or s.resources i no_entry lt))
 
--- the notices of one resource more
-pub interrupted_more : (s : State) (at i : ℕ) (out new : List Notice) → i < length s.resources
-    → out ≡ flat_map (interrupted_in at) (take i s.resources) → new ≡ out ++ interrupted_in at (entry_at s i)
-    → new ≡ flat_map (interrupted_in at) (take (i + 1) s.resources)
-interrupted_more s at i out new lt so_far pushed =
-    pushed ∙ ap (λ (t : List Notice). t ++ interrupted_in at (entry_at s i)) so_far
-    ∙ sym (flat_more (interrupted_in at) s.resources i (entry_at s i) lt (entry_there s i lt))
-
-pub dropped_more : (s : State) (at i : ℕ) (out new : List Notice) → i < length s.resources
-    → out ≡ flat_map (dropped_in at) (take i s.resources) → new ≡ out ++ dropped_in at (entry_at s i)
-    → new ≡ flat_map (dropped_in at) (take (i + 1) s.resources)
-dropped_more s at i out new lt so_far pushed =
-    pushed ∙ ap (λ (t : List Notice). t ++ dropped_in at (entry_at s i)) so_far
-    ∙ sym (flat_more (dropped_in at) s.resources i (entry_at s i) lt (entry_there s i lt))
+-- the notices of one resource more, whatever is told of each
+pub told_more : (tells : List ℕ × Resource → List Notice) (s : State) (i : ℕ) (out new : List Notice) → i < length s.resources
+    → out ≡ flat_map tells (take i s.resources) → new ≡ out ++ tells (entry_at s i)
+    → new ≡ flat_map tells (take (i + 1) s.resources)
+told_more tells s i out new lt so_far pushed =
+    pushed ∙ ap (λ (t : List Notice). t ++ tells (entry_at s i)) so_far
+    ∙ sym (flat_more tells s.resources i (entry_at s i) lt (entry_there s i lt))
 
 -- the notice of one action more
 pub drop_more : (id : List ℕ) (at i : ℕ) (queue : List Op) (o : Op) (old out new : List Notice) (n : Notice) → slice_get queue i ≡ Some o

@@ -1,7 +1,0 @@
-use Rattle.std.proofs.Common.{◌≡◌, take}
-use Rattle.std.specs.List.{flat_map}
-use Rattle.executor.specs.Reports.{dropped_in}
-use Rattle.executor.proofs.report.all_dropped.Given as goal
-
-abbrev pub invariant-loop-place : goal.invariant-loop-place
-invariant-loop-place g l = l.notices.items ≡ flat_map (dropped_in l.at) (take l.place l.state.state.resources)
