@@ -36,13 +36,10 @@ fn call_values(alloc: Global, calls: &[CallId]) -> Result<Vec<Value>, AllocError
 fn recur_value(alloc: Global, monitor: Recur) -> Result<Value, AllocError>
     ensures { IfOk result (λ v. view v ≡ recur_data monitor) }
 {
-    let call = monitor.call.get();
-    let interval = monitor.interval.get();
-    let expect = monitor.check.expect.code();
-    let level = monitor.check.level.number();
-    let timeout = monitor.timeout.get();
     json!(in alloc; {
-        "call": call, "expect": expect, "interval": interval, "level": level, "timeout": timeout
+        "call": monitor.call.get(), "expect": monitor.check.expect.code(),
+        "interval": monitor.interval.get(), "level": monitor.check.level.number(),
+        "timeout": monitor.timeout.get()
     })
 }
 
@@ -62,11 +59,8 @@ fn running_value(alloc: Global, id: &RscId, running: Option<Running>) -> Result<
     let Some(running) = running else {
         return Ok(Value::Null);
     };
-    let call = running.call.get();
     let key = op_key(id, running.task.action(), running.interval);
-    let key = key.as_str();
-    let run = running.run.get();
-    json!(in alloc; {"call": call, "key": key, "run": run})
+    json!(in alloc; {"call": running.call.get(), "key": key.as_str(), "run": running.run.get()})
 }
 
 /// What a resource is, and what it does now.

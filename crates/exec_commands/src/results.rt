@@ -20,18 +20,10 @@ pub fn code_name(outcome: Outcome) -> &'static str
 fn ended_value(alloc: Global, ended: Ended) -> Result<Value, AllocError>
     ensures { IfOk result (λ v. view v ≡ ended_data ended) }
 {
-    let action = ended.action.word();
-    let at = ended.at.get();
-    let call = ended.call.get();
-    let code = code_of(ended.outcome);
-    let interval = ended.interval;
-    let name = code_name(ended.outcome);
-    let outcome = ended.outcome.word();
-    let run = ended.run;
-    let since = ended.since.get();
     json!(in alloc; {
-        "action": action, "at": at, "call": call, "code": code, "interval": interval,
-        "name": name, "outcome": outcome, "run": run, "since": since
+        "action": ended.action.word(), "at": ended.at.get(), "call": ended.call.get(),
+        "code": code_of(ended.outcome), "interval": ended.interval, "name": code_name(ended.outcome),
+        "outcome": ended.outcome.word(), "run": ended.run, "since": ended.since.get()
     })
 }
 
