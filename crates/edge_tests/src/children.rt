@@ -1,13 +1,17 @@
 // What children of the system ask of the system, over one that starts nothing and counts.
 use crate::runs::nowhere;
-use child_keeper::{Waited, run_meta};
-use ocf_types::{AgentType, MetaFault, Provider};
+use child_keeper::{Children, Log, Processes, Waited, run_meta};
+use disk_model::MemDisk;
+use exec_commands::{Line, read_command};
+use executor::{Executor, Input, InputOf};
+use ocf_types::{AgentType, MetaFault, Outcome, Provider, Request, RunEnd};
 use std::alloc::{Allocator, Global};
 use std::cell::Cell;
 use std::fmt::Display;
 use std::io::{self, Eprint, ErrorKind, Read, Sink};
 use std::os::unix::process::ExitStatusExt;
 use std::process::{self, Child, Command, ExitStatus, OpenProcess, Stdio};
+use std::rc::Rc;
 use std::rt::Clock;
 use std::time::Duration;
 
@@ -18,6 +22,10 @@ enum Course {
     Mortal,
     // It runs on, whatever is done to it.
     Immortal,
+    // It runs on, and its kill is refused.
+    Unkilled,
+    // It runs on, and cannot be asked.
+    Unasked,
 }
 
 // What comes behind the bytes that a process writes.
@@ -31,11 +39,9 @@ enum Behind {
     Silence,
 }
 
-// A system of processes, and a clock that goes on while it is waited for.
+// What was asked of a system, and what its clock shows.
 #[derive(Drop)]
-struct FakeSystem {
-    course: Course,
-    behind: Behind,
+struct Counters {
     // in microseconds
     clock: Cell<u64>,
     // how many lines were written to standard error
@@ -48,27 +54,47 @@ struct FakeSystem {
     waits: Cell<u32>,
 }
 
+// A system of processes, and a clock that goes on while it is waited for. Clones are the same system.
+#[derive(Drop, Clone)]
+struct FakeSystem {
+    course: Course,
+    behind: Behind,
+    counters: Rc<Counters>,
+}
+
 impl FakeSystem {
-    fn new(course: Course, behind: Behind) -> FakeSystem {
-        FakeSystem {
-            course,
-            behind,
+    fn new(alloc: Global, course: Course, behind: Behind) -> Option<FakeSystem> {
+        let counters = Counters {
             clock: Cell::new(0),
             told: Cell::new(0),
             starts: Cell::new(0),
             asks: Cell::new(0),
             kills: Cell::new(0),
             waits: Cell::new(0),
-        }
+        };
+        let counters = Rc::new(alloc, counters).ok()?;
+        Some(FakeSystem {
+            course,
+            behind,
+            counters,
+        })
     }
 
     fn counts(&self) -> [u32; 4] {
         [
-            self.starts.get(),
-            self.asks.get(),
-            self.kills.get(),
-            self.waits.get(),
+            self.counters.starts.get(),
+            self.counters.asks.get(),
+            self.counters.kills.get(),
+            self.counters.waits.get(),
         ]
+    }
+
+    fn told(&self) -> u32 {
+        self.counters.told.get()
+    }
+
+    fn micros(&self) -> u64 {
+        self.counters.clock.get()
     }
 }
 
@@ -78,7 +104,7 @@ fn count(cell: &Cell<u32>) {
 
 impl Clock for FakeSystem {
     fn monotonic(&self) -> io::Result<Duration> {
-        Ok(Duration::from_micros(self.clock.get()))
+        Ok(Duration::from_micros(self.micros()))
     }
 
     fn since_1970(&self) -> io::Result<Duration> {
@@ -87,7 +113,7 @@ impl Clock for FakeSystem {
 
     fn sleep(&self, duration: Duration) {
         let micros = u64::try_from(duration.as_micros()).unwrap_or(u64::MAX);
-        self.clock.set(self.clock.get().wrapping_add(micros));
+        self.counters.clock.set(self.micros().wrapping_add(micros));
     }
 }
 
@@ -97,19 +123,19 @@ impl Eprint for FakeSystem {
     }
 
     fn eprintln<D: Display + Drop>(&self, _value: D) -> io::Result<()> {
-        count(&self.told);
+        count(&self.counters.told);
         Ok(())
     }
 }
 
 // What a process writes.
 #[derive(Drop)]
-struct Output<'a> {
-    system: &'a FakeSystem,
+struct Output {
+    system: FakeSystem,
     left: &'static [u8],
 }
 
-impl<'a> Read for Output<'a> {
+impl Read for Output {
     fn read(&mut self, buf: &mut [u8]) -> io::Result<usize> {
         match (self.left.is_empty(), self.system.behind) {
             (true, Behind::Fault | Behind::Silence) => Err(io::Error::from(ErrorKind::BrokenPipe)),
@@ -118,7 +144,7 @@ impl<'a> Read for Output<'a> {
     }
 }
 
-impl<'a> Waited for Output<'a> {
+impl Waited for Output {
     fn is_ready(&self, millis: u32) -> bool {
         if let (true, Behind::Silence) = (self.left.is_empty(), self.system.behind) {
             self.system.sleep(Duration::from_millis(u64::from(millis)));
@@ -129,45 +155,51 @@ impl<'a> Waited for Output<'a> {
 }
 
 #[derive(Drop)]
-struct FakeProcess<'a> {
-    system: &'a FakeSystem,
+struct FakeProcess {
+    system: FakeSystem,
     asked_dying: bool,
 }
 
-impl<'a> OpenProcess for FakeProcess<'a> {
+impl OpenProcess for FakeProcess {
     type Stdin = Sink;
 
-    type Stdout = Output<'a>;
+    type Stdout = Output;
 
-    type Stderr = Output<'a>;
+    type Stderr = Output;
 
     fn id(&self) -> u32 {
         1
     }
 
     fn wait(&mut self) -> io::Result<ExitStatus> {
-        count(&self.system.waits);
+        count(&self.system.counters.waits);
         Ok(ExitStatus::from_raw(0))
     }
 
     fn try_wait(&mut self) -> io::Result<Option<ExitStatus>> {
-        count(&self.system.asks);
+        count(&self.system.counters.asks);
+        if let Course::Unasked = self.system.course {
+            return Err(io::Error::from(ErrorKind::BrokenPipe));
+        }
         if self.asked_dying {
             return Ok(Some(ExitStatus::from_raw(9)));
         }
         self.asked_dying = matches!(self.system.course, Course::Mortal)
-            && self.system.kills.get() > 0;
+            && self.system.counters.kills.get() > 0;
         Ok(None)
     }
 
     fn kill(&mut self) -> io::Result<()> {
-        count(&self.system.kills);
-        Ok(())
+        count(&self.system.counters.kills);
+        match self.system.course {
+            Course::Unkilled => Err(io::Error::from(ErrorKind::PermissionDenied)),
+            _ => Ok(()),
+        }
     }
 }
 
-impl<'a> process::Processes for &'a FakeSystem {
-    type Started = FakeProcess<'a>;
+impl process::Processes for FakeSystem {
+    type Started = FakeProcess;
 
     fn spawn<B: Allocator + Clone>(
         &self,
@@ -175,25 +207,137 @@ impl<'a> process::Processes for &'a FakeSystem {
         stdin: &Stdio,
         stdout: &Stdio,
         stderr: &Stdio,
-    ) -> io::Result<Child<FakeProcess<'a>>> {
-        let system = *self;
+    ) -> io::Result<Child<FakeProcess>> {
         if stdin.makes_pipe() || stderr.makes_pipe() {
             return Err(io::Error::from(ErrorKind::InvalidInput));
         }
         if !stdout.makes_pipe() {
-            count(&system.starts);
+            count(&self.counters.starts);
         }
         let process = FakeProcess {
-            system,
+            system: self.clone()?,
             asked_dying: false,
         };
         let output = Output {
-            system,
+            system: self.clone()?,
             left: b"<a/>\n",
         };
         let output = stdout.makes_pipe().then_some(output);
         Ok(Child::from_parts(process, None, output, None))
     }
+}
+
+fn request(alloc: Global, line: &str) -> Option<Request> {
+    match read_command(alloc, line.as_bytes()) {
+        Ok(Line::Request(request)) => Some(request),
+        _ => None,
+    }
+}
+
+// Starts of so many resources with a timeout of a second, and turns at these moments.
+fn inputs(alloc: Global, resources: u32, turns: &[u64]) -> Option<Vec<Input>> {
+    let mut inputs = Vec::new(alloc);
+    for n in 0..resources {
+        let lines = [
+            format!(in alloc;
+                "{{\"op\":\"register\",\"id\":\"r{n}\",\"provider\":\"pacemaker\",\"type\":\"Dummy\"}}"
+            ).ok()?,
+            format!(in alloc;
+                "{{\"op\":\"exec\",\"id\":\"r{n}\",\"action\":\"start\",\"timeout\":1000}}"
+            ).ok()?,
+        ];
+        for line in &lines {
+            let request = request(alloc, line.as_str())?;
+            inputs.push(InputOf::Request { now: 0, request }).ok()?;
+        }
+    }
+    for now in turns {
+        inputs.push(InputOf::Turn { now: *now }).ok()?;
+    }
+    Some(inputs)
+}
+
+// An executor that has taken such inputs over children of this system.
+fn played(
+    alloc: Global,
+    system: &FakeSystem,
+    resources: u32,
+    turns: &[u64],
+) -> Option<Executor<MemDisk, Processes<FakeSystem>>> {
+    let children = Processes::new(system.clone().ok()?, alloc, Log::none(), 16).ok()?;
+    match Executor::open(alloc, MemDisk::new(alloc), children, nowhere(alloc), 0) {
+        Ok((mut executor, _)) => {
+            executor
+                .session(inputs(alloc, resources, turns)?, &mut Vec::new(alloc))
+                .ok()?;
+            Some(executor)
+        }
+        Err(_) => None,
+    }
+}
+
+// What is asked of the system by a start, two polls and a kill, and then at each emptying of the book; how many lines are
+// told then, and how long it took.
+fn asked(alloc: Global, course: Course) -> Option<([[u32; 4]; 4], u32, u64)> {
+    let system = FakeSystem::new(alloc, course, Behind::Fault)?;
+    let executor = played(alloc, &system, 1, &[0, 1, 1_001])?;
+    let mut children = executor.close().1;
+    let mut counts = [system.counts(); 4];
+    for count in &mut counts[1..] {
+        children.clear_book();
+        *count = system.counts();
+    }
+    Some((counts, system.told(), system.micros()))
+}
+
+#[test]
+fn a_killed_child_is_asked_for_until_it_has_ended(rt: HostRuntime) {
+    let counts = [[1, 4, 1, 0]; 4];
+    assert_eq!(rt; asked(rt.alloc(), Course::Mortal), Some((counts, 0, 20)));
+}
+
+#[test]
+fn a_child_that_outlives_its_kill_is_told_once_after_a_tenth_of_a_second(rt: HostRuntime) {
+    let counts = [[1, 30, 1, 0], [1, 31, 1, 0], [1, 32, 1, 0], [1, 33, 1, 0]];
+    let wanted = Some((counts, 1, 100_000));
+    assert_eq!(rt; asked(rt.alloc(), Course::Immortal), wanted);
+}
+
+// How an action ends over a system that refuses, behind turns at these moments; what was asked of the system, and how many lines
+// were told.
+fn refused(alloc: Global, course: Course, turns: &[u64]) -> Option<(Outcome, [u32; 4], u32)> {
+    let system = FakeSystem::new(alloc, course, Behind::Fault)?;
+    let executor = played(alloc, &system, 1, turns)?;
+    let outcome = executor.notices().first()?.result.outcome;
+    Some((outcome, system.counts(), system.told()))
+}
+
+#[test]
+fn a_child_that_cannot_be_asked_is_lost_and_killed(rt: HostRuntime) {
+    let wanted = (Outcome::Run(RunEnd::Lost), [1, 2, 1, 0], 0);
+    assert_eq!(rt; refused(rt.alloc(), Course::Unasked, &[0, 1]), Some(wanted));
+}
+
+#[test]
+fn a_kill_that_is_refused_is_asked_and_told_and_its_run_has_timed_out(rt: HostRuntime) {
+    let wanted = (Outcome::Run(RunEnd::TimedOut), [1, 2, 1, 0], 1);
+    assert_eq!(rt;
+        refused(rt.alloc(), Course::Unkilled, &[0, 1_000]),
+        Some(wanted)
+    );
+}
+
+// How many kills are asked of the system, and how many lines are told, when so many children are given up; how long it took.
+fn given_up(alloc: Global, resources: u32) -> Option<(u32, u32, u64)> {
+    let system = FakeSystem::new(alloc, Course::Immortal, Behind::Fault)?;
+    let mut executor = played(alloc, &system, resources, &[0])?;
+    executor.abandon();
+    Some((system.counters.kills.get(), system.told(), system.micros()))
+}
+
+#[test]
+fn children_that_are_given_up_are_waited_for_together(rt: HostRuntime) {
+    assert_eq!(rt; given_up(rt.alloc(), 3), Some((3, 3, 100_000)));
 }
 
 // How the metadata of an agent are read that is given a second; what is asked of the system, how many lines are told, and how
@@ -203,17 +347,12 @@ fn metadata(
     course: Course,
     behind: Behind,
 ) -> Option<(Result<usize, MetaFault>, [u32; 4], u32, u64)> {
-    let system = FakeSystem::new(course, behind);
+    let system = FakeSystem::new(alloc, course, behind)?;
     let provider = Provider::new(b"pacemaker").ok()?;
     let agent = AgentType::new(b"Dummy").ok()?;
-    let read = run_meta(&&system, alloc, &nowhere(alloc), &provider, &agent, 1_000);
+    let read = run_meta(&system, alloc, &nowhere(alloc), &provider, &agent, 1_000);
     let length = read.map(|bytes| bytes.len());
-    Some((
-        length,
-        system.counts(),
-        system.told.get(),
-        system.clock.get(),
-    ))
+    Some((length, system.counts(), system.told(), system.micros()))
 }
 
 #[test]
