@@ -26,10 +26,12 @@ use Rattle.exec_client.specs.Behind.{Behind, claims, nothing}
 use Rattle.exec_client.specs.Heard.{Heard, IsTold}
 use Rattle.exec_client.specs.MayTell.{AllStand, MayBeReplied, MayReply, MaySay, MayTell, StandsBehind}
 use Rattle.exec_client.specs.Said.{Answered, Said, Noticed, answered, said_in}
+use Rattle.exec_client.specs.Tells.{Says, TellsCalls}
 use Rattle.exec_client.specs.declared.told.Told.{Told}
 use Rattle.exec_commands.specs.declared.reply.LineReply.{LineReply}
-use Rattle.exec_client.proofs.Behinds.{both_behind, failed_behind, none_told, reply_behind, row_behind, says_none, turn_behind}
+use Rattle.exec_client.proofs.Behinds.{both_behind, failed_behind, reply_behind, row_behind, says_none, turn_behind}
 use Rattle.exec_client.proofs.Saying.{no_claim}
+use Rattle.exec_client.proofs.CallsTold.{both_tell, claims_nothing, commands_tell, one_tells}
 
 -- a refusal
 refused_behind : (r : Reply) (why : Refusal) → r ≡ reply.Refused why → Behind (answered r ∷ []) []
@@ -43,12 +45,23 @@ events_are ss d e same behind = subst (λ (f : Deeds). Behind ss f.events) (sym 
 module _ {D : Type 0} (look : D → View) where
   -- no call, one call, and calls behind others
   pub none_stands : (x y : Sight D) (said : List Said) → y ≡ x → Behind said [] → StandsBehind look x y said
-  none_stands x y said same behind = record { calls = []; deeds = no_deeds; leads = (same, refl); behind = behind }
+  none_stands x y said same behind = record {
+    calls = [];
+    deeds = no_deeds;
+    leads = (same, refl);
+    tells = (same, refl, claims_nothing said behind);
+    behind = behind;
+  }
 
-  one_stands : (x y : Sight D) (e : Exchange) (d : Deeds) (said : List Said) → Does look e x y d → Behind said d.events
+  one_stands : (x y : Sight D) (e : Exchange) (d : Deeds) (said : List Said) → Does look e x y d → Says e y said → Behind said d.events
       → StandsBehind look x y said
-  one_stands x y e d said does behind =
-      record { calls = e ∷ []; deeds = d; leads = (y, d, no_deeds, does, (refl, refl), sym (both_none d)); behind = behind }
+  one_stands x y e d said does says behind = record {
+    calls = e ∷ [];
+    deeds = d;
+    leads = (y, d, no_deeds, does, (refl, refl), sym (both_none d));
+    tells = one_tells look x y e d said does says;
+    behind = behind;
+  }
 
   pub both_stand : (x y z : Sight D) (ss ts : List Said) → StandsBehind look x y ss → StandsBehind look y z ts
       → StandsBehind look x z (ss ++ ts)
@@ -56,6 +69,7 @@ module _ {D : Type 0} (look : D → View) where
     calls = one.calls ++ two.calls;
     deeds = both one.deeds two.deeds;
     leads = calls_behind look x y z one.calls two.calls one.deeds two.deeds one.leads two.leads;
+    tells = both_tell look x y z one.calls two.calls one.deeds two.deeds ss ts one.tells two.tells;
     behind = both_behind ss one.deeds.events ts two.deeds.events one.behind two.behind;
   }
 
@@ -63,11 +77,6 @@ module _ {D : Type 0} (look : D → View) where
   pub still_stand : (x y z : Sight D) (ss : List Said) → StandsBehind look x y ss → StandsBehind look y z [] → StandsBehind look x z ss
   still_stand x y z ss one two =
       subst (λ (said : List Said). StandsBehind look x z said) (append-nil ss) (both_stand x y z ss [] one two)
-
-  -- nothing need be told of them
-  pub untold_stand : (x y : Sight D) (ss : List Said) → StandsBehind look x y ss → StandsBehind look x y []
-  untold_stand x y ss stands =
-      record { calls = stands.calls; deeds = stands.deeds; leads = stands.leads; behind = none_told stands.deeds.events }
 
   -- as it is told
   pub as_told : (x y : Sight D) (ss ts : List Said) → ts ≡ ss → StandsBehind look x y ss → StandsBehind look x y ts
@@ -99,7 +108,7 @@ module _ {D : Type 0} (look : D → View) where
       → (x.is_open ≡ true → ((y.is_open ≡ false) ↔ (r ≡ reply.Refused Disk))) → StandsBehind look x y (answered r ∷ [])
   serves_stands now request x y r serves closes =
       let (d, takes, behind) = while_taken x.is_open now request x y r serves closes in
-      one_stands x y (Took (input.Request now request) r) d (answered r ∷ []) takes behind
+      one_stands x y (Took (input.Request now request) r) d (answered r ∷ []) takes refl behind
 
   -- commands in a row
   row_stands : (now : ℕ) (cs : List Command) (x y : Sight D) (rs : List Reply) (d : Deeds) → TakesRow look now cs x y rs d
@@ -150,6 +159,8 @@ module _ {D : Type 0} (look : D → View) where
     calls = takes.exchanges;
     deeds = takes.deeds;
     leads = takes.calls;
+    tells = subst (λ (ts : List Reply). TellsCalls look x takes.exchanges y takes.deeds (map answered ts)) takes.answered
+        (commands_tell look now takes.exchanges x y takes.deeds takes.at_once takes.calls);
     behind = subst (λ (ts : List Reply). Behind (map answered ts) takes.deeds.events) takes.answered
         (calls_told now takes.exchanges x y takes.deeds takes.at_once takes.calls);
   }
@@ -161,18 +172,18 @@ module _ {D : Type 0} (look : D → View) where
       let d : Deeds = record { entries = takes.turns.entries; events = takes.turns.events; pending = takes.turns.pending } in
       one_stands x y (Took (input.Turn now) (reply.Turn end)) d (map Noticed y.told)
       (subst (λ (o : Bool). TakesWhile o look (input.Turn now) x y (reply.Turn end) d) (sym is_open)
-      (record { end = end; takes = takes; replies = refl; does = refl }))
+      (record { end = end; takes = takes; replies = refl; does = refl })) refl
       (turn_behind end _ takes.turns.entries takes.turns.events takes.turns.pending y.told takes.turns.does)
 
   pub tidied_stands : (x y : Sight D) (end : TidyEnd) → TidiesWhile x.is_open look x y end → StandsBehind look x y []
-  tidied_stands x y end tidies = one_stands x y (Tidied end) no_deeds [] (tidies, refl) nothing
+  tidied_stands x y end tidies = one_stands x y (Tidied end) no_deeds [] (tidies, refl) refl nothing
 
   pub tidy_stands : (x y : Sight D) (end : TidyEnd) → x.is_open ≡ true → Tidies look x y end → StandsBehind look x y []
   tidy_stands x y end is_open tidies =
       tidied_stands x y end (subst (λ (o : Bool). TidiesWhile o look x y end) (sym is_open) tidies)
 
   pub cleared_stands : (x y : Sight D) → y ≡ with_empty_book x → StandsBehind look x y []
-  cleared_stands x y cleared = one_stands x y Cleared no_deeds [] (cleared, refl) nothing
+  cleared_stands x y cleared = one_stands x y Cleared no_deeds [] (cleared, refl) refl nothing
 
   -- what may be told now, of an executor that went on by calls
   pub may_tell : (heard : Heard D) (x y : Sight D) (what : Told) → AllStand look heard x → StandsBehind look x y (said_in what)
@@ -204,4 +215,4 @@ module _ {D : Type 0} (look : D → View) where
 
   -- all children are given up
   pub abandoned_stands : (x y : Sight D) → y ≡ abandoned x → StandsBehind look x y []
-  abandoned_stands x y given_up = one_stands x y Abandoned no_deeds [] (given_up, refl) nothing
+  abandoned_stands x y given_up = one_stands x y Abandoned no_deeds [] (given_up, refl) refl nothing

@@ -1,6 +1,7 @@
 pub mod Behinds
 pub mod Saying
 pub mod Lines
+pub mod CallsTold
 pub mod Growing
 pub mod Plain
 pub mod Lives

@@ -17,14 +17,17 @@ use Rattle.exec_commands.specs.declared.reply.LineReply.TheVariants.{Request}
 use Rattle.exec_client.specs.Behind.{Behind}
 use Rattle.exec_client.specs.Heard.{Heard}
 use Rattle.exec_client.specs.Said.{Answered, Said, said_in}
+use Rattle.exec_client.specs.Tells.{TellsCalls}
 use Rattle.exec_client.specs.declared.told.Told.{Told}
 use Rattle.exec_client.specs.declared.told.Told.TheVariants as told
 
--- Calls lead from one sight of an executor to another, and what they recorded stands behind what was told.
+-- Calls lead from one sight of an executor to another; what was told is just what they answered, none left out; and what they
+-- recorded stands behind it.
 pub record StandsBehind {D : Type 0} (look : D → View) (old new : Sight D) (said : List Said) : Type 0 where
   pub calls : List Exchange
   pub deeds : Deeds
   pub leads : Calls look old calls new deeds
+  pub tells : TellsCalls look old calls new deeds said
   pub behind : Behind said deeds.events
 
 -- it is what an open executor answers to some question, from its state

@@ -1,5 +1,5 @@
 //! What a line is answered.
-ghost use Rattle.std.specs.Prelude.{◌≡◌, [], ◌∷◌, true, IfOk};
+ghost use Rattle.std.specs.Prelude.{◌≡◌, [], ◌∷◌, true, IfErr, IfOk};
 ghost use Rattle.exec_client.specs.MayTell.{AllStand, MayBeReplied, MayReply, StandsBehind};
 ghost use Rattle.exec_client.specs.Said.{Answered};
 ghost use Rattle.exec_session.specs.Answers.{DrainsFor, IsClosedReply, IsMetaReply, IsOpenReply, IsReply, ServesNow, closed_drain};
@@ -127,7 +127,7 @@ fn open_reply<D: Disk + Drop, C: Children + Drop, T: Client<D, C>, K: Clock, M: 
 ) -> Result<LineReply, Stopped>
     requires open { executor.old.is_open ≡ true }
     requires stands { AllStand D.view (T.heard client.old) executor.old }
-    ensures stands { AllStand D.view (T.heard client.new) executor.new }
+    ensures stands { IfErr result (λ _. AllStand D.view (T.heard client.new) executor.new) }
     ensures opened { (T.heard client.new).opened ≡ (T.heard client.old).opened }
     ensures may_tell { IfOk result (MayBeReplied D.view (T.heard client.new) executor.new) }
     ensures reply { IfOk result (IsOpenReply D.view (M.gives setting.now.metadata.now) (limits_of setting.now)
@@ -157,7 +157,7 @@ pub fn reply_to<D: Disk + Drop, C: Children + Drop, T: Client<D, C>, K: Clock, M
     line: Result<Line, Refusal>,
 ) -> Result<LineReply, Stopped>
     requires stands { AllStand D.view (T.heard client.old) executor.old }
-    ensures stands { AllStand D.view (T.heard client.new) executor.new }
+    ensures stands { IfErr result (λ _. AllStand D.view (T.heard client.new) executor.new) }
     ensures opened { (T.heard client.new).opened ≡ (T.heard client.old).opened }
     ensures may_tell { IfOk result (MayBeReplied D.view (T.heard client.new) executor.new) }
     ensures reply { IfOk result (IsReply D.view (M.gives setting.now.metadata.now) (limits_of setting.now)

@@ -2,20 +2,13 @@ use Rattle.std.proofs.Common.{[], ◌∷◌, refl}
 use Rattle.exec_commands.specs.declared.reply.LineReply.TheVariants as answer
 use Rattle.exec_client.specs.MayTell.{MayBeReplied}
 use Rattle.exec_client.specs.Said.{Answered}
-use Rattle.exec_client.proofs.Growing.{all_still_stand, may_reply, may_reply_none, tidied_stands, untold_stand}
+use Rattle.exec_client.proofs.Growing.{all_still_stand, may_reply, may_reply_none, tidied_stands}
 use Rattle.exec_session.specs.Answers.{DrainsFor}
 use Rattle.exec_session.specs.Drains.{spot}
 use Rattle.exec_session.specs.Limits.{limits_of}
 use Rattle.exec_session.proofs.TellLemmas.{is_plain}
 use Rattle.exec_session.proofs.WaitLemmas.{if_ok}
 use Rattle.exec_session.proofs.answer.open_reply.Goals as goal
-
-pub returns-in-Ok-Request-clause-stands : goal.returns-in-Ok-Request-clause-stands
-returns-in-Ok-Request-clause-stands g c =
-    let look = g.D.Disk.view in
-    let new = c.request_reply.new.executor in
-    all_still_stand look (g.T.Client.heard c.args.client.now) c.args.executor.now new c.requires.stands
-    (untold_stand look c.args.executor.now new (Answered c.request_reply.result ∷ []) c.request_reply.ensures.stands)
 
 pub returns-in-Ok-Request-clause-may_tell : goal.returns-in-Ok-Request-clause-may_tell
 returns-in-Ok-Request-clause-may_tell g c =
@@ -38,12 +31,6 @@ returns-in-Ok-Watch-clause-may_tell g c =
     if_ok _ (MayBeReplied g.D.Disk.view heard x) called.result (λ reply (now, end, is, drains).
     let plain = is_plain x reply (answer.Drain end) is (refl, tt) in
     may_reply_none g.D.Disk.view heard x reply called.ensures.stands plain.0 plain.1) called.ensures.reply
-
-pub returns-in-Ok-Tidy-clause-stands : goal.returns-in-Ok-Tidy-clause-stands
-returns-in-Ok-Tidy-clause-stands g c =
-    let look = g.D.Disk.view in
-    all_still_stand look (g.T.Client.heard c.args.client.now) c.args.executor.now c.tidy.new.self c.requires.stands
-    (tidied_stands look c.args.executor.now c.tidy.new.self c.tidy.result c.tidy.ensures.tidies)
 
 pub returns-in-Ok-Tidy-clause-may_tell : goal.returns-in-Ok-Tidy-clause-may_tell
 returns-in-Ok-Tidy-clause-may_tell g c =

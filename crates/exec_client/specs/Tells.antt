@@ -1,0 +1,31 @@
+-- That what each call answered was told.
+use Rattle.std.specs.Prelude.{◌≡◌, false, List, [], ◌∷◌, ◌++◌, map}
+use Rattle.std.specs.List.{AllByRecursion}
+use Rattle.disk_model.specs.View.{View}
+use Rattle.executor.specs.Lives.{Does, Exchange, Row, Took}
+use Rattle.executor.specs.Sessions.{Deeds, both, no_deeds}
+use Rattle.executor.specs.Sights.{Sight}
+use Rattle.executor.specs.declared.session.InputOf.TheVariants as input
+use Rattle.exec_client.specs.Behind.{claims}
+use Rattle.exec_client.specs.Said.{Noticed, Said, answered}
+
+-- this is what is told of a call that left the executor so: the reply to a request, those to the commands of a row, the notices
+-- of a turn, and nothing of a tidy or an emptied book
+abbrev pub Says : {D : Type 0} → Exchange → Sight D → List Said → Type 0
+Says (Took (input.Request now request) reply) new said = said ≡ answered reply ∷ []
+Says (Took (input.Turn now) reply) new said = said ≡ map Noticed new.told
+Says (Row now commands replies) new said = said ≡ map answered replies
+Says _ new said = said ≡ []
+
+-- none of this says that anything is recorded
+abbrev pub ClaimsNothing : List Said → Type 0
+ClaimsNothing said = AllByRecursion (λ s. claims s ≡ false) said
+
+-- One call after the other, and of each was told just what it answered, none left out; between them stands what is told of no
+-- call: a report, a line that was refused, metadata, the end of a drain or a tidy.
+abbrev pub TellsCalls : {D : Type 0} → (D → View) → Sight D → List Exchange → Sight D → Deeds → List Said → Type 0
+TellsCalls look old [] new deeds said = (new ≡ old) × (deeds ≡ no_deeds) × ClaimsNothing said
+TellsCalls {D} look old (e ∷ es) new deeds said =
+    (aside : List Said) × (mine : List Said) × (later : List Said) × (mid : Sight D) × (first : Deeds) × (rest : Deeds)
+    × ClaimsNothing aside × Does look e old mid first × Says e mid mine × TellsCalls look mid es new rest later
+    × (deeds ≡ both first rest) × (said ≡ aside ++ (mine ++ later))
