@@ -2,3 +2,4 @@ pub mod Buffer
 pub mod Lines
 pub mod Pieces
 pub mod Clock
+pub mod Fronts

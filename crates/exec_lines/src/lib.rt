@@ -15,5 +15,5 @@ pub use ends::{Input, Output};
 pub use line::{Next, gather_line, next_line};
 pub use moment::{moment_now, moment_of};
 pub use patient::Patient;
-pub use reply::write_flushed;
+pub use reply::{write_bytes, write_flushed};
 pub use run_clock::RunClock;

@@ -1,14 +1,46 @@
 //! What goes out.
-ghost use Rattle.std.specs.Prelude.{OnOk};
-ghost use Rattle.std.specs.Io.KnownBytes.{Appends};
+ghost use Rattle.std.specs.Prelude.{OnErr, OnOk};
+ghost use Rattle.std.specs.Io.{WritesAtMost};
+ghost use Rattle.std.specs.Io.KnownBytes.{Appends, WriteAppends};
+ghost use Rattle.exec_lines.specs.Fronts.{AppendsFront};
 
-use std::io::{self, Write};
+use ocf_types::NUM_MAX;
+use std::io::{self, ErrorKind, Write};
 
-/// Writes the bytes and flushes the writer, so that at `Ok` they are handed to the system. After an error some of them
-/// may be written.
+// One write, and how many bytes it took. One that a signal interrupts took none, and one that takes none is an error.
+fn write_once<W: Write>(writer: &mut W, bytes: &[u8]) -> io::Result<usize>
+    ensures bound { WritesAtMost result bytes.now }
+    ensures taken { WriteAppends (W.contents writer.old) (W.contents writer.new) result bytes.now }
+{
+    match writer.write(bytes) {
+        Ok(0) => Err(io::Error::from(ErrorKind::WriteZero)),
+        Err(error) if error.kind() == ErrorKind::Interrupted => Ok(0),
+        written => written,
+    }
+}
+
+/// Writes the bytes. An interrupted write is made again. After an error a front of them is written. It gives up, with the kind
+/// `TimedOut`, after 9,007,199,254,740,991 writes.
+pub fn write_bytes<W: Write>(writer: &mut W, bytes: &[u8]) -> io::Result<()>
+    ensures written { OnOk result (Appends (W.contents writer.old) (W.contents writer.new) bytes.now) }
+    ensures front { OnErr result (AppendsFront (W.contents writer.old) (W.contents writer.new) bytes.now) }
+{
+    let mut done = 0;
+    for _ in 0..NUM_MAX {
+        if done == bytes.len() {
+            return Ok(());
+        }
+        done += write_once(writer, &bytes[done..])?;
+    }
+    Err(io::Error::from(ErrorKind::TimedOut))
+}
+
+/// Writes the bytes and flushes the writer, so that at `Ok` they are handed to the system. After an error a front of them is
+/// written.
 pub fn write_flushed<W: Write>(writer: &mut W, bytes: &[u8]) -> io::Result<()>
     ensures written { OnOk result (Appends (W.contents writer.old) (W.contents writer.new) bytes.now) }
+    ensures front { OnErr result (AppendsFront (W.contents writer.old) (W.contents writer.new) bytes.now) }
 {
-    writer.write_all(bytes)?;
+    write_bytes(writer, bytes)?;
     writer.flush()
 }
