@@ -1,3 +1,4 @@
+pub mod FrontLemmas
 pub mod RowLemmas
 pub mod TextLemmas
 pub mod ToldLemmas

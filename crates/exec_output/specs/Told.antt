@@ -9,7 +9,6 @@ use Rattle.ocf_types.specs.Resource.{History, Resource}
 use Rattle.ocf_types.specs.declared.action.Action.{Action}
 use Rattle.ocf_types.specs.declared.action.Action.TheVariants as action
 use Rattle.ocf_types.specs.declared.operation.Ended.{Ended}
-use Rattle.ocf_types.specs.declared.operation.Op.{Op}
 use Rattle.ocf_types.specs.declared.operation.Recur.{Recur}
 use Rattle.ocf_types.specs.declared.operation.Running.{Running}
 use Rattle.exec_output.specs.Meanings.{meaning, tone_of}

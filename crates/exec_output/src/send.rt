@@ -1,14 +1,15 @@
 //! Replies and notices, as they go out.
-ghost use Rattle.std.specs.Prelude.{◌≡◌, OnOk, IfOk, IfErr, Err};
+ghost use Rattle.std.specs.Prelude.{◌≡◌, OnErr, OnOk, IfOk, IfErr, Err};
 ghost use Rattle.std.specs.Io.KnownBytes.{Appends};
 ghost use Rattle.std.specs.List.{flat_map};
 ghost use Rattle.std.specs.IoError.{error_kind};
 ghost use Rattle.exec_commands.specs.Replies.{formed_line, reply_line, request_line};
+ghost use Rattle.exec_lines.specs.Fronts.{AppendsFront};
 ghost use Rattle.exec_output.specs.Stops.{stop_of};
 ghost use Rattle.exec_output.specs.declared.send.Stopped.TheVariants.{Memory};
 
 use exec_commands::{LineReply, NoticeForm, write_notice, write_reply, write_request_reply};
-use exec_lines::write_flushed;
+use exec_lines::{write_bytes, write_flushed};
 use ocf_types::{Notice, Reply};
 use std::alloc::{AllocError, Global};
 use std::io::{self, ErrorKind, Write};
@@ -41,9 +42,11 @@ impl From<AllocError> for Stopped {
     }
 }
 
-// Writes a line that was made, and flushes it. Where memory for it was refused nothing is written.
+// Writes a line that was made, and flushes it. After an error of the writer a front of it is written. Where memory for it was
+// refused nothing is written.
 fn send_line<W: Write>(writer: &mut W, line: Result<Vec<u8>, AllocError>) -> Result<(), Stopped>
     ensures sent { IfOk line (λ bytes. OnOk result (Appends (W.contents writer.old) (W.contents writer.new) bytes.items)) }
+    ensures front { IfOk line (λ bytes. OnErr result (AppendsFront (W.contents writer.old) (W.contents writer.new) bytes.items)) }
     ensures memory { IfErr line (λ _. result ≡ Err Memory) }
     ensures unwritten { IfErr line (λ _. W.contents writer.new ≡ W.contents writer.old) }
 {
@@ -51,25 +54,28 @@ fn send_line<W: Write>(writer: &mut W, line: Result<Vec<u8>, AllocError>) -> Res
     Ok(())
 }
 
-/// Writes a reply's line, and flushes it.
+/// Writes a reply's line, and flushes it. After an error a front of it is written.
 pub fn send_reply<W: Write>(alloc: Global, writer: &mut W, reply: &LineReply) -> Result<(), Stopped>
-    ensures { OnOk result (Appends (W.contents writer.old) (W.contents writer.new) (reply_line reply.now)) }
+    ensures sent { OnOk result (Appends (W.contents writer.old) (W.contents writer.new) (reply_line reply.now)) }
+    ensures front { OnErr result (AppendsFront (W.contents writer.old) (W.contents writer.new) (reply_line reply.now)) }
 {
     send_line(writer, write_reply(alloc, reply))
 }
 
 // Writes the line of a reply to a request.
 fn put_reply<W: Write>(alloc: Global, writer: &mut W, reply: &Reply) -> Result<(), Stopped>
-    ensures { OnOk result (Appends (W.contents writer.old) (W.contents writer.new) (request_line reply.now)) }
+    ensures sent { OnOk result (Appends (W.contents writer.old) (W.contents writer.new) (request_line reply.now)) }
+    ensures front { OnErr result (AppendsFront (W.contents writer.old) (W.contents writer.new) (request_line reply.now)) }
 {
     let line = write_request_reply(alloc, reply)?;
-    writer.write_all(line.as_slice())?;
+    write_bytes(writer, line.as_slice())?;
     Ok(())
 }
 
 // Writes replies to requests, a line each.
 fn put_replies<W: Write>(alloc: Global, writer: &mut W, replies: &[Reply]) -> Result<(), Stopped>
-    ensures { OnOk result (Appends (W.contents writer.old) (W.contents writer.new) (flat_map request_line replies.now)) }
+    ensures sent { OnOk result (Appends (W.contents writer.old) (W.contents writer.new) (flat_map request_line replies.now)) }
+    ensures front { OnErr result (AppendsFront (W.contents writer.old) (W.contents writer.new) (flat_map request_line replies.now)) }
 {
     for reply in replies {
         put_reply(alloc, writer, reply)?;
@@ -77,13 +83,14 @@ fn put_replies<W: Write>(alloc: Global, writer: &mut W, replies: &[Reply]) -> Re
     Ok(())
 }
 
-/// Writes replies to requests, a line each, and flushes them together.
+/// Writes replies to requests, a line each, and flushes them together. After an error a front of the lines is written.
 pub fn send_replies<W: Write>(
     alloc: Global,
     writer: &mut W,
     replies: &[Reply],
 ) -> Result<(), Stopped>
-    ensures { OnOk result (Appends (W.contents writer.old) (W.contents writer.new) (flat_map request_line replies.now)) }
+    ensures sent { OnOk result (Appends (W.contents writer.old) (W.contents writer.new) (flat_map request_line replies.now)) }
+    ensures front { OnErr result (AppendsFront (W.contents writer.old) (W.contents writer.new) (flat_map request_line replies.now)) }
 {
     put_replies(alloc, writer, replies)?;
     writer.flush()?;
@@ -96,19 +103,21 @@ fn send_notice<W: Write>(
     form: NoticeForm,
     notice: &Notice,
 ) -> Result<(), Stopped>
-    ensures { OnOk result (Appends (W.contents writer.old) (W.contents writer.new) (formed_line form notice.now)) }
+    ensures sent { OnOk result (Appends (W.contents writer.old) (W.contents writer.new) (formed_line form notice.now)) }
+    ensures front { OnErr result (AppendsFront (W.contents writer.old) (W.contents writer.new) (formed_line form notice.now)) }
 {
     send_line(writer, write_notice(alloc, form, notice))
 }
 
-/// Writes notices in this form, a line each, and flushes each line.
+/// Writes notices in this form, a line each, and flushes each line. After an error a front of the lines is written.
 pub fn send_notices<W: Write>(
     alloc: Global,
     writer: &mut W,
     form: NoticeForm,
     notices: &[Notice],
 ) -> Result<(), Stopped>
-    ensures { OnOk result (Appends (W.contents writer.old) (W.contents writer.new) (flat_map (formed_line form) notices.now)) }
+    ensures sent { OnOk result (Appends (W.contents writer.old) (W.contents writer.new) (flat_map (formed_line form) notices.now)) }
+    ensures front { OnErr result (AppendsFront (W.contents writer.old) (W.contents writer.new) (flat_map (formed_line form) notices.now)) }
 {
     for notice in notices {
         send_notice(alloc, writer, form, notice)?;

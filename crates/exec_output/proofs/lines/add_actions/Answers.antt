@@ -1,4 +1,4 @@
-use Rattle.std.proofs.Common.{List, [], ◌∷◌, ◌++◌, ◌∙◌}
+use Rattle.std.proofs.Common.{List, [], ◌∷◌, ◌∙◌}
 use Rattle.std.specs.List.{flat_map}
 use Rattle.ocf_types.specs.Places.{at_place}
 use Rattle.ocf_types.specs.declared.action.Action.{Action}

@@ -1,4 +1,4 @@
-use Rattle.std.proofs.Common.{◌≡◌, Some, true, false, slice_get, sym, ◌∙◌}
+use Rattle.std.proofs.Common.{sym, ◌∙◌}
 use Rattle.ocf_types.specs.Places.{at_place}
 use Rattle.exec_output.specs.Told.{is_asked}
 use Rattle.exec_output.proofs.ToldLemmas.{last_no, last_yes}
