@@ -1,5 +1,5 @@
 -- What is told of calls, piece by piece.
-use Rattle.std.proofs.Common.{◌≡◌, ℕ, false, List, [], ◌∷◌, ◌++◌, map, append_assoc, refl, sym, ap, subst, ◌∙◌}
+use Rattle.std.proofs.Common.{◌≡◌, ℕ, List, [], ◌∷◌, ◌++◌, map, append_assoc, refl, sym, ap, subst, ◌∙◌}
 use Rattle.std.proofs.lemmas.List.{append-nil, map-append}
 use Rattle.std.specs.List.{AllByRecursion, flat_map}
 use Rattle.ocf_types.specs.Kinds.{Event}
@@ -11,7 +11,7 @@ use Rattle.executor.specs.Rows.{IsAt, replies_of}
 use Rattle.executor.specs.Sessions.{Deeds, both, no_deeds}
 use Rattle.executor.specs.Sights.{Sight}
 use Rattle.executor.specs.declared.session.InputOf.TheVariants as input
-use Rattle.exec_client.specs.Behind.{Behind, claims, nothing, says_else, tells, untold}
+use Rattle.exec_client.specs.Behind.{Behind, nothing, says_else, tells, untold}
 use Rattle.exec_client.specs.Said.{Said, answered}
 use Rattle.exec_client.specs.Tells.{ClaimsNothing, Says, TellsCalls}
 

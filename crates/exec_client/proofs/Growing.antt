@@ -23,7 +23,7 @@ use Rattle.executor.specs.TurnCalls.{TakesTurn, abandoned, with_empty_book}
 use Rattle.executor.specs.declared.session.InputOf.TheVariants as input
 use Rattle.executor.proofs.Keeping.{command_keeps}
 use Rattle.exec_client.specs.Behind.{Behind, claims, nothing}
-use Rattle.exec_client.specs.Heard.{Heard, IsTold}
+use Rattle.exec_client.specs.Heard.{Heard}
 use Rattle.exec_client.specs.MayTell.{AllStand, MayBeReplied, MayReply, MaySay, MayTell, StandsBehind}
 use Rattle.exec_client.specs.Said.{Answered, Said, Noticed, answered, said_in}
 use Rattle.exec_client.specs.Tells.{Says, TellsCalls}
@@ -77,10 +77,6 @@ module _ {D : Type 0} (look : D → View) where
   pub still_stand : (x y z : Sight D) (ss : List Said) → StandsBehind look x y ss → StandsBehind look y z [] → StandsBehind look x z ss
   still_stand x y z ss one two =
       subst (λ (said : List Said). StandsBehind look x z said) (append-nil ss) (both_stand x y z ss [] one two)
-
-  -- as it is told
-  pub as_told : (x y : Sight D) (ss ts : List Said) → ts ≡ ss → StandsBehind look x y ss → StandsBehind look x y ts
-  as_told x y ss ts same stands = subst (λ (said : List Said). StandsBehind look x y said) (sym same) stands
 
   -- a command
   obeys_behind : (now : ℕ) (c : Command) (x y : Sight D) (r : Reply) (found : Result Event Refusal) → event_of x.state now c ≡ found
@@ -190,13 +186,6 @@ module _ {D : Type 0} (look : D → View) where
       → MaySay look heard.opened y what → MayTell look heard y what
   may_tell heard x y what stands more says =
       record { stands = both_stand heard.opened x y heard.told (said_in what) stands more; says = says }
-
-  -- and once it is told all stands
-  pub told_all_stand : (heard heard' : Heard D) (x : Sight D) (what : Told) → MayTell look heard x what → IsTold heard heard' (said_in what)
-      → AllStand look heard' x
-  told_all_stand heard heard' x what may told =
-      subst (λ (o : Sight D). StandsBehind look o x heard'.told) (sym told.0)
-      (subst (λ (ss : List Said). StandsBehind look heard.opened x ss) (sym told.1) may.stands)
 
   -- calls of which nothing is told
   pub all_still_stand : (heard : Heard D) (x y : Sight D) → AllStand look heard x → StandsBehind look x y [] → AllStand look heard y

@@ -5,3 +5,4 @@ pub mod CallsTold
 pub mod Growing
 pub mod Plain
 pub mod Lives
+pub mod Examples

@@ -1,7 +1,8 @@
 -- The lines of what is told.
-use Rattle.std.proofs.Common.{◌≡◌, ℕ, List, [], ◌∷◌, ◌++◌, map, Result, Ok, Err, OnOk, Option, refl, sym, ap, subst}
+use Rattle.std.proofs.Common.{◌≡◌, ℕ, List, [], ◌∷◌, ◌++◌, map, Result, Ok, Err, OnErr, OnOk, Option, refl, sym, ap, subst}
 use Rattle.std.specs.Io.KnownBytes.{Appends}
 use Rattle.std.specs.List.{flat_map}
+use Rattle.exec_lines.specs.Fronts.{AppendsFront}
 use Rattle.exec_commands.specs.declared.notice.NoticeForm.{NoticeForm}
 use Rattle.exec_client.specs.Said.{Said, line_of}
 
@@ -19,3 +20,12 @@ writes_all form tell xs more (Ok done) a b is written =
     subst (λ (ss : List Said). Appends a b (flat_map (line_of form) ss)) (sym is)
     (subst (λ (l : List ℕ). Appends a b l) (sym (lines_are form tell xs)) written)
 writes_all form tell xs more (Err e) a b is written = tt
+
+-- what is written of them where it breaks off
+pub breaks_off : {X T E : Type 0} (form : NoticeForm) (tell : X → Said) (xs : List X) (more : List Said) (r : Result T E)
+    (a b : Option (List ℕ)) → more ≡ map tell xs → OnErr r (AppendsFront a b (flat_map (λ x. line_of form (tell x)) xs))
+    → OnErr r (AppendsFront a b (flat_map (line_of form) more))
+breaks_off form tell xs more (Ok done) a b is front = tt
+breaks_off form tell xs more (Err e) a b is front =
+    subst (λ (ss : List Said). AppendsFront a b (flat_map (line_of form) ss)) (sym is)
+    (subst (λ (l : List ℕ). AppendsFront a b l) (sym (lines_are form tell xs)) front)

@@ -3,6 +3,7 @@ use Rattle.std.specs.Prelude.{◌≡◌, ℕ, List, ◌++◌, Option}
 use Rattle.std.specs.Io.KnownBytes.{Appends}
 use Rattle.std.specs.List.{flat_map}
 use Rattle.executor.specs.Sights.{Sight}
+use Rattle.exec_lines.specs.Fronts.{AppendsFront}
 use Rattle.exec_commands.specs.declared.notice.NoticeForm.{NoticeForm}
 use Rattle.exec_client.specs.Said.{Said, line_of}
 
@@ -20,3 +21,8 @@ IsTold old new more = (new.opened ≡ old.opened) × (new.told ≡ old.told ++ m
 pub record Hears {D : Type 0} (form : NoticeForm) (old new : Heard D) (more : List Said) : Type 0 where
   pub told : IsTold old new more
   pub written : Appends old.written new.written (flat_map (line_of form) more)
+
+-- It was told, and what is written grew by a front of the lines that say it: by some of them, and of the next one by a part.
+pub record HearsPart {D : Type 0} (form : NoticeForm) (old new : Heard D) (more : List Said) : Type 0 where
+  pub told : IsTold old new more
+  pub written : AppendsFront old.written new.written (flat_map (line_of form) more)

@@ -1,6 +1,6 @@
 //! Who is told what an executor did.
-ghost use Rattle.std.specs.Prelude.{OnOk};
-ghost use Rattle.exec_client.specs.Heard.{Heard, Hears, IsTold};
+ghost use Rattle.std.specs.Prelude.{OnErr, OnOk};
+ghost use Rattle.exec_client.specs.Heard.{Heard, Hears, HearsPart, IsTold};
 ghost use Rattle.exec_client.specs.MayTell.{MayTell};
 ghost use Rattle.exec_client.specs.Said.{said_in};
 
@@ -26,7 +26,8 @@ pub trait Client<D: Disk + Drop, C: Children + Drop> {
     ) -> Result<(), Stopped>
         requires may_tell { MayTell D.view (heard self.old) executor.now what.now }
         ensures told { IsTold (heard self.old) (heard self.new) (said_in what.now) }
-        ensures hears { OnOk result (Hears form (heard self.old) (heard self.new) (said_in what.now)) };
+        ensures hears { OnOk result (Hears form (heard self.old) (heard self.new) (said_in what.now)) }
+        ensures breaks { OnErr result (HearsPart form (heard self.old) (heard self.new) (said_in what.now)) };
 
     /// Whether what is told may still reach somebody.
     fn is_heard(&self) -> bool;

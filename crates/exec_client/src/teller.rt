@@ -1,7 +1,8 @@
 //! A client over a writer.
-ghost use Rattle.std.specs.Prelude.{◌≡◌, [], OnOk};
+ghost use Rattle.std.specs.Prelude.{◌≡◌, [], OnErr, OnOk};
 ghost use Rattle.std.specs.Io.KnownBytes.{Appends};
 ghost use Rattle.std.specs.List.{flat_map};
+ghost use Rattle.exec_lines.specs.Fronts.{AppendsFront};
 ghost use Rattle.exec_client.specs.Heard.{Heard};
 ghost use Rattle.exec_client.specs.Said.{line_of, said_in};
 
@@ -26,14 +27,15 @@ pub struct Teller<E, W> {
     pub(crate) telling: Telling,
 }
 
-// Writes the lines of what is told, and flushes them.
+// Writes the lines of what is told, and flushes them. After an error a front of them is written.
 fn write_told<W: Output>(
     alloc: Global,
     writer: &mut W,
     form: NoticeForm,
     what: &Told,
 ) -> Result<(), Stopped>
-    ensures { OnOk result (Appends (W.contents writer.old) (W.contents writer.new) (flat_map (line_of form) (said_in what.now))) }
+    ensures sent { OnOk result (Appends (W.contents writer.old) (W.contents writer.new) (flat_map (line_of form) (said_in what.now))) }
+    ensures front { OnErr result (AppendsFront (W.contents writer.old) (W.contents writer.new) (flat_map (line_of form) (said_in what.now))) }
 {
     match what {
         Told::Reply(reply) => send_reply(alloc, writer, reply),

@@ -1,0 +1,38 @@
+-- Examples: what is told too often, too early or not at all is refused by the definitions.
+use Rattle.std.proofs.Common.{ℕ, true≢false, List, [], ◌∷◌, ◌++◌, ap, length, length-append, arith}
+use Rattle.ocf_types.specs.Kinds.{Event, Reply, Request}
+use Rattle.ocf_types.specs.declared.reply.ReplyOf.TheVariants.{Done}
+use Rattle.disk_model.specs.View.{View}
+use Rattle.executor.specs.Lives.{Took}
+use Rattle.executor.specs.Sessions.{Deeds}
+use Rattle.executor.specs.Sights.{Sight}
+use Rattle.executor.specs.declared.session.InputOf.TheVariants as input
+use Rattle.exec_client.specs.Behind.{Behind, says_else, tells, untold}
+use Rattle.exec_client.specs.Said.{Said, answered}
+use Rattle.exec_client.specs.Tells.{TellsCalls}
+
+-- the line that acknowledges a command
+abbrev ok : Said
+ok = answered Done
+
+-- nothing is recorded behind it
+too_early : (ss : List Said) → Behind (ok ∷ ss) [] → ⊥
+too_early ss (says_else _ _ _ none behind) = true≢false none
+
+-- one event stands behind two of them
+twice : (e : Event) → Behind (ok ∷ ok ∷ []) (e ∷ []) → ⊥
+twice e (untold _ _ _ behind) = too_early (ok ∷ []) behind
+twice e (tells _ _ _ _ is behind) = too_early [] behind
+twice e (says_else _ _ _ none behind) = true≢false none
+
+module _ {D : Type 0} (look : D → View) (x y : Sight D) (d : Deeds) where
+  -- no call was made
+  of_no_call : TellsCalls look x [] y d (ok ∷ []) → ⊥
+  of_no_call (same, none, nothing) = true≢false nothing.0
+
+  -- the reply to a command is left out
+  left_out : (now : ℕ) (request : Request) (reply : Reply) → TellsCalls look x (Took (input.Request now request) reply ∷ []) y d [] → ⊥
+  left_out now request reply (aside, mine, later, mid, first, rest, quiet, does, says, others, both, told) =
+      let all = ap length told in
+      let one = ap length says in
+      omega (arith, all, one, length-append aside (mine ++ later), length-append mine later)
