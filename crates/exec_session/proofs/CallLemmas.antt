@@ -15,7 +15,7 @@ use Rattle.exec_commands.specs.declared.line.Line.{Line}
 use Rattle.exec_commands.specs.declared.line.Line.TheVariants as line
 use Rattle.exec_commands.specs.declared.reply.LineReply.{LineReply}
 use Rattle.exec_commands.specs.declared.reply.LineReply.TheVariants as answer
-use Rattle.exec_client.specs.Behind.{claims, nothing}
+use Rattle.exec_client.specs.Behind.{nothing}
 use Rattle.exec_client.specs.Heard.{Heard, IsTold}
 use Rattle.exec_client.specs.MayTell.{StandsBehind}
 use Rattle.exec_client.specs.Said.{Answered, Noticed, Said, answered}

@@ -5,3 +5,4 @@ pub mod ServeLemmas
 pub mod CallLemmas
 pub mod TellLemmas
 pub mod HeardLemmas
+pub mod BreakLemmas

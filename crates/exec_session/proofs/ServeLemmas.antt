@@ -36,7 +36,7 @@ begins now kept none = record {
   read = Consumes-nil now;
 }
 
-turns_serve : (way : Way) → way ≡ Serve → MakesTurns way
+pub turns_serve : (way : Way) → way ≡ Serve → MakesTurns way
 turns_serve Run is = absurd cc
 turns_serve Serve is = tt
 

@@ -20,7 +20,7 @@ use Rattle.exec_commands.specs.declared.line.Line.TheVariants as line
 use Rattle.exec_commands.specs.declared.reply.LineReply.{LineReply}
 use Rattle.exec_commands.specs.declared.reply.LineReply.TheVariants as answer
 use Rattle.exec_client.specs.Behind.{Behind, claims, nothing, says_else}
-use Rattle.exec_client.specs.Heard.{Heard, Hears, IsTold}
+use Rattle.exec_client.specs.Heard.{Heard, IsTold}
 use Rattle.exec_client.specs.MayTell.{AllStand, MayAnswer, MayReply, StandsBehind}
 use Rattle.exec_client.specs.Said.{Answered, Noticed, Reported, Said, answered}
 use Rattle.exec_client.proofs.Behinds.{says_none}

@@ -1,5 +1,5 @@
 -- What a drain does, turn by turn.
-use Rattle.std.specs.Prelude.{◌≡◌, ℕ, ◌+◌, Bool, true, false, not, ◌&&◌, nat_le, map, Option, Some, None, if◌then◌else◌}
+use Rattle.std.specs.Prelude.{◌≡◌, ℕ, ◌+◌, Bool, true, false, not, ◌&&◌, nat_le, List, map, Option, Some, None, if◌then◌else◌}
 use Rattle.ocf_types.specs.Boot.{any_busy}
 use Rattle.ocf_types.specs.declared.reply.TurnEnd.{TurnEnd}
 use Rattle.ocf_types.specs.declared.reply.TurnEnd.TheVariants.{Disk, Done}
@@ -9,7 +9,7 @@ use Rattle.executor.specs.TurnCalls.{TakesTurn, with_empty_book}
 use Rattle.exec_commands.specs.declared.ends.DrainEnd.{DrainEnd}
 use Rattle.exec_commands.specs.declared.ends.DrainEnd.TheVariants.{Idle, Limit, Turns, Turn}
 use Rattle.exec_client.specs.Heard.{Heard, Hears}
-use Rattle.exec_client.specs.Said.{Noticed}
+use Rattle.exec_client.specs.Said.{Noticed, Said}
 use Rattle.exec_session.specs.Limits.{Limits, MakesRoom}
 use Rattle.exec_session.specs.declared.drain.Terms.{Terms}
 
@@ -21,15 +21,23 @@ pub record Spot (D : Type 0) : Type 0 where
 abbrev pub spot : {D : Type 0} → Sight D → Heard D → Spot D
 spot executor heard = record { executor = executor; heard = heard }
 
--- A turn at this moment: the book is emptied and room is made, then the turn is made, and its notices are told. Where a
--- disk fault closed the executor as room was made, no turn is made and nothing is told.
-pub record MakesTurn {D : Type 0} (look : D → View) (limits : Limits) (now : ℕ) (p q : Spot D)
+-- how a client hears what it is told: from what it has heard to what it has heard then
+abbrev pub Hearing : Type 0 → Type 1
+Hearing D = Heard D → Heard D → List Said → Type 0
+
+-- A turn at this moment: the book is emptied and room is made, then the turn is made, and its notices are told, which the client
+-- hears so. Where a disk fault closed the executor as room was made, no turn is made and nothing is told.
+pub record TurnHeard {D : Type 0} (hears_so : Hearing D) (look : D → View) (limits : Limits) (now : ℕ) (p q : Spot D)
     (end : TurnEnd) : Type 0 where
   pub middle : Sight D
   pub room : MakesRoom look limits (with_empty_book p.executor) middle
   pub takes : middle.is_open ≡ true → TakesTurn look now middle q.executor end
-  pub hears : middle.is_open ≡ true → Hears limits.form p.heard q.heard (map Noticed q.executor.told)
+  pub hears : middle.is_open ≡ true → hears_so p.heard q.heard (map Noticed q.executor.told)
   pub fails : middle.is_open ≡ false → (end ≡ Disk) × (q.executor ≡ middle) × (q.heard ≡ p.heard)
+
+-- the client hears all of them
+abbrev pub MakesTurn : {D : Type 0} → (D → View) → Limits → ℕ → Spot D → Spot D → TurnEnd → Type 0
+MakesTurn look limits now p q end = TurnHeard (Hears limits.form) look limits now p q end
 
 -- how a drain ends behind its turn of this number, which ended so and left the executor idle or not, at the moment that
 -- the clock shows then; none where it goes on

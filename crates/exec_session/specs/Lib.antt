@@ -1,5 +1,7 @@
 pub mod Answers
+pub mod Breaks
 pub mod Drains
+pub mod Ends
 pub mod Gathered
 pub mod Limits
 pub mod Progress

@@ -14,7 +14,7 @@ use Rattle.exec_session.specs.declared.lines.Found.TheVariants as found
 use Rattle.exec_session.specs.declared.lines.Progress.{Progress}
 use Rattle.exec_session.specs.declared.lines.Progress.TheVariants as progress
 use Rattle.exec_session.specs.Answers.{Source, IsReadAs, IsReply}
-use Rattle.exec_session.specs.Drains.{spot}
+use Rattle.exec_session.specs.Drains.{Hearing, spot}
 use Rattle.exec_session.specs.Limits.{Limits}
 
 -- where it is known what a reader has left: the next line has no bytes, and what stands behind it is left
@@ -42,15 +42,19 @@ pub record Place (D : Type 0) : Type 0 where
 abbrev pub place : {D : Type 0} → Sight D → Option (List ℕ) → Heard D → Place D
 place executor left heard = record { executor = executor; left = left; heard = heard }
 
--- The next line is read, and the client is told the notices of a drain, and then just the reply.
-pub record Answers {D : Type 0} (look : D → View) (source : Source) (limits : Limits)
+-- The next line is read, and the client is told the notices of a drain, and then just the reply, which it hears so.
+pub record AnswersHeard {D : Type 0} (hears_so : Hearing D) (look : D → View) (source : Source) (limits : Limits)
     (p q : Place D) : Type 0 where
   pub found : Result Line Refusal
   pub reply : LineReply
   pub noticed : Heard D
   pub read : ReadsLine p.left q.left found
   pub answered : IsReply look source limits (spot p.executor p.heard) (spot q.executor noticed) found reply
-  pub hears : Hears limits.form noticed q.heard (Answered reply ∷ [])
+  pub hears : hears_so noticed q.heard (Answered reply ∷ [])
+
+-- it hears all of it
+abbrev pub Answers : {D : Type 0} → (D → View) → Source → Limits → Place D → Place D → Type 0
+Answers look source limits p q = AnswersHeard (Hears limits.form) look source limits p q
 
 -- the executor and what the client has heard are the same
 abbrev pub Stays : {D : Type 0} → Place D → Place D → Type 0

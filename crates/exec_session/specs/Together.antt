@@ -10,7 +10,7 @@ use Rattle.executor.specs.Sights.{Sight}
 use Rattle.exec_commands.specs.declared.line.Line.TheVariants as line
 use Rattle.exec_client.specs.Heard.{Hears}
 use Rattle.exec_client.specs.Said.{answered}
-use Rattle.exec_session.specs.Drains.{Spot, spot}
+use Rattle.exec_session.specs.Drains.{Hearing, Spot, spot}
 use Rattle.exec_session.specs.Limits.{Limits, MakesRoom}
 use Rattle.exec_session.specs.Progress.{Place, ReadsLine}
 
@@ -35,12 +35,16 @@ pub record ServesTogether {D : Type 0} (look : D → View) (limits : Limits) (co
   pub takes : middle.is_open ≡ true → TakesCommands look now commands middle new given
   pub fails : middle.is_open ≡ false → (given ≡ replicate (length commands) (Refused Disk)) × (new ≡ middle)
 
--- They are served, and behind that the client is told just their replies, in their order.
-pub record AnswersTogether {D : Type 0} (look : D → View) (limits : Limits) (commands : List Command)
+-- They are served, and behind that the client is told just their replies, in their order, which it hears so.
+pub record TogetherHeard {D : Type 0} (hears_so : Hearing D) (look : D → View) (limits : Limits) (commands : List Command)
     (p q : Spot D) : Type 0 where
   pub given : List Reply
   pub serves : ServesTogether look limits commands p.executor q.executor given
-  pub hears : Hears limits.form p.heard q.heard (map answered given)
+  pub hears : hears_so p.heard q.heard (map answered given)
+
+-- it hears all of them
+abbrev pub AnswersTogether : {D : Type 0} → (D → View) → Limits → List Command → Spot D → Spot D → Type 0
+AnswersTogether look limits commands p q = TogetherHeard (Hears limits.form) look limits commands p q
 
 -- all commands that wait are answered together, where there are any
 abbrev pub AnswersAll : {D : Type 0} → (D → View) → Limits → List Command → Spot D

@@ -1,9 +1,10 @@
 //! What a line is answered.
-ghost use Rattle.std.specs.Prelude.{◌≡◌, [], ◌∷◌, true, IfErr, IfOk};
+ghost use Rattle.std.specs.Prelude.{◌≡◌, [], ◌∷◌, true, IfErr, IfOk, OnErr};
 ghost use Rattle.exec_client.specs.MayTell.{AllStand, MayBeReplied, MayReply, StandsBehind};
 ghost use Rattle.exec_client.specs.Said.{Answered};
 ghost use Rattle.exec_session.specs.Answers.{DrainsFor, IsClosedReply, IsMetaReply, IsOpenReply, IsReply, ServesNow, closed_drain};
 ghost use Rattle.exec_session.specs.Answers.{closed_tidy, refused};
+ghost use Rattle.exec_session.specs.Breaks.{DrainBreaksFor, ReplyBreaks};
 ghost use Rattle.exec_session.specs.Drains.{spot};
 ghost use Rattle.exec_session.specs.Limits.{limits_of};
 
@@ -88,6 +89,8 @@ fn drain_reply<D: Disk + Drop, C: Children + Drop, T: Client<D, C>, K: Clock, M:
     ensures opened { (T.heard client.new).opened ≡ (T.heard client.old).opened }
     ensures reply { IfOk result (DrainsFor D.view ends_idle limit (limits_of setting.now)
         (spot executor.old (T.heard client.old)) (spot executor.new (T.heard client.new))) }
+    ensures breaks { OnErr result (DrainBreaksFor D.view ends_idle limit (limits_of setting.now)
+        (spot executor.old (T.heard client.old)) (spot executor.new (T.heard client.new))) }
 {
     let start = moment_now(setting.clock).get();
     let terms = Terms {
@@ -132,6 +135,8 @@ fn open_reply<D: Disk + Drop, C: Children + Drop, T: Client<D, C>, K: Clock, M: 
     ensures may_tell { IfOk result (MayBeReplied D.view (T.heard client.new) executor.new) }
     ensures reply { IfOk result (IsOpenReply D.view (M.gives setting.now.metadata.now) (limits_of setting.now)
         (spot executor.old (T.heard client.old)) (spot executor.new (T.heard client.new)) line) }
+    ensures breaks { OnErr result (ReplyBreaks D.view (limits_of setting.now)
+        (spot executor.old (T.heard client.old)) (spot executor.new (T.heard client.new)) line) }
 {
     match line {
         Ok(Line::Request(request)) => Ok(request_reply(setting, executor, request)),
@@ -161,6 +166,8 @@ pub fn reply_to<D: Disk + Drop, C: Children + Drop, T: Client<D, C>, K: Clock, M
     ensures opened { (T.heard client.new).opened ≡ (T.heard client.old).opened }
     ensures may_tell { IfOk result (MayBeReplied D.view (T.heard client.new) executor.new) }
     ensures reply { IfOk result (IsReply D.view (M.gives setting.now.metadata.now) (limits_of setting.now)
+        (spot executor.old (T.heard client.old)) (spot executor.new (T.heard client.new)) line) }
+    ensures breaks { OnErr result ((executor.old.is_open ≡ true) × ReplyBreaks D.view (limits_of setting.now)
         (spot executor.old (T.heard client.old)) (spot executor.new (T.heard client.new)) line) }
 {
     if executor.is_open() {

@@ -1,6 +1,7 @@
 //! Drains and watches: turns, each with its notices.
-ghost use Rattle.std.specs.Prelude.{◌≡◌, true, IfOk};
+ghost use Rattle.std.specs.Prelude.{◌≡◌, true, IfOk, OnErr};
 ghost use Rattle.exec_client.specs.MayTell.{AllStand};
+ghost use Rattle.exec_session.specs.Breaks.{DrainBreaks};
 ghost use Rattle.exec_session.specs.Drains.{Drains, end_behind, spot};
 ghost use Rattle.exec_session.specs.Limits.{limits_of};
 
@@ -65,6 +66,8 @@ pub fn drain<D: Disk + Drop, C: Children + Drop, T: Client<D, C>, K: Clock, M: M
     ensures opened { (T.heard client.new).opened ≡ (T.heard client.old).opened }
     ensures drains { IfOk result (λ end. Drains D.view (limits_of setting.now) terms start
         (spot executor.old (T.heard client.old)) (spot executor.new (T.heard client.new)) end) }
+    ensures breaks { OnErr result (DrainBreaks D.view (limits_of setting.now) terms start
+        (spot executor.old (T.heard client.old)) (spot executor.new (T.heard client.new))) }
 {
     let mut now = start;
     let mut pause = Pause::new();

@@ -1,8 +1,10 @@
 //! The next line of the input, and what is done with it.
-ghost use Rattle.std.specs.Prelude.{◌≡◌, ℕ, ◌+◌, ◌<◌, [], List, true, length, Option, IfOk, OnOk};
+ghost use Rattle.std.specs.Prelude.{◌≡◌, ℕ, ◌+◌, ◌<◌, [], List, true, length, Option, IfOk, OnErr, OnOk};
 ghost use Rattle.exec_lines.specs.Buffer.{line_bytes};
 ghost use Rattle.exec_lines.specs.Pieces.{IsNext};
 ghost use Rattle.exec_client.specs.MayTell.{AllStand};
+ghost use Rattle.exec_session.specs.Breaks.{BreaksIn, BreaksOff};
+ghost use Rattle.exec_session.specs.Drains.{spot};
 ghost use Rattle.exec_session.specs.Gathered.{waiting};
 ghost use Rattle.exec_session.specs.Limits.{limits_of};
 ghost use Rattle.exec_session.specs.Progress.{Place, ReadsInput, Takes, place};
@@ -73,6 +75,9 @@ fn answer_found<D: Disk + Drop, C: Children + Drop, T: Client<D, C>, K: Clock, M
     ensures progress { (left now : Option (List ℕ)) → ReadsInput left now found
         → IfOk result (Takes D.view (M.gives setting.now.metadata.now) (limits_of setting.now)
         (place executor.old left (T.heard client.old)) (place executor.new now (T.heard client.new))) }
+    ensures breaks { (left now : Option (List ℕ)) → ReadsInput left now found
+        → OnErr result (BreaksIn D.view (M.gives setting.now.metadata.now) (limits_of setting.now)
+        (place executor.old left (T.heard client.old)) (spot executor.new (T.heard client.new))) }
 {
     let line = match found {
         Found::End => return Ok(Progress::End),
@@ -105,6 +110,12 @@ fn take_command<D: Disk + Drop, C: Children + Drop, T: Client<D, C>, K: Clock, M
         (waiting gathered.old) (place executor.old left (T.heard client.old))
         → OnOk result (HasCome D.view (M.gives setting.now.metadata.now) (limits_of setting.now) p (most + 1)
         (waiting gathered.new) (place executor.new now (T.heard client.new))) }
+    ensures breaks { (p : Place D) (most : ℕ) (left now : Option (List ℕ))
+        → ReadsCommand left now command
+        → HasCome D.view (M.gives setting.now.metadata.now) (limits_of setting.now) p most
+        (waiting gathered.old) (place executor.old left (T.heard client.old))
+        → OnErr result (BreaksOff D.view (M.gives setting.now.metadata.now) (limits_of setting.now) p
+        (spot executor.new (T.heard client.new))) }
 {
     gathered.push(command);
     if has_next && !gathered.is_full() {
@@ -132,6 +143,12 @@ fn take_other<D: Disk + Drop, C: Children + Drop, T: Client<D, C>, K: Clock, M: 
         (waiting gathered.old) (place executor.old left (T.heard client.old))
         → IfOk result (ComesOrEnds D.view (M.gives setting.now.metadata.now) (limits_of setting.now) p (most + 1)
         (waiting gathered.new) (place executor.new now (T.heard client.new))) }
+    ensures breaks { (p : Place D) (most : ℕ) (left now : Option (List ℕ))
+        → MayTakeBehind setting.now.way most → ReadsInput left now found
+        → HasCome D.view (M.gives setting.now.metadata.now) (limits_of setting.now) p most
+        (waiting gathered.old) (place executor.old left (T.heard client.old))
+        → OnErr result (BreaksOff D.view (M.gives setting.now.metadata.now) (limits_of setting.now) p
+        (spot executor.new (T.heard client.new))) }
 {
     answer_gathered(setting, client, executor, gathered)?;
     let progress = answer_found(setting, client, executor, found)?;
@@ -159,6 +176,12 @@ pub fn take_found<D: Disk + Drop, C: Children + Drop, T: Client<D, C>, K: Clock,
         (waiting gathered.old) (place executor.old left (T.heard client.old))
         → IfOk result (ComesOrEnds D.view (M.gives setting.now.metadata.now) (limits_of setting.now) p (most + 1)
         (waiting gathered.new) (place executor.new now (T.heard client.new))) }
+    ensures breaks { (p : Place D) (most : ℕ) (left now : Option (List ℕ))
+        → MayTakeBehind setting.now.way most → ReadsInput left now found
+        → HasCome D.view (M.gives setting.now.metadata.now) (limits_of setting.now) p most
+        (waiting gathered.old) (place executor.old left (T.heard client.old))
+        → OnErr result (BreaksOff D.view (M.gives setting.now.metadata.now) (limits_of setting.now) p
+        (spot executor.new (T.heard client.new))) }
 {
     match found {
         Found::Line(Ok(Line::Request(Request::Command(command)))) if executor.is_open() => {

@@ -1,6 +1,7 @@
 //! What an opening reports, as it is told.
-ghost use Rattle.std.specs.Prelude.{◌≡◌, OnOk};
-ghost use Rattle.exec_client.specs.Heard.{Hears};
+ghost use Rattle.std.specs.Prelude.{◌≡◌, ◌++◌, List, OnErr, OnOk};
+ghost use Rattle.exec_client.specs.Heard.{Hears, HearsPart};
+ghost use Rattle.exec_client.specs.Said.{Said};
 ghost use Rattle.exec_client.specs.MayTell.{AllStand};
 ghost use Rattle.exec_session.specs.Runs.{IsReportOf, report_told};
 
@@ -23,6 +24,8 @@ pub fn tell_report<D: Disk + Drop, C: Children + Drop, T: Client<D, C>>(
     ensures stands { AllStand D.view (T.heard client.new) executor.now }
     ensures opened { (T.heard client.new).opened ≡ (T.heard client.old).opened }
     ensures told { OnOk result (Hears form (T.heard client.old) (T.heard client.new) (report_told report.now)) }
+    ensures breaks { OnErr result ((said rest : List Said) × (report_told report.now ≡ said ++ rest)
+        × HearsPart form (T.heard client.old) (T.heard client.new) said) }
 {
     client.tell(executor, form, &Told::Report(report.interrupted.as_slice()))?;
     client.tell(executor, form, &Told::Report(report.dropped.as_slice()))

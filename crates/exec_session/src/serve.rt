@@ -1,8 +1,11 @@
 //! Serving: lines are answered while agents run, and turns are made by the run itself.
-ghost use Rattle.std.specs.Prelude.{◌≡◌, ◌+◌, ◌≤◌, ℕ, [], true, false, IfOk, OnOk};
+ghost use Rattle.std.specs.Prelude.{◌≡◌, ◌+◌, ◌≤◌, ℕ, [], true, false, IfOk, OnErr, OnOk};
 ghost use Rattle.exec_lines.specs.Buffer.{line_bytes};
+ghost use Rattle.ocf_types.specs.declared.reply.TurnEnd.{TurnEnd};
+ghost use Rattle.exec_client.specs.Heard.{HearsPart};
 ghost use Rattle.exec_client.specs.MayTell.{AllStand};
-ghost use Rattle.exec_session.specs.Drains.{spot};
+ghost use Rattle.exec_session.specs.Breaks.{BreaksOff};
+ghost use Rattle.exec_session.specs.Drains.{TurnHeard, spot};
 ghost use Rattle.exec_session.specs.Gathered.{waiting};
 ghost use Rattle.exec_session.specs.Limits.{limits_of};
 ghost use Rattle.exec_session.specs.Progress.{Place, place};
@@ -52,6 +55,11 @@ fn take_read<R: Input, D: Disk + Drop, C: Children + Drop, T: Client<D, C>, K: C
         (line_bytes buffer.old) (place executor.old (R.remaining reader.old) (T.heard client.old))
         → IfOk result (ComesMidOrEnds D.view (M.gives setting.now.metadata.now) (limits_of setting.now) p (most + 1)
         (waiting gathered.new) (line_bytes buffer.new) (place executor.new (R.remaining reader.new) (T.heard client.new))) }
+    ensures breaks { (p : Place D) (most : ℕ) → MayTakeBehind setting.now.way most
+        → HasComeMid D.view (M.gives setting.now.metadata.now) (limits_of setting.now) p most (waiting gathered.old)
+        (line_bytes buffer.old) (place executor.old (R.remaining reader.old) (T.heard client.old))
+        → OnErr result (BreaksOff D.view (M.gives setting.now.metadata.now) (limits_of setting.now) p
+        (spot executor.new (T.heard client.new))) }
 {
     let Some(next) = gather_line(reader, buffer)? else {
         return Ok(false);
@@ -89,6 +97,11 @@ fn take_waiting<
         (line_bytes buffer.old) (place executor.old (R.remaining reader.old) (T.heard client.old))
         → IfOk result (ComesMidOrEnds D.view (M.gives setting.now.metadata.now) (limits_of setting.now) p 64
         (waiting gathered.new) (line_bytes buffer.new) (place executor.new (R.remaining reader.new) (T.heard client.new))) }
+    ensures breaks { (p : Place D)
+        → HasComeMid D.view (M.gives setting.now.metadata.now) (limits_of setting.now) p 0 []
+        (line_bytes buffer.old) (place executor.old (R.remaining reader.old) (T.heard client.old))
+        → OnErr result (BreaksOff D.view (M.gives setting.now.metadata.now) (limits_of setting.now) p
+        (spot executor.new (T.heard client.new))) }
 {
     for _reads in 0..READS_A_TURN {
         if !reader.is_ready(0) {
@@ -128,6 +141,11 @@ fn answer_waiting<
         (line_bytes buffer.old) (place executor.old (R.remaining reader.old) (T.heard client.old))
         → IfOk result (ComesMidOrEnds D.view (M.gives setting.now.metadata.now) (limits_of setting.now) p 64 []
         (line_bytes buffer.new) (place executor.new (R.remaining reader.new) (T.heard client.new))) }
+    ensures breaks { (p : Place D)
+        → HasComeMid D.view (M.gives setting.now.metadata.now) (limits_of setting.now) p 0 []
+        (line_bytes buffer.old) (place executor.old (R.remaining reader.old) (T.heard client.old))
+        → OnErr result (BreaksOff D.view (M.gives setting.now.metadata.now) (limits_of setting.now) p
+        (spot executor.new (T.heard client.new))) }
 {
     if take_waiting(setting, reader, client, executor, buffer, gathered)? {
         return Ok(true);
@@ -148,6 +166,9 @@ fn make_own_turn<D: Disk + Drop, C: Children + Drop, T: Client<D, C>, K: Clock, 
     ensures opened { (T.heard client.new).opened ≡ (T.heard client.old).opened }
     ensures turns { OnOk result (TurnsAlone D.view (limits_of setting.now)
         (spot executor.old (T.heard client.old)) (spot executor.new (T.heard client.new))) }
+    ensures breaks { OnErr result ((executor.old.is_open ≡ true) × (now : ℕ) × (end : TurnEnd)
+        × TurnHeard (HearsPart setting.now.form) D.view (limits_of setting.now) now
+        (spot executor.old (T.heard client.old)) (spot executor.new (T.heard client.new)) end) }
 {
     if !executor.is_open() {
         return Ok(());
@@ -231,6 +252,8 @@ pub fn serve_all<
     ensures lines { OnOk result (ReachesEnd D.view (M.gives setting.now.metadata.now) (limits_of setting.now)
         (place executor.old (R.remaining reader.old) (T.heard client.old))
         (place executor.new (R.remaining reader.new) (T.heard client.new))) }
+    ensures breaks { OnErr result (BreaksOff D.view (M.gives setting.now.metadata.now) (limits_of setting.now)
+        (place executor.old (R.remaining reader.old) (T.heard client.old)) (spot executor.new (T.heard client.new))) }
 {
     let mut pause = Pause::new();
     for _ in 0..NUM_MAX {

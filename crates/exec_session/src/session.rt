@@ -1,11 +1,14 @@
 //! Command lines answered one by one.
-ghost use Rattle.std.specs.Prelude.{◌≡◌, ℕ, ◌+◌, [], IfOk, OnOk};
+ghost use Rattle.std.specs.Prelude.{◌≡◌, ℕ, ◌+◌, [], IfOk, OnErr, OnOk};
 ghost use Rattle.exec_lines.specs.Buffer.{line_bytes};
 ghost use Rattle.exec_client.specs.MayTell.{AllStand};
+ghost use Rattle.exec_session.specs.Breaks.{BreaksOff, RunBreaks};
+ghost use Rattle.exec_session.specs.Drains.{spot};
+ghost use Rattle.exec_session.specs.Ends.{ClosesByCalls, Ended, EndsAs, Runs};
 ghost use Rattle.exec_session.specs.Gathered.{waiting};
 ghost use Rattle.exec_session.specs.Limits.{limits_of};
 ghost use Rattle.exec_session.specs.Progress.{Place, place};
-ghost use Rattle.exec_session.specs.Runs.{ClosesByCalls, Ended, EndsAs, IsNew, IsReportOf, ReachesEnd, Runs};
+ghost use Rattle.exec_session.specs.Runs.{IsNew, IsReportOf, ReachesEnd};
 ghost use Rattle.exec_session.specs.Waiting.{ComesOrEnds, HasCome, MayTakeBehind, MayWait};
 
 use crate::gathered::Gathered;
@@ -52,6 +55,11 @@ fn take_next<R: Input, D: Disk + Drop, C: Children + Drop, T: Client<D, C>, K: C
         (waiting gathered.old) (place executor.old (R.remaining reader.old) (T.heard client.old))
         → IfOk result (ComesOrEnds D.view (M.gives setting.now.metadata.now) (limits_of setting.now) p (most + 1)
         (waiting gathered.new) (place executor.new (R.remaining reader.new) (T.heard client.new))) }
+    ensures breaks { (p : Place D) (most : ℕ) → MayTakeBehind setting.now.way most
+        → HasCome D.view (M.gives setting.now.metadata.now) (limits_of setting.now) p most
+        (waiting gathered.old) (place executor.old (R.remaining reader.old) (T.heard client.old))
+        → OnErr result (BreaksOff D.view (M.gives setting.now.metadata.now) (limits_of setting.now) p
+        (spot executor.new (T.heard client.new))) }
 {
     let next = next_line(reader, buffer)?;
     let found = found_in(setting.alloc, buffer, next);
@@ -76,6 +84,8 @@ fn answer_all<R: Input, D: Disk + Drop, C: Children + Drop, T: Client<D, C>, K: 
     ensures lines { OnOk result (ReachesEnd D.view (M.gives setting.now.metadata.now) (limits_of setting.now)
         (place executor.old (R.remaining reader.old) (T.heard client.old))
         (place executor.new (R.remaining reader.new) (T.heard client.new))) }
+    ensures breaks { OnErr result (BreaksOff D.view (M.gives setting.now.metadata.now) (limits_of setting.now)
+        (place executor.old (R.remaining reader.old) (T.heard client.old)) (spot executor.new (T.heard client.new))) }
 {
     for _ in 0..NUM_MAX {
         if take_next(setting, reader, client, executor, buffer, gathered)? {
@@ -110,6 +120,8 @@ fn answer_in_way<
     ensures lines { OnOk result (ReachesEnd D.view (M.gives setting.now.metadata.now) (limits_of setting.now)
         (place executor.old (R.remaining reader.old) (T.heard client.old))
         (place executor.new (R.remaining reader.new) (T.heard client.new))) }
+    ensures breaks { OnErr result (BreaksOff D.view (M.gives setting.now.metadata.now) (limits_of setting.now)
+        (place executor.old (R.remaining reader.old) (T.heard client.old)) (spot executor.new (T.heard client.new))) }
 {
     match setting.way {
         Way::Run => answer_all(setting, reader, client, executor, buffer, gathered),
@@ -143,6 +155,8 @@ fn report_and_answer<
     ensures runs { OnOk result (Runs D.view (M.gives setting.now.metadata.now) (limits_of setting.now) report.now
         (place executor.old (R.remaining reader.old) (T.heard client.old))
         (place executor.new (R.remaining reader.new) (T.heard client.new))) }
+    ensures breaks { OnErr result (RunBreaks D.view (M.gives setting.now.metadata.now) (limits_of setting.now) report.now
+        (place executor.old (R.remaining reader.old) (T.heard client.old)) (spot executor.new (T.heard client.new))) }
 {
     tell_report(client, executor, setting.form, report)?;
     answer_in_way(setting, reader, client, executor, buffer, gathered)?;

@@ -1,8 +1,9 @@
 //! Commands that arrived together, answered together.
-ghost use Rattle.std.specs.Prelude.{◌≡◌, ◌≢◌, [], map, true, OnOk};
+ghost use Rattle.std.specs.Prelude.{◌≡◌, ◌≢◌, [], map, true, OnErr, OnOk};
 ghost use Rattle.std.specs.List.{AllByRecursion};
 ghost use Rattle.exec_client.specs.MayTell.{AllStand, MayAnswer, StandsBehind};
 ghost use Rattle.exec_client.specs.Said.{answered};
+ghost use Rattle.exec_session.specs.Breaks.{RowBreaks};
 ghost use Rattle.exec_session.specs.Drains.{spot};
 ghost use Rattle.exec_session.specs.Gathered.{replied, waiting};
 ghost use Rattle.exec_session.specs.Limits.{limits_of};
@@ -55,6 +56,8 @@ pub fn answer_gathered<D: Disk + Drop, C: Children + Drop, T: Client<D, C>, K: C
     ensures opened { (T.heard client.new).opened ≡ (T.heard client.old).opened }
     ensures none { waiting gathered.new ≡ [] }
     ensures answers { OnOk result (AnswersAll D.view (limits_of setting.now) (waiting gathered.old)
+        (spot executor.old (T.heard client.old)) (spot executor.new (T.heard client.new))) }
+    ensures breaks { OnErr result (RowBreaks D.view (limits_of setting.now) (waiting gathered.old)
         (spot executor.old (T.heard client.old)) (spot executor.new (T.heard client.new))) }
 {
     if gathered.is_empty() {

@@ -1,7 +1,9 @@
 //! One turn, with its notices.
-ghost use Rattle.std.specs.Prelude.{◌≡◌, true, IfOk};
+ghost use Rattle.std.specs.Prelude.{◌≡◌, true, IfOk, OnErr};
+ghost use Rattle.ocf_types.specs.declared.reply.TurnEnd.{TurnEnd};
+ghost use Rattle.exec_client.specs.Heard.{HearsPart};
 ghost use Rattle.exec_client.specs.MayTell.{AllStand};
-ghost use Rattle.exec_session.specs.Drains.{MakesTurn, spot};
+ghost use Rattle.exec_session.specs.Drains.{MakesTurn, TurnHeard, spot};
 ghost use Rattle.exec_session.specs.Limits.{limits_of};
 
 use crate::room::make_room;
@@ -25,6 +27,8 @@ pub fn make_turn<D: Disk + Drop, C: Children + Drop, T: Client<D, C>, K, M>(
     ensures stands { AllStand D.view (T.heard client.new) executor.new }
     ensures opened { (T.heard client.new).opened ≡ (T.heard client.old).opened }
     ensures made { IfOk result (λ end. MakesTurn D.view (limits_of setting.now) now
+        (spot executor.old (T.heard client.old)) (spot executor.new (T.heard client.new)) end) }
+    ensures breaks { OnErr result ((end : TurnEnd) × TurnHeard (HearsPart setting.now.form) D.view (limits_of setting.now) now
         (spot executor.old (T.heard client.old)) (spot executor.new (T.heard client.new)) end) }
 {
     executor.clear_book();

@@ -16,7 +16,7 @@ use Rattle.exec_session.specs.declared.session.Run.{Run}
 use Rattle.exec_session.specs.Answers.{Source}
 use Rattle.exec_session.specs.Limits.{Limits}
 use Rattle.exec_session.specs.Progress.{Place, place}
-use Rattle.exec_session.specs.Runs.{Ended, EndsAs}
+use Rattle.exec_session.specs.Ends.{Ended, EndsAs}
 use Rattle.ocfexec.specs.Starts.{EndsFor, IsToldAs}
 
 -- a run does not end by its words

@@ -1,11 +1,7 @@
-use Rattle.std.proofs.Common.{[], ◌∷◌, refl}
+use Rattle.std.proofs.Common.{refl}
 use Rattle.exec_commands.specs.declared.reply.LineReply.TheVariants as answer
 use Rattle.exec_client.specs.MayTell.{MayBeReplied}
-use Rattle.exec_client.specs.Said.{Answered}
 use Rattle.exec_client.proofs.Growing.{all_still_stand, may_reply, may_reply_none, tidied_stands}
-use Rattle.exec_session.specs.Answers.{DrainsFor}
-use Rattle.exec_session.specs.Drains.{spot}
-use Rattle.exec_session.specs.Limits.{limits_of}
 use Rattle.exec_session.proofs.TellLemmas.{is_plain}
 use Rattle.exec_session.proofs.WaitLemmas.{if_ok}
 use Rattle.exec_session.proofs.answer.open_reply.Goals as goal

@@ -1,7 +1,11 @@
 use Rattle.std.proofs.Common.{◌+◌, not, None, Some, refl, ◌∙◌}
 use Rattle.ocf_types.specs.Boot.{any_busy}
+use Rattle.exec_lines.proofs.PieceLemmas.{on_err}
 use Rattle.exec_session.specs.Drains.{at_start, further, spot}
+use Rattle.exec_session.specs.Breaks.{behind_turns, in_turn}
+use Rattle.exec_session.specs.Limits.{limits_of}
 use Rattle.exec_session.proofs.DrainLemmas.{closes, still_open, told_end}
+use Rattle.exec_session.proofs.BreakLemmas.{turn_whole}
 use Rattle.exec_session.proofs.drain.drain.Goals as goal
 
 pub loop-turns-init : goal.loop-turns-init
@@ -46,3 +50,19 @@ loop-turns-preserved g c =
       stands = c.in_ok-end.ensures.stands;
       opened = c.in_ok-end.ensures.opened ∙ c.loop-turns.invariant.opened;
     }
+
+pub returns-in_err-end-clause-breaks : goal.returns-in_err-end-clause-breaks
+returns-in_err-end-clause-breaks g c =
+    let (end, heard) = c.in_err-end.ensures.breaks in
+    on_err c.from_residual.result _ (in_turn c.loop-turns.turns c.loop-turns.now (spot c.loop-turns.executor (g.T.Client.heard c.loop-turns.client))
+    end c.loop-turns.invariant.gone_on heard)
+
+pub returns-then-not-is_heard-clause-breaks : goal.returns-then-not-is_heard-clause-breaks
+returns-then-not-is_heard-clause-breaks g c =
+    let last = spot c.loop-turns.executor (g.T.Client.heard c.loop-turns.client) in
+    let next = spot c.make_turn.new.executor (g.T.Client.heard c.make_turn.new.client) in
+    in_turn c.loop-turns.turns c.loop-turns.now last c.in_ok-end.end c.loop-turns.invariant.gone_on
+    (turn_whole g.D.Disk.view (limits_of c.args.setting.now) c.loop-turns.now last next c.in_ok-end.end c.in_ok-end.ensures.made)
+
+pub returns-clause-breaks : goal.returns-clause-breaks
+returns-clause-breaks g c = behind_turns c.loop-turns.turns c.loop-turns.now c.loop-turns.invariant.gone_on

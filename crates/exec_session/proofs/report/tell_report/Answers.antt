@@ -1,9 +1,12 @@
-use Rattle.std.proofs.Common.{inl, inr, List, map, sym, subst, ◌∙◌}
+use Rattle.std.proofs.Common.{inl, inr, List, map, refl, sym, subst}
+use Rattle.ocf_types.specs.declared.reply.Notice.{Notice}
 use Rattle.executor.specs.Sights.{Sight}
+use Rattle.exec_lines.proofs.PieceLemmas.{on_err}
 use Rattle.exec_client.specs.Said.{Reported}
 use Rattle.exec_client.specs.MayTell.{IsReported}
+use Rattle.exec_client.specs.Heard.{HearsPart}
 use Rattle.exec_client.proofs.Growing.{may_tell}
-use Rattle.exec_session.proofs.HeardLemmas.{hears_both}
+use Rattle.exec_session.proofs.HeardLemmas.{breaks_both, hears_both}
 use Rattle.exec_session.proofs.TellLemmas.{after_told, reported_stand}
 use Rattle.exec_session.proofs.report.tell_report.Goals as goal
 
@@ -52,3 +55,19 @@ returns-clause-told g c =
     hears_both c.args.form (g.T.Client.heard c.args.client.now) (g.T.Client.heard c.tell.new.self) (g.T.Client.heard c.tell-2.new.self)
     c.as_slice.result.now c.as_slice-2.result.now c.args.report.now.interrupted.items c.args.report.now.dropped.items c.tell-2.result
     c.as_slice.ensures.value c.as_slice-2.ensures.value c.in_ok-tell.ensures.hears c.tell-2.ensures.hears
+
+pub returns-in_err-tell-clause-breaks : goal.returns-in_err-tell-clause-breaks
+returns-in_err-tell-clause-breaks g c =
+    on_err c.from_residual.result _ (
+      map Reported c.args.report.now.interrupted.items,
+      map Reported c.args.report.now.dropped.items,
+      refl,
+      subst (λ (ns : List Notice). HearsPart c.args.form (g.T.Client.heard c.args.client.now) (g.T.Client.heard c.tell.new.self) (map Reported ns))
+          c.as_slice.ensures.value c.in_err-tell.ensures.breaks,
+    )
+
+pub returns-clause-breaks : goal.returns-clause-breaks
+returns-clause-breaks g c =
+    breaks_both c.args.form (g.T.Client.heard c.args.client.now) (g.T.Client.heard c.tell.new.self) (g.T.Client.heard c.tell-2.new.self)
+    c.as_slice.result.now c.as_slice-2.result.now c.args.report.now.interrupted.items c.args.report.now.dropped.items c.tell-2.result
+    c.as_slice.ensures.value c.as_slice-2.ensures.value c.in_ok-tell.ensures.hears c.tell-2.ensures.breaks

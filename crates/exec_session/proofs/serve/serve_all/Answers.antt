@@ -1,9 +1,12 @@
 use Rattle.std.proofs.Common.{[], refl, subst, ◌∙◌}
 use Rattle.exec_lines.specs.Buffer.{line_bytes}
+use Rattle.exec_lines.proofs.PieceLemmas.{on_err}
 use Rattle.exec_session.specs.Limits.{limits_of}
 use Rattle.exec_session.specs.Progress.{place}
 use Rattle.exec_session.specs.Serving.{ComesMidOrEnds}
+use Rattle.exec_session.specs.Drains.{spot}
 use Rattle.exec_session.proofs.ServeLemmas.{first_mid, one_turn}
+use Rattle.exec_session.proofs.BreakLemmas.{between_reads, turn_breaks}
 use Rattle.exec_session.proofs.serve.serve_all.Goals as goal
 
 pub loop-init : goal.loop-init
@@ -41,3 +44,46 @@ loop-preserved g c =
           (place c.make_own_turn.new.executor (g.R.Read.remaining c.wait.new.reader) (g.T.Client.heard c.make_own_turn.new.client))
           c.wait.ensures.same come c.in_ok-make_own_turn.ensures.turns;
     }
+
+pub returns-in_err-answer_waiting-clause-breaks : goal.returns-in_err-answer_waiting-clause-breaks
+returns-in_err-answer_waiting-clause-breaks g c =
+    let p = place c.args.executor.now (g.R.Read.remaining c.args.reader.now) (g.T.Client.heard c.args.client.now) in
+    on_err c.from_residual.result _ (c.in_err-answer_waiting.ensures.breaks p c.loop.invariant.come)
+
+pub returns-in_err-make_own_turn-clause-breaks : goal.returns-in_err-make_own_turn-clause-breaks
+returns-in_err-make_own_turn-clause-breaks g c =
+    let look = g.D.Disk.view in
+    let source = g.M.Metadata.gives c.args.setting.now.metadata.now in
+    let limits = limits_of c.args.setting.now in
+    let p = place c.args.executor.now (g.R.Read.remaining c.args.reader.now) (g.T.Client.heard c.args.client.now) in
+    let middle = c.answer_waiting.new in
+    let q = place middle.executor (g.R.Read.remaining middle.reader) (g.T.Client.heard middle.client) in
+    let come = subst (ComesMidOrEnds look source limits p 64 [] (line_bytes middle.buffer) q) c.if-branch.false
+    (c.in_ok-answer_waiting.ensures.takes p c.loop.invariant.come) in
+    let (is_open, now, end, heard) = c.in_err-make_own_turn.ensures.breaks in
+    let new = c.make_own_turn.new in
+    on_err c.from_residual-in_err-make_own_turn.result _ (turn_breaks look source limits p c.loop.invariant.way 64 (line_bytes middle.buffer) q
+    (spot new.executor (g.T.Client.heard new.client)) now end come is_open heard)
+
+pub returns-in_err-wait-clause-breaks : goal.returns-in_err-wait-clause-breaks
+returns-in_err-wait-clause-breaks g c =
+    let look = g.D.Disk.view in
+    let source = g.M.Metadata.gives c.args.setting.now.metadata.now in
+    let limits = limits_of c.args.setting.now in
+    let p = place c.args.executor.now (g.R.Read.remaining c.args.reader.now) (g.T.Client.heard c.args.client.now) in
+    let middle = c.answer_waiting.new in
+    let kept = line_bytes middle.buffer in
+    let q = place middle.executor (g.R.Read.remaining middle.reader) (g.T.Client.heard middle.client) in
+    let come = subst (ComesMidOrEnds look source limits p 64 [] kept q) c.if-branch.false
+    (c.in_ok-answer_waiting.ensures.takes p c.loop.invariant.come) in
+    let new = c.make_own_turn.new in
+    let last = place new.executor (g.R.Read.remaining middle.reader) (g.T.Client.heard new.client) in
+    on_err c.from_residual-in_err-wait.result _ (between_reads look source limits p 0 [] kept last
+    (one_turn look source limits p c.loop.invariant.way 64 kept q last refl come c.in_ok-make_own_turn.ensures.turns))
+
+pub returns-clause-breaks : goal.returns-clause-breaks
+returns-clause-breaks g c =
+    let p = place c.args.executor.now (g.R.Read.remaining c.args.reader.now) (g.T.Client.heard c.args.client.now) in
+    between_reads g.D.Disk.view (g.M.Metadata.gives c.args.setting.now.metadata.now) (limits_of c.args.setting.now) p 0 []
+    (line_bytes c.loop.buffer) (place c.loop.executor (g.R.Read.remaining c.loop.reader) (g.T.Client.heard c.loop.client))
+    c.loop.invariant.come

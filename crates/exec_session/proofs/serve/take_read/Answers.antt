@@ -1,5 +1,6 @@
 use Rattle.std.proofs.Common.{◌+◌, arith}
 use Rattle.exec_lines.specs.Buffer.{line_bytes}
+use Rattle.exec_lines.proofs.PieceLemmas.{on_err}
 use Rattle.exec_session.specs.Gathered.{waiting}
 use Rattle.exec_session.specs.Limits.{limits_of}
 use Rattle.exec_session.specs.Progress.{place}
@@ -7,6 +8,7 @@ use Rattle.exec_session.specs.Serving.{ComesMidOrEnds}
 use Rattle.exec_session.specs.Waiting.{ComesOrEnds}
 use Rattle.exec_session.proofs.ServeLemmas.{at_none, at_some, mid_taken}
 use Rattle.exec_session.proofs.WaitLemmas.{come_more, if_ok}
+use Rattle.exec_session.proofs.BreakLemmas.{between_reads}
 use Rattle.exec_session.proofs.serve.take_read.Goals as goal
 
 pub returns-in_default-clause-takes : goal.returns-in_default-clause-takes
@@ -32,3 +34,15 @@ returns-clause-takes g c = λ p most may (left, mid, come).
     if_ok (ComesOrEnds look source limits p (most + 1) commands q) (ComesMidOrEnds look source limits p (most + 1) commands kept q)
     c.take_found.result (λ ended. mid_taken look source limits p (most + 1) commands kept q ended c.clear.ensures)
     (c.take_found.ensures.takes p most left now may (c.found_in-found.ensures.found left now next) come)
+
+pub returns-in_err-next-clause-breaks : goal.returns-in_err-next-clause-breaks
+returns-in_err-next-clause-breaks g c = λ p most may come.
+    on_err c.from_residual.result _ (between_reads g.D.Disk.view (g.M.Metadata.gives c.args.setting.now.metadata.now)
+    (limits_of c.args.setting.now) p most (waiting c.args.gathered.now) (line_bytes c.args.buffer.now)
+    (place c.args.executor.now (g.R.Read.remaining c.args.reader.now) (g.T.Client.heard c.args.client.now)) come)
+
+pub returns-clause-breaks : goal.returns-clause-breaks
+returns-clause-breaks g c = λ p most may (left, mid, come).
+    let now = g.R.Read.remaining c.gather_line.new.reader in
+    let next = at_some c.in_ok-next.field-0 c.in-Some.next _ _ c.in-Some.is (c.in_ok-next.ensures.gathers left mid) in
+    c.take_found.ensures.breaks p most left now may (c.found_in-found.ensures.found left now next) come

@@ -1,9 +1,11 @@
 use Rattle.std.proofs.Common.{◌+◌, refl, subst, ◌∙◌}
+use Rattle.exec_lines.proofs.PieceLemmas.{on_err}
 use Rattle.exec_session.specs.Gathered.{waiting}
 use Rattle.exec_session.specs.Limits.{limits_of}
 use Rattle.exec_session.specs.Progress.{place}
 use Rattle.exec_session.specs.Waiting.{ComesOrEnds}
 use Rattle.exec_session.proofs.WaitLemmas.{at_first, come_none, may_run, none_waits}
+use Rattle.exec_session.proofs.BreakLemmas.{between_lines}
 use Rattle.exec_session.proofs.session.answer_all.Goals as goal
 
 pub loop-init : goal.loop-init
@@ -49,3 +51,15 @@ loop-preserved g c =
             (c.in_ok-take_next.ensures.takes p most (may_run c.args.setting.now.way most c.loop.invariant.way) c.loop.invariant.come.1),
       );
     }
+
+pub returns-in_err-take_next-clause-breaks : goal.returns-in_err-take_next-clause-breaks
+returns-in_err-take_next-clause-breaks g c =
+    let p = place c.args.executor.now (g.R.Read.remaining c.args.reader.now) (g.T.Client.heard c.args.client.now) in
+    let most = c.loop.invariant.come.0 in
+    on_err c.from_residual.result _ (c.in_err-take_next.ensures.breaks p most (may_run c.args.setting.now.way most c.loop.invariant.way) c.loop.invariant.come.1)
+
+pub returns-clause-breaks : goal.returns-clause-breaks
+returns-clause-breaks g c =
+    let p = place c.args.executor.now (g.R.Read.remaining c.args.reader.now) (g.T.Client.heard c.args.client.now) in
+    between_lines g.D.Disk.view (g.M.Metadata.gives c.args.setting.now.metadata.now) (limits_of c.args.setting.now) p c.loop.invariant.come.0
+    (waiting c.loop.gathered) (place c.loop.executor (g.R.Read.remaining c.loop.reader) (g.T.Client.heard c.loop.client)) c.loop.invariant.come.1

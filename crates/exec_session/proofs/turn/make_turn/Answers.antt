@@ -1,10 +1,12 @@
 use Rattle.std.proofs.Common.{true≢false, List, map, refl, sym, ◌∙◌, subst}
 use Rattle.ocf_types.specs.declared.reply.Notice.{Notice}
 use Rattle.executor.specs.Sights.{Sight}
-use Rattle.executor.specs.TurnCalls.{TakesTurn, TurnsWhile}
+use Rattle.executor.specs.TurnCalls.{TurnsWhile}
+use Rattle.exec_lines.proofs.PieceLemmas.{on_err}
 use Rattle.exec_client.specs.Heard.{Hears}
 use Rattle.exec_client.specs.MayTell.{StandsBehind}
 use Rattle.exec_client.specs.Said.{Noticed}
+use Rattle.exec_client.specs.Heard.{HearsPart}
 use Rattle.exec_client.proofs.Growing.{all_still_stand, may_tell}
 use Rattle.exec_session.specs.Limits.{MakesRoom, limits_of}
 use Rattle.exec_session.proofs.TellLemmas.{after_told, cleared_room, turn_behind_room}
@@ -88,3 +90,23 @@ returns-clause-stands g c =
     after_told look (g.T.Client.heard c.args.client.now) (g.T.Client.heard c.tell.new.self) old last _ c.requires.stands
     (subst (λ (told : List Notice). StandsBehind look old last (map Noticed told)) (sym c.notices.ensures.value) told)
     c.tell.ensures.told
+
+pub returns-in_err-tell-clause-breaks : goal.returns-in_err-tell-clause-breaks
+returns-in_err-tell-clause-breaks g c =
+    let is_open = sym c.if-not-make_room.ensures.value in
+    let middle = c.make_room.new.executor in
+    let last = c.turn-end.new.self in
+    on_err c.from_residual.result _ (
+      c.turn-end.result,
+      record {
+        middle = middle;
+        room =
+            subst (λ (x : Sight g.row.D.Denot). MakesRoom g.D.Disk.view
+            (limits_of c.args.setting.now) x middle) c.clear_book.ensures.cleared c.make_room.ensures.makes;
+        takes = λ _. subst (λ b. TurnsWhile b g.D.Disk.view c.args.now middle last c.turn-end.result) is_open c.turn-end.ensures.turns;
+        hears =
+            λ _. subst (λ (told : List Notice). HearsPart c.args.setting.now.form (g.T.Client.heard c.args.client.now)
+            (g.T.Client.heard c.tell.new.self) (map Noticed told)) c.notices.ensures.value c.in_err-tell.ensures.breaks;
+        fails = λ closed. absurd (true≢false (sym is_open ∙ closed));
+      },
+    )

@@ -1,0 +1,83 @@
+-- A run that breaks off.
+use Rattle.std.specs.List.{flat_map}
+use Rattle.std.proofs.Common.{◌≡◌, ◌≢◌, ℕ, true, List, [], ◌∷◌, Option, refl, sym}
+use Rattle.std.proofs.lemmas.List.{append-nil}
+use Rattle.ocf_types.specs.Kinds.{Command}
+use Rattle.ocf_types.specs.declared.reply.TurnEnd.{TurnEnd}
+use Rattle.disk_model.specs.View.{View}
+use Rattle.executor.specs.Sights.{Sight}
+use Rattle.exec_commands.specs.declared.notice.NoticeForm.{NoticeForm}
+use Rattle.exec_client.specs.Heard.{Heard, Hears, HearsPart}
+use Rattle.exec_client.specs.Said.{Said, line_of}
+use Rattle.exec_session.specs.Answers.{Source}
+use Rattle.exec_session.specs.Breaks.{BreaksIn, BreaksOff, RowBreaks, between, in_own_turn, in_row}
+use Rattle.exec_session.specs.Drains.{MakesTurn, Spot, TurnHeard, spot}
+use Rattle.exec_session.specs.Limits.{Limits}
+use Rattle.exec_session.specs.Progress.{Place, place}
+use Rattle.exec_session.specs.Serving.{HasComeMid}
+use Rattle.exec_session.specs.Waiting.{HasCome}
+use Rattle.exec_session.specs.declared.setting.Way.TheVariants.{Serve}
+use Rattle.exec_session.proofs.ServeLemmas.{turns_serve}
+use Rattle.exec_session.proofs.WaitLemmas.{at_line}
+
+-- all of it is a front of it
+pub heard_whole : {D : Type 0} (form : NoticeForm) (a b : Heard D) (said : List Said) → Hears form a b said → HearsPart form a b said
+heard_whole form a b said hears =
+    let bytes = flat_map (line_of form) said in record {
+      told = hears.told;
+      written = record { front = bytes; rest = []; parts = sym (append-nil bytes); written = hears.written };
+    }
+
+pub turn_whole : {D : Type 0} (look : D → View) (limits : Limits) (now : ℕ) (p q : Spot D) (end : TurnEnd)
+    → MakesTurn look limits now p q end → TurnHeard (HearsPart limits.form) look limits now p q end
+turn_whole look limits now p q end made = record {
+  middle = made.middle;
+  room = made.room;
+  takes = made.takes;
+  hears = λ is_open. heard_whole limits.form p.heard q.heard _ (made.hears is_open);
+  fails = made.fails;
+}
+
+module _ {D : Type 0} (look : D → View) (source : Source) (limits : Limits) (p : Place D) where
+  abbrev Breaks : Spot D → Type 0
+  Breaks s = BreaksOff look source limits p s
+
+  -- behind lines of which some wait nothing is done
+  pub between_lines : (most : ℕ) (commands : List Command) (q : Place D) → HasCome look source limits p most commands q
+      → Breaks (spot q.executor q.heard)
+  between_lines most commands q (count, few, waits) = record {
+    count = count;
+    last = place q.executor waits.left q.heard;
+    reached = waits.reached;
+    breaks = between refl;
+  }
+
+  pub between_reads : (most : ℕ) (commands : List Command) (kept : List ℕ) (q : Place D) → HasComeMid look source limits p most commands kept q
+      → Breaks (spot q.executor q.heard)
+  between_reads most commands kept q (left, mid, come) = between_lines most commands (place q.executor left q.heard) come
+
+  -- it breaks off in the next thing that it does
+  pub next_breaks : (most : ℕ) (q : Place D) (s : Spot D) → HasCome look source limits p most [] q → BreaksIn look source limits q s
+      → Breaks s
+  next_breaks most q s come breaks =
+      let (count, few, reached) = at_line look source limits p most q come in
+      record { count = count; last = q; reached = reached; breaks = breaks }
+
+  -- in the commands that wait
+  pub row_breaks : (most : ℕ) (commands : List Command) (old : Sight D) (left : Option (List ℕ)) (heard : Heard D) (s : Spot D)
+      → (commands ≢ [] → old.is_open ≡ true) → HasCome look source limits p most commands (place old left heard)
+      → RowBreaks look limits commands (spot old heard) s → Breaks s
+  row_breaks most [] old left heard s is_open come breaks = absurd breaks
+  row_breaks most (first ∷ others) old left heard s is_open (count, few, waits) breaks = record {
+    count = count;
+    last = place old waits.left heard;
+    reached = waits.reached;
+    breaks = in_row left (first ∷ others) waits.read (is_open (λ none. cc)) breaks;
+  }
+
+  -- in a turn of its own
+  pub turn_breaks : limits.way ≡ Serve → (most : ℕ) (kept : List ℕ) (q : Place D) (s : Spot D) (now : ℕ) (end : TurnEnd)
+      → HasComeMid look source limits p most [] kept q → q.executor.is_open ≡ true
+      → TurnHeard (HearsPart limits.form) look limits now (spot q.executor q.heard) s end → Breaks s
+  turn_breaks way most kept q s now end (left, mid, come) is_open heard =
+      next_breaks most (place q.executor left q.heard) s come (in_own_turn now end (turns_serve limits.way way) is_open heard)
