@@ -2,10 +2,10 @@
 use crate::runs::{DRAIN, ended, ended_in, writes};
 use child_keeper::Poll;
 use disk_model::MemDisk;
-use exec_lines::Patient;
+use exec_lines::{Output, Patient};
 use exec_output::{Fault, show};
 use std::alloc::Global;
-use std::io::{self, BufReader, ErrorKind, Read};
+use std::io::{self, BufReader, ErrorKind, Read, Write};
 
 // A registration, a question, a tidy, a line that is refused in reading, drains and metadata.
 const LINES: &[u8] =
@@ -123,6 +123,49 @@ fn unread(alloc: Global) -> Option<Result<(), Fault>> {
 #[test]
 fn reads_that_bring_nothing_are_made_again_and_one_that_fails_ends_the_run(rt: HostRuntime) {
     assert_eq!(rt; unread(rt.alloc()), Some(Err(Fault::InputOrOutput)));
+}
+
+// Takes one byte at a time, each behind a write that was interrupted.
+#[derive(Drop)]
+struct Sparing {
+    taken: Vec<u8>,
+    stumbles: bool,
+}
+
+impl Write for Sparing {
+    fn write(&mut self, buf: &[u8]) -> io::Result<usize> {
+        self.stumbles = !self.stumbles;
+        if self.stumbles {
+            return Err(io::Error::from(ErrorKind::Interrupted));
+        }
+        self.taken.write(&buf[..buf.len().min(1)])
+    }
+
+    fn flush(&mut self) -> io::Result<()> {
+        Ok(())
+    }
+}
+
+impl Output for Sparing {
+    fn is_heard(&self) -> bool {
+        true
+    }
+}
+
+#[test]
+fn writes_that_take_little_are_made_again(rt: HostRuntime) {
+    let alloc = rt.alloc();
+    let mut writer = Sparing {
+        taken: Vec::new(alloc),
+        stumbles: false,
+    };
+    let mut reader = TOGETHER;
+    let ended = ended(alloc, MemDisk::new(alloc), &[], &mut reader, &mut writer);
+    assert_eq!(rt; ended, Some(Ok(())));
+    assert_eq!(rt;
+        writer.taken.as_slice(),
+        b"{\"ok\":true}\n{\"ok\":true}\n{\"ok\":true,\"resources\":[\"r1\",\"r2\"]}\n".as_slice()
+    );
 }
 
 // How a run ends whose output takes so many bytes of two replies of 27 bytes each.
