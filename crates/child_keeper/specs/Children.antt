@@ -1,7 +1,7 @@
 -- What contracts see of children, and what each call does to it.
 use Rattle.std.specs.Prelude.{◌≡◌, ℕ, ◌+◌, ◌-◌, ◌==◌, ⊤, List, [], ◌∷◌, ◌++◌, filter, length, not, Option, Some, None, Result, Ok, Err, All}
 use Rattle.std.specs.Prelude.{Contains}
-use Rattle.ocf_env.specs.Places.{Place}
+use Rattle.ocf_env.specs.Places.{SiteView}
 use Rattle.ocf_types.specs.Limits.{resources_limit}
 use Rattle.ocf_types.specs.declared.outcome.StartFault.{StartFault}
 use Rattle.child_keeper.specs.declared.answer.Answer.{Answer}
@@ -24,10 +24,10 @@ pub record ChildrenView : Type 0 where
   pub room : ℕ
   pub last_run : ℕ
   pub live : List ℕ
-  pub site : Option Place
+  pub site : Option SiteView
 
 -- where this site is insisted on, if any, agents may be started at that one
-abbrev pub Admits : Option Place → Place → Type 0
+abbrev pub Admits : Option SiteView → SiteView → Type 0
 Admits None site = ⊤
 Admits (Some insisted) site = site ≡ insisted
 

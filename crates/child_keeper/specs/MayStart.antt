@@ -8,14 +8,14 @@ use Rattle.exec_journal.specs.Journal.{Settled}
 use Rattle.exec_journal.specs.declared.journal.Journal.{Journal}
 use Rattle.ocf_env.specs.Instances.{registration_of}
 use Rattle.ocf_env.specs.Invocations.{IsInvocation}
-use Rattle.ocf_env.specs.Places.{Call, Place}
+use Rattle.ocf_env.specs.Places.{Call, SiteView}
 use Rattle.ocf_env.specs.declared.launches.LaunchOf.{LaunchOf}
 use Rattle.child_keeper.specs.Children.{Admits}
 
 -- At this state an action runs under the launch's call and run in the resource of its id; the launch calls the agent that
 -- is registered there, for that action, with the parameters that are registered, at the site that is insisted on, if any.
-pub record IsLaunch (insisted : Option Place) (s : State) (launch : LaunchOf Call) : Type 0 where
-  pub site : Place
+pub record IsLaunch (insisted : Option SiteView) (s : State) (launch : LaunchOf Call) : Type 0 where
+  pub site : SiteView
   pub admitted : Admits insisted site
   pub resource : Resource
   pub running : Running
@@ -27,5 +27,5 @@ pub record IsLaunch (insisted : Option Place) (s : State) (launch : LaunchOf Cal
 
 -- the journal, over a disk that is seen so, is settled at a state in which the launched action runs: whatever a stop leaves,
 -- its begin is found; the launch is at the site that is insisted on, if any
-abbrev pub MayStart : {D M : Type 0} → Option Place → Journal D M → View → LaunchOf Call → Type 0
+abbrev pub MayStart : {D M : Type 0} → Option SiteView → Journal D M → View → LaunchOf Call → Type 0
 MayStart insisted j v launch = (s : State) × Settled j v s × IsLaunch insisted s launch

@@ -7,7 +7,7 @@ use exec_client::Teller;
 use exec_commands::NoticeForm;
 use exec_lines::{Input, Output};
 use exec_output::Fault;
-use exec_session::{Metadata, Setting, Way, run_lines};
+use exec_session::{Metadata, RunContext, Way, run_lines};
 use executor::Executor;
 use ocf_env::{Site, Text};
 use ocf_types::{AgentType, MetaFault, Provider, StartFault};
@@ -87,7 +87,7 @@ fn ended_in_way<R: Input, W: Output>(
     writer: &mut W,
 ) -> Option<Result<(), Fault>> {
     let children = children(alloc, polls)?;
-    let setting = Setting {
+    let context = RunContext {
         alloc,
         clock: &Standing,
         metadata: &NoMetadata,
@@ -99,7 +99,7 @@ fn ended_in_way<R: Input, W: Output>(
     match Executor::open(alloc, disk, children, nowhere(alloc), 5_000) {
         Ok((executor, report)) => {
             let mut client = Teller::new(alloc, writer, &executor);
-            Some(run_lines(&setting, reader, &mut client, executor, &report).ended)
+            Some(run_lines(&context, reader, &mut client, executor, &report).ended)
         }
         Err(_) => None,
     }

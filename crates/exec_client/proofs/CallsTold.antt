@@ -5,10 +5,10 @@ use Rattle.std.specs.List.{AllByRecursion, flat_map}
 use Rattle.ocf_types.specs.Kinds.{Event}
 use Rattle.ocf_types.specs.declared.command.RequestOf.TheVariants as asked
 use Rattle.disk_model.specs.View.{View}
-use Rattle.executor.specs.CallLaws.{both_assoc, both_none}
+use Rattle.executor.specs.CallLaws.{followed_by_assoc, followed_by_none}
 use Rattle.executor.specs.Lives.{Abandoned, Calls, Cleared, Does, Exchange, Row, Tidied, Took}
 use Rattle.executor.specs.Rows.{IsAt, replies_of}
-use Rattle.executor.specs.Sessions.{Deeds, both, no_deeds}
+use Rattle.executor.specs.Sessions.{Effects, followed_by, no_effects}
 use Rattle.executor.specs.Sights.{Sight}
 use Rattle.executor.specs.declared.session.InputOf.TheVariants as input
 use Rattle.exec_client.specs.Behind.{Behind, nothing, says_else, tells, untold}
@@ -31,13 +31,13 @@ both_nothing (s ∷ ss) ts one two = (one.0, both_nothing ss ts one.1 two)
 
 module _ {D : Type 0} (look : D → View) where
   -- one call
-  pub one_tells : (x y : Sight D) (e : Exchange) (d : Deeds) (said : List Said) → Does look e x y d → Says e y said
+  pub one_tells : (x y : Sight D) (e : Exchange) (d : Effects) (said : List Said) → Does look e x y d → Says e y said
       → TellsCalls look x (e ∷ []) y d said
   one_tells x y e d said does says =
-      ([], said, [], y, d, no_deeds, tt, does, says, (refl, refl, tt), sym (both_none d), sym (append-nil said))
+      ([], said, [], y, d, no_effects, tt, does, says, (refl, refl, tt), sym (followed_by_none d), sym (append-nil said))
 
   -- what claims nothing, and then calls
-  aside_tells : (x z : Sight D) (es : List Exchange) (d : Deeds) (ss ts : List Said) → ClaimsNothing ss → TellsCalls look x es z d ts
+  aside_tells : (x z : Sight D) (es : List Exchange) (d : Effects) (ss ts : List Said) → ClaimsNothing ss → TellsCalls look x es z d ts
       → TellsCalls look x es z d (ss ++ ts)
   aside_tells x z [] d ss ts none (same, nil, plain) = (same, nil, both_nothing ss ts none plain)
   aside_tells x z (e ∷ es) d ss ts none (aside, mine, later, mid, first, rest, plain, does, says, goes_on, is, told) = (
@@ -56,10 +56,10 @@ module _ {D : Type 0} (look : D → View) where
   )
 
   -- calls, and then others
-  pub both_tell : (x y z : Sight D) (es fs : List Exchange) (a b : Deeds) (ss ts : List Said) → TellsCalls look x es y a ss
-      → TellsCalls look y fs z b ts → TellsCalls look x (es ++ fs) z (both a b) (ss ++ ts)
+  pub both_tell : (x y z : Sight D) (es fs : List Exchange) (a b : Effects) (ss ts : List Said) → TellsCalls look x es y a ss
+      → TellsCalls look y fs z b ts → TellsCalls look x (es ++ fs) z (followed_by a b) (ss ++ ts)
   both_tell x y z [] fs a b ss ts (same, none, plain) two =
-      subst (λ (d : Deeds). TellsCalls look x fs z d (ss ++ ts)) (sym (ap (λ (d : Deeds). both d b) none))
+      subst (λ (d : Effects). TellsCalls look x fs z d (ss ++ ts)) (sym (ap (λ (d : Effects). followed_by d b) none))
       (aside_tells x z fs b ss ts plain (subst (λ (w : Sight D). TellsCalls look w fs z b ts) same two))
   both_tell x y z (e ∷ es) fs a b ss ts (aside, mine, later, mid, first, rest, plain, does, says, goes_on, is, told) two = (
     aside,
@@ -67,12 +67,12 @@ module _ {D : Type 0} (look : D → View) where
     later ++ ts,
     mid,
     first,
-    both rest b,
+    followed_by rest b,
     plain,
     does,
     says,
     both_tell mid y z es fs rest b later ts goes_on two,
-    ap (λ (d : Deeds). both d b) is ∙ sym (both_assoc first rest b),
+    ap (λ (d : Effects). followed_by d b) is ∙ sym (followed_by_assoc first rest b),
     ap (λ (us : List Said). us ++ ts) told ∙ append_assoc aside (mine ++ later) ts
         ∙ ap (λ (us : List Said). aside ++ us) (append_assoc mine later ts),
   )
@@ -87,7 +87,7 @@ module _ {D : Type 0} (look : D → View) where
   says_at now Cleared y is = absurd is
   says_at now Abandoned y is = absurd is
 
-  pub commands_tell : (now : ℕ) (es : List Exchange) (x y : Sight D) (d : Deeds) → AllByRecursion (IsAt now) es → Calls look x es y d
+  pub commands_tell : (now : ℕ) (es : List Exchange) (x y : Sight D) (d : Effects) → AllByRecursion (IsAt now) es → Calls look x es y d
       → TellsCalls look x es y d (map answered (flat_map replies_of es))
   commands_tell now [] x y d at (same, none) = (same, none, tt)
   commands_tell now (e ∷ es) x y d at (mid, first, later, does, calls, is) = (

@@ -11,12 +11,12 @@ use Rattle.ocf_types.specs.declared.reply.ReplyOf.TheVariants as reply
 use Rattle.ocf_types.specs.declared.reply.TidyEnd.{TidyEnd}
 use Rattle.ocf_types.specs.declared.reply.TurnEnd.{TurnEnd}
 use Rattle.disk_model.specs.View.{View}
-use Rattle.executor.specs.CallLaws.{both_none, calls_behind}
+use Rattle.executor.specs.CallLaws.{followed_by_none, calls_behind}
 use Rattle.executor.specs.Commands.{Obeys, Serves, ServesWhile}
 use Rattle.executor.specs.Lives.{Abandoned, Calls, Cleared, Does, Exchange, Row, Tidied, Took}
-use Rattle.executor.specs.RowCalls.{TakesRow, row_deeds, row_replies}
+use Rattle.executor.specs.RowCalls.{TakesRow, row_effects, row_replies}
 use Rattle.executor.specs.Rows.{IsAt, TakesCommands, replies_of}
-use Rattle.executor.specs.Sessions.{Deeds, TakesWhile, both, command_deeds, no_deeds}
+use Rattle.executor.specs.Sessions.{Effects, TakesWhile, followed_by, command_effects, no_effects}
 use Rattle.executor.specs.Sights.{Sight}
 use Rattle.executor.specs.TidyCalls.{Tidies, TidiesWhile}
 use Rattle.executor.specs.TurnCalls.{TakesTurn, abandoned, with_empty_book}
@@ -39,26 +39,26 @@ refused_behind r why is =
     subst (λ (t : Reply). Behind (answered t ∷ []) []) (sym is) (says_none (answered (reply.Refused why)) refl)
 
 -- events that are these
-events_are : (ss : List Said) (d e : Deeds) → d ≡ e → Behind ss e.events → Behind ss d.events
-events_are ss d e same behind = subst (λ (f : Deeds). Behind ss f.events) (sym same) behind
+events_are : (ss : List Said) (d e : Effects) → d ≡ e → Behind ss e.events → Behind ss d.events
+events_are ss d e same behind = subst (λ (f : Effects). Behind ss f.events) (sym same) behind
 
 module _ {D : Type 0} (look : D → View) where
   -- no call, one call, and calls behind others
   pub none_stands : (x y : Sight D) (said : List Said) → y ≡ x → Behind said [] → StandsBehind look x y said
   none_stands x y said same behind = record {
     calls = [];
-    deeds = no_deeds;
+    effects = no_effects;
     leads = (same, refl);
     tells = (same, refl, claims_nothing said behind);
     behind = behind;
   }
 
-  one_stands : (x y : Sight D) (e : Exchange) (d : Deeds) (said : List Said) → Does look e x y d → Says e y said → Behind said d.events
+  one_stands : (x y : Sight D) (e : Exchange) (d : Effects) (said : List Said) → Does look e x y d → Says e y said → Behind said d.events
       → StandsBehind look x y said
   one_stands x y e d said does says behind = record {
     calls = e ∷ [];
-    deeds = d;
-    leads = (y, d, no_deeds, does, (refl, refl), sym (both_none d));
+    effects = d;
+    leads = (y, d, no_effects, does, (refl, refl), sym (followed_by_none d));
     tells = one_tells look x y e d said does says;
     behind = behind;
   }
@@ -67,10 +67,10 @@ module _ {D : Type 0} (look : D → View) where
       → StandsBehind look x z (ss ++ ts)
   both_stand x y z ss ts one two = record {
     calls = one.calls ++ two.calls;
-    deeds = both one.deeds two.deeds;
-    leads = calls_behind look x y z one.calls two.calls one.deeds two.deeds one.leads two.leads;
-    tells = both_tell look x y z one.calls two.calls one.deeds two.deeds ss ts one.tells two.tells;
-    behind = both_behind ss one.deeds.events ts two.deeds.events one.behind two.behind;
+    effects = followed_by one.effects two.effects;
+    leads = calls_behind look x y z one.calls two.calls one.effects two.effects one.leads two.leads;
+    tells = both_tell look x y z one.calls two.calls one.effects two.effects ss ts one.tells two.tells;
+    behind = both_behind ss one.effects.events ts two.effects.events one.behind two.behind;
   }
 
   -- nothing is told of the later calls
@@ -80,25 +80,25 @@ module _ {D : Type 0} (look : D → View) where
 
   -- a command
   obeys_behind : (now : ℕ) (c : Command) (x y : Sight D) (r : Reply) (found : Result Event Refusal) → event_of x.state now c ≡ found
-      → Obeys look found x y r → Behind (answered r ∷ []) (command_deeds found r).events
+      → Obeys look found x y r → Behind (answered r ∷ []) (command_effects found r).events
   obeys_behind now c x y r (Err why) is (refused, same) = refused_behind r why refused
   obeys_behind now c x y r (Ok e) is records = reply_behind e r (command_keeps x.state now c e is) records.told
 
   -- a request
   while_taken : (b : Bool) (now : ℕ) (request : Request) (x y : Sight D) (r : Reply) → ServesWhile b look now request x y r
       → (b ≡ true → ((y.is_open ≡ false) ↔ (r ≡ reply.Refused Disk)))
-      → (d : Deeds) × TakesWhile b look (input.Request now request) x y r d × Behind (answered r ∷ []) d.events
+      → (d : Effects) × TakesWhile b look (input.Request now request) x y r d × Behind (answered r ∷ []) d.events
   while_taken true now (asked.Question question) x y r serves closes = (
-    no_deeds,
+    no_effects,
     record { serves = serves; closes = closes refl; does = refl },
     says_none (answered r) (no_claim x question r serves.0),
   )
   while_taken true now (asked.Command c) x y r serves closes = (
-    command_deeds (event_of x.state now c) r,
+    command_effects (event_of x.state now c) r,
     record { serves = serves; closes = closes refl; does = refl },
     obeys_behind now c x y r (event_of x.state now c) refl serves,
   )
-  while_taken false now request x y r serves closes = (no_deeds, (serves.0, serves.1, refl), refused_behind r _ serves.0)
+  while_taken false now request x y r serves closes = (no_effects, (serves.0, serves.1, refl), refused_behind r _ serves.0)
 
   pub serves_stands : (now : ℕ) (request : Request) (x y : Sight D) (r : Reply) → Serves look now request x y r
       → (x.is_open ≡ true → ((y.is_open ≡ false) ↔ (r ≡ reply.Refused Disk))) → StandsBehind look x y (answered r ∷ [])
@@ -107,15 +107,15 @@ module _ {D : Type 0} (look : D → View) where
       one_stands x y (Took (input.Request now request) r) d (answered r ∷ []) takes refl behind
 
   -- commands in a row
-  row_stands : (now : ℕ) (cs : List Command) (x y : Sight D) (rs : List Reply) (d : Deeds) → TakesRow look now cs x y rs d
+  row_stands : (now : ℕ) (cs : List Command) (x y : Sight D) (rs : List Reply) (d : Effects) → TakesRow look now cs x y rs d
       → Behind (map answered rs) d.events
   row_stands now cs x y rs d takes = by y.is_open refl
     where
-      told_so : (b : Bool) → y.is_open ≡ b → Behind (map answered (row_replies b takes.meant)) (row_deeds b takes.events).events
+      told_so : (b : Bool) → y.is_open ≡ b → Behind (map answered (row_replies b takes.meant)) (row_effects b takes.events).events
           → Behind (map answered rs) d.events
       told_so b is behind =
-          events_are (map answered rs) d (row_deeds b takes.events) (takes.does ∙ ap (λ (o : Bool). row_deeds o takes.events) is)
-          (subst (λ (ts : List Reply). Behind (map answered ts) (row_deeds b takes.events).events)
+          events_are (map answered rs) d (row_effects b takes.events) (takes.does ∙ ap (λ (o : Bool). row_effects o takes.events) is)
+          (subst (λ (ts : List Reply). Behind (map answered ts) (row_effects b takes.events).events)
           (sym (takes.told ∙ ap (λ (o : Bool). row_replies o takes.meant) is)) behind)
 
       by : (b : Bool) → y.is_open ≡ b → Behind (map answered rs) d.events
@@ -123,14 +123,14 @@ module _ {D : Type 0} (look : D → View) where
       by false is = told_so false is (failed_behind takes.meant)
 
   -- one of the calls that commands are taken by
-  taken_behind : (b : Bool) (at : ℕ) (c : Command) (x y : Sight D) (r : Reply) (d : Deeds)
+  taken_behind : (b : Bool) (at : ℕ) (c : Command) (x y : Sight D) (r : Reply) (d : Effects)
       → TakesWhile b look (input.Request at (asked.Command c)) x y r d → Behind (answered r ∷ []) d.events
   taken_behind true at c x y r d takes =
-      events_are (answered r ∷ []) d (command_deeds (event_of x.state at c) r) takes.does
+      events_are (answered r ∷ []) d (command_effects (event_of x.state at c) r) takes.does
       (obeys_behind at c x y r (event_of x.state at c) refl takes.serves)
-  taken_behind false at c x y r d (refused, same, none) = events_are (answered r ∷ []) d no_deeds none (refused_behind r _ refused)
+  taken_behind false at c x y r d (refused, same, none) = events_are (answered r ∷ []) d no_effects none (refused_behind r _ refused)
 
-  one_behind : (now : ℕ) (e : Exchange) (x y : Sight D) (d : Deeds) → IsAt now e → Does look e x y d
+  one_behind : (now : ℕ) (e : Exchange) (x y : Sight D) (d : Effects) → IsAt now e → Does look e x y d
       → Behind (map answered (replies_of e)) d.events
   one_behind now (Took (input.Request at (asked.Command c)) r) x y d is does = taken_behind x.is_open at c x y r d does
   one_behind now (Took (input.Request at (asked.Question q)) r) x y d is does = absurd is
@@ -140,12 +140,12 @@ module _ {D : Type 0} (look : D → View) where
   one_behind now Cleared x y d is does = absurd is
   one_behind now Abandoned x y d is does = absurd is
 
-  calls_told : (now : ℕ) (es : List Exchange) (x y : Sight D) (d : Deeds) → AllByRecursion (IsAt now) es → Calls look x es y d
+  calls_told : (now : ℕ) (es : List Exchange) (x y : Sight D) (d : Effects) → AllByRecursion (IsAt now) es → Calls look x es y d
       → Behind (map answered (flat_map replies_of es)) d.events
-  calls_told now [] x y d at (same, none) = events_are [] d no_deeds none nothing
+  calls_told now [] x y d at (same, none) = events_are [] d no_effects none nothing
   calls_told now (e ∷ es) x y d at (mid, first, later, does, calls, is) =
       subst (λ (ss : List Said). Behind ss d.events) (sym (map-append answered (replies_of e) (flat_map replies_of es)))
-      (events_are (map answered (replies_of e) ++ map answered (flat_map replies_of es)) d (both first later) is
+      (events_are (map answered (replies_of e) ++ map answered (flat_map replies_of es)) d (followed_by first later) is
       (both_behind (map answered (replies_of e)) first.events (map answered (flat_map replies_of es)) later.events
       (one_behind now e x mid first at.0 does) (calls_told now es mid y later at.1 calls)))
 
@@ -153,33 +153,33 @@ module _ {D : Type 0} (look : D → View) where
       → StandsBehind look x y (map answered rs)
   commands_stand now cs x y rs takes = record {
     calls = takes.exchanges;
-    deeds = takes.deeds;
+    effects = takes.effects;
     leads = takes.calls;
-    tells = subst (λ (ts : List Reply). TellsCalls look x takes.exchanges y takes.deeds (map answered ts)) takes.answered
-        (commands_tell look now takes.exchanges x y takes.deeds takes.at_once takes.calls);
-    behind = subst (λ (ts : List Reply). Behind (map answered ts) takes.deeds.events) takes.answered
-        (calls_told now takes.exchanges x y takes.deeds takes.at_once takes.calls);
+    tells = subst (λ (ts : List Reply). TellsCalls look x takes.exchanges y takes.effects (map answered ts)) takes.answered
+        (commands_tell look now takes.exchanges x y takes.effects takes.at_once takes.calls);
+    behind = subst (λ (ts : List Reply). Behind (map answered ts) takes.effects.events) takes.answered
+        (calls_told now takes.exchanges x y takes.effects takes.at_once takes.calls);
   }
 
   -- a turn, a tidy, and an emptied book
   pub turn_stands : (now : ℕ) (x y : Sight D) (end : TurnEnd) → x.is_open ≡ true → TakesTurn look now x y end
       → StandsBehind look x y (map Noticed y.told)
   turn_stands now x y end is_open takes =
-      let d : Deeds = record { entries = takes.turns.entries; events = takes.turns.events; pending = takes.turns.pending } in
+      let d : Effects = record { entries = takes.turns.entries; events = takes.turns.events; pending = takes.turns.pending } in
       one_stands x y (Took (input.Turn now) (reply.Turn end)) d (map Noticed y.told)
       (subst (λ (o : Bool). TakesWhile o look (input.Turn now) x y (reply.Turn end) d) (sym is_open)
       (record { end = end; takes = takes; replies = refl; does = refl })) refl
       (turn_behind end _ takes.turns.entries takes.turns.events takes.turns.pending y.told takes.turns.does)
 
   pub tidied_stands : (x y : Sight D) (end : TidyEnd) → TidiesWhile x.is_open look x y end → StandsBehind look x y []
-  tidied_stands x y end tidies = one_stands x y (Tidied end) no_deeds [] (tidies, refl) refl nothing
+  tidied_stands x y end tidies = one_stands x y (Tidied end) no_effects [] (tidies, refl) refl nothing
 
   pub tidy_stands : (x y : Sight D) (end : TidyEnd) → x.is_open ≡ true → Tidies look x y end → StandsBehind look x y []
   tidy_stands x y end is_open tidies =
       tidied_stands x y end (subst (λ (o : Bool). TidiesWhile o look x y end) (sym is_open) tidies)
 
   pub cleared_stands : (x y : Sight D) → y ≡ with_empty_book x → StandsBehind look x y []
-  cleared_stands x y cleared = one_stands x y Cleared no_deeds [] (cleared, refl) refl nothing
+  cleared_stands x y cleared = one_stands x y Cleared no_effects [] (cleared, refl) refl nothing
 
   -- what may be told now, of an executor that went on by calls
   pub may_tell : (heard : Heard D) (x y : Sight D) (what : Told) → AllStand look heard x → StandsBehind look x y (said_in what)
@@ -204,4 +204,4 @@ module _ {D : Type 0} (look : D → View) where
 
   -- all children are given up
   pub abandoned_stands : (x y : Sight D) → y ≡ abandoned x → StandsBehind look x y []
-  abandoned_stands x y given_up = one_stands x y Abandoned no_deeds [] (given_up, refl) refl nothing
+  abandoned_stands x y given_up = one_stands x y Abandoned no_effects [] (given_up, refl) refl nothing

@@ -17,7 +17,7 @@ use Rattle.executor.specs.Lives.{Abandoned, Calls, Cleared, Does, Exchange, Row,
 use Rattle.executor.specs.Replies.{IsReplyTo, acknowledged}
 use Rattle.executor.specs.RowCalls.{Adds, Answered, disk_each, failed, row_replies}
 use Rattle.executor.specs.Rows.{IsAt, TakesCommands, replies_of}
-use Rattle.executor.specs.Sessions.{Deeds, TakesWhile}
+use Rattle.executor.specs.Sessions.{Effects, TakesWhile}
 use Rattle.executor.specs.Sights.{Sight}
 use Rattle.executor.specs.declared.session.InputOf.TheVariants as input
 use Rattle.exec_client.specs.MayTell.{MayAnswer}
@@ -95,12 +95,12 @@ module _ {D : Type 0} (z : Sight D) where
   row_plain false now s cs meant es given = failed_plain meant
 
   module _ (look : D → View) where
-    taken_plain : (b : Bool) (at : ℕ) (c : Command) (x y : Sight D) (r : Reply) (d : Deeds)
+    taken_plain : (b : Bool) (at : ℕ) (c : Command) (x y : Sight D) (r : Reply) (d : Effects)
         → TakesWhile b look (input.Request at (asked.Command c)) x y r d → Plain r
     taken_plain true at c x y r d takes = obeys_plain look x y r (event_of x.state at c) takes.serves
     taken_plain false at c x y r d (refused, same, none) = is_plain r _ refused tt
 
-    one_plain : (now : ℕ) (e : Exchange) (x y : Sight D) (d : Deeds) → IsAt now e → Does look e x y d → AllByRecursion Plain (replies_of e)
+    one_plain : (now : ℕ) (e : Exchange) (x y : Sight D) (d : Effects) → IsAt now e → Does look e x y d → AllByRecursion Plain (replies_of e)
     one_plain now (Took (input.Request at (asked.Command c)) r) x y d is does = (taken_plain x.is_open at c x y r d does, tt)
     one_plain now (Took (input.Request at (asked.Question q)) r) x y d is does = absurd is
     one_plain now (Took (input.Turn at) r) x y d is does = absurd is
@@ -111,7 +111,7 @@ module _ {D : Type 0} (z : Sight D) where
     one_plain now Cleared x y d is does = absurd is
     one_plain now Abandoned x y d is does = absurd is
 
-    calls_plain : (now : ℕ) (es : List Exchange) (x y : Sight D) (d : Deeds) → AllByRecursion (IsAt now) es → Calls look x es y d
+    calls_plain : (now : ℕ) (es : List Exchange) (x y : Sight D) (d : Effects) → AllByRecursion (IsAt now) es → Calls look x es y d
         → AllByRecursion Plain (flat_map replies_of es)
     calls_plain now [] x y d at calls = tt
     calls_plain now (e ∷ es) x y d at (mid, first, later, does, calls, is) =
@@ -122,4 +122,4 @@ module _ {D : Type 0} (z : Sight D) where
         → AllByRecursion Plain rs
     commands_plain now cs x y rs takes =
         subst (λ (ts : List Reply). AllByRecursion Plain ts) takes.answered
-        (calls_plain now takes.exchanges x y takes.deeds takes.at_once takes.calls)
+        (calls_plain now takes.exchanges x y takes.effects takes.at_once takes.calls)

@@ -10,7 +10,7 @@ use Rattle.disk_model.specs.View.{View}
 use Rattle.child_keeper.specs.Children.{ChildrenView}
 use Rattle.executor.specs.Lives.{Calls, Exchange}
 use Rattle.executor.specs.Openings.{Opened}
-use Rattle.executor.specs.Sessions.{Deeds}
+use Rattle.executor.specs.Sessions.{Effects}
 use Rattle.executor.specs.Sights.{Sight}
 use Rattle.exec_commands.specs.declared.reply.LineReply.{LineReply}
 use Rattle.exec_commands.specs.declared.reply.LineReply.TheVariants.{Request}
@@ -25,10 +25,10 @@ use Rattle.exec_client.specs.declared.told.Told.TheVariants as told
 -- recorded stands behind it.
 pub record StandsBehind {D : Type 0} (look : D → View) (old new : Sight D) (said : List Said) : Type 0 where
   pub calls : List Exchange
-  pub deeds : Deeds
-  pub leads : Calls look old calls new deeds
-  pub tells : TellsCalls look old calls new deeds said
-  pub behind : Behind said deeds.events
+  pub effects : Effects
+  pub leads : Calls look old calls new effects
+  pub tells : TellsCalls look old calls new effects said
+  pub behind : Behind said effects.events
 
 -- it is what an open executor answers to some question, from its state
 abbrev pub IsAnswer : {D : Type 0} → Sight D → Reply → Type 0

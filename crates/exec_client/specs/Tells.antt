@@ -3,7 +3,7 @@ use Rattle.std.specs.Prelude.{◌≡◌, false, List, [], ◌∷◌, ◌++◌, m
 use Rattle.std.specs.List.{AllByRecursion}
 use Rattle.disk_model.specs.View.{View}
 use Rattle.executor.specs.Lives.{Does, Exchange, Row, Took}
-use Rattle.executor.specs.Sessions.{Deeds, both, no_deeds}
+use Rattle.executor.specs.Sessions.{Effects, followed_by, no_effects}
 use Rattle.executor.specs.Sights.{Sight}
 use Rattle.executor.specs.declared.session.InputOf.TheVariants as input
 use Rattle.exec_client.specs.Behind.{claims}
@@ -23,9 +23,9 @@ ClaimsNothing said = AllByRecursion (λ s. claims s ≡ false) said
 
 -- One call after the other, and of each was told just what it answered, none left out; between them stands what is told of no
 -- call: a report, a line that was refused, metadata, the end of a drain or a tidy.
-abbrev pub TellsCalls : {D : Type 0} → (D → View) → Sight D → List Exchange → Sight D → Deeds → List Said → Type 0
-TellsCalls look old [] new deeds said = (new ≡ old) × (deeds ≡ no_deeds) × ClaimsNothing said
-TellsCalls {D} look old (e ∷ es) new deeds said =
-    (aside : List Said) × (mine : List Said) × (later : List Said) × (mid : Sight D) × (first : Deeds) × (rest : Deeds)
+abbrev pub TellsCalls : {D : Type 0} → (D → View) → Sight D → List Exchange → Sight D → Effects → List Said → Type 0
+TellsCalls look old [] new effects said = (new ≡ old) × (effects ≡ no_effects) × ClaimsNothing said
+TellsCalls {D} look old (e ∷ es) new effects said =
+    (aside : List Said) × (mine : List Said) × (later : List Said) × (mid : Sight D) × (first : Effects) × (rest : Effects)
     × ClaimsNothing aside × Does look e old mid first × Says e mid mine × TellsCalls look mid es new rest later
-    × (deeds ≡ both first rest) × (said ≡ aside ++ (mine ++ later))
+    × (effects ≡ followed_by first rest) × (said ≡ aside ++ (mine ++ later))

@@ -8,7 +8,7 @@ use crate::told::Told;
 use child_keeper::Children;
 use disk_model::Disk;
 use exec_commands::NoticeForm;
-use exec_output::Stopped;
+use exec_output::IoFault;
 use executor::Executor;
 
 /// Who is told what an executor did since it was opened, and is told it in no other way.
@@ -23,7 +23,7 @@ pub trait Client<D: Disk + Drop, C: Children + Drop> {
         executor: &Executor<D, C>,
         form: NoticeForm,
         what: &Told,
-    ) -> Result<(), Stopped>
+    ) -> Result<(), IoFault>
         requires may_tell { MayTell D.view (heard self.old) executor.now what.now }
         ensures told { IsTold (heard self.old) (heard self.new) (said_in what.now) }
         ensures hears { OnOk result (Hears form (heard self.old) (heard self.new) (said_in what.now)) }

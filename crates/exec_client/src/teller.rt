@@ -14,7 +14,7 @@ use child_keeper::Children;
 use disk_model::Disk;
 use exec_commands::NoticeForm;
 use exec_lines::Output;
-use exec_output::{Stopped, send_notices, send_replies, send_reply};
+use exec_output::{IoFault, send_notices, send_replies, send_reply};
 use executor::Executor;
 use std::alloc::Global;
 
@@ -33,7 +33,7 @@ fn write_told<W: Output>(
     writer: &mut W,
     form: NoticeForm,
     what: &Told,
-) -> Result<(), Stopped>
+) -> Result<(), IoFault>
     ensures sent { OnOk result (Appends (W.contents writer.old) (W.contents writer.new) (flat_map (line_of form) (said_in what.now))) }
     ensures front { OnErr result (AppendsFront (W.contents writer.old) (W.contents writer.new) (flat_map (line_of form) (said_in what.now))) }
 {
@@ -76,7 +76,7 @@ impl<D: Disk + Drop, C: Children + Drop, W: Output> Client<D, C> for Teller<Exec
         executor: &Executor<D, C>,
         form: NoticeForm,
         what: &Told,
-    ) -> Result<(), Stopped> {
+    ) -> Result<(), IoFault> {
         self.telling.note(what);
         write_told(self.alloc, &mut self.writer, form, what)
     }

@@ -1,6 +1,6 @@
 pub mod Faults
 pub mod Meanings
 pub mod Shown
-pub mod Stops
+pub mod IoFaults
 pub mod Tables
 pub mod Told

@@ -13,6 +13,6 @@ mod table;
 
 pub use fault::Fault;
 pub use look::Look;
-pub use send::{Stopped, send_notices, send_replies, send_reply};
+pub use send::{IoFault, send_notices, send_replies, send_reply};
 pub use shown::show;
 pub use statuses::status;

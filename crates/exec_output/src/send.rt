@@ -5,8 +5,8 @@ ghost use Rattle.std.specs.List.{flat_map};
 ghost use Rattle.std.specs.IoError.{error_kind};
 ghost use Rattle.exec_commands.specs.Replies.{formed_line, reply_line, request_line};
 ghost use Rattle.exec_lines.specs.Fronts.{AppendsFront};
-ghost use Rattle.exec_output.specs.Stops.{stop_of};
-ghost use Rattle.exec_output.specs.declared.send.Stopped.TheVariants.{Memory};
+ghost use Rattle.exec_output.specs.IoFaults.{io_fault_of};
+ghost use Rattle.exec_output.specs.declared.send.IoFault.TheVariants.{Memory};
 
 use exec_commands::{LineReply, NoticeForm, write_notice, write_reply, write_request_reply};
 use exec_lines::{write_bytes, write_flushed};
@@ -16,35 +16,35 @@ use std::io::{self, ErrorKind, Write};
 
 /// Why a run stops before its input ends.
 #[derive(Drop)]
-pub enum Stopped {
+pub enum IoFault {
     /// Standard input or output failed, or nobody reads what is written.
     InputOrOutput,
     /// A reply or a notice found no memory.
     Memory,
 }
 
-impl From<io::Error> for Stopped {
-    ghost from_gives = { λ error stopped. stopped ≡ stop_of (error_kind error) };
+impl From<io::Error> for IoFault {
+    ghost from_gives = { λ error stopped. stopped ≡ io_fault_of (error_kind error) };
 
-    fn from(error: io::Error) -> Stopped {
+    fn from(error: io::Error) -> IoFault {
         match error.kind() {
-            ErrorKind::OutOfMemory => Stopped::Memory,
-            _ => Stopped::InputOrOutput,
+            ErrorKind::OutOfMemory => IoFault::Memory,
+            _ => IoFault::InputOrOutput,
         }
     }
 }
 
-impl From<AllocError> for Stopped {
+impl From<AllocError> for IoFault {
     ghost from_gives = { λ _ stopped. stopped ≡ Memory };
 
-    fn from(_: AllocError) -> Stopped {
-        Stopped::Memory
+    fn from(_: AllocError) -> IoFault {
+        IoFault::Memory
     }
 }
 
 // Writes a line that was made, and flushes it. After an error of the writer a front of it is written. Where memory for it was
 // refused nothing is written.
-fn send_line<W: Write>(writer: &mut W, line: Result<Vec<u8>, AllocError>) -> Result<(), Stopped>
+fn send_line<W: Write>(writer: &mut W, line: Result<Vec<u8>, AllocError>) -> Result<(), IoFault>
     ensures sent { IfOk line (λ bytes. OnOk result (Appends (W.contents writer.old) (W.contents writer.new) bytes.items)) }
     ensures front { IfOk line (λ bytes. OnErr result (AppendsFront (W.contents writer.old) (W.contents writer.new) bytes.items)) }
     ensures memory { IfErr line (λ _. result ≡ Err Memory) }
@@ -55,7 +55,7 @@ fn send_line<W: Write>(writer: &mut W, line: Result<Vec<u8>, AllocError>) -> Res
 }
 
 /// Writes a reply's line, and flushes it. After an error a front of it is written.
-pub fn send_reply<W: Write>(alloc: Global, writer: &mut W, reply: &LineReply) -> Result<(), Stopped>
+pub fn send_reply<W: Write>(alloc: Global, writer: &mut W, reply: &LineReply) -> Result<(), IoFault>
     ensures sent { OnOk result (Appends (W.contents writer.old) (W.contents writer.new) (reply_line reply.now)) }
     ensures front { OnErr result (AppendsFront (W.contents writer.old) (W.contents writer.new) (reply_line reply.now)) }
 {
@@ -63,7 +63,7 @@ pub fn send_reply<W: Write>(alloc: Global, writer: &mut W, reply: &LineReply) ->
 }
 
 // Writes the line of a reply to a request.
-fn put_reply<W: Write>(alloc: Global, writer: &mut W, reply: &Reply) -> Result<(), Stopped>
+fn put_reply<W: Write>(alloc: Global, writer: &mut W, reply: &Reply) -> Result<(), IoFault>
     ensures sent { OnOk result (Appends (W.contents writer.old) (W.contents writer.new) (request_line reply.now)) }
     ensures front { OnErr result (AppendsFront (W.contents writer.old) (W.contents writer.new) (request_line reply.now)) }
 {
@@ -73,7 +73,7 @@ fn put_reply<W: Write>(alloc: Global, writer: &mut W, reply: &Reply) -> Result<(
 }
 
 // Writes replies to requests, a line each.
-fn put_replies<W: Write>(alloc: Global, writer: &mut W, replies: &[Reply]) -> Result<(), Stopped>
+fn put_replies<W: Write>(alloc: Global, writer: &mut W, replies: &[Reply]) -> Result<(), IoFault>
     ensures sent { OnOk result (Appends (W.contents writer.old) (W.contents writer.new) (flat_map request_line replies.now)) }
     ensures front { OnErr result (AppendsFront (W.contents writer.old) (W.contents writer.new) (flat_map request_line replies.now)) }
 {
@@ -88,7 +88,7 @@ pub fn send_replies<W: Write>(
     alloc: Global,
     writer: &mut W,
     replies: &[Reply],
-) -> Result<(), Stopped>
+) -> Result<(), IoFault>
     ensures sent { OnOk result (Appends (W.contents writer.old) (W.contents writer.new) (flat_map request_line replies.now)) }
     ensures front { OnErr result (AppendsFront (W.contents writer.old) (W.contents writer.new) (flat_map request_line replies.now)) }
 {
@@ -102,7 +102,7 @@ fn send_notice<W: Write>(
     writer: &mut W,
     form: NoticeForm,
     notice: &Notice,
-) -> Result<(), Stopped>
+) -> Result<(), IoFault>
     ensures sent { OnOk result (Appends (W.contents writer.old) (W.contents writer.new) (formed_line form notice.now)) }
     ensures front { OnErr result (AppendsFront (W.contents writer.old) (W.contents writer.new) (formed_line form notice.now)) }
 {
@@ -115,7 +115,7 @@ pub fn send_notices<W: Write>(
     writer: &mut W,
     form: NoticeForm,
     notices: &[Notice],
-) -> Result<(), Stopped>
+) -> Result<(), IoFault>
     ensures sent { OnOk result (Appends (W.contents writer.old) (W.contents writer.new) (flat_map (formed_line form) notices.now)) }
     ensures front { OnErr result (AppendsFront (W.contents writer.old) (W.contents writer.new) (flat_map (formed_line form) notices.now)) }
 {

@@ -2,13 +2,13 @@
 ghost use Rattle.std.specs.Prelude.{◌≡◌, IsErrOf, OnOk};
 ghost use Rattle.std.specs.Io.KnownBytes.{Appends};
 ghost use Rattle.std.specs.List.{flat_map};
-ghost use Rattle.disk_model.specs.View.{Grew};
+ghost use Rattle.disk_model.specs.View.{Increased};
 ghost use Rattle.exec_journal.specs.Opening.{Opens};
 ghost use Rattle.exec_output.specs.Faults.{IsRunEnd, opening_fault};
 ghost use Rattle.exec_output.specs.Shown.{ShowsAs, answer_line, resource_lines, shown};
 
 use crate::fault::Fault;
-use crate::send::{Stopped, send_reply};
+use crate::send::{IoFault, send_reply};
 use disk_model::Disk;
 use exec_commands::LineReply;
 use exec_journal::{Journal, JournalFault};
@@ -23,11 +23,11 @@ fn write_answer<W: Write>(
     writer: &mut W,
     state: &State,
     question: &Question,
-) -> Result<(), Stopped>
+) -> Result<(), IoFault>
     ensures { OnOk result (Appends (W.contents writer.old) (W.contents writer.new) (answer_line state.now.state question.now)) }
 {
     match state.answer(alloc, question) {
-        Reply::Refused(_) => Err(Stopped::Memory),
+        Reply::Refused(_) => Err(IoFault::Memory),
         reply => send_reply(alloc, writer, &LineReply::Request(reply)),
     }
 }
@@ -37,7 +37,7 @@ fn write_resource<W: Write>(
     writer: &mut W,
     state: &State,
     id: &RscId,
-) -> Result<(), Stopped>
+) -> Result<(), IoFault>
     ensures { OnOk result (Appends (W.contents writer.old) (W.contents writer.new) (resource_lines state.now.state id.now)) }
 {
     write_answer(alloc, writer, state, &Question::Info(id.copied()))?;
@@ -49,7 +49,7 @@ fn write_resources<W: Write>(
     writer: &mut W,
     state: &State,
     ids: &[RscId],
-) -> Result<(), Stopped>
+) -> Result<(), IoFault>
     ensures { OnOk result (Appends (W.contents writer.old) (W.contents writer.new) (flat_map (resource_lines state.now.state) ids.now)) }
 {
     for id in ids {
@@ -59,12 +59,12 @@ fn write_resources<W: Write>(
 }
 
 // The reply of `list`, and then of each resource those of `info` and `history`.
-fn write_state<W: Write>(alloc: Global, writer: &mut W, state: &State) -> Result<(), Stopped>
+fn write_state<W: Write>(alloc: Global, writer: &mut W, state: &State) -> Result<(), IoFault>
     ensures { OnOk result (Appends (W.contents writer.old) (W.contents writer.new) (shown state.now.state)) }
 {
     let reply = LineReply::Request(state.answer(alloc, &Question::List));
     let LineReply::Request(Reply::List(ids)) = &reply else {
-        return Err(Stopped::Memory);
+        return Err(IoFault::Memory);
     };
     send_reply(alloc, writer, &reply)?;
     write_resources(alloc, writer, state, ids.as_slice())
@@ -91,14 +91,14 @@ pub fn show<D: Disk + Drop, W: Write>(
 ) -> (D, Result<(), Fault>)
     ensures shown { (D.view result.0).honest → ShowsAs (D.view disk).reads (W.contents writer.old) (W.contents writer.new) result.1 }
     ensures opens { Opens (D.view disk) (D.view result.0) }
-    ensures cause { IsErrOf result.1 Fault.Disk → Grew (D.view disk).failures (D.view result.0).failures }
+    ensures cause { IsErrOf result.1 Fault.Disk → Increased (D.view disk).failures (D.view result.0).failures }
     ensures ends { IsRunEnd result.1 }
 {
     match Journal::open(alloc, disk) {
         Ok((journal, state)) => match write_state(alloc, writer, &state) {
             Ok(()) => (journal.into_disk(), Ok(())),
-            Err(Stopped::InputOrOutput) => (journal.into_disk(), Err(Fault::InputOrOutput)),
-            Err(Stopped::Memory) => (journal.into_disk(), Err(Fault::ReplyMemory)),
+            Err(IoFault::InputOrOutput) => (journal.into_disk(), Err(Fault::InputOrOutput)),
+            Err(IoFault::Memory) => (journal.into_disk(), Err(Fault::ReplyMemory)),
         },
         Err((fault, disk)) => (disk, Err(opening_fault(fault))),
     }

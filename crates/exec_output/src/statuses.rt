@@ -1,6 +1,6 @@
 //! What a journal holds, for a person.
 ghost use Rattle.std.specs.Prelude.{IsErrOf, IfOk, IfErr, IfSome, IfNone};
-ghost use Rattle.disk_model.specs.View.{Grew};
+ghost use Rattle.disk_model.specs.View.{Increased};
 ghost use Rattle.exec_journal.specs.Opening.{Opens};
 ghost use Rattle.exec_output.specs.Faults.{IsRunEnd};
 ghost use Rattle.exec_output.specs.Tables.{IsToldAs, IsWritten, NotWritten, TellsAs};
@@ -60,7 +60,7 @@ pub fn status<D: Disk + Drop, W: Write>(
 ) -> (D, Result<(), Fault>)
     ensures told { (D.view result.0).honest → TellsAs (D.view disk).reads look.now (W.contents writer.old) (W.contents writer.new) result.1 }
     ensures opens { Opens (D.view disk) (D.view result.0) }
-    ensures cause { IsErrOf result.1 Fault.Disk → Grew (D.view disk).failures (D.view result.0).failures }
+    ensures cause { IsErrOf result.1 Fault.Disk → Increased (D.view disk).failures (D.view result.0).failures }
     ensures ends { IsRunEnd result.1 }
 {
     match Journal::open(alloc, disk) {

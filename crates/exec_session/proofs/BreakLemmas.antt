@@ -12,11 +12,11 @@ use Rattle.exec_client.specs.Said.{Said, line_of}
 use Rattle.exec_session.specs.Answers.{Source}
 use Rattle.exec_session.specs.Breaks.{BreaksIn, BreaksOff, RowBreaks, between, in_own_turn, in_row}
 use Rattle.exec_session.specs.Drains.{MakesTurn, Spot, TurnHeard, spot}
-use Rattle.exec_session.specs.Limits.{Limits}
-use Rattle.exec_session.specs.Progress.{Place, place}
+use Rattle.exec_session.specs.Rules.{Rules}
+use Rattle.exec_session.specs.Progress.{Position, position}
 use Rattle.exec_session.specs.Serving.{HasComeMid}
 use Rattle.exec_session.specs.Waiting.{HasCome}
-use Rattle.exec_session.specs.declared.setting.Way.TheVariants.{Serve}
+use Rattle.exec_session.specs.declared.context.Way.TheVariants.{Serve}
 use Rattle.exec_session.proofs.ServeLemmas.{turns_serve}
 use Rattle.exec_session.proofs.WaitLemmas.{at_line}
 
@@ -28,56 +28,56 @@ heard_whole form a b said hears =
       written = record { front = bytes; rest = []; parts = sym (append-nil bytes); written = hears.written };
     }
 
-pub turn_whole : {D : Type 0} (look : D → View) (limits : Limits) (now : ℕ) (p q : Spot D) (end : TurnEnd)
-    → MakesTurn look limits now p q end → TurnHeard (HearsPart limits.form) look limits now p q end
-turn_whole look limits now p q end made = record {
+pub turn_whole : {D : Type 0} (look : D → View) (rules : Rules) (now : ℕ) (p q : Spot D) (end : TurnEnd)
+    → MakesTurn look rules now p q end → TurnHeard (HearsPart rules.form) look rules now p q end
+turn_whole look rules now p q end made = record {
   middle = made.middle;
   room = made.room;
   takes = made.takes;
-  hears = λ is_open. heard_whole limits.form p.heard q.heard _ (made.hears is_open);
+  hears = λ is_open. heard_whole rules.form p.heard q.heard _ (made.hears is_open);
   fails = made.fails;
 }
 
-module _ {D : Type 0} (look : D → View) (source : Source) (limits : Limits) (p : Place D) where
+module _ {D : Type 0} (look : D → View) (source : Source) (rules : Rules) (p : Position D) where
   abbrev Breaks : Spot D → Type 0
-  Breaks s = BreaksOff look source limits p s
+  Breaks s = BreaksOff look source rules p s
 
   -- behind lines of which some wait nothing is done
-  pub between_lines : (most : ℕ) (commands : List Command) (q : Place D) → HasCome look source limits p most commands q
+  pub between_lines : (most : ℕ) (commands : List Command) (q : Position D) → HasCome look source rules p most commands q
       → Breaks (spot q.executor q.heard)
   between_lines most commands q (count, few, waits) = record {
     count = count;
-    last = place q.executor waits.left q.heard;
+    last = position q.executor waits.left q.heard;
     reached = waits.reached;
     breaks = between refl;
   }
 
-  pub between_reads : (most : ℕ) (commands : List Command) (kept : List ℕ) (q : Place D) → HasComeMid look source limits p most commands kept q
+  pub between_reads : (most : ℕ) (commands : List Command) (kept : List ℕ) (q : Position D) → HasComeMid look source rules p most commands kept q
       → Breaks (spot q.executor q.heard)
-  between_reads most commands kept q (left, mid, come) = between_lines most commands (place q.executor left q.heard) come
+  between_reads most commands kept q (left, mid, come) = between_lines most commands (position q.executor left q.heard) come
 
   -- it breaks off in the next thing that it does
-  pub next_breaks : (most : ℕ) (q : Place D) (s : Spot D) → HasCome look source limits p most [] q → BreaksIn look source limits q s
+  pub next_breaks : (most : ℕ) (q : Position D) (s : Spot D) → HasCome look source rules p most [] q → BreaksIn look source rules q s
       → Breaks s
   next_breaks most q s come breaks =
-      let (count, few, reached) = at_line look source limits p most q come in
+      let (count, few, reached) = at_line look source rules p most q come in
       record { count = count; last = q; reached = reached; breaks = breaks }
 
   -- in the commands that wait
   pub row_breaks : (most : ℕ) (commands : List Command) (old : Sight D) (left : Option (List ℕ)) (heard : Heard D) (s : Spot D)
-      → (commands ≢ [] → old.is_open ≡ true) → HasCome look source limits p most commands (place old left heard)
-      → RowBreaks look limits commands (spot old heard) s → Breaks s
+      → (commands ≢ [] → old.is_open ≡ true) → HasCome look source rules p most commands (position old left heard)
+      → RowBreaks look rules commands (spot old heard) s → Breaks s
   row_breaks most [] old left heard s is_open come breaks = absurd breaks
   row_breaks most (first ∷ others) old left heard s is_open (count, few, waits) breaks = record {
     count = count;
-    last = place old waits.left heard;
+    last = position old waits.left heard;
     reached = waits.reached;
     breaks = in_row left (first ∷ others) waits.read (is_open (λ none. cc)) breaks;
   }
 
   -- in a turn of its own
-  pub turn_breaks : limits.way ≡ Serve → (most : ℕ) (kept : List ℕ) (q : Place D) (s : Spot D) (now : ℕ) (end : TurnEnd)
-      → HasComeMid look source limits p most [] kept q → q.executor.is_open ≡ true
-      → TurnHeard (HearsPart limits.form) look limits now (spot q.executor q.heard) s end → Breaks s
+  pub turn_breaks : rules.way ≡ Serve → (most : ℕ) (kept : List ℕ) (q : Position D) (s : Spot D) (now : ℕ) (end : TurnEnd)
+      → HasComeMid look source rules p most [] kept q → q.executor.is_open ≡ true
+      → TurnHeard (HearsPart rules.form) look rules now (spot q.executor q.heard) s end → Breaks s
   turn_breaks way most kept q s now end (left, mid, come) is_open heard =
-      next_breaks most (place q.executor left q.heard) s come (in_own_turn now end (turns_serve limits.way way) is_open heard)
+      next_breaks most (position q.executor left q.heard) s come (in_own_turn now end (turns_serve rules.way way) is_open heard)

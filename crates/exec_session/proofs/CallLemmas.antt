@@ -23,8 +23,8 @@ use Rattle.exec_client.proofs.Behinds.{says_none}
 use Rattle.exec_client.proofs.Growing.{both_stand, none_stands, tidy_stands}
 use Rattle.exec_session.specs.Answers.{IsOpenReply, IsReply, ServesNow, Source}
 use Rattle.exec_session.specs.Drains.{Drains, GoesOn, MakesTurn, Spot, at_start, further, spot}
-use Rattle.exec_session.specs.Limits.{Limits, MakesRoom, is_tidy_due}
-use Rattle.exec_session.specs.Progress.{Place, Takes}
+use Rattle.exec_session.specs.Rules.{Rules, MakesRoom, is_tidy_due}
+use Rattle.exec_session.specs.Progress.{Position, Takes}
 use Rattle.exec_session.specs.Runs.{GoesByCalls, Reaches, closed_line, here, line as one_line, row, turn as one_turn}
 use Rattle.exec_session.specs.Together.{AnswersTogether}
 use Rattle.exec_session.specs.declared.drain.Terms.{Terms}
@@ -35,11 +35,11 @@ use Rattle.exec_session.proofs.TellLemmas.{Plain, cleared_room, closed_plain, is
 use Rattle.exec_session.proofs.TellLemmas.{together_stand, turn_behind_room}
 
 -- room is made by a call, or by none, and nothing is told
-room_stands : {D : Type 0} (look : D → View) (limits : Limits) (x y : Sight D) → x.is_open ≡ true → MakesRoom look limits x y
+room_stands : {D : Type 0} (look : D → View) (rules : Rules) (x y : Sight D) → x.is_open ≡ true → MakesRoom look rules x y
     → StandsBehind look x y []
-room_stands look limits x y is_open room = by (is_tidy_due limits x) refl
+room_stands look rules x y is_open room = by (is_tidy_due rules x) refl
   where
-    by : (b : Bool) → is_tidy_due limits x ≡ b → StandsBehind look x y []
+    by : (b : Bool) → is_tidy_due rules x ≡ b → StandsBehind look x y []
     by true due = let made = room.made due in tidy_stands look x y made.0 is_open made.1
     by false none = none_stands look x y [] (room.none none) nothing
 
@@ -83,15 +83,15 @@ module _ {D : Type 0} (look : D → View) where
       told_go s (spot s.executor h) (Answered reply ∷ []) told
       (none_stands look s.executor s.executor (Answered reply ∷ []) refl (says_none (Answered reply) plain.0))
 
-  module _ (limits : Limits) where
+  module _ (rules : Rules) where
     -- a request, where room was made first
-    request_goes : (request : Request) (x y : Sight D) (reply : LineReply) → x.is_open ≡ true → ServesNow look limits request x y reply
+    request_goes : (request : Request) (x y : Sight D) (reply : LineReply) → x.is_open ≡ true → ServesNow look rules request x y reply
         → StandsBehind look x y (Answered reply ∷ [])
     request_goes request x y reply is_open serves =
         subst (λ (r : LineReply). StandsBehind look x y (Answered r ∷ [])) (sym serves.told) (by serves.middle.is_open refl)
       where
         room : StandsBehind look x serves.middle []
-        room = room_stands look limits x serves.middle is_open serves.room
+        room = room_stands look rules x serves.middle is_open serves.room
 
         by : (b : Bool) → serves.middle.is_open ≡ b → StandsBehind look x y (answered serves.given ∷ [])
         by true open_still =
@@ -102,7 +102,7 @@ module _ {D : Type 0} (look : D → View) where
             (refused_stand look x serves.middle 1 (serves.given ∷ []) (ap (λ (r : Reply). r ∷ []) refused) room)
 
     -- commands that were answered together
-    together_goes : (commands : List Command) (p q : Spot D) → p.executor.is_open ≡ true → AnswersTogether look limits commands p q
+    together_goes : (commands : List Command) (p q : Spot D) → p.executor.is_open ≡ true → AnswersTogether look rules commands p q
         → Goes p q
     together_goes commands p q is_open answers =
         told_go p q (map answered answers.given) answers.hears.told (by answers.serves.middle.is_open refl)
@@ -111,7 +111,7 @@ module _ {D : Type 0} (look : D → View) where
         middle = answers.serves.middle
 
         room : StandsBehind look p.executor middle []
-        room = room_stands look limits p.executor middle is_open answers.serves.room
+        room = room_stands look rules p.executor middle is_open answers.serves.room
 
         by : (b : Bool) → middle.is_open ≡ b → StandsBehind look p.executor q.executor (map answered answers.given)
         by true open_still =
@@ -123,14 +123,14 @@ module _ {D : Type 0} (look : D → View) where
             (refused_stand look p.executor middle (length commands) answers.given refused room)
 
     -- a turn of a drain
-    turn_goes : (now : ℕ) (p q : Spot D) (end : TurnEnd) → p.executor.is_open ≡ true → MakesTurn look limits now p q end → Goes p q
+    turn_goes : (now : ℕ) (p q : Spot D) (end : TurnEnd) → p.executor.is_open ≡ true → MakesTurn look rules now p q end → Goes p q
     turn_goes now p q end is_open made = by made.middle.is_open refl
       where
         cleared : Sight D
         cleared = with_empty_book p.executor
 
         room : StandsBehind look p.executor made.middle []
-        room = cleared_room look p.executor cleared made.middle refl (room_stands look limits cleared made.middle is_open made.room)
+        room = cleared_room look p.executor cleared made.middle refl (room_stands look rules cleared made.middle is_open made.room)
 
         by : (b : Bool) → made.middle.is_open ≡ b → Goes p q
         by true open_still =
@@ -142,25 +142,25 @@ module _ {D : Type 0} (look : D → View) where
 
     -- turns that go on, each behind an executor that is open still
     pub turns_go : (t : Terms) (start : ℕ) (p : Spot D) (turns now : ℕ) (q : Spot D)
-        → p.executor.is_open ≡ true → GoesOn look limits t start p turns now q
+        → p.executor.is_open ≡ true → GoesOn look rules t start p turns now q
         → Goes p q × (q.executor.is_open ≡ true)
     turns_go t start p _ _ _ is_open at_start = (here_still p, is_open)
     turns_go t start p _ _ _ is_open (further n before after m q end gone_on made on) =
         let so_far = turns_go t start p n before m is_open gone_on in
         let idle = not (any_busy q.executor.state) in (
           both_go p m q so_far.0 (turn_goes before m q end so_far.1 made),
-          still_open t (n + 1) after end idle q.executor.is_open (closes look limits before m q end made) on,
+          still_open t (n + 1) after end idle q.executor.is_open (closes look rules before m q end made) on,
         )
 
     drain_goes : (t : Terms) (start : ℕ) (p q : Spot D) (end : DrainEnd) → p.executor.is_open ≡ true
-        → Drains look limits t start p q end → Goes p q
+        → Drains look rules t start p q end → Goes p q
     drain_goes t start p q end is_open drains =
         let so_far = turns_go t start p drains.turns drains.now drains.last is_open drains.gone_on in
         both_go p drains.last q so_far.0 (turn_goes drains.now drains.last q drains.turn_end so_far.1 drains.made)
 
     -- what an open executor answers to a line, and the reply behind it
     open_goes : (source : Source) (p s : Spot D) (h : Heard D) (found : Result Line Refusal) (reply : LineReply)
-        → p.executor.is_open ≡ true → IsOpenReply look source limits p s found reply → IsTold s.heard h (Answered reply ∷ [])
+        → p.executor.is_open ≡ true → IsOpenReply look source rules p s found reply → IsTold s.heard h (Answered reply ∷ [])
         → Goes p (spot s.executor h)
     open_goes source p s h (Ok (line.Request request)) reply is_open (serves, same) told =
         told_go p (spot s.executor h) (Answered reply ∷ []) (subst (λ (g : Heard D). IsTold g h (Answered reply ∷ [])) same told)
@@ -182,7 +182,7 @@ module _ {D : Type 0} (look : D → View) where
         (plain_go s h reply (is_plain s.executor reply (answer.Request (Refused why)) is (refl, tt)) told)
 
     reply_goes : (source : Source) (p s : Spot D) (h : Heard D) (found : Result Line Refusal) (reply : LineReply)
-        → IsReply look source limits p s found reply → IsTold s.heard h (Answered reply ∷ []) → Goes p (spot s.executor h)
+        → IsReply look source rules p s found reply → IsTold s.heard h (Answered reply ∷ []) → Goes p (spot s.executor h)
     reply_goes source p s h found reply is told = by p.executor.is_open refl
       where
         by : (b : Bool) → p.executor.is_open ≡ b → Goes p (spot s.executor h)
@@ -193,14 +193,14 @@ module _ {D : Type 0} (look : D → View) where
             (plain_go s h reply (closed_plain s.executor source found reply answers) told)
 
     -- what stands next in the input
-    abbrev Moves : Place D → Place D → Type 0
+    abbrev Moves : Position D → Position D → Type 0
     Moves p q = Goes (spot p.executor p.heard) (spot q.executor q.heard)
 
-    unmoved : (p q : Place D) → q.executor ≡ p.executor → q.heard ≡ p.heard → Moves p q
+    unmoved : (p q : Position D) → q.executor ≡ p.executor → q.heard ≡ p.heard → Moves p q
     unmoved p q same heard =
         quiet_go (spot p.executor p.heard) (spot q.executor q.heard) heard (none_stands look p.executor q.executor [] same nothing)
 
-    next_goes : (source : Source) (p q : Place D) (s : Progress) → Takes look source limits p q s → Moves p q
+    next_goes : (source : Source) (p q : Position D) (s : Progress) → Takes look source rules p q s → Moves p q
     next_goes source p q progress.Answered takes =
         reply_goes source (spot p.executor p.heard) (spot q.executor takes.noticed) q.heard takes.found takes.reply takes.answered
         takes.hears.told
@@ -208,7 +208,7 @@ module _ {D : Type 0} (look : D → View) where
     next_goes source p q progress.End takes = unmoved p q takes.1.0 takes.1.1
 
     -- line after line, and turns between them
-    pub lines_go : (source : Source) (p : Place D) (n : ℕ) (q : Place D) → Reaches look source limits p n q → Moves p q
+    pub lines_go : (source : Source) (p : Position D) (n : ℕ) (q : Position D) → Reaches look source rules p n q → Moves p q
     lines_go source p _ _ here = here_still (spot p.executor p.heard)
     lines_go source p _ _ (one_line n m q s reaches may takes) =
         both_go _ (spot m.executor m.heard) _ (lines_go source p n m reaches) (next_goes source m q s takes)

@@ -5,7 +5,7 @@ use Rattle.ocf_types.specs.declared.reply.TurnEnd.TheVariants as turn_end
 use Rattle.disk_model.specs.View.{View}
 use Rattle.exec_commands.specs.declared.ends.DrainEnd.{DrainEnd}
 use Rattle.exec_session.specs.Drains.{MakesTurn, Spot, end_behind}
-use Rattle.exec_session.specs.Limits.{Limits}
+use Rattle.exec_session.specs.Rules.{Rules}
 use Rattle.exec_session.specs.declared.drain.Terms.{Terms}
 
 -- it does so behind a turn that is done
@@ -25,10 +25,10 @@ still_open t turns now end idle true closes e = refl
 still_open t turns now end idle false closes e = let is = sym (done t turns now end idle e) ∙ closes.0 refl in absurd cc
 
 -- a turn that closed the executor ended for the disk, as room was made or in the turn itself
-pub closes : {D : Type 0} (look : D → View) (limits : Limits) (now : ℕ) (p q : Spot D)
+pub closes : {D : Type 0} (look : D → View) (rules : Rules) (now : ℕ) (p q : Spot D)
     (end : TurnEnd)
-    → MakesTurn look limits now p q end → (q.executor.is_open ≡ false) ↔ (end ≡ turn_end.Disk)
-closes look limits now p q end made = by made.middle.is_open refl
+    → MakesTurn look rules now p q end → (q.executor.is_open ≡ false) ↔ (end ≡ turn_end.Disk)
+closes look rules now p q end made = by made.middle.is_open refl
   where
     by : (b : Bool) → made.middle.is_open ≡ b → (q.executor.is_open ≡ false) ↔ (end ≡ turn_end.Disk)
     by true is_open = (made.takes is_open).closes

@@ -7,15 +7,15 @@ use Rattle.executor.specs.Sights.{Sight}
 use Rattle.exec_client.specs.Heard.{Heard}
 use Rattle.exec_session.specs.Answers.{Source}
 use Rattle.exec_session.specs.Drains.{Spot, spot}
-use Rattle.exec_session.specs.Limits.{Limits}
-use Rattle.exec_session.specs.Progress.{Place, Takes, place}
+use Rattle.exec_session.specs.Rules.{Rules}
+use Rattle.exec_session.specs.Progress.{Position, Takes, position}
 use Rattle.exec_session.specs.Runs.{MayTake, Reaches, closed_line, here, line, row}
 use Rattle.exec_session.specs.Together.{AnswersAll, ReadsCommand, ReadsCommands}
 use Rattle.exec_session.specs.Waiting.{ComesOrEnds, HasCome, MayTakeBehind, MayWait}
 use Rattle.exec_session.specs.declared.lines.Progress.{Progress}
 use Rattle.exec_session.specs.declared.lines.Progress.TheVariants.{End}
-use Rattle.exec_session.specs.declared.setting.Way.{Way}
-use Rattle.exec_session.specs.declared.setting.Way.TheVariants.{Run, Serve}
+use Rattle.exec_session.specs.declared.context.Way.{Way}
+use Rattle.exec_session.specs.declared.context.Way.TheVariants.{Run, Serve}
 
 -- one command more is read
 reads_more : (a b c : Option (List ℕ)) (commands : List Command) (command : Command) → ReadsCommands a commands b
@@ -52,9 +52,9 @@ open_while x commands may some = by x.is_open refl
     by true is_open = is_open
     by false closed = absurd (some (may.while_open closed))
 
-module _ {D : Type 0} (look : D → View) (source : Source) (limits : Limits) (p : Place D) where
-  abbrev Come : ℕ → List Command → Place D → Type 0
-  Come most commands q = HasCome look source limits p most commands q
+module _ {D : Type 0} (look : D → View) (source : Source) (rules : Rules) (p : Position D) where
+  abbrev Come : ℕ → List Command → Position D → Type 0
+  Come most commands q = HasCome look source rules p most commands q
 
   abbrev Closed : Sight D → Type 0
   Closed executor = executor.is_open ≡ false
@@ -64,19 +64,19 @@ module _ {D : Type 0} (look : D → View) (source : Source) (limits : Limits) (p
   at_first = (0, inl (omega arith), record { left = p.left; read = refl; reached = here })
 
   -- none waits
-  pub come_none : (most : ℕ) (commands : List Command) (q : Place D) → commands ≡ [] → Come most [] q → Come most commands q
+  pub come_none : (most : ℕ) (commands : List Command) (q : Position D) → commands ≡ [] → Come most [] q → Come most commands q
   come_none most commands q none come = subst (λ cs. Come most cs q) (sym none) come
 
   -- more lines were allowed
-  pub come_more : (n m : ℕ) (commands : List Command) (q : Place D) → n ≤ m → Come n commands q → Come m commands q
+  pub come_more : (n m : ℕ) (commands : List Command) (q : Position D) → n ≤ m → Come n commands q → Come m commands q
   come_more n m commands q le (count, inl few, waits) = (count, inl (omega (arith, le, few)), waits)
   come_more n m commands q le (count, inr closed, waits) = (count, inr closed, waits)
 
   -- a command more waits
   pub one_waits : (most : ℕ) (commands commands' : List Command) (command : Command) (executor : Sight D)
       (left now : Option (List ℕ)) (heard : Heard D) → executor.is_open ≡ true → ReadsCommand left now command
-      → commands' ≡ commands ++ command ∷ [] → Come most commands (place executor left heard)
-      → Come (most + 1) commands' (place executor now heard)
+      → commands' ≡ commands ++ command ∷ [] → Come most commands (position executor left heard)
+      → Come (most + 1) commands' (position executor now heard)
   one_waits most commands commands' command executor left now heard is_open read same (count, few, waits) = (
     count,
     more few,
@@ -92,15 +92,15 @@ module _ {D : Type 0} (look : D → View) (source : Source) (limits : Limits) (p
       more (inr closed) = absurd (true≢false (sym is_open ∙ closed))
 
   -- all that wait are answered
-  pub all_answered : (most : ℕ) → ((n : ℕ) → n + 1 ≤ most → MayTake limits.way n) → (commands : List Command)
+  pub all_answered : (most : ℕ) → ((n : ℕ) → n + 1 ≤ most → MayTake rules.way n) → (commands : List Command)
       (old new : Sight D) (left : Option (List ℕ)) (heard heard' : Heard D)
-      → (commands ≢ [] → old.is_open ≡ true) → Come most commands (place old left heard)
-      → AnswersAll look limits commands (spot old heard) (spot new heard') → Come most [] (place new left heard')
+      → (commands ≢ [] → old.is_open ≡ true) → Come most commands (position old left heard)
+      → AnswersAll look rules commands (spot old heard) (spot new heard') → Come most [] (position new left heard')
   all_answered most may [] old new left heard heard' is_open (count, few, waits) same =
       let executor : new ≡ old = ap (λ (s : Spot D). s.executor) same in
       let told : heard' ≡ heard = ap (λ (s : Spot D). s.heard) same in
-      let moved = subst (λ (e : Sight D). Come most [] (place e left heard)) (sym executor) (count, few, waits) in
-      subst (λ (h : Heard D). Come most [] (place new left h)) (sym told) moved
+      let moved = subst (λ (e : Sight D). Come most [] (position e left heard)) (sym executor) (count, few, waits) in
+      subst (λ (h : Heard D). Come most [] (position new left h)) (sym told) moved
   all_answered most may (first ∷ others) old new left heard heard' is_open (count, inr closed, waits) answers =
       absurd (true≢false (sym (is_open (λ none. cc)) ∙ closed))
   all_answered most may (first ∷ others) old new left heard heard' is_open (count, inl few, waits) answers = (
@@ -110,18 +110,18 @@ module _ {D : Type 0} (look : D → View) (source : Source) (limits : Limits) (p
       left = left;
       read = refl;
       reached =
-          row count (place old waits.left heard) (place new left heard') first others waits.reached (is_open (λ none. cc))
+          row count (position old waits.left heard) (position new left heard') first others waits.reached (is_open (λ none. cc))
           (may (count + length others) (omega (arith, few))) (record { read = waits.read; answered = answers });
     },
   )
 
   -- with none that waits the run is at the line that is next
-  pub at_line : (most : ℕ) (q : Place D) → Come most [] q → (count : ℕ)
-      × ((count ≤ most) ⊎ Closed q.executor) × Reaches look source limits p count q
+  pub at_line : (most : ℕ) (q : Position D) → Come most [] q → (count : ℕ)
+      × ((count ≤ most) ⊎ Closed q.executor) × Reaches look source rules p count q
   at_line most q (count, few, waits) = (
     count,
     fewer few,
-    subst (λ left. Reaches look source limits p count (place q.executor left q.heard)) (sym waits.read) waits.reached,
+    subst (λ left. Reaches look source rules p count (position q.executor left q.heard)) (sym waits.read) waits.reached,
   )
     where
       fewer : (count + 0 ≤ most) ⊎ Closed q.executor → (count ≤ most) ⊎ Closed q.executor
@@ -129,16 +129,16 @@ module _ {D : Type 0} (look : D → View) (source : Source) (limits : Limits) (p
       fewer (inr closed) = inr closed
 
   -- the next line is taken, or the input has ended
-  pub one_taken : (most : ℕ) → MayTakeBehind limits.way most → (q q' : Place D) (s : Progress) (ended : Bool)
-      → (ended ≡ true → s ≡ End) → Come most [] q → Takes look source limits q q' s
-      → ComesOrEnds look source limits p (most + 1) [] q' ended
+  pub one_taken : (most : ℕ) → MayTakeBehind rules.way most → (q q' : Position D) (s : Progress) (ended : Bool)
+      → (ended ≡ true → s ≡ End) → Come most [] q → Takes look source rules q q' s
+      → ComesOrEnds look source rules p (most + 1) [] q' ended
   one_taken most may q q' s true is come takes =
       let (count, few, reached) = at_line most q come in
-      record { count = count; last = q; reached = reached; end = subst (λ x. Takes look source limits q q' x) (is refl) takes }
+      record { count = count; last = q; reached = reached; end = subst (λ x. Takes look source rules q q' x) (is refl) takes }
   one_taken most may q q' s false is come takes = by q.executor.is_open refl (at_line most q come)
     where
       by : (b : Bool) → q.executor.is_open ≡ b
-          → (count : ℕ) × ((count ≤ most) ⊎ Closed q.executor) × Reaches look source limits p count q → Come (most + 1) [] q'
+          → (count : ℕ) × ((count ≤ most) ⊎ Closed q.executor) × Reaches look source rules p count q → Come (most + 1) [] q'
       by true is_open (count, inl few, reached) = (
         count + 1,
         inl (omega (arith, few)),

@@ -21,7 +21,7 @@ use Rattle.exec_commands.specs.declared.line.Line.TheVariants as line
 use Rattle.exec_commands.specs.declared.reply.LineReply.{LineReply}
 use Rattle.exec_commands.specs.declared.reply.LineReply.TheVariants as answer
 use Rattle.exec_session.specs.Drains.{Drains, Spot}
-use Rattle.exec_session.specs.Limits.{Limits, MakesRoom}
+use Rattle.exec_session.specs.Rules.{Rules, MakesRoom}
 
 -- a line of these bytes is read as the definition says, but that memory may be refused in reading it
 abbrev pub IsReadAs : List ℕ → Result Line Refusal → Type 0
@@ -58,21 +58,21 @@ IsClosedReply source (Ok (line.Request request)) reply = reply ≡ refused refus
 IsClosedReply source (Err why) reply = reply ≡ refused refusal.Closed
 
 -- a drain from the moment that the clock shows, whatever that is, for so many milliseconds and turns at most
-abbrev pub DrainsFor : {D : Type 0} → (D → View) → Bool → ℕ → Limits → Spot D
+abbrev pub DrainsFor : {D : Type 0} → (D → View) → Bool → ℕ → Rules → Spot D
     → Spot D → LineReply → Type 0
-DrainsFor look ends_idle limit limits p q reply =
+DrainsFor look ends_idle limit rules p q reply =
     (now : ℕ) × (end : DrainEnd) × (reply ≡ answer.Drain end)
-    × Drains look limits (record { ends_idle = ends_idle; until = now + limit; most = limits.most_turns }) now p q end
+    × Drains look rules (record { ends_idle = ends_idle; until = now + limit; most = rules.most_turns }) now p q end
 
 -- What an open executor does with a request: room is made, and then it is served at the moment that the clock shows,
 -- whatever that is. Where a disk fault closed the executor as room was made, it is refused for that and nothing else is done.
-pub record ServesNow {D : Type 0} (look : D → View) (limits : Limits) (request : Request)
+pub record ServesNow {D : Type 0} (look : D → View) (rules : Rules) (request : Request)
     (old new : Sight D) (reply : LineReply) : Type 0 where
   pub middle : Sight D
   pub now : ℕ
   pub given : Reply
   pub told : reply ≡ answer.Request given
-  pub room : MakesRoom look limits old middle
+  pub room : MakesRoom look rules old middle
   pub serves : middle.is_open ≡ true → Serves look now request middle new given
   pub fails : middle.is_open ≡ false → (given ≡ Refused refusal.Disk) × (new ≡ middle)
   pub closes : new.is_open ≡ false ↔ (given ≡ Refused refusal.Disk)
@@ -82,19 +82,19 @@ abbrev pub TidiesNow : {D : Type 0} → (D → View) → Sight D → Sight D →
 TidiesNow look old new reply = (end : TidyEnd) × (reply ≡ answer.Tidy end) × Tidies look old new end
 
 -- what an open executor answers to a line: from the spot of its start to that at which the reply is told
-abbrev pub IsOpenReply : {D : Type 0} → (D → View) → Source → Limits → Spot D
+abbrev pub IsOpenReply : {D : Type 0} → (D → View) → Source → Rules → Spot D
     → Spot D → Result Line Refusal → LineReply → Type 0
-IsOpenReply look source limits p q (Ok (line.Request request)) reply =
-    ServesNow look limits request p.executor q.executor reply × (q.heard ≡ p.heard)
-IsOpenReply look source limits p q (Ok (line.Drain limit)) reply = DrainsFor look true limit limits p q reply
-IsOpenReply look source limits p q (Ok (line.Watch limit)) reply = DrainsFor look false limit limits p q reply
-IsOpenReply look source limits p q (Ok line.Tidy) reply = TidiesNow look p.executor q.executor reply × (q.heard ≡ p.heard)
-IsOpenReply look source limits p q (Ok (line.Meta provider agent limit)) reply =
+IsOpenReply look source rules p q (Ok (line.Request request)) reply =
+    ServesNow look rules request p.executor q.executor reply × (q.heard ≡ p.heard)
+IsOpenReply look source rules p q (Ok (line.Drain limit)) reply = DrainsFor look true limit rules p q reply
+IsOpenReply look source rules p q (Ok (line.Watch limit)) reply = DrainsFor look false limit rules p q reply
+IsOpenReply look source rules p q (Ok line.Tidy) reply = TidiesNow look p.executor q.executor reply × (q.heard ≡ p.heard)
+IsOpenReply look source rules p q (Ok (line.Meta provider agent limit)) reply =
     IsMetaReply source provider agent limit reply × (q ≡ p)
-IsOpenReply look source limits p q (Err why) reply = (reply ≡ refused why) × (q ≡ p)
+IsOpenReply look source rules p q (Err why) reply = (reply ≡ refused why) × (q ≡ p)
 
 -- the same while the executor is open or closed
-pub record IsReply {D : Type 0} (look : D → View) (source : Source) (limits : Limits)
+pub record IsReply {D : Type 0} (look : D → View) (source : Source) (rules : Rules)
     (p q : Spot D) (found : Result Line Refusal) (reply : LineReply) : Type 0 where
-  pub while_open : p.executor.is_open ≡ true → IsOpenReply look source limits p q found reply
+  pub while_open : p.executor.is_open ≡ true → IsOpenReply look source rules p q found reply
   pub once_closed : p.executor.is_open ≡ false → IsClosedReply source found reply × (q ≡ p)

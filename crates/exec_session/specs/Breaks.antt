@@ -12,57 +12,57 @@ use Rattle.exec_client.specs.Said.{Said}
 use Rattle.exec_session.specs.declared.drain.Terms.{Terms}
 use Rattle.exec_session.specs.Answers.{Source}
 use Rattle.exec_session.specs.Drains.{GoesOn, Spot, TurnHeard, spot}
-use Rattle.exec_session.specs.Limits.{Limits}
-use Rattle.exec_session.specs.Progress.{AnswersHeard, Place, ReadsLine, place}
+use Rattle.exec_session.specs.Rules.{Rules}
+use Rattle.exec_session.specs.Progress.{AnswersHeard, Position, ReadsLine, position}
 use Rattle.exec_session.specs.Runs.{MakesTurns, Reaches, report_told}
 use Rattle.exec_session.specs.Together.{ReadsCommands, TogetherHeard}
 
 -- A drain broke off behind turns that go on, or in the one behind them, of whose notices a front is written, maybe all.
-pub data DrainBreaks {D : Type 0} (look : D → View) (limits : Limits) (t : Terms) (start : ℕ) (p q : Spot D) : Type 0 where
-  behind_turns : (turns now : ℕ) → GoesOn look limits t start p turns now q → DrainBreaks look limits t start p q
-  in_turn : (turns now : ℕ) (m : Spot D) (end : TurnEnd) → GoesOn look limits t start p turns now m
-      → TurnHeard (HearsPart limits.form) look limits now m q end → DrainBreaks look limits t start p q
+pub data DrainBreaks {D : Type 0} (look : D → View) (rules : Rules) (t : Terms) (start : ℕ) (p q : Spot D) : Type 0 where
+  behind_turns : (turns now : ℕ) → GoesOn look rules t start p turns now q → DrainBreaks look rules t start p q
+  in_turn : (turns now : ℕ) (m : Spot D) (end : TurnEnd) → GoesOn look rules t start p turns now m
+      → TurnHeard (HearsPart rules.form) look rules now m q end → DrainBreaks look rules t start p q
 
 -- so one that was to take so many milliseconds at most, from the moment that the clock showed
-abbrev pub DrainBreaksFor : {D : Type 0} → (D → View) → Bool → ℕ → Limits → Spot D → Spot D → Type 0
-DrainBreaksFor look ends_idle limit limits p q =
-    (now : ℕ) × DrainBreaks look limits (record { ends_idle = ends_idle; until = now + limit; most = limits.most_turns }) now p q
+abbrev pub DrainBreaksFor : {D : Type 0} → (D → View) → Bool → ℕ → Rules → Spot D → Spot D → Type 0
+DrainBreaksFor look ends_idle limit rules p q =
+    (now : ℕ) × DrainBreaks look rules (record { ends_idle = ends_idle; until = now + limit; most = rules.most_turns }) now p q
 
 -- An open executor broke off in answering a line: a drain or a watch, and no other.
-abbrev pub ReplyBreaks : {D : Type 0} → (D → View) → Limits → Spot D → Spot D → Result Line Refusal → Type 0
-ReplyBreaks look limits p q (Ok (line.Drain limit)) = DrainBreaksFor look true limit limits p q
-ReplyBreaks look limits p q (Ok (line.Watch limit)) = DrainBreaksFor look false limit limits p q
-ReplyBreaks look limits p q _ = ⊥
+abbrev pub ReplyBreaks : {D : Type 0} → (D → View) → Rules → Spot D → Spot D → Result Line Refusal → Type 0
+ReplyBreaks look rules p q (Ok (line.Drain limit)) = DrainBreaksFor look true limit rules p q
+ReplyBreaks look rules p q (Ok (line.Watch limit)) = DrainBreaksFor look false limit rules p q
+ReplyBreaks look rules p q _ = ⊥
 
 -- commands that arrived together were answered, and of their replies a front is written
-abbrev pub RowBreaks : {D : Type 0} → (D → View) → Limits → List Command → Spot D → Spot D → Type 0
-RowBreaks look limits [] p q = ⊥
-RowBreaks look limits (first ∷ others) p q = TogetherHeard (HearsPart limits.form) look limits (first ∷ others) p q
+abbrev pub RowBreaks : {D : Type 0} → (D → View) → Rules → List Command → Spot D → Spot D → Type 0
+RowBreaks look rules [] p q = ⊥
+RowBreaks look rules (first ∷ others) p q = TogetherHeard (HearsPart rules.form) look rules (first ∷ others) p q
 
 -- Behind a place that a run has come to it did one thing more at most, of which the client heard a front: it answered the next line,
 -- or a drain's turns up to one of them, or a row of commands, or it made a turn.
-pub data BreaksIn {D : Type 0} (look : D → View) (source : Source) (limits : Limits) (m : Place D) (q : Spot D) : Type 0 where
-  between : q ≡ spot m.executor m.heard → BreaksIn look source limits m q
-  in_line : (left : Option (List ℕ)) → AnswersHeard (HearsPart limits.form) look source limits m (place q.executor left q.heard)
-      → BreaksIn look source limits m q
+pub data BreaksIn {D : Type 0} (look : D → View) (source : Source) (rules : Rules) (m : Position D) (q : Spot D) : Type 0 where
+  between : q ≡ spot m.executor m.heard → BreaksIn look source rules m q
+  in_line : (left : Option (List ℕ)) → AnswersHeard (HearsPart rules.form) look source rules m (position q.executor left q.heard)
+      → BreaksIn look source rules m q
   in_drain : (left : Option (List ℕ)) (found : Result Line Refusal) → ReadsLine m.left left found → m.executor.is_open ≡ true
-      → ReplyBreaks look limits (spot m.executor m.heard) q found → BreaksIn look source limits m q
+      → ReplyBreaks look rules (spot m.executor m.heard) q found → BreaksIn look source rules m q
   in_row : (left : Option (List ℕ)) (commands : List Command) → ReadsCommands m.left commands left → m.executor.is_open ≡ true
-      → RowBreaks look limits commands (spot m.executor m.heard) q → BreaksIn look source limits m q
-  in_own_turn : (now : ℕ) (end : TurnEnd) → MakesTurns limits.way → m.executor.is_open ≡ true
-      → TurnHeard (HearsPart limits.form) look limits now (spot m.executor m.heard) q end → BreaksIn look source limits m q
+      → RowBreaks look rules commands (spot m.executor m.heard) q → BreaksIn look source rules m q
+  in_own_turn : (now : ℕ) (end : TurnEnd) → MakesTurns rules.way → m.executor.is_open ≡ true
+      → TurnHeard (HearsPart rules.form) look rules now (spot m.executor m.heard) q end → BreaksIn look source rules m q
 
 -- Line after line was answered as said, up to a place behind which the run broke off.
-pub record BreaksOff {D : Type 0} (look : D → View) (source : Source) (limits : Limits) (p : Place D) (q : Spot D) : Type 0 where
+pub record BreaksOff {D : Type 0} (look : D → View) (source : Source) (rules : Rules) (p : Position D) (q : Spot D) : Type 0 where
   pub count : ℕ
-  pub last : Place D
-  pub reached : Reaches look source limits p count last
-  pub breaks : BreaksIn look source limits last q
+  pub last : Position D
+  pub reached : Reaches look source rules p count last
+  pub breaks : BreaksIn look source rules last q
 
 -- A run broke off in telling the report, of which a front was told and a front of that is written, or behind that.
-pub data RunBreaks {D N : Type 0} (look : D → View) (source : Source) (limits : Limits) (report : Report N)
-    (p : Place D) (q : Spot D) : Type 0 where
+pub data RunBreaks {D N : Type 0} (look : D → View) (source : Source) (rules : Rules) (report : Report N)
+    (p : Position D) (q : Spot D) : Type 0 where
   in_report : (said rest : List Said) → report_told report ≡ said ++ rest → q.executor ≡ p.executor
-      → HearsPart limits.form p.heard q.heard said → RunBreaks look source limits report p q
-  behind_report : (reported : Heard D) → Hears limits.form p.heard reported (report_told report)
-      → BreaksOff look source limits (record p { heard = reported }) q → RunBreaks look source limits report p q
+      → HearsPart rules.form p.heard q.heard said → RunBreaks look source rules report p q
+  behind_report : (reported : Heard D) → Hears rules.form p.heard reported (report_told report)
+      → BreaksOff look source rules (record p { heard = reported }) q → RunBreaks look source rules report p q

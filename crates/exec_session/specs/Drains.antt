@@ -10,7 +10,7 @@ use Rattle.exec_commands.specs.declared.ends.DrainEnd.{DrainEnd}
 use Rattle.exec_commands.specs.declared.ends.DrainEnd.TheVariants.{Idle, Limit, Turns, Turn}
 use Rattle.exec_client.specs.Heard.{Heard, Hears}
 use Rattle.exec_client.specs.Said.{Noticed, Said}
-use Rattle.exec_session.specs.Limits.{Limits, MakesRoom}
+use Rattle.exec_session.specs.Rules.{Rules, MakesRoom}
 use Rattle.exec_session.specs.declared.drain.Terms.{Terms}
 
 -- where an answer stands: its executor, and what the client has heard
@@ -27,17 +27,17 @@ Hearing D = Heard D → Heard D → List Said → Type 0
 
 -- A turn at this moment: the book is emptied and room is made, then the turn is made, and its notices are told, which the client
 -- hears so. Where a disk fault closed the executor as room was made, no turn is made and nothing is told.
-pub record TurnHeard {D : Type 0} (hears_so : Hearing D) (look : D → View) (limits : Limits) (now : ℕ) (p q : Spot D)
+pub record TurnHeard {D : Type 0} (hears_so : Hearing D) (look : D → View) (rules : Rules) (now : ℕ) (p q : Spot D)
     (end : TurnEnd) : Type 0 where
   pub middle : Sight D
-  pub room : MakesRoom look limits (with_empty_book p.executor) middle
+  pub room : MakesRoom look rules (with_empty_book p.executor) middle
   pub takes : middle.is_open ≡ true → TakesTurn look now middle q.executor end
   pub hears : middle.is_open ≡ true → hears_so p.heard q.heard (map Noticed q.executor.told)
   pub fails : middle.is_open ≡ false → (end ≡ Disk) × (q.executor ≡ middle) × (q.heard ≡ p.heard)
 
 -- the client hears all of them
-abbrev pub MakesTurn : {D : Type 0} → (D → View) → Limits → ℕ → Spot D → Spot D → TurnEnd → Type 0
-MakesTurn look limits now p q end = TurnHeard (Hears limits.form) look limits now p q end
+abbrev pub MakesTurn : {D : Type 0} → (D → View) → Rules → ℕ → Spot D → Spot D → TurnEnd → Type 0
+MakesTurn look rules now p q end = TurnHeard (Hears rules.form) look rules now p q end
 
 -- how a drain ends behind its turn of this number, which ended so and left the executor idle or not, at the moment that
 -- the clock shows then; none where it goes on
@@ -53,22 +53,22 @@ end_at t turns now end e = end_behind t turns now end (not (any_busy e.state))
 
 -- So many turns were made, none of which ended the drain, each at the moment that the clock showed behind the one before:
 -- the first at the start, and the next one will be at this moment.
-pub data GoesOn {D : Type 0} (look : D → View) (limits : Limits) (t : Terms) (start : ℕ)
+pub data GoesOn {D : Type 0} (look : D → View) (rules : Rules) (t : Terms) (start : ℕ)
     (p : Spot D) : ℕ → ℕ → Spot D → Type 0 where
-  at_start : GoesOn look limits t start p 0 start p
+  at_start : GoesOn look rules t start p 0 start p
   further : (turns now after : ℕ) (m q : Spot D) (end : TurnEnd)
-      → GoesOn look limits t start p turns now m → MakesTurn look limits now m q end
+      → GoesOn look rules t start p turns now m → MakesTurn look rules now m q end
       → end_at t (turns + 1) after end q.executor ≡ None
-      → GoesOn look limits t start p (turns + 1) after q
+      → GoesOn look rules t start p (turns + 1) after q
 
 -- A whole drain from this start: turns that go on, and the one that ends it.
-pub record Drains {D : Type 0} (look : D → View) (limits : Limits) (t : Terms) (start : ℕ)
+pub record Drains {D : Type 0} (look : D → View) (rules : Rules) (t : Terms) (start : ℕ)
     (p q : Spot D) (end : DrainEnd) : Type 0 where
   pub turns : ℕ
   pub now : ℕ
   pub after : ℕ
   pub last : Spot D
   pub turn_end : TurnEnd
-  pub gone_on : GoesOn look limits t start p turns now last
-  pub made : MakesTurn look limits now last q turn_end
+  pub gone_on : GoesOn look rules t start p turns now last
+  pub made : MakesTurn look rules now last q turn_end
   pub ended : end_at t (turns + 1) after turn_end q.executor ≡ Some end

@@ -12,34 +12,34 @@ use Rattle.exec_session.specs.declared.session.Run.{Run as RunResult}
 use Rattle.exec_session.specs.Answers.{Source}
 use Rattle.exec_session.specs.Breaks.{RunBreaks}
 use Rattle.exec_session.specs.Drains.{spot}
-use Rattle.exec_session.specs.Limits.{Limits}
-use Rattle.exec_session.specs.Progress.{Place, place}
+use Rattle.exec_session.specs.Rules.{Rules}
+use Rattle.exec_session.specs.Progress.{Position, position}
 use Rattle.exec_session.specs.Runs.{ReachesEnd, report_told}
 
 -- the report is told first, and then all lines are answered
-pub record Runs {D N : Type 0} (look : D → View) (source : Source) (limits : Limits) (report : Report N)
-    (p q : Place D) : Type 0 where
+pub record Runs {D N : Type 0} (look : D → View) (source : Source) (rules : Rules) (report : Report N)
+    (p q : Position D) : Type 0 where
   pub reported : Heard D
-  pub report_first : Hears limits.form p.heard reported (report_told report)
-  pub lines : ReachesEnd look source limits (record p { heard = reported }) q
+  pub report_first : Hears rules.form p.heard reported (report_told report)
+  pub lines : ReachesEnd look source rules (record p { heard = reported }) q
 
 -- how a run ends that leads from one place to another
-abbrev pub EndsAs : {D N T : Type 0} → (D → View) → Source → Limits → Report N → Place D
-    → Place D → Result T Fault → Type 0
-EndsAs look source limits report p q (Ok done) = Runs look source limits report p q × (q.executor.is_open ≡ true)
-EndsAs look source limits report p q (Err Disk) =
-    Runs look source limits report p q × (q.executor.is_open ≡ false)
-EndsAs look source limits report p q (Err Memory) = q ≡ p
-EndsAs look source limits report p q (Err InputOrOutput) = RunBreaks look source limits report p (spot q.executor q.heard)
-EndsAs look source limits report p q (Err ReplyMemory) = RunBreaks look source limits report p (spot q.executor q.heard)
-EndsAs look source limits report p q (Err _) = ⊥
+abbrev pub EndsAs : {D N T : Type 0} → (D → View) → Source → Rules → Report N → Position D
+    → Position D → Result T Fault → Type 0
+EndsAs look source rules report p q (Ok done) = Runs look source rules report p q × (q.executor.is_open ≡ true)
+EndsAs look source rules report p q (Err Disk) =
+    Runs look source rules report p q × (q.executor.is_open ≡ false)
+EndsAs look source rules report p q (Err Memory) = q ≡ p
+EndsAs look source rules report p q (Err InputOrOutput) = RunBreaks look source rules report p (spot q.executor q.heard)
+EndsAs look source rules report p q (Err ReplyMemory) = RunBreaks look source rules report p (spot q.executor q.heard)
+EndsAs look source rules report p q (Err _) = ⊥
 
 -- A run that begins at this place ended, with what the reader has left then and what the client has heard: at its end all
 -- children are given up, and they and the disk are handed back.
-pub record Ended {D C N : Type 0} (look : D → View) (tend : C → ChildrenView) (source : Source) (limits : Limits) (report : Report N)
-    (p : Place D) (left : Option (List ℕ)) (heard : Heard D) (run : RunResult D C) : Type 0 where
+pub record Ended {D C N : Type 0} (look : D → View) (tend : C → ChildrenView) (source : Source) (rules : Rules) (report : Report N)
+    (p : Position D) (left : Option (List ℕ)) (heard : Heard D) (run : RunResult D C) : Type 0 where
   pub last : Sight D
-  pub ends : EndsAs look source limits report p (place last left heard) run.ended
+  pub ends : EndsAs look source rules report p (position last left heard) run.ended
   pub disk : run.disk ≡ last.disk
   pub children : tend run.children ≡ given_up last.children
 

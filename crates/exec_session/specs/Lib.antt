@@ -3,7 +3,7 @@ pub mod Breaks
 pub mod Drains
 pub mod Ends
 pub mod Gathered
-pub mod Limits
+pub mod Rules
 pub mod Progress
 pub mod Runs
 pub mod Serving

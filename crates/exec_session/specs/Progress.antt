@@ -15,7 +15,7 @@ use Rattle.exec_session.specs.declared.lines.Progress.{Progress}
 use Rattle.exec_session.specs.declared.lines.Progress.TheVariants as progress
 use Rattle.exec_session.specs.Answers.{Source, IsReadAs, IsReply}
 use Rattle.exec_session.specs.Drains.{Hearing, spot}
-use Rattle.exec_session.specs.Limits.{Limits}
+use Rattle.exec_session.specs.Rules.{Rules}
 
 -- where it is known what a reader has left: the next line has no bytes, and what stands behind it is left
 abbrev pub PassesLine : Option (List ℕ) → Option (List ℕ) → Type 0
@@ -34,35 +34,35 @@ ReadsInput old new found.Empty = PassesLine old new
 ReadsInput old new (found.Line line) = ReadsLine old new line
 
 -- where a run is: its executor, what the reader has left, and what the client has heard
-pub record Place (D : Type 0) : Type 0 where
+pub record Position (D : Type 0) : Type 0 where
   pub executor : Sight D
   pub left : Option (List ℕ)
   pub heard : Heard D
 
-abbrev pub place : {D : Type 0} → Sight D → Option (List ℕ) → Heard D → Place D
-place executor left heard = record { executor = executor; left = left; heard = heard }
+abbrev pub position : {D : Type 0} → Sight D → Option (List ℕ) → Heard D → Position D
+position executor left heard = record { executor = executor; left = left; heard = heard }
 
 -- The next line is read, and the client is told the notices of a drain, and then just the reply, which it hears so.
-pub record AnswersHeard {D : Type 0} (hears_so : Hearing D) (look : D → View) (source : Source) (limits : Limits)
-    (p q : Place D) : Type 0 where
+pub record AnswersHeard {D : Type 0} (hears_so : Hearing D) (look : D → View) (source : Source) (rules : Rules)
+    (p q : Position D) : Type 0 where
   pub found : Result Line Refusal
   pub reply : LineReply
   pub noticed : Heard D
   pub read : ReadsLine p.left q.left found
-  pub answered : IsReply look source limits (spot p.executor p.heard) (spot q.executor noticed) found reply
+  pub answered : IsReply look source rules (spot p.executor p.heard) (spot q.executor noticed) found reply
   pub hears : hears_so noticed q.heard (Answered reply ∷ [])
 
 -- it hears all of it
-abbrev pub Answers : {D : Type 0} → (D → View) → Source → Limits → Place D → Place D → Type 0
-Answers look source limits p q = AnswersHeard (Hears limits.form) look source limits p q
+abbrev pub Answers : {D : Type 0} → (D → View) → Source → Rules → Position D → Position D → Type 0
+Answers look source rules p q = AnswersHeard (Hears rules.form) look source rules p q
 
 -- the executor and what the client has heard are the same
-abbrev pub Stays : {D : Type 0} → Place D → Place D → Type 0
+abbrev pub Stays : {D : Type 0} → Position D → Position D → Type 0
 Stays p q = (q.executor ≡ p.executor) × (q.heard ≡ p.heard)
 
 -- what was done with what stands next in the input
-abbrev pub Takes : {D : Type 0} → (D → View) → Source → Limits → Place D → Place D
+abbrev pub Takes : {D : Type 0} → (D → View) → Source → Rules → Position D → Position D
     → Progress → Type 0
-Takes look source limits p q progress.Answered = Answers look source limits p q
-Takes look source limits p q progress.PassedOver = PassesLine p.left q.left × Stays p q
-Takes look source limits p q progress.End = IsAtEnd p.left × Stays p q
+Takes look source rules p q progress.Answered = Answers look source rules p q
+Takes look source rules p q progress.PassedOver = PassesLine p.left q.left × Stays p q
+Takes look source rules p q progress.End = IsAtEnd p.left × Stays p q

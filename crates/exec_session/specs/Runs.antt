@@ -12,12 +12,12 @@ use Rattle.exec_client.specs.MayTell.{StandsBehind}
 use Rattle.exec_client.specs.Said.{Reported, Said}
 use Rattle.exec_session.specs.declared.lines.Progress.{Progress}
 use Rattle.exec_session.specs.declared.lines.Progress.TheVariants.{End}
-use Rattle.exec_session.specs.declared.setting.Way.{Way}
-use Rattle.exec_session.specs.declared.setting.Way.TheVariants.{Run, Serve}
+use Rattle.exec_session.specs.declared.context.Way.{Way}
+use Rattle.exec_session.specs.declared.context.Way.TheVariants.{Run, Serve}
 use Rattle.exec_session.specs.Answers.{Source}
 use Rattle.exec_session.specs.Drains.{MakesTurn, Spot, spot}
-use Rattle.exec_session.specs.Limits.{Limits}
-use Rattle.exec_session.specs.Progress.{Place, Takes}
+use Rattle.exec_session.specs.Rules.{Rules}
+use Rattle.exec_session.specs.Progress.{Position, Takes}
 use Rattle.exec_session.specs.Together.{AnswersRow}
 
 -- what is told of the opening's report: what was interrupted, and then what was dropped
@@ -49,28 +49,28 @@ MakesTurns Serve = ⊤
 
 -- Line after line, in their order, none of them left out, commands that arrived together in a row; a run that serves makes
 -- turns between them, while its executor is open. The number is how many lines an open executor answered since the last turn.
-pub data Reaches {D : Type 0} (look : D → View) (source : Source) (limits : Limits)
-    (p : Place D) : ℕ → Place D → Type 0 where
-  here : Reaches look source limits p 0 p
-  line : (n : ℕ) (m q : Place D) (s : Progress) → Reaches look source limits p n m → MayTake limits.way n
-      → Takes look source limits m q s → Reaches look source limits p (n + 1) q
-  row : (n : ℕ) (m q : Place D) (first : Command) (others : List Command) → Reaches look source limits p n m
-      → m.executor.is_open ≡ true → MayTake limits.way (n + length others)
-      → AnswersRow look limits (first ∷ others) m q → Reaches look source limits p (n + length others + 1) q
-  closed_line : (n : ℕ) (m q : Place D) (s : Progress) → Reaches look source limits p n m
-      → m.executor.is_open ≡ false → Takes look source limits m q s → Reaches look source limits p 0 q
-  turn : (n now : ℕ) (m q : Place D) (end : TurnEnd) → Reaches look source limits p n m → MakesTurns limits.way
+pub data Reaches {D : Type 0} (look : D → View) (source : Source) (rules : Rules)
+    (p : Position D) : ℕ → Position D → Type 0 where
+  here : Reaches look source rules p 0 p
+  line : (n : ℕ) (m q : Position D) (s : Progress) → Reaches look source rules p n m → MayTake rules.way n
+      → Takes look source rules m q s → Reaches look source rules p (n + 1) q
+  row : (n : ℕ) (m q : Position D) (first : Command) (others : List Command) → Reaches look source rules p n m
+      → m.executor.is_open ≡ true → MayTake rules.way (n + length others)
+      → AnswersRow look rules (first ∷ others) m q → Reaches look source rules p (n + length others + 1) q
+  closed_line : (n : ℕ) (m q : Position D) (s : Progress) → Reaches look source rules p n m
+      → m.executor.is_open ≡ false → Takes look source rules m q s → Reaches look source rules p 0 q
+  turn : (n now : ℕ) (m q : Position D) (end : TurnEnd) → Reaches look source rules p n m → MakesTurns rules.way
       → m.executor.is_open ≡ true
-      → MakesTurn look limits now (spot m.executor m.heard) (spot q.executor q.heard) end → q.left ≡ m.left
-      → Reaches look source limits p 0 q
+      → MakesTurn look rules now (spot m.executor m.heard) (spot q.executor q.heard) end → q.left ≡ m.left
+      → Reaches look source rules p 0 q
 
 -- so up to the end of the input
-pub record ReachesEnd {D : Type 0} (look : D → View) (source : Source) (limits : Limits)
-    (p q : Place D) : Type 0 where
+pub record ReachesEnd {D : Type 0} (look : D → View) (source : Source) (rules : Rules)
+    (p q : Position D) : Type 0 where
   pub count : ℕ
-  pub last : Place D
-  pub reached : Reaches look source limits p count last
-  pub end : Takes look source limits last q End
+  pub last : Position D
+  pub reached : Reaches look source rules p count last
+  pub end : Takes look source rules last q End
 
 -- Calls alone lead from one spot to another, with these exchanges, and what was told meanwhile stands behind what they recorded.
 pub record GoesByCalls {D : Type 0} (look : D → View) (p q : Spot D) : Type 0 where

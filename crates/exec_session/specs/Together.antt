@@ -11,8 +11,8 @@ use Rattle.exec_commands.specs.declared.line.Line.TheVariants as line
 use Rattle.exec_client.specs.Heard.{Hears}
 use Rattle.exec_client.specs.Said.{answered}
 use Rattle.exec_session.specs.Drains.{Hearing, Spot, spot}
-use Rattle.exec_session.specs.Limits.{Limits, MakesRoom}
-use Rattle.exec_session.specs.Progress.{Place, ReadsLine}
+use Rattle.exec_session.specs.Rules.{Rules, MakesRoom}
+use Rattle.exec_session.specs.Progress.{Position, ReadsLine}
 
 -- the next line is read as this command
 abbrev pub ReadsCommand : Option (List ℕ) → Option (List ℕ) → Command → Type 0
@@ -27,33 +27,33 @@ ReadsCommands old (first ∷ others) new =
 -- What an open executor does with commands that arrived together: room is made, and then it takes them at the moment that the
 -- clock shows, whatever that is. Where a disk fault closed the executor as room was made, each is refused for that and nothing
 -- else is done.
-pub record ServesTogether {D : Type 0} (look : D → View) (limits : Limits) (commands : List Command)
+pub record ServesTogether {D : Type 0} (look : D → View) (rules : Rules) (commands : List Command)
     (old new : Sight D) (given : List Reply) : Type 0 where
   pub middle : Sight D
   pub now : ℕ
-  pub room : MakesRoom look limits old middle
+  pub room : MakesRoom look rules old middle
   pub takes : middle.is_open ≡ true → TakesCommands look now commands middle new given
   pub fails : middle.is_open ≡ false → (given ≡ replicate (length commands) (Refused Disk)) × (new ≡ middle)
 
 -- They are served, and behind that the client is told just their replies, in their order, which it hears so.
-pub record TogetherHeard {D : Type 0} (hears_so : Hearing D) (look : D → View) (limits : Limits) (commands : List Command)
+pub record TogetherHeard {D : Type 0} (hears_so : Hearing D) (look : D → View) (rules : Rules) (commands : List Command)
     (p q : Spot D) : Type 0 where
   pub given : List Reply
-  pub serves : ServesTogether look limits commands p.executor q.executor given
+  pub serves : ServesTogether look rules commands p.executor q.executor given
   pub hears : hears_so p.heard q.heard (map answered given)
 
 -- it hears all of them
-abbrev pub AnswersTogether : {D : Type 0} → (D → View) → Limits → List Command → Spot D → Spot D → Type 0
-AnswersTogether look limits commands p q = TogetherHeard (Hears limits.form) look limits commands p q
+abbrev pub AnswersTogether : {D : Type 0} → (D → View) → Rules → List Command → Spot D → Spot D → Type 0
+AnswersTogether look rules commands p q = TogetherHeard (Hears rules.form) look rules commands p q
 
 -- all commands that wait are answered together, where there are any
-abbrev pub AnswersAll : {D : Type 0} → (D → View) → Limits → List Command → Spot D
+abbrev pub AnswersAll : {D : Type 0} → (D → View) → Rules → List Command → Spot D
     → Spot D → Type 0
-AnswersAll look limits [] p q = q ≡ p
-AnswersAll look limits (first ∷ others) p q = AnswersTogether look limits (first ∷ others) p q
+AnswersAll look rules [] p q = q ≡ p
+AnswersAll look rules (first ∷ others) p q = AnswersTogether look rules (first ∷ others) p q
 
 -- The next lines are commands, which are answered together.
-pub record AnswersRow {D : Type 0} (look : D → View) (limits : Limits) (commands : List Command)
-    (p q : Place D) : Type 0 where
+pub record AnswersRow {D : Type 0} (look : D → View) (rules : Rules) (commands : List Command)
+    (p q : Position D) : Type 0 where
   pub read : ReadsCommands p.left commands q.left
-  pub answered : AnswersTogether look limits commands (spot p.executor p.heard) (spot q.executor q.heard)
+  pub answered : AnswersTogether look rules commands (spot p.executor p.heard) (spot q.executor q.heard)

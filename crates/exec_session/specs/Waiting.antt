@@ -4,11 +4,11 @@ use Rattle.ocf_types.specs.Kinds.{Command}
 use Rattle.disk_model.specs.View.{View}
 use Rattle.executor.specs.Sights.{Sight}
 use Rattle.exec_session.specs.Answers.{Source}
-use Rattle.exec_session.specs.Limits.{Limits}
-use Rattle.exec_session.specs.Progress.{Place, place}
+use Rattle.exec_session.specs.Rules.{Rules}
+use Rattle.exec_session.specs.Progress.{Position, position}
 use Rattle.exec_session.specs.Runs.{MayTake, Reaches, ReachesEnd}
 use Rattle.exec_session.specs.Together.{ReadsCommands}
-use Rattle.exec_session.specs.declared.setting.Way.{Way}
+use Rattle.exec_session.specs.declared.context.Way.{Way}
 
 -- how many commands are answered together at most
 abbrev pub most_together : ℕ
@@ -21,24 +21,24 @@ pub record MayWait {D : Type 0} (x : Sight D) (commands : List Command) : Type 0
 
 -- A run has come from a place so far that these commands wait: they were read, one behind the other, and since then nothing was
 -- done with the executor and nothing told.
-pub record Waits {D : Type 0} (look : D → View) (source : Source) (limits : Limits)
-    (p : Place D) (count : ℕ) (commands : List Command) (q : Place D) : Type 0 where
+pub record Waits {D : Type 0} (look : D → View) (source : Source) (rules : Rules)
+    (p : Position D) (count : ℕ) (commands : List Command) (q : Position D) : Type 0 where
   pub left : Option (List ℕ)
   pub read : ReadsCommands left commands q.left
-  pub reached : Reaches look source limits p count (place q.executor left q.heard)
+  pub reached : Reaches look source rules p count (position q.executor left q.heard)
 
 -- it has come so far, with at most so many lines since its last turn, those that wait too, or with a closed executor
-abbrev pub HasCome : {D : Type 0} → (D → View) → Source → Limits → Place D → ℕ
-    → List Command → Place D → Type 0
-HasCome look source limits p most commands q =
+abbrev pub HasCome : {D : Type 0} → (D → View) → Source → Rules → Position D → ℕ
+    → List Command → Position D → Type 0
+HasCome look source rules p most commands q =
     (count : ℕ) × ((count + length commands ≤ most) ⊎ (q.executor.is_open ≡ false))
-    × Waits look source limits p count commands q
+    × Waits look source rules p count commands q
 
 -- it has come so far, or to the end of the input
-abbrev pub ComesOrEnds : {D : Type 0} → (D → View) → Source → Limits → Place D → ℕ
-    → List Command → Place D → Bool → Type 0
-ComesOrEnds look source limits p most commands q false = HasCome look source limits p most commands q
-ComesOrEnds look source limits p most commands q true = ReachesEnd look source limits p q
+abbrev pub ComesOrEnds : {D : Type 0} → (D → View) → Source → Rules → Position D → ℕ
+    → List Command → Position D → Bool → Type 0
+ComesOrEnds look source rules p most commands q false = HasCome look source rules p most commands q
+ComesOrEnds look source rules p most commands q true = ReachesEnd look source rules p q
 
 -- a run may take a line behind at most so many since its last turn
 abbrev pub MayTakeBehind : Way → ℕ → Type 0

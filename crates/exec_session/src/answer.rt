@@ -6,18 +6,18 @@ ghost use Rattle.exec_session.specs.Answers.{DrainsFor, IsClosedReply, IsMetaRep
 ghost use Rattle.exec_session.specs.Answers.{closed_tidy, refused};
 ghost use Rattle.exec_session.specs.Breaks.{DrainBreaksFor, ReplyBreaks};
 ghost use Rattle.exec_session.specs.Drains.{spot};
-ghost use Rattle.exec_session.specs.Limits.{limits_of};
+ghost use Rattle.exec_session.specs.Rules.{rules_of};
 
+use crate::context::RunContext;
 use crate::drain::{Terms, drain};
 use crate::metadata::Metadata;
 use crate::room::make_room;
-use crate::setting::Setting;
 use child_keeper::Children;
 use disk_model::Disk;
 use exec_client::Client;
 use exec_commands::{DrainEnd, Line, LineReply};
 use exec_lines::moment_now;
-use exec_output::Stopped;
+use exec_output::IoFault;
 use executor::Executor;
 use ocf_types::{AgentType, Provider, Refusal, Reply, Request, TidyEnd, TurnEnd};
 use std::rt::Clock;
@@ -29,16 +29,16 @@ fn refused(refusal: Refusal) -> LineReply
 }
 
 fn meta_reply<K: Clock, M: Metadata>(
-    setting: &Setting<K, M>,
+    context: &RunContext<K, M>,
     provider: &Provider,
     agent: &AgentType,
     limit: u32,
 ) -> LineReply
-    ensures { IsMetaReply (M.gives setting.now.metadata.now) provider.now agent.now limit result }
+    ensures { IsMetaReply (M.gives context.now.metadata.now) provider.now agent.now limit result }
 {
-    let given = setting
+    let given = context
         .metadata
-        .metadata(setting.alloc, provider, agent, limit);
+        .metadata(context.alloc, provider, agent, limit);
     LineReply::Meta(given)
 }
 
@@ -56,10 +56,10 @@ fn closed_tidy() -> LineReply
 
 // What a line is answered once a disk fault has closed the executor.
 fn closed_reply<K: Clock, M: Metadata>(
-    setting: &Setting<K, M>,
+    context: &RunContext<K, M>,
     line: &Result<Line, Refusal>,
 ) -> LineReply
-    ensures { IsClosedReply (M.gives setting.now.metadata.now) line.now result }
+    ensures { IsClosedReply (M.gives context.now.metadata.now) line.now result }
 {
     match line {
         Ok(
@@ -68,7 +68,7 @@ fn closed_reply<K: Clock, M: Metadata>(
                 agent,
                 limit,
             },
-        ) => meta_reply(setting, provider, agent, *limit),
+        ) => meta_reply(context, provider, agent, *limit),
         Ok(Line::Drain(_) | Line::Watch(_)) => closed_drain(),
         Ok(Line::Tidy) => closed_tidy(),
         Ok(Line::Request(_)) | Err(_) => refused(Refusal::Closed),
@@ -77,71 +77,71 @@ fn closed_reply<K: Clock, M: Metadata>(
 
 // Drains from now on, for so many milliseconds at most.
 fn drain_reply<D: Disk + Drop, C: Children + Drop, T: Client<D, C>, K: Clock, M: Metadata>(
-    setting: &Setting<K, M>,
+    context: &RunContext<K, M>,
     client: &mut T,
     executor: &mut Executor<D, C>,
     ends_idle: bool,
     limit: u32,
-) -> Result<LineReply, Stopped>
+) -> Result<LineReply, IoFault>
     requires open { executor.old.is_open ≡ true }
     requires stands { AllStand D.view (T.heard client.old) executor.old }
     ensures stands { AllStand D.view (T.heard client.new) executor.new }
     ensures opened { (T.heard client.new).opened ≡ (T.heard client.old).opened }
-    ensures reply { IfOk result (DrainsFor D.view ends_idle limit (limits_of setting.now)
+    ensures reply { IfOk result (DrainsFor D.view ends_idle limit (rules_of context.now)
         (spot executor.old (T.heard client.old)) (spot executor.new (T.heard client.new))) }
-    ensures breaks { OnErr result (DrainBreaksFor D.view ends_idle limit (limits_of setting.now)
+    ensures breaks { OnErr result (DrainBreaksFor D.view ends_idle limit (rules_of context.now)
         (spot executor.old (T.heard client.old)) (spot executor.new (T.heard client.new))) }
 {
-    let start = moment_now(setting.clock).get();
+    let start = moment_now(context.clock).get();
     let terms = Terms {
         ends_idle,
         until: start + u64::from(limit),
-        most: setting.most_turns,
+        most: context.most_turns,
     };
-    let end = drain(setting, client, executor, terms, start)?;
+    let end = drain(context, client, executor, terms, start)?;
     Ok(LineReply::Drain(end))
 }
 
 // Makes room, and then does what a request asks at the moment that the clock shows. Where the disk fails as room is made the
 // request is refused for that.
 fn request_reply<D: Disk + Drop, C: Children + Drop, K: Clock, M>(
-    setting: &Setting<K, M>,
+    context: &RunContext<K, M>,
     executor: &mut Executor<D, C>,
     request: Request,
 ) -> LineReply
     requires open { executor.old.is_open ≡ true }
     ensures stands { StandsBehind D.view executor.old executor.new (Answered result ∷ []) }
     ensures says { MayReply executor.new result }
-    ensures serves { ServesNow D.view (limits_of setting.now) request executor.old executor.new result }
+    ensures serves { ServesNow D.view (rules_of context.now) request executor.old executor.new result }
 {
-    if !make_room(setting, executor) {
+    if !make_room(context, executor) {
         return refused(Refusal::Disk);
     }
-    let now = moment_now(setting.clock).get();
+    let now = moment_now(context.clock).get();
     LineReply::Request(executor.command(now, request))
 }
 
 // What a line is answered, which may be told then. What is told before the reply are a drain's notices.
 fn open_reply<D: Disk + Drop, C: Children + Drop, T: Client<D, C>, K: Clock, M: Metadata>(
-    setting: &Setting<K, M>,
+    context: &RunContext<K, M>,
     client: &mut T,
     executor: &mut Executor<D, C>,
     line: Result<Line, Refusal>,
-) -> Result<LineReply, Stopped>
+) -> Result<LineReply, IoFault>
     requires open { executor.old.is_open ≡ true }
     requires stands { AllStand D.view (T.heard client.old) executor.old }
     ensures stands { IfErr result (λ _. AllStand D.view (T.heard client.new) executor.new) }
     ensures opened { (T.heard client.new).opened ≡ (T.heard client.old).opened }
     ensures may_tell { IfOk result (MayBeReplied D.view (T.heard client.new) executor.new) }
-    ensures reply { IfOk result (IsOpenReply D.view (M.gives setting.now.metadata.now) (limits_of setting.now)
+    ensures reply { IfOk result (IsOpenReply D.view (M.gives context.now.metadata.now) (rules_of context.now)
         (spot executor.old (T.heard client.old)) (spot executor.new (T.heard client.new)) line) }
-    ensures breaks { OnErr result (ReplyBreaks D.view (limits_of setting.now)
+    ensures breaks { OnErr result (ReplyBreaks D.view (rules_of context.now)
         (spot executor.old (T.heard client.old)) (spot executor.new (T.heard client.new)) line) }
 {
     match line {
-        Ok(Line::Request(request)) => Ok(request_reply(setting, executor, request)),
-        Ok(Line::Drain(limit)) => drain_reply(setting, client, executor, true, limit),
-        Ok(Line::Watch(limit)) => drain_reply(setting, client, executor, false, limit),
+        Ok(Line::Request(request)) => Ok(request_reply(context, executor, request)),
+        Ok(Line::Drain(limit)) => drain_reply(context, client, executor, true, limit),
+        Ok(Line::Watch(limit)) => drain_reply(context, client, executor, false, limit),
         Ok(Line::Tidy) => Ok(LineReply::Tidy(executor.tidy())),
         Ok(
             Line::Meta {
@@ -149,30 +149,30 @@ fn open_reply<D: Disk + Drop, C: Children + Drop, T: Client<D, C>, K: Clock, M: 
                 agent,
                 limit,
             },
-        ) => Ok(meta_reply(setting, &provider, &agent, limit)),
+        ) => Ok(meta_reply(context, &provider, &agent, limit)),
         Err(refusal) => Ok(refused(refusal)),
     }
 }
 
 /// What a line is answered, which may be told then. What is told before the reply are a drain's notices.
 pub fn reply_to<D: Disk + Drop, C: Children + Drop, T: Client<D, C>, K: Clock, M: Metadata>(
-    setting: &Setting<K, M>,
+    context: &RunContext<K, M>,
     client: &mut T,
     executor: &mut Executor<D, C>,
     line: Result<Line, Refusal>,
-) -> Result<LineReply, Stopped>
+) -> Result<LineReply, IoFault>
     requires stands { AllStand D.view (T.heard client.old) executor.old }
     ensures stands { IfErr result (λ _. AllStand D.view (T.heard client.new) executor.new) }
     ensures opened { (T.heard client.new).opened ≡ (T.heard client.old).opened }
     ensures may_tell { IfOk result (MayBeReplied D.view (T.heard client.new) executor.new) }
-    ensures reply { IfOk result (IsReply D.view (M.gives setting.now.metadata.now) (limits_of setting.now)
+    ensures reply { IfOk result (IsReply D.view (M.gives context.now.metadata.now) (rules_of context.now)
         (spot executor.old (T.heard client.old)) (spot executor.new (T.heard client.new)) line) }
-    ensures breaks { OnErr result ((executor.old.is_open ≡ true) × ReplyBreaks D.view (limits_of setting.now)
+    ensures breaks { OnErr result ((executor.old.is_open ≡ true) × ReplyBreaks D.view (rules_of context.now)
         (spot executor.old (T.heard client.old)) (spot executor.new (T.heard client.new)) line) }
 {
     if executor.is_open() {
-        open_reply(setting, client, executor, line)
+        open_reply(context, client, executor, line)
     } else {
-        Ok(closed_reply(setting, &line))
+        Ok(closed_reply(context, &line))
     }
 }

@@ -3,18 +3,18 @@ ghost use Rattle.std.specs.Prelude.{◌≡◌, true, IfOk, OnErr};
 ghost use Rattle.exec_client.specs.MayTell.{AllStand};
 ghost use Rattle.exec_session.specs.Breaks.{DrainBreaks};
 ghost use Rattle.exec_session.specs.Drains.{Drains, end_behind, spot};
-ghost use Rattle.exec_session.specs.Limits.{limits_of};
+ghost use Rattle.exec_session.specs.Rules.{rules_of};
 
+use crate::context::RunContext;
 use crate::metadata::Metadata;
 use crate::pause::{Pause, rest};
-use crate::setting::Setting;
 use crate::turn::make_turn;
 use child_keeper::Children;
 use disk_model::Disk;
 use exec_client::Client;
 use exec_commands::DrainEnd;
 use exec_lines::moment_now;
-use exec_output::Stopped;
+use exec_output::IoFault;
 use executor::Executor;
 use ocf_types::{NUM_MAX, TurnEnd};
 use std::rt::Clock;
@@ -54,34 +54,34 @@ impl Terms {
 /// Makes turns up to the end of a drain that begins at this moment. Between two turns in which nothing happened it pauses.
 /// It stops where nobody can hear any more what it tells.
 pub fn drain<D: Disk + Drop, C: Children + Drop, T: Client<D, C>, K: Clock, M: Metadata>(
-    setting: &Setting<K, M>,
+    context: &RunContext<K, M>,
     client: &mut T,
     executor: &mut Executor<D, C>,
     terms: Terms,
     start: u64,
-) -> Result<DrainEnd, Stopped>
+) -> Result<DrainEnd, IoFault>
     requires open { executor.old.is_open ≡ true }
     requires stands { AllStand D.view (T.heard client.old) executor.old }
     ensures stands { AllStand D.view (T.heard client.new) executor.new }
     ensures opened { (T.heard client.new).opened ≡ (T.heard client.old).opened }
-    ensures drains { IfOk result (λ end. Drains D.view (limits_of setting.now) terms start
+    ensures drains { IfOk result (λ end. Drains D.view (rules_of context.now) terms start
         (spot executor.old (T.heard client.old)) (spot executor.new (T.heard client.new)) end) }
-    ensures breaks { OnErr result (DrainBreaks D.view (limits_of setting.now) terms start
+    ensures breaks { OnErr result (DrainBreaks D.view (rules_of context.now) terms start
         (spot executor.old (T.heard client.old)) (spot executor.new (T.heard client.new))) }
 {
     let mut now = start;
     let mut pause = Pause::new();
     for turns in 0..NUM_MAX {
-        pause.before_turn(setting.clock);
-        let end = make_turn(setting, client, executor, now)?;
-        rest(setting.clock, pause.behind_turn(setting.clock, executor));
+        pause.before_turn(context.clock);
+        let end = make_turn(context, client, executor, now)?;
+        rest(context.clock, pause.behind_turn(context.clock, executor));
         if !client.is_heard() {
-            return Err(Stopped::InputOrOutput);
+            return Err(IoFault::InputOrOutput);
         }
-        now = moment_now(setting.clock).get();
+        now = moment_now(context.clock).get();
         if let Some(end) = terms.end_behind(turns + 1, now, end, executor.idle()) {
             return Ok(end);
         }
     }
-    Err(Stopped::InputOrOutput)
+    Err(IoFault::InputOrOutput)
 }

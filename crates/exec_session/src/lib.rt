@@ -3,6 +3,7 @@
 #![tactic(auto)]
 
 mod answer;
+mod context;
 mod drain;
 mod gathered;
 pub mod laws;
@@ -13,10 +14,9 @@ mod report;
 mod room;
 mod serve;
 mod session;
-mod setting;
 mod together;
 mod turn;
 
+pub use context::{RunContext, Way};
 pub use metadata::Metadata;
 pub use session::{Run, run_lines};
-pub use setting::{Setting, Way};

@@ -6,22 +6,22 @@ ghost use Rattle.exec_client.specs.MayTell.{AllStand};
 ghost use Rattle.exec_session.specs.Breaks.{BreaksIn, BreaksOff};
 ghost use Rattle.exec_session.specs.Drains.{spot};
 ghost use Rattle.exec_session.specs.Gathered.{waiting};
-ghost use Rattle.exec_session.specs.Limits.{limits_of};
-ghost use Rattle.exec_session.specs.Progress.{Place, ReadsInput, Takes, place};
+ghost use Rattle.exec_session.specs.Rules.{rules_of};
+ghost use Rattle.exec_session.specs.Progress.{Position, ReadsInput, Takes, position};
 ghost use Rattle.exec_session.specs.Together.{ReadsCommand};
 ghost use Rattle.exec_session.specs.Waiting.{ComesOrEnds, HasCome, MayTakeBehind, MayWait};
 
 use crate::answer::reply_to;
+use crate::context::RunContext;
 use crate::gathered::Gathered;
 use crate::metadata::Metadata;
-use crate::setting::Setting;
 use crate::together::answer_gathered;
 use child_keeper::Children;
 use disk_model::Disk;
 use exec_client::{Client, Told};
 use exec_commands::{Line, read_command};
 use exec_lines::{LineBuffer, Next};
-use exec_output::Stopped;
+use exec_output::IoFault;
 use executor::Executor;
 use ocf_types::{Command, Refusal, Request};
 use std::alloc::Global;
@@ -64,130 +64,130 @@ pub fn found_in(alloc: Global, buffer: &LineBuffer, next: Next) -> Found
 
 // Answers what stands next in the input. A line of no bytes is passed over.
 fn answer_found<D: Disk + Drop, C: Children + Drop, T: Client<D, C>, K: Clock, M: Metadata>(
-    setting: &Setting<K, M>,
+    context: &RunContext<K, M>,
     client: &mut T,
     executor: &mut Executor<D, C>,
     found: Found,
-) -> Result<Progress, Stopped>
+) -> Result<Progress, IoFault>
     requires stands { AllStand D.view (T.heard client.old) executor.old }
     ensures stands { AllStand D.view (T.heard client.new) executor.new }
     ensures opened { (T.heard client.new).opened ≡ (T.heard client.old).opened }
     ensures progress { (left now : Option (List ℕ)) → ReadsInput left now found
-        → IfOk result (Takes D.view (M.gives setting.now.metadata.now) (limits_of setting.now)
-        (place executor.old left (T.heard client.old)) (place executor.new now (T.heard client.new))) }
+        → IfOk result (Takes D.view (M.gives context.now.metadata.now) (rules_of context.now)
+        (position executor.old left (T.heard client.old)) (position executor.new now (T.heard client.new))) }
     ensures breaks { (left now : Option (List ℕ)) → ReadsInput left now found
-        → OnErr result (BreaksIn D.view (M.gives setting.now.metadata.now) (limits_of setting.now)
-        (place executor.old left (T.heard client.old)) (spot executor.new (T.heard client.new))) }
+        → OnErr result (BreaksIn D.view (M.gives context.now.metadata.now) (rules_of context.now)
+        (position executor.old left (T.heard client.old)) (spot executor.new (T.heard client.new))) }
 {
     let line = match found {
         Found::End => return Ok(Progress::End),
         Found::Empty => return Ok(Progress::PassedOver),
         Found::Line(line) => line,
     };
-    let reply = reply_to(setting, client, executor, line)?;
-    client.tell(executor, setting.form, &Told::Reply(&reply))?;
+    let reply = reply_to(context, client, executor, line)?;
+    client.tell(executor, context.form, &Told::Reply(&reply))?;
     Ok(Progress::Answered)
 }
 
 // Has a command wait behind the others, and answers all of them unless the next line is there already.
 fn take_command<D: Disk + Drop, C: Children + Drop, T: Client<D, C>, K: Clock, M: Metadata>(
-    setting: &Setting<K, M>,
+    context: &RunContext<K, M>,
     client: &mut T,
     executor: &mut Executor<D, C>,
     gathered: &mut Gathered,
     command: Command,
     has_next: bool,
-) -> Result<(), Stopped>
+) -> Result<(), IoFault>
     requires open { executor.old.is_open ≡ true }
     requires few { length (waiting gathered.old) < 64 }
     requires stands { AllStand D.view (T.heard client.old) executor.old }
     ensures waits { MayWait executor.new (waiting gathered.new) }
     ensures stands { AllStand D.view (T.heard client.new) executor.new }
     ensures opened { (T.heard client.new).opened ≡ (T.heard client.old).opened }
-    ensures takes { (p : Place D) (most : ℕ) (left now : Option (List ℕ))
-        → MayTakeBehind setting.now.way most → ReadsCommand left now command
-        → HasCome D.view (M.gives setting.now.metadata.now) (limits_of setting.now) p most
-        (waiting gathered.old) (place executor.old left (T.heard client.old))
-        → OnOk result (HasCome D.view (M.gives setting.now.metadata.now) (limits_of setting.now) p (most + 1)
-        (waiting gathered.new) (place executor.new now (T.heard client.new))) }
-    ensures breaks { (p : Place D) (most : ℕ) (left now : Option (List ℕ))
+    ensures takes { (p : Position D) (most : ℕ) (left now : Option (List ℕ))
+        → MayTakeBehind context.now.way most → ReadsCommand left now command
+        → HasCome D.view (M.gives context.now.metadata.now) (rules_of context.now) p most
+        (waiting gathered.old) (position executor.old left (T.heard client.old))
+        → OnOk result (HasCome D.view (M.gives context.now.metadata.now) (rules_of context.now) p (most + 1)
+        (waiting gathered.new) (position executor.new now (T.heard client.new))) }
+    ensures breaks { (p : Position D) (most : ℕ) (left now : Option (List ℕ))
         → ReadsCommand left now command
-        → HasCome D.view (M.gives setting.now.metadata.now) (limits_of setting.now) p most
-        (waiting gathered.old) (place executor.old left (T.heard client.old))
-        → OnErr result (BreaksOff D.view (M.gives setting.now.metadata.now) (limits_of setting.now) p
+        → HasCome D.view (M.gives context.now.metadata.now) (rules_of context.now) p most
+        (waiting gathered.old) (position executor.old left (T.heard client.old))
+        → OnErr result (BreaksOff D.view (M.gives context.now.metadata.now) (rules_of context.now) p
         (spot executor.new (T.heard client.new))) }
 {
     gathered.push(command);
     if has_next && !gathered.is_full() {
         return Ok(());
     }
-    answer_gathered(setting, client, executor, gathered)
+    answer_gathered(context, client, executor, gathered)
 }
 
 // Answers the commands that wait, and then what stands next in the input. Whether the input ended.
 fn take_other<D: Disk + Drop, C: Children + Drop, T: Client<D, C>, K: Clock, M: Metadata>(
-    setting: &Setting<K, M>,
+    context: &RunContext<K, M>,
     client: &mut T,
     executor: &mut Executor<D, C>,
     gathered: &mut Gathered,
     found: Found,
-) -> Result<bool, Stopped>
+) -> Result<bool, IoFault>
     requires waits { MayWait executor.old (waiting gathered.old) }
     requires stands { AllStand D.view (T.heard client.old) executor.old }
     ensures none { waiting gathered.new ≡ [] }
     ensures stands { AllStand D.view (T.heard client.new) executor.new }
     ensures opened { (T.heard client.new).opened ≡ (T.heard client.old).opened }
-    ensures takes { (p : Place D) (most : ℕ) (left now : Option (List ℕ))
-        → MayTakeBehind setting.now.way most → ReadsInput left now found
-        → HasCome D.view (M.gives setting.now.metadata.now) (limits_of setting.now) p most
-        (waiting gathered.old) (place executor.old left (T.heard client.old))
-        → IfOk result (ComesOrEnds D.view (M.gives setting.now.metadata.now) (limits_of setting.now) p (most + 1)
-        (waiting gathered.new) (place executor.new now (T.heard client.new))) }
-    ensures breaks { (p : Place D) (most : ℕ) (left now : Option (List ℕ))
-        → MayTakeBehind setting.now.way most → ReadsInput left now found
-        → HasCome D.view (M.gives setting.now.metadata.now) (limits_of setting.now) p most
-        (waiting gathered.old) (place executor.old left (T.heard client.old))
-        → OnErr result (BreaksOff D.view (M.gives setting.now.metadata.now) (limits_of setting.now) p
+    ensures takes { (p : Position D) (most : ℕ) (left now : Option (List ℕ))
+        → MayTakeBehind context.now.way most → ReadsInput left now found
+        → HasCome D.view (M.gives context.now.metadata.now) (rules_of context.now) p most
+        (waiting gathered.old) (position executor.old left (T.heard client.old))
+        → IfOk result (ComesOrEnds D.view (M.gives context.now.metadata.now) (rules_of context.now) p (most + 1)
+        (waiting gathered.new) (position executor.new now (T.heard client.new))) }
+    ensures breaks { (p : Position D) (most : ℕ) (left now : Option (List ℕ))
+        → MayTakeBehind context.now.way most → ReadsInput left now found
+        → HasCome D.view (M.gives context.now.metadata.now) (rules_of context.now) p most
+        (waiting gathered.old) (position executor.old left (T.heard client.old))
+        → OnErr result (BreaksOff D.view (M.gives context.now.metadata.now) (rules_of context.now) p
         (spot executor.new (T.heard client.new))) }
 {
-    answer_gathered(setting, client, executor, gathered)?;
-    let progress = answer_found(setting, client, executor, found)?;
+    answer_gathered(context, client, executor, gathered)?;
+    let progress = answer_found(context, client, executor, found)?;
     Ok(progress == Progress::End)
 }
 
 /// Takes what stands next in the input: a command waits while the next line is there already, and else all that wait are
 /// answered together; anything else is answered behind them. Whether the input ended.
 pub fn take_found<D: Disk + Drop, C: Children + Drop, T: Client<D, C>, K: Clock, M: Metadata>(
-    setting: &Setting<K, M>,
+    context: &RunContext<K, M>,
     client: &mut T,
     executor: &mut Executor<D, C>,
     gathered: &mut Gathered,
     found: Found,
     has_next: bool,
-) -> Result<bool, Stopped>
+) -> Result<bool, IoFault>
     requires waits { MayWait executor.old (waiting gathered.old) }
     requires stands { AllStand D.view (T.heard client.old) executor.old }
     ensures waits { MayWait executor.new (waiting gathered.new) }
     ensures stands { AllStand D.view (T.heard client.new) executor.new }
     ensures opened { (T.heard client.new).opened ≡ (T.heard client.old).opened }
-    ensures takes { (p : Place D) (most : ℕ) (left now : Option (List ℕ))
-        → MayTakeBehind setting.now.way most → ReadsInput left now found
-        → HasCome D.view (M.gives setting.now.metadata.now) (limits_of setting.now) p most
-        (waiting gathered.old) (place executor.old left (T.heard client.old))
-        → IfOk result (ComesOrEnds D.view (M.gives setting.now.metadata.now) (limits_of setting.now) p (most + 1)
-        (waiting gathered.new) (place executor.new now (T.heard client.new))) }
-    ensures breaks { (p : Place D) (most : ℕ) (left now : Option (List ℕ))
-        → MayTakeBehind setting.now.way most → ReadsInput left now found
-        → HasCome D.view (M.gives setting.now.metadata.now) (limits_of setting.now) p most
-        (waiting gathered.old) (place executor.old left (T.heard client.old))
-        → OnErr result (BreaksOff D.view (M.gives setting.now.metadata.now) (limits_of setting.now) p
+    ensures takes { (p : Position D) (most : ℕ) (left now : Option (List ℕ))
+        → MayTakeBehind context.now.way most → ReadsInput left now found
+        → HasCome D.view (M.gives context.now.metadata.now) (rules_of context.now) p most
+        (waiting gathered.old) (position executor.old left (T.heard client.old))
+        → IfOk result (ComesOrEnds D.view (M.gives context.now.metadata.now) (rules_of context.now) p (most + 1)
+        (waiting gathered.new) (position executor.new now (T.heard client.new))) }
+    ensures breaks { (p : Position D) (most : ℕ) (left now : Option (List ℕ))
+        → MayTakeBehind context.now.way most → ReadsInput left now found
+        → HasCome D.view (M.gives context.now.metadata.now) (rules_of context.now) p most
+        (waiting gathered.old) (position executor.old left (T.heard client.old))
+        → OnErr result (BreaksOff D.view (M.gives context.now.metadata.now) (rules_of context.now) p
         (spot executor.new (T.heard client.new))) }
 {
     match found {
         Found::Line(Ok(Line::Request(Request::Command(command)))) if executor.is_open() => {
-            take_command(setting, client, executor, gathered, command, has_next)?;
+            take_command(context, client, executor, gathered, command, has_next)?;
             Ok(false)
         }
-        found => take_other(setting, client, executor, gathered, found),
+        found => take_other(context, client, executor, gathered, found),
     }
 }

@@ -9,7 +9,7 @@ use child_keeper::Children;
 use disk_model::Disk;
 use exec_client::{Client, Told};
 use exec_commands::NoticeForm;
-use exec_output::Stopped;
+use exec_output::IoFault;
 use executor::{Executor, Report};
 
 /// Tells what an opening reports: what was interrupted, and then what was dropped.
@@ -18,7 +18,7 @@ pub fn tell_report<D: Disk + Drop, C: Children + Drop, T: Client<D, C>>(
     executor: &Executor<D, C>,
     form: NoticeForm,
     report: &Report,
-) -> Result<(), Stopped>
+) -> Result<(), IoFault>
     requires stands { AllStand D.view (T.heard client.old) executor.now }
     requires reported { IsReportOf D.view (T.heard client.old).opened report.now }
     ensures stands { AllStand D.view (T.heard client.new) executor.now }

@@ -1,9 +1,9 @@
 //! Room in the journal, which a run makes by itself.
 ghost use Rattle.std.specs.Prelude.{◌≡◌, [], true};
 ghost use Rattle.exec_client.specs.MayTell.{StandsBehind};
-ghost use Rattle.exec_session.specs.Limits.{MakesRoom, is_tidy_due, limits_of};
+ghost use Rattle.exec_session.specs.Rules.{MakesRoom, is_tidy_due, rules_of};
 
-use crate::setting::Setting;
+use crate::context::RunContext;
 use child_keeper::Children;
 use disk_model::Disk;
 use executor::Executor;
@@ -14,13 +14,13 @@ const WORTHWHILE: u64 = 2_097_152;
 
 // Whether the tail is past the limit, and would fall by what is worthwhile.
 fn is_tidy_due<D: Disk + Drop, C: Children + Drop, K, M>(
-    setting: &Setting<K, M>,
+    context: &RunContext<K, M>,
     executor: &Executor<D, C>,
 ) -> bool
-    ensures { result ≡ is_tidy_due (limits_of setting.now) executor.now }
+    ensures { result ≡ is_tidy_due (rules_of context.now) executor.now }
 {
     let tail = executor.tail();
-    if setting.tidy_at == 0 || tail <= setting.tidy_at {
+    if context.tidy_at == 0 || tail <= context.tidy_at {
         return false;
     }
     WORTHWHILE <= tail.saturating_sub(executor.tidied_tail())
@@ -28,15 +28,15 @@ fn is_tidy_due<D: Disk + Drop, C: Children + Drop, K, M>(
 
 /// Tidies the journal where that is due. Whether the executor is open then: a disk fault closes it.
 pub fn make_room<D: Disk + Drop, C: Children + Drop, K, M>(
-    setting: &Setting<K, M>,
+    context: &RunContext<K, M>,
     executor: &mut Executor<D, C>,
 ) -> bool
     requires open { executor.old.is_open ≡ true }
     ensures stands { StandsBehind D.view executor.old executor.new [] }
-    ensures makes { MakesRoom D.view (limits_of setting.now) executor.old executor.new }
+    ensures makes { MakesRoom D.view (rules_of context.now) executor.old executor.new }
     ensures value { result ≡ executor.new.is_open }
 {
-    if !is_tidy_due(setting, executor) {
+    if !is_tidy_due(context, executor) {
         return true;
     }
     executor.tidy();

@@ -7,24 +7,24 @@ ghost use Rattle.exec_client.specs.MayTell.{AllStand};
 ghost use Rattle.exec_session.specs.Breaks.{BreaksOff};
 ghost use Rattle.exec_session.specs.Drains.{TurnHeard, spot};
 ghost use Rattle.exec_session.specs.Gathered.{waiting};
-ghost use Rattle.exec_session.specs.Limits.{limits_of};
-ghost use Rattle.exec_session.specs.Progress.{Place, place};
+ghost use Rattle.exec_session.specs.Rules.{rules_of};
+ghost use Rattle.exec_session.specs.Progress.{Position, position};
 ghost use Rattle.exec_session.specs.Runs.{ReachesEnd};
 ghost use Rattle.exec_session.specs.Serving.{ComesMidOrEnds, HasComeMid, TurnsAlone};
 ghost use Rattle.exec_session.specs.Waiting.{MayTakeBehind, MayWait};
 
+use crate::context::{RunContext, Way};
 use crate::gathered::Gathered;
 use crate::lines::{found_in, take_found};
 use crate::metadata::Metadata;
 use crate::pause::{Pause, rest};
-use crate::setting::{Setting, Way};
 use crate::together::answer_gathered;
 use crate::turn::make_turn;
 use child_keeper::Children;
 use disk_model::Disk;
 use exec_client::Client;
 use exec_lines::{Input, LineBuffer, gather_line, moment_now};
-use exec_output::Stopped;
+use exec_output::IoFault;
 use executor::Executor;
 use ocf_types::NUM_MAX;
 use std::alloc::Global;
@@ -38,36 +38,36 @@ const LONGEST_IDLE: u32 = 1_000;
 
 // Goes on with the line in the buffer by one read, and takes it once it is whole. Whether the input ended.
 fn take_read<R: Input, D: Disk + Drop, C: Children + Drop, T: Client<D, C>, K: Clock, M: Metadata>(
-    setting: &Setting<K, M>,
+    context: &RunContext<K, M>,
     reader: &mut R,
     client: &mut T,
     executor: &mut Executor<D, C>,
     buffer: &mut LineBuffer,
     gathered: &mut Gathered,
-) -> Result<bool, Stopped>
+) -> Result<bool, IoFault>
     requires waits { MayWait executor.old (waiting gathered.old) }
     requires stands { AllStand D.view (T.heard client.old) executor.old }
     ensures waits { MayWait executor.new (waiting gathered.new) }
     ensures stands { AllStand D.view (T.heard client.new) executor.new }
     ensures opened { (T.heard client.new).opened ≡ (T.heard client.old).opened }
-    ensures takes { (p : Place D) (most : ℕ) → MayTakeBehind setting.now.way most
-        → HasComeMid D.view (M.gives setting.now.metadata.now) (limits_of setting.now) p most (waiting gathered.old)
-        (line_bytes buffer.old) (place executor.old (R.remaining reader.old) (T.heard client.old))
-        → IfOk result (ComesMidOrEnds D.view (M.gives setting.now.metadata.now) (limits_of setting.now) p (most + 1)
-        (waiting gathered.new) (line_bytes buffer.new) (place executor.new (R.remaining reader.new) (T.heard client.new))) }
-    ensures breaks { (p : Place D) (most : ℕ) → MayTakeBehind setting.now.way most
-        → HasComeMid D.view (M.gives setting.now.metadata.now) (limits_of setting.now) p most (waiting gathered.old)
-        (line_bytes buffer.old) (place executor.old (R.remaining reader.old) (T.heard client.old))
-        → OnErr result (BreaksOff D.view (M.gives setting.now.metadata.now) (limits_of setting.now) p
+    ensures takes { (p : Position D) (most : ℕ) → MayTakeBehind context.now.way most
+        → HasComeMid D.view (M.gives context.now.metadata.now) (rules_of context.now) p most (waiting gathered.old)
+        (line_bytes buffer.old) (position executor.old (R.remaining reader.old) (T.heard client.old))
+        → IfOk result (ComesMidOrEnds D.view (M.gives context.now.metadata.now) (rules_of context.now) p (most + 1)
+        (waiting gathered.new) (line_bytes buffer.new) (position executor.new (R.remaining reader.new) (T.heard client.new))) }
+    ensures breaks { (p : Position D) (most : ℕ) → MayTakeBehind context.now.way most
+        → HasComeMid D.view (M.gives context.now.metadata.now) (rules_of context.now) p most (waiting gathered.old)
+        (line_bytes buffer.old) (position executor.old (R.remaining reader.old) (T.heard client.old))
+        → OnErr result (BreaksOff D.view (M.gives context.now.metadata.now) (rules_of context.now) p
         (spot executor.new (T.heard client.new))) }
 {
     let Some(next) = gather_line(reader, buffer)? else {
         return Ok(false);
     };
-    let found = found_in(setting.alloc, buffer, next);
+    let found = found_in(context.alloc, buffer, next);
     buffer.clear();
     let has_next = reader.has_line();
-    take_found(setting, client, executor, gathered, found, has_next)
+    take_found(context, client, executor, gathered, found, has_next)
 }
 
 // Takes the lines that are there. Whether the input ended; else commands may wait still.
@@ -79,35 +79,35 @@ fn take_waiting<
     K: Clock,
     M: Metadata,
 >(
-    setting: &Setting<K, M>,
+    context: &RunContext<K, M>,
     reader: &mut R,
     client: &mut T,
     executor: &mut Executor<D, C>,
     buffer: &mut LineBuffer,
     gathered: &mut Gathered,
-) -> Result<bool, Stopped>
-    requires way { setting.now.way ≡ Way.Serve }
+) -> Result<bool, IoFault>
+    requires way { context.now.way ≡ Way.Serve }
     requires none { waiting gathered.old ≡ [] }
     requires stands { AllStand D.view (T.heard client.old) executor.old }
     ensures waits { MayWait executor.new (waiting gathered.new) }
     ensures stands { AllStand D.view (T.heard client.new) executor.new }
     ensures opened { (T.heard client.new).opened ≡ (T.heard client.old).opened }
-    ensures takes { (p : Place D)
-        → HasComeMid D.view (M.gives setting.now.metadata.now) (limits_of setting.now) p 0 []
-        (line_bytes buffer.old) (place executor.old (R.remaining reader.old) (T.heard client.old))
-        → IfOk result (ComesMidOrEnds D.view (M.gives setting.now.metadata.now) (limits_of setting.now) p 64
-        (waiting gathered.new) (line_bytes buffer.new) (place executor.new (R.remaining reader.new) (T.heard client.new))) }
-    ensures breaks { (p : Place D)
-        → HasComeMid D.view (M.gives setting.now.metadata.now) (limits_of setting.now) p 0 []
-        (line_bytes buffer.old) (place executor.old (R.remaining reader.old) (T.heard client.old))
-        → OnErr result (BreaksOff D.view (M.gives setting.now.metadata.now) (limits_of setting.now) p
+    ensures takes { (p : Position D)
+        → HasComeMid D.view (M.gives context.now.metadata.now) (rules_of context.now) p 0 []
+        (line_bytes buffer.old) (position executor.old (R.remaining reader.old) (T.heard client.old))
+        → IfOk result (ComesMidOrEnds D.view (M.gives context.now.metadata.now) (rules_of context.now) p 64
+        (waiting gathered.new) (line_bytes buffer.new) (position executor.new (R.remaining reader.new) (T.heard client.new))) }
+    ensures breaks { (p : Position D)
+        → HasComeMid D.view (M.gives context.now.metadata.now) (rules_of context.now) p 0 []
+        (line_bytes buffer.old) (position executor.old (R.remaining reader.old) (T.heard client.old))
+        → OnErr result (BreaksOff D.view (M.gives context.now.metadata.now) (rules_of context.now) p
         (spot executor.new (T.heard client.new))) }
 {
     for _reads in 0..READS_A_TURN {
         if !reader.is_ready(0) {
             return Ok(false);
         }
-        if take_read(setting, reader, client, executor, buffer, gathered)? {
+        if take_read(context, reader, client, executor, buffer, gathered)? {
             return Ok(true);
         }
     }
@@ -123,66 +123,66 @@ fn answer_waiting<
     K: Clock,
     M: Metadata,
 >(
-    setting: &Setting<K, M>,
+    context: &RunContext<K, M>,
     reader: &mut R,
     client: &mut T,
     executor: &mut Executor<D, C>,
     buffer: &mut LineBuffer,
     gathered: &mut Gathered,
-) -> Result<bool, Stopped>
-    requires way { setting.now.way ≡ Way.Serve }
+) -> Result<bool, IoFault>
+    requires way { context.now.way ≡ Way.Serve }
     requires none { waiting gathered.old ≡ [] }
     requires stands { AllStand D.view (T.heard client.old) executor.old }
     ensures none { IfOk result (λ ended. ended ≡ false → waiting gathered.new ≡ []) }
     ensures stands { AllStand D.view (T.heard client.new) executor.new }
     ensures opened { (T.heard client.new).opened ≡ (T.heard client.old).opened }
-    ensures takes { (p : Place D)
-        → HasComeMid D.view (M.gives setting.now.metadata.now) (limits_of setting.now) p 0 []
-        (line_bytes buffer.old) (place executor.old (R.remaining reader.old) (T.heard client.old))
-        → IfOk result (ComesMidOrEnds D.view (M.gives setting.now.metadata.now) (limits_of setting.now) p 64 []
-        (line_bytes buffer.new) (place executor.new (R.remaining reader.new) (T.heard client.new))) }
-    ensures breaks { (p : Place D)
-        → HasComeMid D.view (M.gives setting.now.metadata.now) (limits_of setting.now) p 0 []
-        (line_bytes buffer.old) (place executor.old (R.remaining reader.old) (T.heard client.old))
-        → OnErr result (BreaksOff D.view (M.gives setting.now.metadata.now) (limits_of setting.now) p
+    ensures takes { (p : Position D)
+        → HasComeMid D.view (M.gives context.now.metadata.now) (rules_of context.now) p 0 []
+        (line_bytes buffer.old) (position executor.old (R.remaining reader.old) (T.heard client.old))
+        → IfOk result (ComesMidOrEnds D.view (M.gives context.now.metadata.now) (rules_of context.now) p 64 []
+        (line_bytes buffer.new) (position executor.new (R.remaining reader.new) (T.heard client.new))) }
+    ensures breaks { (p : Position D)
+        → HasComeMid D.view (M.gives context.now.metadata.now) (rules_of context.now) p 0 []
+        (line_bytes buffer.old) (position executor.old (R.remaining reader.old) (T.heard client.old))
+        → OnErr result (BreaksOff D.view (M.gives context.now.metadata.now) (rules_of context.now) p
         (spot executor.new (T.heard client.new))) }
 {
-    if take_waiting(setting, reader, client, executor, buffer, gathered)? {
+    if take_waiting(context, reader, client, executor, buffer, gathered)? {
         return Ok(true);
     }
-    answer_gathered(setting, client, executor, gathered)?;
+    answer_gathered(context, client, executor, gathered)?;
     Ok(false)
 }
 
 // Makes a turn, where the executor is open.
 fn make_own_turn<D: Disk + Drop, C: Children + Drop, T: Client<D, C>, K: Clock, M>(
-    setting: &Setting<K, M>,
+    context: &RunContext<K, M>,
     client: &mut T,
     executor: &mut Executor<D, C>,
     pause: &mut Pause,
-) -> Result<(), Stopped>
+) -> Result<(), IoFault>
     requires stands { AllStand D.view (T.heard client.old) executor.old }
     ensures stands { AllStand D.view (T.heard client.new) executor.new }
     ensures opened { (T.heard client.new).opened ≡ (T.heard client.old).opened }
-    ensures turns { OnOk result (TurnsAlone D.view (limits_of setting.now)
+    ensures turns { OnOk result (TurnsAlone D.view (rules_of context.now)
         (spot executor.old (T.heard client.old)) (spot executor.new (T.heard client.new))) }
     ensures breaks { OnErr result ((executor.old.is_open ≡ true) × (now : ℕ) × (end : TurnEnd)
-        × TurnHeard (HearsPart setting.now.form) D.view (limits_of setting.now) now
+        × TurnHeard (HearsPart context.now.form) D.view (rules_of context.now) now
         (spot executor.old (T.heard client.old)) (spot executor.new (T.heard client.new)) end) }
 {
     if !executor.is_open() {
         return Ok(());
     }
-    pause.before_turn(setting.clock);
-    let now = moment_now(setting.clock).get();
-    make_turn(setting, client, executor, now)?;
+    pause.before_turn(context.clock);
+    let now = moment_now(context.clock).get();
+    make_turn(context, client, executor, now)?;
     Ok(())
 }
 
 // How long may be waited for a line behind a turn, in microseconds: not at all behind one in which something happened, and
 // while nothing is queued or runs until the next monitor is due. Behind a disk fault there is nothing but a line to wait for.
 fn wait_micros<D: Disk + Drop, C: Children + Drop, K: Clock, M>(
-    setting: &Setting<K, M>,
+    context: &RunContext<K, M>,
     executor: &Executor<D, C>,
     pause: &mut Pause,
 ) -> u64 {
@@ -190,11 +190,11 @@ fn wait_micros<D: Disk + Drop, C: Children + Drop, K: Clock, M>(
     if !is_open {
         return 1_000 * u64::from(LONGEST_IDLE);
     }
-    let micros = pause.behind_turn(setting.clock, executor);
+    let micros = pause.behind_turn(context.clock, executor);
     if micros == 0 || !executor.idle() {
         return micros;
     }
-    let now = moment_now(setting.clock).get();
+    let now = moment_now(context.clock).get();
     match executor.first_due() {
         Some(due) if due <= now => micros,
         Some(due) => 1_000 * (due - now).min(u64::from(LONGEST_IDLE)),
@@ -204,24 +204,24 @@ fn wait_micros<D: Disk + Drop, C: Children + Drop, K: Clock, M>(
 
 // Waits until a line is there, something may have ended, or a monitor is due. It stops where nobody hears what is told.
 fn wait<R: Input, D: Disk + Drop, C: Children + Drop, T: Client<D, C>, K: Clock, M>(
-    setting: &Setting<K, M>,
+    context: &RunContext<K, M>,
     reader: &mut R,
     client: &T,
     executor: &Executor<D, C>,
     pause: &mut Pause,
-) -> Result<(), Stopped>
+) -> Result<(), IoFault>
     ensures same { R.remaining reader.new ≡ R.remaining reader.old }
 {
-    let micros = wait_micros(setting, executor, pause);
+    let micros = wait_micros(context, executor, pause);
     if micros < 1_000 {
-        rest(setting.clock, micros);
+        rest(context.clock, micros);
     } else {
         reader.is_ready((micros / 1_000).min(u64::from(LONGEST_IDLE)) as u32);
     }
     if client.is_heard() {
         Ok(())
     } else {
-        Err(Stopped::InputOrOutput)
+        Err(IoFault::InputOrOutput)
     }
 }
 
@@ -236,32 +236,32 @@ pub fn serve_all<
     K: Clock,
     M: Metadata,
 >(
-    setting: &Setting<K, M>,
+    context: &RunContext<K, M>,
     reader: &mut R,
     client: &mut T,
     executor: &mut Executor<D, C>,
     buffer: &mut LineBuffer,
     gathered: &mut Gathered,
-) -> Result<(), Stopped>
-    requires way { setting.now.way ≡ Way.Serve }
+) -> Result<(), IoFault>
+    requires way { context.now.way ≡ Way.Serve }
     requires empty { line_bytes buffer.old ≡ [] }
     requires none { waiting gathered.old ≡ [] }
     requires stands { AllStand D.view (T.heard client.old) executor.old }
     ensures stands { AllStand D.view (T.heard client.new) executor.new }
     ensures opened { (T.heard client.new).opened ≡ (T.heard client.old).opened }
-    ensures lines { OnOk result (ReachesEnd D.view (M.gives setting.now.metadata.now) (limits_of setting.now)
-        (place executor.old (R.remaining reader.old) (T.heard client.old))
-        (place executor.new (R.remaining reader.new) (T.heard client.new))) }
-    ensures breaks { OnErr result (BreaksOff D.view (M.gives setting.now.metadata.now) (limits_of setting.now)
-        (place executor.old (R.remaining reader.old) (T.heard client.old)) (spot executor.new (T.heard client.new))) }
+    ensures lines { OnOk result (ReachesEnd D.view (M.gives context.now.metadata.now) (rules_of context.now)
+        (position executor.old (R.remaining reader.old) (T.heard client.old))
+        (position executor.new (R.remaining reader.new) (T.heard client.new))) }
+    ensures breaks { OnErr result (BreaksOff D.view (M.gives context.now.metadata.now) (rules_of context.now)
+        (position executor.old (R.remaining reader.old) (T.heard client.old)) (spot executor.new (T.heard client.new))) }
 {
     let mut pause = Pause::new();
     for _ in 0..NUM_MAX {
-        if answer_waiting(setting, reader, client, executor, buffer, gathered)? {
+        if answer_waiting(context, reader, client, executor, buffer, gathered)? {
             return Ok(());
         }
-        make_own_turn(setting, client, executor, &mut pause)?;
-        wait(setting, reader, client, executor, &mut pause)?;
+        make_own_turn(context, client, executor, &mut pause)?;
+        wait(context, reader, client, executor, &mut pause)?;
     }
-    Err(Stopped::InputOrOutput)
+    Err(IoFault::InputOrOutput)
 }

@@ -6,22 +6,22 @@ ghost use Rattle.exec_session.specs.Breaks.{BreaksOff, RunBreaks};
 ghost use Rattle.exec_session.specs.Drains.{spot};
 ghost use Rattle.exec_session.specs.Ends.{ClosesByCalls, Ended, EndsAs, Runs};
 ghost use Rattle.exec_session.specs.Gathered.{waiting};
-ghost use Rattle.exec_session.specs.Limits.{limits_of};
-ghost use Rattle.exec_session.specs.Progress.{Place, place};
+ghost use Rattle.exec_session.specs.Rules.{rules_of};
+ghost use Rattle.exec_session.specs.Progress.{Position, position};
 ghost use Rattle.exec_session.specs.Runs.{IsNew, IsReportOf, ReachesEnd};
 ghost use Rattle.exec_session.specs.Waiting.{ComesOrEnds, HasCome, MayTakeBehind, MayWait};
 
+use crate::context::{RunContext, Way};
 use crate::gathered::Gathered;
 use crate::lines::{found_in, take_found};
 use crate::metadata::Metadata;
 use crate::report::tell_report;
 use crate::serve::serve_all;
-use crate::setting::{Setting, Way};
 use child_keeper::Children;
 use disk_model::Disk;
 use exec_client::Client;
 use exec_lines::{Input, LineBuffer, next_line};
-use exec_output::{Fault, Stopped};
+use exec_output::{Fault, IoFault};
 use executor::{Executor, Report};
 use ocf_types::NUM_MAX;
 use std::alloc::Global;
@@ -38,61 +38,61 @@ pub struct Run<D: Drop, C: Drop> {
 
 // Reads the next line and takes it. Whether the input ended.
 fn take_next<R: Input, D: Disk + Drop, C: Children + Drop, T: Client<D, C>, K: Clock, M: Metadata>(
-    setting: &Setting<K, M>,
+    context: &RunContext<K, M>,
     reader: &mut R,
     client: &mut T,
     executor: &mut Executor<D, C>,
     buffer: &mut LineBuffer,
     gathered: &mut Gathered,
-) -> Result<bool, Stopped>
+) -> Result<bool, IoFault>
     requires waits { MayWait executor.old (waiting gathered.old) }
     requires stands { AllStand D.view (T.heard client.old) executor.old }
     ensures waits { MayWait executor.new (waiting gathered.new) }
     ensures stands { AllStand D.view (T.heard client.new) executor.new }
     ensures opened { (T.heard client.new).opened ≡ (T.heard client.old).opened }
-    ensures takes { (p : Place D) (most : ℕ) → MayTakeBehind setting.now.way most
-        → HasCome D.view (M.gives setting.now.metadata.now) (limits_of setting.now) p most
-        (waiting gathered.old) (place executor.old (R.remaining reader.old) (T.heard client.old))
-        → IfOk result (ComesOrEnds D.view (M.gives setting.now.metadata.now) (limits_of setting.now) p (most + 1)
-        (waiting gathered.new) (place executor.new (R.remaining reader.new) (T.heard client.new))) }
-    ensures breaks { (p : Place D) (most : ℕ) → MayTakeBehind setting.now.way most
-        → HasCome D.view (M.gives setting.now.metadata.now) (limits_of setting.now) p most
-        (waiting gathered.old) (place executor.old (R.remaining reader.old) (T.heard client.old))
-        → OnErr result (BreaksOff D.view (M.gives setting.now.metadata.now) (limits_of setting.now) p
+    ensures takes { (p : Position D) (most : ℕ) → MayTakeBehind context.now.way most
+        → HasCome D.view (M.gives context.now.metadata.now) (rules_of context.now) p most
+        (waiting gathered.old) (position executor.old (R.remaining reader.old) (T.heard client.old))
+        → IfOk result (ComesOrEnds D.view (M.gives context.now.metadata.now) (rules_of context.now) p (most + 1)
+        (waiting gathered.new) (position executor.new (R.remaining reader.new) (T.heard client.new))) }
+    ensures breaks { (p : Position D) (most : ℕ) → MayTakeBehind context.now.way most
+        → HasCome D.view (M.gives context.now.metadata.now) (rules_of context.now) p most
+        (waiting gathered.old) (position executor.old (R.remaining reader.old) (T.heard client.old))
+        → OnErr result (BreaksOff D.view (M.gives context.now.metadata.now) (rules_of context.now) p
         (spot executor.new (T.heard client.new))) }
 {
     let next = next_line(reader, buffer)?;
-    let found = found_in(setting.alloc, buffer, next);
+    let found = found_in(context.alloc, buffer, next);
     let has_next = reader.has_line();
-    take_found(setting, client, executor, gathered, found, has_next)
+    take_found(context, client, executor, gathered, found, has_next)
 }
 
 // Answers line after line, up to the end of the input. No command waits.
 fn answer_all<R: Input, D: Disk + Drop, C: Children + Drop, T: Client<D, C>, K: Clock, M: Metadata>(
-    setting: &Setting<K, M>,
+    context: &RunContext<K, M>,
     reader: &mut R,
     client: &mut T,
     executor: &mut Executor<D, C>,
     buffer: &mut LineBuffer,
     gathered: &mut Gathered,
-) -> Result<(), Stopped>
-    requires way { setting.now.way ≡ Way.Run }
+) -> Result<(), IoFault>
+    requires way { context.now.way ≡ Way.Run }
     requires none { waiting gathered.old ≡ [] }
     requires stands { AllStand D.view (T.heard client.old) executor.old }
     ensures stands { AllStand D.view (T.heard client.new) executor.new }
     ensures opened { (T.heard client.new).opened ≡ (T.heard client.old).opened }
-    ensures lines { OnOk result (ReachesEnd D.view (M.gives setting.now.metadata.now) (limits_of setting.now)
-        (place executor.old (R.remaining reader.old) (T.heard client.old))
-        (place executor.new (R.remaining reader.new) (T.heard client.new))) }
-    ensures breaks { OnErr result (BreaksOff D.view (M.gives setting.now.metadata.now) (limits_of setting.now)
-        (place executor.old (R.remaining reader.old) (T.heard client.old)) (spot executor.new (T.heard client.new))) }
+    ensures lines { OnOk result (ReachesEnd D.view (M.gives context.now.metadata.now) (rules_of context.now)
+        (position executor.old (R.remaining reader.old) (T.heard client.old))
+        (position executor.new (R.remaining reader.new) (T.heard client.new))) }
+    ensures breaks { OnErr result (BreaksOff D.view (M.gives context.now.metadata.now) (rules_of context.now)
+        (position executor.old (R.remaining reader.old) (T.heard client.old)) (spot executor.new (T.heard client.new))) }
 {
     for _ in 0..NUM_MAX {
-        if take_next(setting, reader, client, executor, buffer, gathered)? {
+        if take_next(context, reader, client, executor, buffer, gathered)? {
             return Ok(());
         }
     }
-    Err(Stopped::InputOrOutput)
+    Err(IoFault::InputOrOutput)
 }
 
 // Answers the lines of the input, up to its end, in the way that is set. The buffer is empty, and no command
@@ -105,27 +105,27 @@ fn answer_in_way<
     K: Clock,
     M: Metadata,
 >(
-    setting: &Setting<K, M>,
+    context: &RunContext<K, M>,
     reader: &mut R,
     client: &mut T,
     executor: &mut Executor<D, C>,
     buffer: &mut LineBuffer,
     gathered: &mut Gathered,
-) -> Result<(), Stopped>
+) -> Result<(), IoFault>
     requires empty { line_bytes buffer.old ≡ [] }
     requires none { waiting gathered.old ≡ [] }
     requires stands { AllStand D.view (T.heard client.old) executor.old }
     ensures stands { AllStand D.view (T.heard client.new) executor.new }
     ensures opened { (T.heard client.new).opened ≡ (T.heard client.old).opened }
-    ensures lines { OnOk result (ReachesEnd D.view (M.gives setting.now.metadata.now) (limits_of setting.now)
-        (place executor.old (R.remaining reader.old) (T.heard client.old))
-        (place executor.new (R.remaining reader.new) (T.heard client.new))) }
-    ensures breaks { OnErr result (BreaksOff D.view (M.gives setting.now.metadata.now) (limits_of setting.now)
-        (place executor.old (R.remaining reader.old) (T.heard client.old)) (spot executor.new (T.heard client.new))) }
+    ensures lines { OnOk result (ReachesEnd D.view (M.gives context.now.metadata.now) (rules_of context.now)
+        (position executor.old (R.remaining reader.old) (T.heard client.old))
+        (position executor.new (R.remaining reader.new) (T.heard client.new))) }
+    ensures breaks { OnErr result (BreaksOff D.view (M.gives context.now.metadata.now) (rules_of context.now)
+        (position executor.old (R.remaining reader.old) (T.heard client.old)) (spot executor.new (T.heard client.new))) }
 {
-    match setting.way {
-        Way::Run => answer_all(setting, reader, client, executor, buffer, gathered),
-        Way::Serve => serve_all(setting, reader, client, executor, buffer, gathered),
+    match context.way {
+        Way::Run => answer_all(context, reader, client, executor, buffer, gathered),
+        Way::Serve => serve_all(context, reader, client, executor, buffer, gathered),
     }
 }
 
@@ -138,28 +138,28 @@ fn report_and_answer<
     K: Clock,
     M: Metadata,
 >(
-    setting: &Setting<K, M>,
+    context: &RunContext<K, M>,
     reader: &mut R,
     client: &mut T,
     executor: &mut Executor<D, C>,
     report: &Report,
     buffer: &mut LineBuffer,
     gathered: &mut Gathered,
-) -> Result<(), Stopped>
+) -> Result<(), IoFault>
     requires empty { line_bytes buffer.old ≡ [] }
     requires none { waiting gathered.old ≡ [] }
     requires reported { IsReportOf D.view (T.heard client.old).opened report.now }
     requires stands { AllStand D.view (T.heard client.old) executor.old }
     ensures stands { AllStand D.view (T.heard client.new) executor.new }
     ensures opened { (T.heard client.new).opened ≡ (T.heard client.old).opened }
-    ensures runs { OnOk result (Runs D.view (M.gives setting.now.metadata.now) (limits_of setting.now) report.now
-        (place executor.old (R.remaining reader.old) (T.heard client.old))
-        (place executor.new (R.remaining reader.new) (T.heard client.new))) }
-    ensures breaks { OnErr result (RunBreaks D.view (M.gives setting.now.metadata.now) (limits_of setting.now) report.now
-        (place executor.old (R.remaining reader.old) (T.heard client.old)) (spot executor.new (T.heard client.new))) }
+    ensures runs { OnOk result (Runs D.view (M.gives context.now.metadata.now) (rules_of context.now) report.now
+        (position executor.old (R.remaining reader.old) (T.heard client.old))
+        (position executor.new (R.remaining reader.new) (T.heard client.new))) }
+    ensures breaks { OnErr result (RunBreaks D.view (M.gives context.now.metadata.now) (rules_of context.now) report.now
+        (position executor.old (R.remaining reader.old) (T.heard client.old)) (spot executor.new (T.heard client.new))) }
 {
-    tell_report(client, executor, setting.form, report)?;
-    answer_in_way(setting, reader, client, executor, buffer, gathered)?;
+    tell_report(client, executor, context.form, report)?;
+    answer_in_way(context, reader, client, executor, buffer, gathered)?;
     Ok(())
 }
 
@@ -172,7 +172,7 @@ fn answer_lines<
     K: Clock,
     M: Metadata,
 >(
-    setting: &Setting<K, M>,
+    context: &RunContext<K, M>,
     reader: &mut R,
     client: &mut T,
     executor: &mut Executor<D, C>,
@@ -182,18 +182,18 @@ fn answer_lines<
     requires stands { AllStand D.view (T.heard client.old) executor.old }
     ensures stands { AllStand D.view (T.heard client.new) executor.new }
     ensures opened { (T.heard client.new).opened ≡ (T.heard client.old).opened }
-    ensures ends { EndsAs D.view (M.gives setting.now.metadata.now) (limits_of setting.now) report.now
-        (place executor.old (R.remaining reader.old) (T.heard client.old))
-        (place executor.new (R.remaining reader.new) (T.heard client.new)) result }
+    ensures ends { EndsAs D.view (M.gives context.now.metadata.now) (rules_of context.now) report.now
+        (position executor.old (R.remaining reader.old) (T.heard client.old))
+        (position executor.new (R.remaining reader.new) (T.heard client.new)) result }
 {
-    let Ok(mut buffer) = LineBuffer::new(setting.alloc) else {
+    let Ok(mut buffer) = LineBuffer::new(context.alloc) else {
         return Err(Fault::Memory);
     };
-    let Ok(mut gathered) = Gathered::new(setting.alloc) else {
+    let Ok(mut gathered) = Gathered::new(context.alloc) else {
         return Err(Fault::Memory);
     };
     let answered = report_and_answer(
-        setting,
+        context,
         reader,
         client,
         executor,
@@ -204,8 +204,8 @@ fn answer_lines<
     match answered {
         Ok(()) if executor.is_open() => Ok(()),
         Ok(()) => Err(Fault::Disk),
-        Err(Stopped::InputOrOutput) => Err(Fault::InputOrOutput),
-        Err(Stopped::Memory) => Err(Fault::ReplyMemory),
+        Err(IoFault::InputOrOutput) => Err(Fault::InputOrOutput),
+        Err(IoFault::Memory) => Err(Fault::ReplyMemory),
     }
 }
 
@@ -222,7 +222,7 @@ pub fn run_lines<
     K: Clock,
     M: Metadata,
 >(
-    setting: &Setting<K, M>,
+    context: &RunContext<K, M>,
     reader: &mut R,
     client: &mut T,
     mut executor: Executor<D, C>,
@@ -230,13 +230,13 @@ pub fn run_lines<
 ) -> Run<D, C>
     requires fresh { IsNew (T.heard client.old) executor }
     requires reported { IsReportOf D.view executor report.now }
-    ensures ends { Ended D.view C.view (M.gives setting.now.metadata.now) (limits_of setting.now) report.now
-        (place executor (R.remaining reader.old) (T.heard client.old))
+    ensures ends { Ended D.view C.view (M.gives context.now.metadata.now) (rules_of context.now) report.now
+        (position executor (R.remaining reader.old) (T.heard client.old))
         (R.remaining reader.new) (T.heard client.new) result }
     ensures told { ClosesByCalls D.view executor (T.heard client.new) result.disk (C.view result.children) }
     ensures none_lives { (C.view result.children).live ≡ [] }
 {
-    let ended = answer_lines(setting, reader, client, &mut executor, report);
+    let ended = answer_lines(context, reader, client, &mut executor, report);
     executor.abandon();
     let (disk, children) = executor.close();
     Run {

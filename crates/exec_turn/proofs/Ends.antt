@@ -8,8 +8,8 @@ use Rattle.ocf_types.specs.declared.reply.Notice.{Notice}
 use Rattle.ocf_types.specs.declared.reply.TurnEnd.{TurnEnd}
 use Rattle.ocf_types.specs.declared.reply.TurnEnd.TheVariants as turn_end
 use Rattle.disk_model.specs.Laws.{joined as runs_joined}
-use Rattle.disk_model.specs.Runs.{Goes}
-use Rattle.disk_model.specs.View.{Grew, Lawful, View}
+use Rattle.disk_model.specs.Runs.{CrashesTo}
+use Rattle.disk_model.specs.View.{Increased, Lawful, View}
 use Rattle.disk_model.specs.declared.disk.DiskFault.{DiskFault}
 use Rattle.child_keeper.specs.Children.{Asked, ChildrenView}
 use Rattle.child_keeper.specs.declared.answer.Entry.{Entry}
@@ -28,7 +28,7 @@ use Rattle.exec_turn.proofs.Polling.{polls_ask_nothing}
 
 -- nothing was done
 pub book_full : {D : Type 0} (look : D → View) (k : D) (x : Scene) (from : ChildrenView)
-    → Leaves (look k) (look k) x.state x.state [] [] [] → Goes (look k) (look k) Roomy
+    → Leaves (look k) (look k) x.state x.state [] [] [] → CrashesTo (look k) (look k) Roomy
     → Turns look k k x x.state x.due from from [] turn_end.BookFull
 book_full look k x from leaves roomy = record {
   entries = [];
@@ -38,7 +38,7 @@ book_full look k x from leaves roomy = record {
   log = sym (append-nil from.log);
   site = refl;
   does = (refl, refl, refl, refl);
-  leaves = leaves;
+  crash = leaves;
   asked = λ run u h. absurd (asked_none run u h);
   due_is = refl;
   whole = λ _. refl;
@@ -47,11 +47,11 @@ book_full look k x from leaves roomy = record {
 }
 
 module _ {D : Type 0} (look : D → View) (at : ℕ) (k0 k1 : D) (s0 s1 : State) (d0 d1 : Due) (p0 p1 : Place) (from c1 : ChildrenView) (n1 : List Notice)
-    (roomy1 : Goes (look k0) (look k1) Roomy) where
+    (roomy1 : CrashesTo (look k0) (look k1) Roomy) where
   -- the row of results failed
   pub no_results : (f : DiskFault) → PollsRow (look k0) (look k1) (scene s0 d0 p0 at) (scene s1 d1 p1 at) from c1 n1 (Err f)
-      → Grew (look k0).failures (look k1).failures → Turns look k0 k1 (scene s0 d0 p0 at) s1 d1 from c1 n1 turn_end.Disk
-  no_results f p grew = record {
+      → Increased (look k0).failures (look k1).failures → Turns look k0 k1 (scene s0 d0 p0 at) s1 d1 from c1 n1 turn_end.Disk
+  no_results f p increased = record {
     entries = polls at p.answers;
     events = [];
     pending = results at p.answers;
@@ -59,17 +59,17 @@ module _ {D : Type 0} (look : D → View) (at : ℕ) (k0 k1 : D) (s0 s1 : State)
     log = p.log;
     site = p.site;
     does = inl (p.answers, p.each, refl, refl, refl, p.told_is);
-    leaves = p.leaves;
+    crash = p.crash;
     asked = λ run u h. absurd (polls_ask_nothing at p.answers run u h);
     due_is = p.moves.1;
     whole = λ not. absurd (not refl);
-    cause = λ _. grew;
+    cause = λ _. increased;
     roomy = roomy1;
   }
 
   module _ (u : Unit) (p : PollsRow (look k0) (look k1) (scene s0 d0 p0 at) (scene s1 d1 p1 at) from c1 n1 (Ok u)) (k2 : D) (s2 : State) (d2 : Due)
-      (p2 : Place) (begun : List Active) (end : TurnEnd) (roomy2 : Goes (look k1) (look k2) Roomy) where
-    roomy12 : Goes (look k0) (look k2) Roomy
+      (p2 : Place) (begun : List Active) (end : TurnEnd) (roomy2 : CrashesTo (look k1) (look k2) Roomy) where
+    roomy12 : CrashesTo (look k0) (look k2) Roomy
     roomy12 = runs_joined (look k0) (look k1) (look k2) Roomy roomy1 roomy2
 
     due1 : d1 ≡ due_after_all s0 d0 (results at p.answers)
@@ -80,9 +80,9 @@ module _ {D : Type 0} (look : D → View) (at : ℕ) (k0 k1 : D) (s0 s1 : State)
 
     -- the row of begins failed
     pub no_begins : (f : DiskFault) → BeginsRow (look k1) (look k2) (scene s1 d1 p1 at) (scene s2 d2 p2 at) begun end (Err f)
-        → Grew (look k1).failures (look k2).failures → Grew (look k0).failures (look k2).failures → Turns look k0 k2 (scene s0 d0 p0 at) s2 d2 from c1 n1 turn_end.Disk
-    no_begins f b grew since =
-        let both = joined (look k0) (look k1) (look k2) s0 s1 s2 (polls at p.answers) [] (results at p.answers) [] (begins at begun) p.leaves b.leaves in
+        → Increased (look k1).failures (look k2).failures → Increased (look k0).failures (look k2).failures → Turns look k0 k2 (scene s0 d0 p0 at) s2 d2 from c1 n1 turn_end.Disk
+    no_begins f b increased since =
+        let both = joined (look k0) (look k1) (look k2) s0 s1 s2 (polls at p.answers) [] (results at p.answers) [] (begins at begun) p.crash b.crash in
         record {
           entries = polls at p.answers;
           events = results at p.answers;
@@ -91,7 +91,7 @@ module _ {D : Type 0} (look : D → View) (at : ℕ) (k0 k1 : D) (s0 s1 : State)
           log = p.log;
           site = p.site;
           does = inr (inl (p.answers, end, begun, p.each, picks b.picked, refl, refl, refl, p.told_is));
-          leaves =
+          crash =
               subst (λ (l : List Entry). Leaves (look k0) (look k2) s0 s2 l (results at p.answers) (begins at begun)) (append-nil (polls at p.answers))
               (subst (λ (l : List Event). Leaves (look k0) (look k2) s0 s2 (polls at p.answers ++ []) l (begins at begun))
               (append-nil (results at p.answers)) both);
@@ -103,11 +103,11 @@ module _ {D : Type 0} (look : D → View) (at : ℕ) (k0 k1 : D) (s0 s1 : State)
         }
 
     module _ (w : Unit) (b : BeginsRow (look k1) (look k2) (scene s1 d1 p1 at) (scene s2 d2 p2 at) begun end (Ok w)) (k3 : D) (s3 : State) (d3 : Due)
-        (p3 : Place) (c2 : ChildrenView) (n3 : List Notice) (roomy3 : Goes (look k2) (look k3) Roomy) (lawful : (look k2).honest → Lawful (look k2)) where
+        (p3 : Place) (c2 : ChildrenView) (n3 : List Notice) (roomy3 : CrashesTo (look k2) (look k3) Roomy) (lawful : (look k2).honest → Lawful (look k2)) where
       abbrev before : List Event
       before = results at p.answers ++ begins at begun
 
-      roomy13 : Goes (look k0) (look k3) Roomy
+      roomy13 : CrashesTo (look k0) (look k3) Roomy
       roomy13 = runs_joined (look k0) (look k2) (look k3) Roomy roomy12 roomy3
 
       state1 : s1 ≡ after_all s0 (results at p.answers)
@@ -139,8 +139,8 @@ module _ {D : Type 0} (look : D → View) (at : ℕ) (k0 k1 : D) (s0 s1 : State)
 
         begun_leaves : Leaves (look k0) (look k2) s0 s2 entries before []
         begun_leaves =
-            joined (look k0) (look k1) (look k2) s0 s1 s2 (polls at p.answers) (starts (look k2).clock answers) (results at p.answers) (begins at begun) [] p.leaves
-            (then_started (look k1) (look k2) s1 s2 at (look k2).clock begun answers lawful refl each b.leaves)
+            joined (look k0) (look k1) (look k2) s0 s1 s2 (polls at p.answers) (starts (look k2).clock answers) (results at p.answers) (begins at begun) [] p.crash
+            (then_started (look k1) (look k2) s1 s2 at (look k2).clock begun answers lawful refl each b.crash)
 
         ended : (es pending : List Event) → Leaves (look k2) (look k3) s2 s3 [] es pending → Leaves (look k0) (look k3) s0 s3 entries (before ++ es) pending
         ended es pending last = subst (λ (l : List Entry). Leaves (look k0) (look k3) s0 s3 l (before ++ es) pending) (append-nil entries)
@@ -159,10 +159,10 @@ module _ {D : Type 0} (look : D → View) (at : ℕ) (k0 k1 : D) (s0 s1 : State)
               begins = has_later run (results at p.answers) (begins at begun)
                   (subst (λ (l : List Active). HasBegin run (begins at l)) each found.1);
               counted = found.0;
-              before = subst (λ (l : List Event). Goes (look k0) (look k2) (Prefix s0 l)) (append-nil before) begun_leaves.goes;
+              before = subst (λ (l : List Event). CrashesTo (look k0) (look k2) (Prefix s0 l)) (append-nil before) begun_leaves.crash;
               stands = λ h c now. subst (λ (x : State). FoundAs x c) begun_leaves.state
                   (⊎_elim (λ a. a) (λ b. b) (begun_leaves.now h c now));
-              behind = subst (λ (x : State). Goes (look k2) (look k3) (Prefix x (es ++ pending))) begun_leaves.state last.goes;
+              behind = subst (λ (x : State). CrashesTo (look k2) (look k3) (Prefix x (es ++ pending))) begun_leaves.state last.crash;
             })
             (asked_in (polls at p.answers) (starts (look k2).clock answers) run u asked)
 
@@ -179,7 +179,7 @@ module _ {D : Type 0} (look : D → View) (at : ℕ) (k0 k1 : D) (s0 s1 : State)
 
       -- the row of refused starts failed
       pub no_refusals : (f : DiskFault) → StartsRow (look k2) (look k3) (scene s2 d2 p2 at) (scene s3 d3 p3 at) begun c1 c2 n1 n3 (Err f)
-          → Grew (look k0).failures (look k3).failures → Turns look k0 k3 (scene s0 d0 p0 at) s3 d3 from c2 n3 turn_end.Disk
+          → Increased (look k0).failures (look k3).failures → Turns look k0 k3 (scene s0 d0 p0 at) s3 d3 from c2 n3 turn_end.Disk
       no_refusals f x since = record {
         entries = entries x.answers x.each x.book;
         events = before;
@@ -188,13 +188,13 @@ module _ {D : Type 0} (look : D → View) (at : ℕ) (k0 k1 : D) (s0 s1 : State)
         log = log_all x.answers x.each x.book x.log;
         site = x.site ∙ p.site;
         does = inr (inr (end, all_told x.answers x.each x.book, refl, refl, refl, x.told_is ∙ p.told_is));
-        leaves =
+        crash =
             subst (λ (l : List Event). Leaves (look k0) (look k3) s0 s3 (entries x.answers x.each x.book) l (refusals at x.answers)) (append-nil before)
-            (ended x.answers x.each x.book [] (refusals at x.answers) x.leaves);
+            (ended x.answers x.each x.book [] (refusals at x.answers) x.crash);
         asked =
             subst (λ (l : List Event). (run u : ℕ) → Asked (entries x.answers x.each x.book) run u
             → AskedOn look k0 k3 s0 (l ++ refusals at x.answers) run u) (append-nil before)
-            (asked_behind x.answers x.each x.book [] (refusals at x.answers) x.leaves);
+            (asked_behind x.answers x.each x.book [] (refusals at x.answers) x.crash);
         due_is = x.moves.1 ∙ due2;
         whole = λ not. absurd (not refl);
         cause = λ _. since;
@@ -246,8 +246,8 @@ module _ {D : Type 0} (look : D → View) (at : ℕ) (k0 k1 : D) (s0 s1 : State)
               x.told_is
                   ∙ ap (λ (l : List Notice). l ++ refusal_notices at x.answers) p.told_is,
             );
-            leaves = ended x.answers x.each x.book (refusals at x.answers) [] x.leaves;
-            asked = asked_behind x.answers x.each x.book (refusals at x.answers) [] x.leaves;
+            crash = ended x.answers x.each x.book (refusals at x.answers) [] x.crash;
+            asked = asked_behind x.answers x.each x.book (refusals at x.answers) [] x.crash;
             due_is = due3;
             whole = λ _. refl;
             cause = λ is. absurd (not_disk end b.picked is);

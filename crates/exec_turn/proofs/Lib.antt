@@ -8,7 +8,7 @@ pub mod Choosing
 pub mod PickSteps
 pub mod Begun
 pub mod Picking
-pub mod Tending
+pub mod Living
 pub mod Turning
 pub mod Ends
 pub mod Resting

@@ -12,7 +12,7 @@ use Rattle.ocf_types.specs.Resource.{Resource}
 use Rattle.ocf_types.specs.Spelling.{spelled_event}
 use Rattle.ocf_types.specs.State.{State}
 use Rattle.ocf_types.specs.declared.operation.Running.{Running}
-use Rattle.ocf_env.specs.Places.{Call, Place}
+use Rattle.ocf_env.specs.Places.{Call, SiteView}
 use Rattle.exec_journal.specs.Front.{spelled_row}
 use Rattle.exec_journal.specs.Rows.{IsTooLong, kept_free}
 use Rattle.exec_turn.specs.Actives.{Active}
@@ -25,7 +25,7 @@ use Rattle.exec_turn.specs.declared.picks.StartOf.{StartOf}
 use Rattle.exec_turn.proofs.Choosing.{picks_cut}
 
 -- what is called for these texts is called for the resource whose texts they are
-pub invoked : (site : Place) (id : List ℕ) (r : Resource) (running : Running) (call : Call) (own provider agent : List ℕ) (params : ParamList)
+pub invoked : (site : SiteView) (id : List ℕ) (r : Resource) (running : Running) (call : Call) (own provider agent : List ℕ) (params : ParamList)
     → id ≡ own → provider ≡ r.provider → agent ≡ r.agent → params ≡ r.params
     → IsInvocation site (record { id = own; provider = provider; agent = agent; params = params }) running call
     → IsInvocation site (registration_of id r) running call
@@ -129,6 +129,6 @@ each_push P [] x h k = (k, tt)
 each_push P (y ∷ ys) x h k = (h.0, each_push P ys x h.1 k)
 
 -- each start is of one action
-pub starts_of_one : (site : Place) (s : State) (xs : List (StartOf Call)) → AllByRecursion (IsStart site s) xs → AllByRecursion IsOfOne xs
+pub starts_of_one : (site : SiteView) (s : State) (xs : List (StartOf Call)) → AllByRecursion (IsStart site s) xs → AllByRecursion IsOfOne xs
 starts_of_one site s [] h = tt
 starts_of_one site s (x ∷ xs) h = (h.0.of_one, starts_of_one site s xs h.1)

@@ -32,7 +32,7 @@ use Rattle.child_keeper.specs.declared.answer.Poll.TheVariants as poll
 use Rattle.exec_journal.specs.Front.{AllApply, spelled_row}
 use Rattle.exec_journal.specs.Rows.{are_results}
 use Rattle.exec_turn.specs.Actives.{Active, active, result_of, runs_of}
-use Rattle.exec_turn.specs.Lives.{Tends}
+use Rattle.exec_turn.specs.AgentsLive.{AgentsLive}
 use Rattle.exec_turn.specs.Polls.{IsPoll, Polled, after_polls, ending, entries_of, is_late, polled_on, polls, results, said}
 use Rattle.exec_turn.specs.Rows.{MayRecord}
 use Rattle.exec_turn.proofs.Results.{IsActive, RunsIn, distinct_other, each_active, each_middle, each_other, each_runs, length-all_in}
@@ -302,21 +302,21 @@ fewer_without run (y ∷ ys) has = ⊎_elim
     by false rest = omega arith
 
 -- one result
-tends_after_result : (at : ℕ) (s : State) (kept : List Active) (a : Active) (rest : List Active) (end : RunEnd) (live : List ℕ)
+agents_live_after_result : (at : ℕ) (s : State) (kept : List Active) (a : Active) (rest : List Active) (end : RunEnd) (live : List ℕ)
     → IsDistinct bytes_eq (keys_of s.resources) → active s ≡ kept ++ a ∷ rest
-    → Tends s live → Tends (after s (result_of at a end)) (without_run a.running.run live)
-tends_after_result at s kept a rest end live distinct is tends =
+    → AgentsLive s live → AgentsLive (after s (result_of at a end)) (without_run a.running.run live)
+agents_live_after_result at s kept a rest end live distinct is agents_live =
     let run = a.running.run in
     let others : active (after s (result_of at a end)) ≡ kept ++ rest = others_run at s kept a rest end distinct is in
     let runs : runs_of (active s) ≡ runs_of kept ++ run ∷ runs_of rest = ap runs_of is ∙ map-append _ kept (a ∷ rest) in
     let later : runs_of (active (after s (result_of at a end))) ≡ runs_of kept ++ runs_of rest = ap runs_of others
     ∙ map-append _ kept rest in
-    let apart = subst (IsDistinct nat_eq) runs tends.distinct in
-    let lives = subst (Live live) runs tends.each_lives in
+    let apart = subst (IsDistinct nat_eq) runs agents_live.distinct in
+    let lives = subst (Live live) runs agents_live.each_lives in
     let fewer = fewer_without run live (each_middle (λ r. Contains live r) (runs_of kept) run (runs_of rest) lives) in
     let many : length (active s) ≡ length (kept ++ a ∷ rest) = ap (λ (l : List Active). length l) is in
     let many_later : length (active (after s (result_of at a end))) ≡ length (kept ++ rest) = ap (λ (l : List Active). length l) others in
-    let few = tends.few in
+    let few = agents_live.few in
     record {
       each_lives = subst (Live (without_run run live)) (sym later)
           (all_live_after (Some end) run live (runs_of kept ++ runs_of rest)
@@ -326,30 +326,30 @@ tends_after_result at s kept a rest end live distinct is tends =
       few = omega (arith, fewer, few, many, many_later, length-append kept (a ∷ rest), length-append kept rest);
     }
 
-tends_behind : (at : ℕ) (s : State) (kept : List Active) (ps : List Polled) (v : ChildrenView) → IsDistinct bytes_eq (keys_of s.resources)
+agents_live_behind : (at : ℕ) (s : State) (kept : List Active) (ps : List Polled) (v : ChildrenView) → IsDistinct bytes_eq (keys_of s.resources)
     → active s ≡ kept ++ whos ps
-    → Tends s v.live → Tends (after_all s (results at ps)) (after_polls at v ps).live
-tends_behind at s kept [] v distinct is tends = tends
-tends_behind at s kept (p ∷ ps) v distinct is tends =
+    → AgentsLive s v.live → AgentsLive (after_all s (results at ps)) (after_polls at v ps).live
+agents_live_behind at s kept [] v distinct is agents_live = agents_live
+agents_live_behind at s kept (p ∷ ps) v distinct is agents_live =
     by (ending at p.who.running p.poll) (polled_live at p.who.running p.poll p.kill v)
-    (tends_behind at s (kept ++ p.who ∷ []) ps w distinct (is ∙ sym (append_assoc kept (p.who ∷ []) (whos ps))))
-    (λ end. tends_behind at (after s (result_of at p.who end)) kept ps w (same_keys at s p.who end distinct)
+    (agents_live_behind at s (kept ++ p.who ∷ []) ps w distinct (is ∙ sym (append_assoc kept (p.who ∷ []) (whos ps))))
+    (λ end. agents_live_behind at (after s (result_of at p.who end)) kept ps w (same_keys at s p.who end distinct)
     (others_run at s kept p.who (whos ps) end distinct is))
   where
     w : ChildrenView
     w = polled_on at p.who.running p.poll p.kill v
 
     by : (end : Option RunEnd) → w.live ≡ live_after end p.who.running.run v.live
-        → (Tends s w.live → Tends (after_all s (results at ps)) (after_polls at w ps).live)
-        → ((e : RunEnd) → Tends (after s (result_of at p.who e)) w.live
-        → Tends (after_all (after s (result_of at p.who e)) (results at ps)) (after_polls at w ps).live)
-        → Tends (after_all s (results_of at p.who end ++ results at ps)) (after_polls at w ps).live
-    by None live same more = same (subst (Tends s) (sym live) tends)
+        → (AgentsLive s w.live → AgentsLive (after_all s (results at ps)) (after_polls at w ps).live)
+        → ((e : RunEnd) → AgentsLive (after s (result_of at p.who e)) w.live
+        → AgentsLive (after_all (after s (result_of at p.who e)) (results at ps)) (after_polls at w ps).live)
+        → AgentsLive (after_all s (results_of at p.who end ++ results at ps)) (after_polls at w ps).live
+    by None live same more = same (subst (AgentsLive s) (sym live) agents_live)
     by (Some end) live same more =
-        more end (subst (Tends (after s (result_of at p.who end))) (sym live)
-        (tends_after_result at s kept p.who (whos ps) end v.live distinct is tends))
+        more end (subst (AgentsLive (after s (result_of at p.who end))) (sym live)
+        (agents_live_after_result at s kept p.who (whos ps) end v.live distinct is agents_live))
 
 -- behind the row of results what still runs lives
-pub tends_after_polls : (at : ℕ) (s : State) (v : ChildrenView) (ps : List Polled) → IsLawfulState s → whos ps ≡ active s → Tends s v.live
-    → Tends (after_all s (results at ps)) (after_polls at v ps).live
-tends_after_polls at s v ps lawful each tends = tends_behind at s [] ps v lawful.ids (sym each) tends
+pub agents_live_after_polls : (at : ℕ) (s : State) (v : ChildrenView) (ps : List Polled) → IsLawfulState s → whos ps ≡ active s → AgentsLive s v.live
+    → AgentsLive (after_all s (results at ps)) (after_polls at v ps).live
+agents_live_after_polls at s v ps lawful each agents_live = agents_live_behind at s [] ps v lawful.ids (sym each) agents_live

@@ -33,7 +33,7 @@ use Rattle.child_keeper.specs.Children.{ChildrenView, after_start, live_started,
 use Rattle.exec_journal.specs.Front.{AllApply, spelled_row}
 use Rattle.exec_journal.specs.Rows.{are_results}
 use Rattle.exec_turn.specs.Actives.{Active, active, notice_of, result_of, runs_of}
-use Rattle.exec_turn.specs.Lives.{Tends, TendsBut}
+use Rattle.exec_turn.specs.AgentsLive.{AgentsLive, AgentsLiveBut}
 use Rattle.exec_turn.specs.Rows.{MayRecord}
 use Rattle.exec_turn.specs.Starts.{AllRun, Rising, RunsUnder, Started, Starts, after_starts, refusals, refused_end, starts}
 use Rattle.exec_turn.proofs.Ending.{OneLess, keys_kept, one_less, runs_on, runs_there, same_run}
@@ -281,26 +281,26 @@ each_still live n more [] among differ = tt
 each_still live n more (x ∷ xs) among differ = (still_among live n more x among.0 differ.0, each_still live n more xs among.1 differ.1)
 
 -- a start that was made: the run lives, and is no more to be started
-started_tends : (s : State) (live : List ℕ) (a : Active) (rest : List Active) → TendsBut s live (a ∷ rest)
-    → TendsBut s (live ++ a.running.run ∷ []) rest
-started_tends s live a rest tends = record {
+started_agents_live : (s : State) (live : List ℕ) (a : Active) (rest : List Active) → AgentsLiveBut s live (a ∷ rest)
+    → AgentsLiveBut s (live ++ a.running.run ∷ []) rest
+started_agents_live s live a rest agents_live = record {
   each_lives =
       subst (λ (l : List ℕ). AllByRecursion (λ run. Contains l run) (runs_of (active s)))
-      (sym (append_assoc live (a.running.run ∷ []) (runs_of rest))) tends.each_lives;
-  distinct = tends.distinct;
-  few = omega (arith, tends.few, length-append live (a.running.run ∷ []));
+      (sym (append_assoc live (a.running.run ∷ []) (runs_of rest))) agents_live.each_lives;
+  distinct = agents_live.distinct;
+  few = omega (arith, agents_live.few, length-append live (a.running.run ∷ []));
 }
 
 -- one that was refused: the action runs no more, and is no more to be started
-refused_tends : (s t : State) (live : List ℕ) (a : Active) (rest : List Active)
-    → OneLess (runs_of (active s)) (runs_of (active t)) a.running.run → TendsBut s live (a ∷ rest) → TendsBut t live rest
-refused_tends s t live a rest less tends =
+refused_agents_live : (s t : State) (live : List ℕ) (a : Active) (rest : List Active)
+    → OneLess (runs_of (active s)) (runs_of (active t)) a.running.run → AgentsLiveBut s live (a ∷ rest) → AgentsLiveBut t live rest
+refused_agents_live s t live a rest less agents_live =
     let run = a.running.run in
     let before = less.before in
     let behind = less.behind in
-    let apart = distinct_without before run behind (subst (λ (l : List ℕ). IsDistinct nat_eq l) less.old_is tends.distinct) in
+    let apart = distinct_without before run behind (subst (λ (l : List ℕ). IsDistinct nat_eq l) less.old_is agents_live.distinct) in
     let lives = each_without (λ m. Contains (live ++ run ∷ runs_of rest) m) before run behind
-    (subst (λ (l : List ℕ). AllByRecursion (λ m. Contains (live ++ run ∷ runs_of rest) m) l) less.old_is tends.each_lives) in
+    (subst (λ (l : List ℕ). AllByRecursion (λ m. Contains (live ++ run ∷ runs_of rest) m) l) less.old_is agents_live.each_lives) in
     let old_size : length (active s) ≡ length (before ++ run ∷ behind) = sym (length-map (active s) (λ (x : Active). x.running.run))
     ∙ ap (λ (l : List ℕ). length l) less.old_is in
     let new_size : length (active t) ≡ length (before ++ behind) = sym (length-map (active t) (λ (x : Active). x.running.run))
@@ -310,26 +310,26 @@ refused_tends s t live a rest less tends =
           subst (λ (l : List ℕ). AllByRecursion (λ m. Contains (live ++ runs_of rest) m) l) (sym less.new_is)
           (each_still live run (runs_of rest) (before ++ behind) lives.1 apart.1);
       distinct = subst (λ (l : List ℕ). IsDistinct nat_eq l) (sym less.new_is) apart.0;
-      few = omega (arith, tends.few, old_size, new_size, length-append before (run ∷ behind), length-append before behind);
+      few = omega (arith, agents_live.few, old_size, new_size, length-append before (run ∷ behind), length-append before behind);
     }
 
-all_tends : (s : State) (live : List ℕ) → TendsBut s live [] → Tends s live
-all_tends s live tends = record {
-  each_lives = subst (λ (l : List ℕ). AllByRecursion (λ run. Contains l run) (runs_of (active s))) (append-nil live) tends.each_lives;
-  distinct = tends.distinct;
-  few = omega (arith, tends.few);
+all_agents_live : (s : State) (live : List ℕ) → AgentsLiveBut s live [] → AgentsLive s live
+all_agents_live s live agents_live = record {
+  each_lives = subst (λ (l : List ℕ). AllByRecursion (λ run. Contains l run) (runs_of (active s))) (append-nil live) agents_live.each_lives;
+  distinct = agents_live.distinct;
+  few = omega (arith, agents_live.few);
 }
 
 -- behind the starts and the results of the refused ones the agent of each action that runs lives
 pub starts_tend : (s : State) (at clock last : ℕ) (v : ChildrenView) (xs : List Started) → IsDistinct bytes_eq (keys_of s.resources)
     → AllRun s (map (λ x. x.what) xs)
-    → Rising last (map (λ x. x.what) xs) → TendsBut s v.live (map (λ x. x.what) xs)
-    → Tends (after_all s (refusals at xs)) (after_starts clock v xs).live
-starts_tend s at clock last v [] distinct run rising tends = all_tends s v.live tends
-starts_tend s at clock last v (x ∷ xs) distinct run rising tends =
+    → Rising last (map (λ x. x.what) xs) → AgentsLiveBut s v.live (map (λ x. x.what) xs)
+    → AgentsLive (after_all s (refusals at xs)) (after_starts clock v xs).live
+starts_tend s at clock last v [] distinct run rising agents_live = all_agents_live s v.live agents_live
+starts_tend s at clock last v (x ∷ xs) distinct run rising agents_live =
     by x.answer
     (λ y. starts_tend s at clock x.what.running.run (after_start {X = Unit} v x.what.running.run clock (Ok y)) xs distinct run.1 rising.1
-    (started_tends s v.live x.what (map (λ x. x.what) xs) tends))
+    (started_agents_live s v.live x.what (map (λ x. x.what) xs) agents_live))
     (λ fault.
     let end = NotStarted fault in
     let t = after s (result_of at x.what end) in
@@ -338,14 +338,14 @@ starts_tend s at clock last v (x ∷ xs) distinct run rising tends =
     (sym (keys_kept x.what.id (stepped at (step.Result x.what.running.run end)) s.resources)) distinct)
     (run_on s at x.what end x.what.running.run (map (λ x. x.what) xs) run.0 (omega arith) rising.1 run.1)
     rising.1
-    (refused_tends s t v.live x.what (map (λ x. x.what) xs) (one_less s at x.what end distinct run.0) tends))
+    (refused_agents_live s t v.live x.what (map (λ x. x.what) xs) (one_less s at x.what end distinct run.0) agents_live))
   where
     by : (o : Result Unit StartFault)
-        → ((y : Unit) → Tends (after_all s (refusals at xs))
+        → ((y : Unit) → AgentsLive (after_all s (refusals at xs))
         (after_starts clock (after_start {X = Unit} v x.what.running.run clock (Ok y)) xs).live)
-        → ((fault : StartFault) → Tends (after_all (after s (result_of at x.what (NotStarted fault))) (refusals at xs))
+        → ((fault : StartFault) → AgentsLive (after_all (after s (result_of at x.what (NotStarted fault))) (refusals at xs))
         (after_starts clock (after_start {X = Unit} v x.what.running.run clock (Err fault)) xs).live)
-        → Tends (after_all s (map (result_of at x.what) (refused_end o) ++ refusals at xs))
+        → AgentsLive (after_all s (map (result_of at x.what) (refused_end o) ++ refusals at xs))
         (after_starts clock (after_start {X = Unit} v x.what.running.run clock o) xs).live
     by (Ok y) started refused = started y
     by (Err fault) started refused = refused fault

@@ -5,7 +5,7 @@ use Rattle.ocf_types.specs.Resource.{Resource}
 use Rattle.ocf_types.specs.State.{State, resource_at}
 use Rattle.ocf_env.specs.Instances.{registration_of}
 use Rattle.ocf_env.specs.Invocations.{IsInvocation}
-use Rattle.ocf_env.specs.Places.{Call, Place}
+use Rattle.ocf_env.specs.Places.{Call, SiteView}
 use Rattle.child_keeper.specs.MayStart.{IsLaunch}
 use Rattle.exec_turn.specs.Actives.{Active}
 use Rattle.exec_turn.specs.declared.picks.StartOf.{StartOf}
@@ -22,12 +22,12 @@ abbrev pub IsOfOne : StartOf Call → Type 0
 IsOfOne x = (x.launch.call ≡ x.running.call) × (x.launch.run ≡ x.running.run)
 
 -- a start carries the launch of its own action: of the agent that is registered, with the parameters of now
-pub record IsStart (site : Place) (s : State) (x : StartOf Call) : Type 0 where
+pub record IsStart (site : SiteView) (s : State) (x : StartOf Call) : Type 0 where
   pub resource : Resource
   pub is : resource_at s x.launch.id ≡ Some resource
   pub of_one : IsOfOne x
   pub invocation : IsInvocation site (registration_of x.launch.id resource) x.running x.launch.invocation
 
 -- each of these launches what runs at this state, at the site that is insisted on, if any
-abbrev pub AllLaunch : Option Place → State → List (StartOf Call) → Type 0
+abbrev pub AllLaunch : Option SiteView → State → List (StartOf Call) → Type 0
 AllLaunch insisted s starts = AllByRecursion (λ x. IsLaunch insisted s x.launch) starts

@@ -11,7 +11,7 @@ use Rattle.ocf_types.specs.Laws.{after_all-append, same_number}
 use Rattle.ocf_types.specs.State.{State, after, after_all}
 use Rattle.disk_model.specs.Image.{Image}
 use Rattle.disk_model.specs.Laws.{joined as runs_joined, started, weakened}
-use Rattle.disk_model.specs.Runs.{Goes}
+use Rattle.disk_model.specs.Runs.{CrashesTo}
 use Rattle.disk_model.specs.View.{Lawful, View}
 use Rattle.child_keeper.specs.Children.{Asked}
 use Rattle.child_keeper.specs.declared.answer.Entry.{Entry}
@@ -54,8 +54,8 @@ has_later run (e ∷ es) fs h = or_right (is_begin run e.change) (list_any (λ e
 
 -- what was begun stays begun, whatever is recorded behind it and whatever was recorded before it
 begun_on : (mid new : View) (s : State) (es fs : List Event) (run clock : ℕ) → BegunAt mid s es run clock
-    → Goes mid new (Prefix (after_all s es) fs) → BegunAt new s (es ++ fs) run clock
-begun_on mid new s es fs run clock begun goes =
+    → CrashesTo mid new (Prefix (after_all s es) fs) → BegunAt new s (es ++ fs) run clock
+begun_on mid new s es fs run clock begun crash =
     let a = begun.first in
     let b = begun.rest in
     let split : after_all s es ≡ after_all (after_all s a) b = ap (λ (l : List Event). after_all s l) (sym begun.split)
@@ -64,11 +64,11 @@ begun_on mid new s es fs run clock begun goes =
       rest = b ++ fs;
       split = sym (append_assoc a b fs) ∙ ap (λ (l : List Event). l ++ fs) begun.split;
       begins = begun.begins;
-      earlier = omega (arith, begun.earlier, goes.passed.clock);
+      earlier = omega (arith, begun.earlier, crash.passed.clock);
       since = λ h c left. ⊎_elim
-          (λ was. widened (after_all s a) b fs c (begun.since (goes.passed.honest h) c was))
+          (λ was. widened (after_all s a) b fs c (begun.since (crash.passed.honest h) c was))
           (λ more. shifted (after_all s a) b fs c (subst (λ (t : State). Prefix t fs c) split more))
-          (goes.before h clock c begun.earlier left);
+          (crash.before h clock c begun.earlier left);
     }
 
 begun_behind : (v : View) (s : State) (es fs : List Event) (run clock : ℕ) → BegunAt v (after_all s es) fs run clock
@@ -97,18 +97,18 @@ joined old mid new s t u es fs first next pending one two =
     (λ (x : State). Leaves mid new x u fs next pending) one.state two in
     let all = next ++ pending in
     let grouped : first ++ all ≡ (first ++ next) ++ pending = sym (append_assoc first next pending) in
-    let before : Goes old mid (Prefix s (first ++ all)) =
+    let before : CrashesTo old mid (Prefix s (first ++ all)) =
     weakened old mid (Prefix s (first ++ [])) (Prefix s (first ++ all))
-    (λ h c p. widened s first all c (subst (λ (l : List Event). Prefix s l c) (append-nil first) p)) one.goes in
-    let behind : Goes mid new (Prefix s (first ++ all)) = weakened mid new (Prefix (after_all s first) all) (Prefix s (first ++ all))
-    (λ h c p. shifted s first all c p) later.goes in record {
+    (λ h c p. widened s first all c (subst (λ (l : List Event). Prefix s l c) (append-nil first) p)) one.crash in
+    let behind : CrashesTo mid new (Prefix s (first ++ all)) = weakened mid new (Prefix (after_all s first) all) (Prefix s (first ++ all))
+    (λ h c p. shifted s first all c p) later.crash in record {
       state = later.state ∙ sym (after_all-append s first next);
-      goes =
-          subst (λ (l : List Event). Goes old new (Prefix s l)) grouped (runs_joined old mid new (Prefix s (first ++ all)) before behind);
+      crash =
+          subst (λ (l : List Event). CrashesTo old new (Prefix s l)) grouped (runs_joined old mid new (Prefix s (first ++ all)) before behind);
       now = later.now;
       starts = λ run clock asked. subst (λ (l : List Event). BegunAt new s l run clock) grouped (⊎_elim
           (λ x. begun_on mid new s first all run clock
-          (subst (λ (l : List Event). BegunAt mid s l run clock) (append-nil first) (one.starts run clock x)) later.goes)
+          (subst (λ (l : List Event). BegunAt mid s l run clock) (append-nil first) (one.starts run clock x)) later.crash)
           (λ y. begun_behind new s first all run clock (later.starts run clock y))
           (asked_in es fs run clock asked));
     }
@@ -118,14 +118,14 @@ pub asked_none : (run clock : ℕ) → Asked [] run clock → ⊥
 asked_none run clock h = let none = h.2.1 in omega (arith, none)
 
 -- A row that was recorded: a stop now leaves all of it.
-pub recorded : (old new : View) (s t : State) (es : List Event) → Goes old new (EitherSide s es)
+pub recorded : (old new : View) (s t : State) (es : List Event) → CrashesTo old new (EitherSide s es)
     → (new.honest → (c : Image) → new.now c → FoundAs (after_all s es) c) → t ≡ after_all s es
     → Leaves old new s t [] es []
-recorded old new s t es goes now state = record {
+recorded old new s t es crash now state = record {
   state = state;
-  goes =
-      subst (λ (l : List Event). Goes old new (Prefix s l)) (sym (append-nil es))
-      (weakened old new (EitherSide s es) (Prefix s es) (λ h c either_side. either s es c either_side) goes);
+  crash =
+      subst (λ (l : List Event). CrashesTo old new (Prefix s l)) (sym (append-nil es))
+      (weakened old new (EitherSide s es) (Prefix s es) (λ h c either_side. either s es c either_side) crash);
   now = λ h c left. inl (subst (λ (x : State). FoundAs x c) (sym state) (now h c left));
   starts = λ run clock asked. absurd (asked_none run clock asked);
 }
@@ -136,7 +136,7 @@ pub told : (v : View) (s : State) (es : List Entry) → (v.honest → Lawful v) 
     → Leaves v v s s es [] []
 told v s es lawful now none = record {
   state = refl;
-  goes = started v (Prefix s []) (λ h c left. ([], [], refl, now h c left)) lawful;
+  crash = started v (Prefix s []) (λ h c left. ([], [], refl, now h c left)) lawful;
   now = λ h c left. inl (now h c left);
   starts = λ run clock asked. absurd (none run clock asked);
 }
@@ -174,7 +174,7 @@ pub then_started : (old new : View) (s t : State) (at clock : ℕ) (bs : List Ac
     → Leaves old new s t [] (begins at bs) [] → Leaves old new s t (starts clock xs) (begins at bs) []
 then_started old new s t at clock bs xs lawful same each leaves = record {
   state = leaves.state;
-  goes = leaves.goes;
+  crash = leaves.crash;
   now = leaves.now;
   starts = λ run u asked.
       let found = asked_starts at clock xs run u asked in

@@ -6,24 +6,24 @@ use Rattle.ocf_types.specs.State.{State}
 use Rattle.ocf_types.specs.declared.reply.Notice.{Notice}
 use Rattle.ocf_types.specs.declared.reply.TurnEnd.{TurnEnd}
 use Rattle.ocf_types.specs.declared.reply.TurnEnd.TheVariants as turn_end
-use Rattle.disk_model.specs.Runs.{Goes}
-use Rattle.disk_model.specs.View.{Grew, View}
+use Rattle.disk_model.specs.Runs.{CrashesTo}
+use Rattle.disk_model.specs.View.{Increased, View}
 use Rattle.disk_model.specs.declared.disk.DiskFault.{DiskFault}
 use Rattle.child_keeper.specs.Children.{Asked, ChildrenView}
 use Rattle.child_keeper.specs.declared.answer.Entry.{Entry}
 use Rattle.exec_journal.specs.Room.{Roomy}
 use Rattle.exec_turn.specs.Actives.{Active}
-use Rattle.exec_turn.specs.Lives.{Tends}
+use Rattle.exec_turn.specs.AgentsLive.{AgentsLive}
 use Rattle.exec_turn.specs.Picks.{begins}
 use Rattle.exec_turn.specs.Pieces.{AskedOn, Leaves}
 use Rattle.exec_turn.specs.Polls.{Polled, polls, result_notices, results}
 use Rattle.exec_turn.specs.Starts.{Started, refusal_notices, refusals, starts}
-use Rattle.exec_turn.specs.declared.rows.Rows.{Rows}
+use Rattle.exec_turn.specs.declared.buffers.TurnBuffers.{TurnBuffers}
 use Rattle.exec_turn.specs.Turn.{EachPolled, IsTurn, PickedAt, Scene, behind, due_after_all}
 
 -- the agents of all that runs live, and the next run is above all that were asked to start
-pub record Tended (s : State) (v : ChildrenView) : Type 0 where
-  pub tends : Tends s v.live
+pub record ChildrenMatch (s : State) (v : ChildrenView) : Type 0 where
+  pub agents_live : AgentsLive s v.live
   pub rising : v.last_run < s.next_run
 
 -- A row that was recorded leads from one scene to another; one that was not leaves all but perhaps the disk as it was.
@@ -46,14 +46,14 @@ pub record PollsRow (old new : View) (x y : Scene) (from to : ChildrenView) (tol
   pub site : to.site ≡ from.site
   pub left : from.room ≤ to.room + 2 * length x.state.resources
   pub moves : Moves x y (results x.at answers) result
-  pub leaves : LeavesRow old new x y (polls x.at answers) (results x.at answers) result
+  pub crash : LeavesRow old new x y (polls x.at answers) (results x.at answers) result
   pub told_is : told ≡ (if is_ok result then result_notices x.at answers else [])
 
 -- The second: what is begun, and the row of begins.
 pub record BeginsRow (old new : View) (x y : Scene) (begun : List Active) (end : TurnEnd) (result : Result Unit DiskFault) : Type 0 where
   pub picked : PickedAt end x begun
   pub moves : Moves x y (begins x.at begun) result
-  pub leaves : LeavesRow old new x y [] (begins x.at begun) result
+  pub crash : LeavesRow old new x y [] (begins x.at begun) result
 
 -- The third: starts, and the row of results of those that were refused.
 pub record StartsRow (old new : View) (x y : Scene) (begun : List Active) (from to : ChildrenView) (was told : List Notice)
@@ -64,7 +64,7 @@ pub record StartsRow (old new : View) (x y : Scene) (begun : List Active) (from 
   pub log : to.log ≡ from.log ++ starts old.clock answers
   pub site : to.site ≡ from.site
   pub moves : Moves x y (refusals x.at answers) result
-  pub leaves : LeavesRow old new x y [] (refusals x.at answers) result
+  pub crash : LeavesRow old new x y [] (refusals x.at answers) result
   pub told_is : told ≡ (if is_ok result then was ++ refusal_notices x.at answers else was)
 
 -- A turn of an open executor: from what it finds to a state, due moments and children, with what is told.
@@ -81,15 +81,15 @@ pub record Turns {D : Type 0} (look : D → View) (old new : D) (x : Scene) (t :
   pub site : to.site ≡ from.site
   pub does : IsTurn end x entries events pending told
   -- what it recorded, what a stop at any moment of it leaves, and that no agent was started without its synced begin
-  pub leaves : Leaves (look old) (look new) x.state t entries events pending
+  pub crash : Leaves (look old) (look new) x.state t entries events pending
   -- each start was asked in the turn, behind its begin: its entry counts the calls of the disk as it was then
   pub asked : (run clock : ℕ) → Asked entries run clock → AskedOn look old new x.state (events ++ pending) run clock
   pub due_is : due ≡ due_after_all x.state x.due events
   -- nothing is pending but after a disk fault, which has a cause
   pub whole : end ≢ turn_end.Disk → pending ≡ []
-  pub cause : end ≡ turn_end.Disk → Grew (look old).failures (look new).failures
+  pub cause : end ≡ turn_end.Disk → Increased (look old).failures (look new).failures
   -- what a stop leaves since its start has room for its boot
-  pub roomy : Goes (look old) (look new) Roomy
+  pub roomy : CrashesTo (look old) (look new) Roomy
 
 -- what is told of the last turn
 abbrev pub told_of : {M : Type 0} → Rows M → List Notice

@@ -2,12 +2,12 @@
 //! and recorded, and what has begun is started. No step has both a loop and a device call.
 #![tactic(auto)]
 
+mod buffers;
 mod picks;
 mod polls;
 mod records;
-mod rows;
 mod starts;
 mod turn;
 
-pub use rows::Rows;
+pub use buffers::TurnBuffers;
 pub use turn::take_turn;

@@ -8,7 +8,7 @@ ghost use Rattle.ocf_types.specs.declared.reply.Notice.{Notice};
 ghost use Rattle.child_keeper.specs.declared.answer.KillFault.{KillFault};
 ghost use Rattle.child_keeper.specs.declared.answer.Poll.{Poll};
 ghost use Rattle.exec_turn.specs.Actives.{active, active_in, runs_of};
-ghost use Rattle.exec_turn.specs.Lives.{Tends};
+ghost use Rattle.exec_turn.specs.AgentsLive.{AgentsLive};
 ghost use Rattle.exec_turn.specs.Polls.{IsPoll, Polls, ending, is_late, polled_on};
 
 use child_keeper::{Children, Poll};
@@ -94,7 +94,7 @@ pub(crate) fn poll_all<C: Children, A: Allocator + Copy>(
     row: &mut Vec<Event<A>, A>,
     notices: &mut Vec<Notice, A>,
 )
-    requires tends { Tends state.now.state (C.view children.old).live }
+    requires agents_live { AgentsLive state.now.state (C.view children.old).live }
     requires room { 2 * length (active state.now.state) ≤ (C.view children.old).room }
     requires row_room { length state.now.state.resources ≤ vec_capacity row.old }
     requires notice_room { length state.now.state.resources ≤ vec_capacity notices.old }

@@ -23,7 +23,7 @@ use Rattle.ocf_types.specs.declared.operation.Running.{Running}
 use Rattle.ocf_types.specs.Boot.{any_busy}
 use Rattle.child_keeper.specs.Children.{ChildrenView, given_up}
 use Rattle.exec_turn.specs.Actives.{Active, active, active_in, active_of, all_in, runs_of}
-use Rattle.exec_turn.specs.Turns.{Tended}
+use Rattle.exec_turn.specs.Turns.{ChildrenMatch}
 use Rattle.executor.specs.Replies.{KeepsRunning}
 
 -- a command's event begins and ends nothing
@@ -120,18 +120,18 @@ draws_none (change.Step id (step.Withdraw call)) keeps = refl
 draws_none change.Boot keeps = absurd keeps
 
 -- so the agents of all that runs still live
-pub kept_tended : (s t : State) (e : Event) (v : ChildrenView) → IsLawfulState s → Applies s e → KeepsRunning e.change → t ≡ after s e
-    → Tended s v → Tended t v
-kept_tended s t e v lawful applies keeps state tended =
+pub kept_matched : (s t : State) (e : Event) (v : ChildrenView) → IsLawfulState s → Applies s e → KeepsRunning e.change → t ≡ after s e
+    → ChildrenMatch s v → ChildrenMatch t v
+kept_matched s t e v lawful applies keeps state matched =
     let same : active t ≡ active s = ap active state ∙ change_same s e.at e.change lawful.ids applies.change keeps in
     let drawn = draws_none e.change keeps in
     let next = ap (λ (u : State). u.next_run) state in
-    let low = tended.rising in record {
-      tends = record {
+    let low = matched.rising in record {
+      agents_live = record {
         each_lives =
-            subst (λ (l : List Active). AllByRecursion (λ run. Contains v.live run) (runs_of l)) (sym same) tended.tends.each_lives;
-        distinct = subst (λ (l : List Active). IsDistinct nat_eq (runs_of l)) (sym same) tended.tends.distinct;
-        few = subst (λ (l : List Active). length v.live ≤ length l) (sym same) tended.tends.few;
+            subst (λ (l : List Active). AllByRecursion (λ run. Contains v.live run) (runs_of l)) (sym same) matched.agents_live.each_lives;
+        distinct = subst (λ (l : List Active). IsDistinct nat_eq (runs_of l)) (sym same) matched.agents_live.distinct;
+        few = subst (λ (l : List Active). length v.live ≤ length l) (sym same) matched.agents_live.few;
       };
       rising = omega (arith, next, drawn, low);
     }
@@ -144,11 +144,11 @@ nothing_in (e ∷ rs) quiet =
     let none = quiet_runs (nat_lt 0 (length e.1.history.queue)) e.1.history.running parts.0 in
     ap (λ (o : Option Running). active_of e.0 o ++ all_in rs) none ∙ nothing_in rs parts.1
 
-pub quiet_tended : (t : State) (v : ChildrenView) → any_busy t ≡ false → v.last_run < t.next_run → Tended t (given_up v)
+pub quiet_matched : (t : State) (v : ChildrenView) → any_busy t ≡ false → v.last_run < t.next_run → ChildrenMatch t (given_up v)
 unfolding IsDistinct
-quiet_tended t v quiet low =
+quiet_matched t v quiet low =
     let none = nothing_in t.resources quiet in record {
-      tends = record {
+      agents_live = record {
         each_lives = subst (λ (l : List Active). AllByRecursion (λ run. Contains (given_up v).live run) (runs_of l)) (sym none) tt;
         distinct = subst (λ (l : List Active). IsDistinct nat_eq (runs_of l)) (sym none) tt;
         few = omega arith;

@@ -4,7 +4,7 @@ pub mod Recording
 pub mod Tidying
 pub mod Openings
 pub mod Sessions
-pub mod Alone
+pub mod Isolation
 pub mod Lives
 pub mod Rows
 pub mod History

@@ -11,7 +11,7 @@ use Rattle.disk_model.specs.View.{View}
 use Rattle.child_keeper.specs.declared.answer.Entry.{Entry}
 use Rattle.executor.specs.Commands.{Serves, ServesWhile}
 use Rattle.executor.specs.Lives.{Abandoned, ByCalls, Calls, Cleared, Does, Exchange, Tidied, Took}
-use Rattle.executor.specs.Sessions.{Deeds, TakesWhile, both, no_deeds, request_deeds}
+use Rattle.executor.specs.Sessions.{Effects, TakesWhile, followed_by, no_effects, request_effects}
 use Rattle.executor.specs.Sights.{Sight}
 use Rattle.executor.specs.TidyCalls.{TidiesWhile}
 use Rattle.executor.specs.TurnCalls.{TurnsWhile, abandoned, with_empty_book}
@@ -20,24 +20,24 @@ use Rattle.executor.specs.declared.session.InputOf.TheVariants as input
 -- a request that was served was taken
 pub request_taken : {D : Type 0} (b : Bool) (look : D → View) (now : ℕ) (request : Request) (x y : Sight D) (reply : Reply)
     → ServesWhile b look now request x y reply → (b ≡ true → ((y.is_open ≡ false) ↔ (reply ≡ Refused Disk)))
-    → (d : Deeds) × TakesWhile b look (input.Request now request) x y reply d
+    → (d : Effects) × TakesWhile b look (input.Request now request) x y reply d
 request_taken true look now request x y reply serves closes =
-    (request_deeds x.state now request reply, record { serves = serves; closes = closes refl; does = refl })
-request_taken false look now request x y reply serves closes = (no_deeds, (serves.0, serves.1, refl))
+    (request_effects x.state now request reply, record { serves = serves; closes = closes refl; does = refl })
+request_taken false look now request x y reply serves closes = (no_effects, (serves.0, serves.1, refl))
 
 -- a turn that was made was taken
 pub turn_taken : {D : Type 0} (b : Bool) (look : D → View) (now : ℕ) (x y : Sight D) (end : TurnEnd)
-    → TurnsWhile b look now x y end → (d : Deeds) × TakesWhile b look (input.Turn now) x y (Turn end) d
+    → TurnsWhile b look now x y end → (d : Effects) × TakesWhile b look (input.Turn now) x y (Turn end) d
 turn_taken true look now x y end turns = (
   record { entries = turns.turns.entries; events = turns.turns.events; pending = turns.turns.pending },
   record { end = end; takes = turns; replies = refl; does = refl },
 )
-turn_taken false look now x y end turns = (no_deeds, (ap (λ (e : TurnEnd). Turn e) turns.0, turns.1, refl))
+turn_taken false look now x y end turns = (no_effects, (ap (λ (e : TurnEnd). Turn e) turns.0, turns.1, refl))
 
 -- deeds behind others
-pub both_assoc : (a b c : Deeds) → both a (both b c) ≡ both (both a b) c
-both_assoc a b c =
-    let f : List Entry → List Event → List Event → Deeds = λ x y z. record { entries = x; events = y; pending = z } in
+pub followed_by_assoc : (a b c : Effects) → followed_by a (followed_by b c) ≡ followed_by (followed_by a b) c
+followed_by_assoc a b c =
+    let f : List Entry → List Event → List Event → Effects = λ x y z. record { entries = x; events = y; pending = z } in
     ap (λ (x : List Entry). f x (a.events ++ (b.events ++ c.events)) (a.pending ++ (b.pending ++ c.pending)))
     (sym (append_assoc a.entries b.entries c.entries))
     ∙ ap (λ (y : List Event). f ((a.entries ++ b.entries) ++ c.entries) y (a.pending ++ (b.pending ++ c.pending)))
@@ -45,37 +45,37 @@ both_assoc a b c =
     ∙ ap (λ (z : List Event). f ((a.entries ++ b.entries) ++ c.entries) ((a.events ++ b.events) ++ c.events) z)
     (sym (append_assoc a.pending b.pending c.pending))
 
-pub both_none : (a : Deeds) → both a no_deeds ≡ a
-both_none a =
+pub followed_by_none : (a : Effects) → followed_by a no_effects ≡ a
+followed_by_none a =
     ap (λ (es : List Entry). record { entries = es; events = a.events ++ []; pending = a.pending ++ [] }) (append-nil a.entries)
     ∙ ap (λ (es : List Event). record { entries = a.entries; events = es; pending = a.pending ++ [] }) (append-nil a.events)
     ∙ ap (λ (es : List Event). record { entries = a.entries; events = a.events; pending = es }) (append-nil a.pending)
 
 module _ {D : Type 0} (look : D → View) where
   -- calls behind others
-  pub calls_behind : (x y z : Sight D) (es fs : List Exchange) (a b : Deeds) → Calls look x es y a → Calls look y fs z b
-      → Calls look x (es ++ fs) z (both a b)
+  pub calls_behind : (x y z : Sight D) (es fs : List Exchange) (a b : Effects) → Calls look x es y a → Calls look y fs z b
+      → Calls look x (es ++ fs) z (followed_by a b)
   calls_behind x y z [] fs a b (same, none) later =
-      subst (λ (d : Deeds). Calls look x fs z d) (sym (ap (λ (d : Deeds). both d b) none))
+      subst (λ (d : Effects). Calls look x fs z d) (sym (ap (λ (d : Effects). followed_by d b) none))
       (subst (λ (w : Sight D). Calls look w fs z b) same later)
   calls_behind x y z (e ∷ es) fs a b (mid, first, rest, does, calls, is) later = (
     mid,
     first,
-    both rest b,
+    followed_by rest b,
     does,
     calls_behind mid y z es fs rest b calls later,
-    ap (λ (d : Deeds). both d b) is ∙ sym (both_assoc first rest b),
+    ap (λ (d : Effects). followed_by d b) is ∙ sym (followed_by_assoc first rest b),
   )
 
   -- no call, one call, and calls behind others
   pub by_none : (x y : Sight D) → y ≡ x → ByCalls look x y
-  by_none x y same = ([], no_deeds, (same, refl))
+  by_none x y same = ([], no_effects, (same, refl))
 
-  by_one : (x y : Sight D) (e : Exchange) (d : Deeds) → Does look e x y d → ByCalls look x y
-  by_one x y e d does = (e ∷ [], d, (y, d, no_deeds, does, (refl, refl), sym (both_none d)))
+  by_one : (x y : Sight D) (e : Exchange) (d : Effects) → Does look e x y d → ByCalls look x y
+  by_one x y e d does = (e ∷ [], d, (y, d, no_effects, does, (refl, refl), sym (followed_by_none d)))
 
   pub by_both : (x y z : Sight D) → ByCalls look x y → ByCalls look y z → ByCalls look x z
-  by_both x y z (es, a, one) (fs, b, two) = (es ++ fs, both a b, calls_behind x y z es fs a b one two)
+  by_both x y z (es, a, one) (fs, b, two) = (es ++ fs, followed_by a b, calls_behind x y z es fs a b one two)
 
   -- what each call of an executor promises is one call
   pub by_command : (now : ℕ) (request : Request) (x y : Sight D) (reply : Reply) → Serves look now request x y reply
@@ -90,10 +90,10 @@ module _ {D : Type 0} (look : D → View) where
       by_one x y (Took (input.Turn now) (Turn end)) taken.0 taken.1
 
   pub by_tidy : (x y : Sight D) (end : TidyEnd) → TidiesWhile x.is_open look x y end → ByCalls look x y
-  by_tidy x y end tidies = by_one x y (Tidied end) no_deeds (tidies, refl)
+  by_tidy x y end tidies = by_one x y (Tidied end) no_effects (tidies, refl)
 
   pub by_clear : (x y : Sight D) → y ≡ with_empty_book x → ByCalls look x y
-  by_clear x y cleared = by_one x y Cleared no_deeds (cleared, refl)
+  by_clear x y cleared = by_one x y Cleared no_effects (cleared, refl)
 
   pub by_abandon : (x y : Sight D) → y ≡ abandoned x → ByCalls look x y
-  by_abandon x y given_up = by_one x y Abandoned no_deeds (given_up, refl)
+  by_abandon x y given_up = by_one x y Abandoned no_effects (given_up, refl)

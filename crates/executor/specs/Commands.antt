@@ -7,8 +7,8 @@ use Rattle.ocf_types.specs.declared.command.RequestOf.TheVariants as asked
 use Rattle.ocf_types.specs.declared.refusal.Refusal.{Refusal}
 use Rattle.ocf_types.specs.declared.refusal.Refusal.TheVariants.{Closed, JournalFull, Memory, Disk}
 use Rattle.ocf_types.specs.declared.reply.ReplyOf.TheVariants.{Refused}
-use Rattle.disk_model.specs.Runs.{Goes}
-use Rattle.disk_model.specs.View.{View, Grew}
+use Rattle.disk_model.specs.Runs.{CrashesTo}
+use Rattle.disk_model.specs.View.{View, Increased}
 use Rattle.exec_journal.specs.Room.{Roomy}
 use Rattle.exec_journal.specs.Rows.{IsTooLong}
 use Rattle.exec_state.specs.Answers.{IsReplyOrMemory}
@@ -21,14 +21,14 @@ pub record Records {D : Type 0} (look : D → View) (e : Event) (old new : Sight
   pub told : IsReplyTo e reply
   -- what is acknowledged is recorded and is found after a stop at any later moment; after a disk fault it is recorded or
   -- not; and a stop in between leaves one or the other; no agent is started
-  pub leaves : Leaves (look old.disk) (look new.disk) old.state new.state [] (recorded e reply) (pending e reply)
+  pub crash : Leaves (look old.disk) (look new.disk) old.state new.state [] (recorded e reply) (pending e reply)
   -- the children are as they were, the site, and what the last turn told
   pub children : new.children ≡ old.children
   pub site : new.site ≡ old.site
   pub told_still : new.told ≡ old.told
   pub due : due_in new ≡ due_left old.state e reply (due_in old)
   -- what a stop leaves since the call's start has room for its boot
-  pub roomy : Goes (look old.disk) (look new.disk) Roomy
+  pub roomy : CrashesTo (look old.disk) (look new.disk) Roomy
   -- a refusal but for a disk fault leaves all as it was, on any disk
   pub unchanged : (reply ≡ Refused JournalFull) ⊎ (reply ≡ Refused Memory) → new ≡ old
   -- full just where the record does not fit, but for want of memory, which only a registration meets
@@ -36,7 +36,7 @@ pub record Records {D : Type 0} (look : D → View) (e : Event) (old new : Sight
   pub fits : IsTooLong old.place.tail (e ∷ []) → (reply ≡ Refused JournalFull) ⊎ (reply ≡ Refused Memory)
   pub memory : reply ≡ Refused Memory → IsRegistration e.change
   -- a disk fault has a cause
-  pub cause : reply ≡ Refused Disk → Grew (look old.disk).failures (look new.disk).failures
+  pub cause : reply ≡ Refused Disk → Increased (look old.disk).failures (look new.disk).failures
 
 -- a command is the refusal that it meets, and changes nothing, or an event, which is recorded
 abbrev pub Obeys : {D : Type 0} → (D → View) → Result Event Refusal → Sight D → Sight D → Reply → Type 0

@@ -3,7 +3,7 @@ use Rattle.std.specs.Prelude.{◌≡◌, ℕ, ◌≤◌, true, List, [], ◌∷�
 use Rattle.ocf_types.specs.Kinds.{Reply}
 use Rattle.executor.specs.Lives.{Exchange, Took}
 use Rattle.executor.specs.Sessions.{Input}
-use Rattle.executor.specs.Singles.{Single, has_monitor}
+use Rattle.executor.specs.Isolated.{Isolated, has_monitor}
 
 -- inputs with their replies, as calls
 abbrev pub as_calls : List Input → List Reply → List Exchange
@@ -11,7 +11,7 @@ as_calls (i ∷ is) (r ∷ rs) = Took i r ∷ as_calls is rs
 as_calls _ _ = []
 
 -- A machine stands where another does: with its resource, the due moments of its monitors, and numbers that are not above.
-pub record StandsAt (x y : Single) : Type 0 where
+pub record StandsAt (x y : Isolated) : Type 0 where
   pub resource : x.resource ≡ y.resource
   pub due : (call : ℕ) → has_monitor y.resource call ≡ true → x.due call ≡ y.due call
   pub calls : x.next_call ≤ y.next_call

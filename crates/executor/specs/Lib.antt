@@ -7,7 +7,7 @@ pub mod TurnCalls
 pub mod TidyCalls
 pub mod Sessions
 pub mod RowCalls
-pub mod Singles
+pub mod Isolated
 pub mod Parts
 pub mod Lives
 pub mod Rows

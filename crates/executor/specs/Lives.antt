@@ -7,7 +7,7 @@ use Rattle.ocf_types.specs.State.{State, after_all}
 use Rattle.ocf_types.specs.declared.reply.Notice.{Notice}
 use Rattle.ocf_types.specs.declared.reply.TidyEnd.{TidyEnd}
 use Rattle.disk_model.specs.Image.{Image}
-use Rattle.disk_model.specs.Runs.{Goes}
+use Rattle.disk_model.specs.Runs.{CrashesTo}
 use Rattle.disk_model.specs.View.{View}
 use Rattle.child_keeper.specs.Children.{Asked, ChildrenView}
 use Rattle.exec_journal.specs.Found.{FoundAs}
@@ -19,7 +19,7 @@ use Rattle.executor.specs.declared.opening.OpenError.{OpenError}
 use Rattle.executor.specs.declared.opening.OpenError.TheVariants.{Disk}
 use Rattle.executor.specs.Reports.{dropped, interrupted}
 use Rattle.executor.specs.RowCalls.{TakesRow}
-use Rattle.executor.specs.Sessions.{Deeds, Input, Takes, both, no_deeds}
+use Rattle.executor.specs.Sessions.{Effects, Input, Takes, followed_by, no_effects}
 use Rattle.executor.specs.Sights.{Sight}
 use Rattle.executor.specs.TidyCalls.{TidiesWhile}
 use Rattle.executor.specs.TurnCalls.{abandoned, with_empty_book}
@@ -34,23 +34,23 @@ pub data Exchange : Type 0 where
   Abandoned : Exchange
 
 -- what a call does, from one sight of the executor to another
-abbrev pub Does : {D : Type 0} → (D → View) → Exchange → Sight D → Sight D → Deeds → Type 0
-Does look (Took i reply) old new deeds = Takes look i old new reply deeds
-Does look (Row now commands replies) old new deeds = TakesRow look now commands old new replies deeds
-Does look (Tidied end) old new deeds = TidiesWhile old.is_open look old new end × (deeds ≡ no_deeds)
-Does look Cleared old new deeds = (new ≡ with_empty_book old) × (deeds ≡ no_deeds)
-Does look Abandoned old new deeds = (new ≡ abandoned old) × (deeds ≡ no_deeds)
+abbrev pub Does : {D : Type 0} → (D → View) → Exchange → Sight D → Sight D → Effects → Type 0
+Does look (Took i reply) old new effects = Takes look i old new reply effects
+Does look (Row now commands replies) old new effects = TakesRow look now commands old new replies effects
+Does look (Tidied end) old new effects = TidiesWhile old.is_open look old new end × (effects ≡ no_effects)
+Does look Cleared old new effects = (new ≡ with_empty_book old) × (effects ≡ no_effects)
+Does look Abandoned old new effects = (new ≡ abandoned old) × (effects ≡ no_effects)
 
 -- one call after the other; a session is the calls of its inputs
-abbrev pub Calls : {D : Type 0} → (D → View) → Sight D → List Exchange → Sight D → Deeds → Type 0
-Calls look old [] new deeds = (new ≡ old) × (deeds ≡ no_deeds)
-Calls {D} look old (e ∷ es) new deeds =
-    (mid : Sight D) × (first : Deeds) × (later : Deeds) × Does look e old mid first × Calls look mid es new later
-    × (deeds ≡ both first later)
+abbrev pub Calls : {D : Type 0} → (D → View) → Sight D → List Exchange → Sight D → Effects → Type 0
+Calls look old [] new effects = (new ≡ old) × (effects ≡ no_effects)
+Calls {D} look old (e ∷ es) new effects =
+    (mid : Sight D) × (first : Effects) × (later : Effects) × Does look e old mid first × Calls look mid es new later
+    × (effects ≡ followed_by first later)
 
 -- calls alone lead from one sight of an executor to another
 abbrev pub ByCalls : {D : Type 0} → (D → View) → Sight D → Sight D → Type 0
-ByCalls look old new = (es : List Exchange) × (deeds : Deeds) × Calls look old es new deeds
+ByCalls look old new = (es : List Exchange) × (effects : Effects) × Calls look old es new effects
 
 -- An executor's service: the disk that its opening was handed, and when; the executor as it was opened, as the calls that
 -- returned left it, and as those under way would have left it; what they did; and the moment of the disk's clock at which
@@ -61,8 +61,8 @@ pub record Service (D : Type 0) : Type 0 where
   pub opened : Sight D
   pub returned : Sight D
   pub last : Sight D
-  pub done : Deeds
-  pub under_way : Deeds
+  pub done : Effects
+  pub under_way : Effects
   pub stop : ℕ
 
 -- It was opened, calls returned, others were begun, and it was stopped at some moment behind the last return.
@@ -91,7 +91,7 @@ MayBoot (Some _) = ⊥
 -- An opening that was refused or stopped, at this moment: what it did to the disk, and no boot but where one may be.
 pub record EndsOpening (old new : View) (now : ℕ) (end : Option OpenError) : Type 0 where
   pub did : OpensDisk old new now
-  pub unbooted : (MayBoot end → ⊥) → Goes old new (OpensLike old)
+  pub unbooted : (MayBoot end → ⊥) → CrashesTo old new (OpensLike old)
 
 -- the disk that its opening was handed, and the one that it worked on at its end
 abbrev pub first_disk : {D : Type 0} → Sitting D → D
@@ -139,10 +139,10 @@ boots s now = option_to_list (boot_event s (moment s now))
 -- recorded, and the begin of each start that was asked before the stop.
 pub record Stands {D : Type 0} (x : Service D) (p : List Event) : Type 0 where
   pub others : List Event
-  pub front : p ++ others ≡ (both x.done x.under_way).events ++ (both x.done x.under_way).pending
+  pub front : p ++ others ≡ (followed_by x.done x.under_way).events ++ (followed_by x.done x.under_way).pending
   pub later : List Event
   pub acknowledged : p ≡ x.done.events ++ later
-  pub begins : (run clock : ℕ) → Asked (both x.done x.under_way).entries run clock → clock ≤ x.stop → HasBegin run p
+  pub begins : (run clock : ℕ) → Asked (followed_by x.done x.under_way).entries run clock → clock ≤ x.stop → HasBegin run p
 
 -- The events of a life that stand, from the state on with which it began: of each sitting its boot, which stands once the
 -- opening was done and may where it was stopped or its device failed, and so much of what its calls did.

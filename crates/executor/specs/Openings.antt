@@ -7,8 +7,8 @@ use Rattle.ocf_types.specs.Limits.{boot_room}
 use Rattle.ocf_types.specs.State.{State}
 use Rattle.ocf_types.specs.declared.reply.Notice.{Notice}
 use Rattle.disk_model.specs.Image.{Image, part_limit}
-use Rattle.disk_model.specs.Runs.{Goes}
-use Rattle.disk_model.specs.View.{Grew, Rests, View}
+use Rattle.disk_model.specs.Runs.{CrashesTo}
+use Rattle.disk_model.specs.View.{Increased, Unwritten, View}
 use Rattle.child_keeper.specs.Children.{ChildrenView, given_up}
 use Rattle.gated_slots.specs.declared.append.SlotFault.{SlotFault}
 use Rattle.gated_slots.specs.declared.append.SlotFault.TheVariants as slot
@@ -44,14 +44,14 @@ pub record Boots {D : Type 0} (look : D → View) (now : ℕ) (old new : Sight D
   pub told : new.told ≡ old.told
   pub settled : OnOk result (IsOnJournal look new)
   pub state : OnOk result (new.state ≡ booted old.state now)
-  pub goes : Goes (look old.disk) (look new.disk) (BootsFrom old.state now)
-  pub roomy : HasRoom old.place.tail old.state → Goes (look old.disk) (look new.disk) Roomy
+  pub crash : CrashesTo (look old.disk) (look new.disk) (BootsFrom old.state now)
+  pub roomy : HasRoom old.place.tail old.state → CrashesTo (look old.disk) (look new.disk) Roomy
   -- where nothing is queued or running nothing is written
   pub quiet : any_busy old.state ≡ false → new ≡ old
   -- nor where it does not fit
   pub full : IsErrOf result slot.Full ↔ LacksBoot old.place.tail old.state
   pub unwritten : IsErrOf result slot.Full → new.disk ≡ old.disk
-  pub cause : IsErrOf result slot.Disk → Grew (look old.disk).failures (look new.disk).failures
+  pub cause : IsErrOf result slot.Disk → Increased (look old.disk).failures (look new.disk).failures
 
 -- An opening at this moment of what is found on these parts: the state after its boot, all recurring monitors due at that
 -- moment, and the notices of what ran and of what was queued.
@@ -81,11 +81,11 @@ IsQuiet c = (IsToWrite c → ⊥) × ((s : State) → FoundAs s c → any_busy s
 -- What an opening does to the disk, done or failed.
 pub record OpensDisk (old new : View) (now : ℕ) : Type 0 where
   -- at any moment a stop leaves what it might have left before, what is found as the parts read, or the boot of that
-  pub goes : Goes old new (StartsLike old now)
+  pub crash : CrashesTo old new (StartsLike old now)
   -- where all that a stop might have left before has room for its boot, all that it leaves has
-  pub roomy : (old.honest → AllRoomy old) → Goes old new Roomy
+  pub roomy : (old.honest → AllRoomy old) → CrashesTo old new Roomy
   -- nothing is written on a journal of the second layout in which nothing is queued or running, nor on a damaged pair
-  pub unwritten : (old.honest → IsQuiet old.reads) → Rests old new
+  pub unwritten : (old.honest → IsQuiet old.reads) → Unwritten old new
 
 -- an executor over these children, once they were given up: none of them was started for a later state than its own
 pub record IsOver {D : Type 0} (from : ChildrenView) (x : Sight D) : Type 0 where
@@ -127,17 +127,17 @@ pub record NotOpened (old new : View) (from to : ChildrenView) (now : ℕ) (faul
   pub spared : new.honest → IsForeign old.reads from → to ≡ from
   -- damage is what was found, and a disk fault has a cause
   pub damaged : new.honest → (d : Damage) → fault ≡ why.Damaged d → IsFound old.reads (Damaged d)
-  pub cause : fault ≡ why.Disk → Grew old.failures new.failures
+  pub cause : fault ≡ why.Disk → Increased old.failures new.failures
   -- full where a boot is needed and does not fit, and the children are this journal's: never where all that a stop might have
   -- left before has room
   pub full : new.honest → fault ≡ why.Full → LacksRoom old.reads
   pub not_foreign : new.honest → fault ≡ why.Full → IsForeign old.reads from → ⊥
   pub never_full : (old.honest → AllRoomy old) → new.honest → fault ≡ why.Full → ⊥
   -- a boot may be recorded only where the device failed, and not before foreign children are refused
-  pub unbooted : (fault ≡ why.Disk → ⊥) → Goes old new (OpensLike old)
-  pub foreign_unbooted : (new.honest → IsForeign old.reads from) → Goes old new (OpensLike old)
+  pub unbooted : (fault ≡ why.Disk → ⊥) → CrashesTo old new (OpensLike old)
+  pub foreign_unbooted : (new.honest → IsForeign old.reads from) → CrashesTo old new (OpensLike old)
   -- else nothing is written but where a journal is made, or one of the first layout laid anew
-  pub unwritten : (fault ≡ why.Disk → ⊥) → (old.honest → IsToWrite old.reads → ⊥) → Rests old new
+  pub unwritten : (fault ≡ why.Disk → ⊥) → (old.honest → IsToWrite old.reads → ⊥) → Unwritten old new
 
 -- why the journal was not opened, as the executor tells it
 abbrev pub told_fault : JournalFault → OpenError

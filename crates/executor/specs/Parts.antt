@@ -17,7 +17,7 @@ use Rattle.ocf_types.specs.declared.reply.TurnEnd.TheVariants.{Done}
 use Rattle.child_keeper.specs.declared.answer.Entry.{Entry}
 use Rattle.exec_turn.specs.Actives.{active, runs_of}
 use Rattle.executor.specs.Sessions.{Input}
-use Rattle.executor.specs.Singles.{cut}
+use Rattle.executor.specs.Isolated.{cut}
 use Rattle.executor.specs.declared.session.InputOf.TheVariants as input
 
 -- the id that a command, and a request, is about; a list is about no resource alone
@@ -85,7 +85,7 @@ IsPlain (reply.Turn end) = end ≡ Done
 IsPlain _ = ⊤
 
 -- in a state ids differ, and what runs differs in its runs, which are below the next one
-pub record Apart (s : State) : Type 0 where
+pub record DistinctKeys (s : State) : Type 0 where
   pub ids : IsDistinct bytes_eq (keys_of s.resources)
   pub runs : IsDistinct nat_eq (runs_of (active s))
   pub below : AllByRecursion (λ run. run < s.next_run) (runs_of (active s))

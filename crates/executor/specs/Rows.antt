@@ -5,7 +5,7 @@ use Rattle.ocf_types.specs.Kinds.{Command, Reply}
 use Rattle.ocf_types.specs.declared.command.RequestOf.TheVariants as asked
 use Rattle.disk_model.specs.View.{View}
 use Rattle.executor.specs.Lives.{Calls, Exchange, Row, Took}
-use Rattle.executor.specs.Sessions.{Deeds}
+use Rattle.executor.specs.Sessions.{Effects}
 use Rattle.executor.specs.Sights.{Sight}
 use Rattle.executor.specs.declared.session.InputOf.TheVariants as input
 
@@ -30,8 +30,8 @@ IsAt now _ = ⊥
 -- row have one record.
 pub record TakesCommands {D : Type 0} (look : D → View) (now : ℕ) (commands : List Command) (old new : Sight D) (given : List Reply) : Type 0 where
   pub exchanges : List Exchange
-  pub deeds : Deeds
-  pub calls : Calls look old exchanges new deeds
+  pub effects : Effects
+  pub calls : Calls look old exchanges new effects
   pub asked : flat_map commands_of exchanges ≡ commands
   pub answered : flat_map replies_of exchanges ≡ given
   pub at_once : AllByRecursion (IsAt now) exchanges

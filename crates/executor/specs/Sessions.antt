@@ -10,7 +10,7 @@ use Rattle.ocf_types.specs.declared.refusal.Refusal.TheVariants.{Closed, Disk}
 use Rattle.ocf_types.specs.declared.reply.ReplyOf.TheVariants.{Refused, Turn}
 use Rattle.ocf_types.specs.declared.reply.TurnEnd.{TurnEnd}
 use Rattle.ocf_types.specs.declared.reply.TurnEnd.TheVariants as turn_end
-use Rattle.disk_model.specs.Runs.{Goes}
+use Rattle.disk_model.specs.Runs.{CrashesTo}
 use Rattle.disk_model.specs.View.{View}
 use Rattle.child_keeper.specs.declared.answer.Entry.{Entry}
 use Rattle.exec_journal.specs.Room.{Roomy}
@@ -27,44 +27,44 @@ abbrev pub Input : Type 0
 Input = InputOf ParamList
 
 -- what calls of an executor did: their entries in the children's book, their events, and those that a disk fault left pending
-pub record Deeds : Type 0 where
+pub record Effects : Type 0 where
   pub entries : List Entry
   pub events : List Event
   pub pending : List Event
 
-abbrev pub no_deeds : Deeds
-no_deeds = record { entries = []; events = []; pending = [] }
+abbrev pub no_effects : Effects
+no_effects = record { entries = []; events = []; pending = [] }
 
 -- some deeds, and then others
-abbrev pub both : Deeds → Deeds → Deeds
-both a b = record { entries = a.entries ++ b.entries; events = a.events ++ b.events; pending = a.pending ++ b.pending }
+abbrev pub followed_by : Effects → Effects → Effects
+followed_by a b = record { entries = a.entries ++ b.entries; events = a.events ++ b.events; pending = a.pending ++ b.pending }
 
 -- a command that is an event records it, or a disk fault leaves it pending
-abbrev pub command_deeds : Result Event Refusal → Reply → Deeds
-command_deeds (Err refusal) reply = no_deeds
-command_deeds (Ok e) reply = record { entries = []; events = recorded e reply; pending = pending e reply }
+abbrev pub command_effects : Result Event Refusal → Reply → Effects
+command_effects (Err refusal) reply = no_effects
+command_effects (Ok e) reply = record { entries = []; events = recorded e reply; pending = pending e reply }
 
-abbrev pub request_deeds : State → ℕ → Request → Reply → Deeds
-request_deeds s now (asked.Question question) reply = no_deeds
-request_deeds s now (asked.Command command) reply = command_deeds (event_of s now command) reply
+abbrev pub request_effects : State → ℕ → Request → Reply → Effects
+request_effects s now (asked.Question question) reply = no_effects
+request_effects s now (asked.Command command) reply = command_effects (event_of s now command) reply
 
 -- an open executor takes a request: from one sight of it to another
 pub record TakesRequest {D : Type 0} (look : D → View) (now : ℕ) (request : Request) (old new : Sight D) (reply : Reply)
-    (deeds : Deeds) : Type 0 where
+    (effects : Effects) : Type 0 where
   pub serves : ServesOpen look now request old new reply
   pub closes : (new.is_open ≡ false) ↔ (reply ≡ Refused Disk)
-  pub does : deeds ≡ request_deeds old.state now request reply
+  pub does : effects ≡ request_effects old.state now request reply
 
 -- an open executor makes a turn, and replies how it ended
-pub record TakesATurn {D : Type 0} (look : D → View) (now : ℕ) (old new : Sight D) (reply : Reply) (deeds : Deeds) : Type 0 where
+pub record TakesATurn {D : Type 0} (look : D → View) (now : ℕ) (old new : Sight D) (reply : Reply) (effects : Effects) : Type 0 where
   pub end : TurnEnd
   pub takes : TakesTurn look now old new end
   pub replies : reply ≡ Turn end
-  pub does : deeds ≡ record { entries = takes.turns.entries; events = takes.turns.events; pending = takes.turns.pending }
+  pub does : effects ≡ record { entries = takes.turns.entries; events = takes.turns.events; pending = takes.turns.pending }
 
-abbrev pub TakesOpen : {D : Type 0} → (D → View) → Input → Sight D → Sight D → Reply → Deeds → Type 0
-TakesOpen look (input.Request now request) old new reply deeds = TakesRequest look now request old new reply deeds
-TakesOpen look (input.Turn now) old new reply deeds = TakesATurn look now old new reply deeds
+abbrev pub TakesOpen : {D : Type 0} → (D → View) → Input → Sight D → Sight D → Reply → Effects → Type 0
+TakesOpen look (input.Request now request) old new reply effects = TakesRequest look now request old new reply effects
+TakesOpen look (input.Turn now) old new reply effects = TakesATurn look now old new reply effects
 
 -- what a closed executor replies
 abbrev pub closed_reply : Input → Reply
@@ -72,39 +72,39 @@ closed_reply (input.Request now request) = Refused Closed
 closed_reply (input.Turn now) = Turn turn_end.Closed
 
 -- an executor takes an input, while it is open or closed: a closed one does nothing
-abbrev pub TakesWhile : Bool → {D : Type 0} → (D → View) → Input → Sight D → Sight D → Reply → Deeds → Type 0
-TakesWhile true look i old new reply deeds = TakesOpen look i old new reply deeds
-TakesWhile false look i old new reply deeds = (reply ≡ closed_reply i) × (new ≡ old) × (deeds ≡ no_deeds)
+abbrev pub TakesWhile : Bool → {D : Type 0} → (D → View) → Input → Sight D → Sight D → Reply → Effects → Type 0
+TakesWhile true look i old new reply effects = TakesOpen look i old new reply effects
+TakesWhile false look i old new reply effects = (reply ≡ closed_reply i) × (new ≡ old) × (effects ≡ no_effects)
 
-abbrev pub Takes : {D : Type 0} → (D → View) → Input → Sight D → Sight D → Reply → Deeds → Type 0
-Takes look i old new reply deeds = TakesWhile old.is_open look i old new reply deeds
+abbrev pub Takes : {D : Type 0} → (D → View) → Input → Sight D → Sight D → Reply → Effects → Type 0
+Takes look i old new reply effects = TakesWhile old.is_open look i old new reply effects
 
 -- one input after the other, none left out, each with one reply: from one sight of the executor to another
-abbrev pub Session : {D : Type 0} → (D → View) → Sight D → List Input → List Reply → Sight D → Deeds → Type 0
-Session look old [] [] new deeds = (new ≡ old) × (deeds ≡ no_deeds)
-Session {D} look old (i ∷ is) (r ∷ rs) new deeds =
-    (mid : Sight D) × (first : Deeds) × (later : Deeds) × Takes look i old mid r first × Session look mid is rs new later
-    × (deeds ≡ both first later)
-Session look old [] (r ∷ rs) new deeds = ⊥
-Session look old (i ∷ is) [] new deeds = ⊥
+abbrev pub Session : {D : Type 0} → (D → View) → Sight D → List Input → List Reply → Sight D → Effects → Type 0
+Session look old [] [] new effects = (new ≡ old) × (effects ≡ no_effects)
+Session {D} look old (i ∷ is) (r ∷ rs) new effects =
+    (mid : Sight D) × (first : Effects) × (later : Effects) × Takes look i old mid r first × Session look mid is rs new later
+    × (effects ≡ followed_by first later)
+Session look old [] (r ∷ rs) new effects = ⊥
+Session look old (i ∷ is) [] new effects = ⊥
 
 -- What an open executor leaves that has done this: from one sight of it to another.
-pub record Leads {D : Type 0} (look : D → View) (old new : Sight D) (deeds : Deeds) : Type 0 where
+pub record Leads {D : Type 0} (look : D → View) (old new : Sight D) (effects : Effects) : Type 0 where
   -- the state, what a stop at any moment leaves, and that no agent was started without its synced begin
-  pub leaves : Leaves (look old.disk) (look new.disk) old.state new.state deeds.entries deeds.events deeds.pending
-  pub book : new.children.book ≡ old.children.book ++ deeds.entries
+  pub crash : Leaves (look old.disk) (look new.disk) old.state new.state effects.entries effects.events effects.pending
+  pub book : new.children.book ≡ old.children.book ++ effects.entries
   -- these are all that its children were asked
-  pub log : new.children.log ≡ old.children.log ++ deeds.entries
+  pub log : new.children.log ≡ old.children.log ++ effects.entries
   -- agents are started at the site at which they were
   pub site : new.site ≡ old.site
-  pub due : due_in new ≡ due_after_all old.state (due_in old) deeds.events
+  pub due : due_in new ≡ due_after_all old.state (due_in old) effects.events
   -- what a stop leaves since its start has room for its boot
-  pub roomy : Goes (look old.disk) (look new.disk) Roomy
+  pub roomy : CrashesTo (look old.disk) (look new.disk) Roomy
   -- nothing is pending but after a disk fault, which closed the executor
-  pub whole : new.is_open ≡ true → deeds.pending ≡ []
+  pub whole : new.is_open ≡ true → effects.pending ≡ []
 
 -- Each input was taken, with these replies; and where the executor was open, what all of it leaves.
 pub record Sits {D : Type 0} (look : D → View) (inputs : List Input) (old new : Sight D) (replies : List Reply) : Type 0 where
-  pub deeds : Deeds
-  pub each : Session look old inputs replies new deeds
-  pub leads : old.is_open ≡ true → Leads look old new deeds
+  pub effects : Effects
+  pub each : Session look old inputs replies new effects
+  pub leads : old.is_open ≡ true → Leads look old new effects

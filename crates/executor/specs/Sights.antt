@@ -4,14 +4,14 @@ use Rattle.ocf_types.specs.Due.{Due}
 use Rattle.ocf_types.specs.State.{State}
 use Rattle.ocf_types.specs.declared.reply.Notice.{Notice}
 use Rattle.disk_model.specs.View.{View}
-use Rattle.ocf_env.specs.Places.{Place as Site}
+use Rattle.ocf_env.specs.Places.{SiteView}
 use Rattle.child_keeper.specs.Children.{Admits, ChildrenView}
 use Rattle.exec_journal.specs.Journal.{journal_disk, journal_place}
 use Rattle.exec_journal.specs.Place.{Place}
 use Rattle.exec_journal.specs.Room.{HasRoom}
 use Rattle.exec_journal.specs.Settled.{IsSettled}
 use Rattle.exec_state.specs.Store.{Monitors, due_of}
-use Rattle.exec_turn.specs.Turns.{Tended, told_of}
+use Rattle.exec_turn.specs.Turns.{ChildrenMatch, told_of}
 use Rattle.executor.specs.declared.desk.Desk.{Desk}
 
 -- whether it takes requests, its state, its recurring monitors with their due moments, the disk that it works on, where the
@@ -23,7 +23,7 @@ pub record Sight (D : Type 0) : Type 0 where
   pub disk : D
   pub place : Place
   pub children : ChildrenView
-  pub site : Site
+  pub site : SiteView
   pub told : List Notice
 
 abbrev pub sight_of : {D C M : Type 0} → (C → ChildrenView) → Desk D C M → Sight D
@@ -51,7 +51,7 @@ IsOnJournal look x = (look x.disk).honest → IsSettled x.place x.state (look x.
 pub record Keeps {D : Type 0} (look : D → View) (x : Sight D) : Type 0 where
   pub journal : IsOnJournal look x
   pub room : HasRoom x.place.tail x.state
-  pub tended : Tended x.state x.children
+  pub matched : ChildrenMatch x.state x.children
   pub admits : Admits x.children.site x.site
 
 abbrev pub IsSound : {D : Type 0} → (D → View) → Sight D → Type 0

@@ -3,8 +3,8 @@ use Rattle.std.specs.Prelude.{◌≡◌, ◌≢◌, ◌↔◌, Bool, true, false
 use Rattle.ocf_types.specs.declared.reply.TidyEnd.{TidyEnd}
 use Rattle.ocf_types.specs.declared.reply.TidyEnd.TheVariants.{Done, Closed, EpochSpent, Disk}
 use Rattle.disk_model.specs.Image.{bytes_of}
-use Rattle.disk_model.specs.Runs.{Goes}
-use Rattle.disk_model.specs.View.{Grew, View}
+use Rattle.disk_model.specs.Runs.{CrashesTo}
+use Rattle.disk_model.specs.View.{Increased, View}
 use Rattle.gated_slots.specs.Stands.{Stands}
 use Rattle.exec_journal.specs.Front.{opening}
 use Rattle.exec_journal.specs.Place.{Place}
@@ -23,20 +23,20 @@ place_behind _ p s = p
 -- An open executor tidies its journal: from one sight of it to another.
 pub record Tidies {D : Type 0} (look : D → View) (old new : Sight D) (end : TidyEnd) : Type 0 where
   -- no event is recorded and no agent started: a stop at any moment leaves the same state
-  pub leaves : Leaves (look old.disk) (look new.disk) old.state new.state [] [] []
+  pub crash : Leaves (look old.disk) (look new.disk) old.state new.state [] [] []
   -- but for the disk and the journal's place, and for being open, all is as it was
   pub same : new ≡ record old { is_open = new.is_open; disk = new.disk; place = place_behind end old.place old.state }
   -- once done the state stands in the other part as its snapshot, with the next epoch and no record behind it
   pub snapshot : end ≡ Done → (look new.disk).honest
       → Stands new.place.tail (opening new.place.epoch old.state) (bytes_of new.place.part (look new.disk).reads)
   -- what a stop leaves since the call's start has room for its boot
-  pub roomy : Goes (look old.disk) (look new.disk) Roomy
+  pub roomy : CrashesTo (look old.disk) (look new.disk) Roomy
   -- the epoch is spent just where it is the greatest, and nothing is done then
   pub spent : (end ≡ EpochSpent) ↔ (old.place.epoch ≡ last_epoch)
   pub unchanged : end ≡ EpochSpent → new ≡ old
   -- a disk fault closes it, and nothing else; it has a cause
   pub closes : (new.is_open ≡ false) ↔ (end ≡ Disk)
-  pub cause : end ≡ Disk → Grew (look old.disk).failures (look new.disk).failures
+  pub cause : end ≡ Disk → Increased (look old.disk).failures (look new.disk).failures
   pub not_closed : end ≢ Closed
 
 -- the same while it is open or closed: a closed one does nothing

@@ -1,7 +1,7 @@
 //! What an executor works with.
 use exec_journal::Journal;
 use exec_state::State;
-use exec_turn::Rows;
+use exec_turn::TurnBuffers;
 use ocf_env::Site;
 use std::alloc::{Allocator, Global};
 
@@ -12,7 +12,7 @@ pub(crate) struct Desk<D: Drop, C: Drop, A: Allocator + Copy = Global> {
     pub(crate) state: State<A>,
     pub(crate) children: C,
     pub(crate) site: Site<A>,
-    pub(crate) rows: Rows<A>,
+    pub(crate) rows: TurnBuffers<A>,
     pub(crate) alloc: A,
     pub(crate) open: bool,
 }

@@ -12,15 +12,15 @@ ghost use Rattle.child_keeper.specs.declared.answer.Entry.{Entry};
 ghost use Rattle.exec_journal.specs.Found.{FoundAs, IsFirstPart, IsFreshPair};
 ghost use Rattle.exec_journal.specs.Opening.{Opens};
 ghost use Rattle.exec_journal.specs.Room.{Roomy};
-ghost use Rattle.exec_turn.specs.Lives.{Tends};
+ghost use Rattle.exec_turn.specs.AgentsLive.{AgentsLive};
 ghost use Rattle.executor.specs.Joins.{StandsAt, as_calls};
 ghost use Rattle.executor.specs.Lives.{BeginsAs, Calls, GoesOnFrom, InOpening, IsLife, LifeLeaves, Lived, OpensBehind, Sat, Sitting};
 ghost use Rattle.executor.specs.Openings.{NotOpened, Opened};
-ghost use Rattle.executor.specs.Parts.{Apart, AreRising, IsPlain, entries_of_runs, events_of, inputs_at, own_runs, part};
+ghost use Rattle.executor.specs.Parts.{DistinctKeys, AreRising, IsPlain, entries_of_runs, events_of, inputs_at, own_runs, part};
 ghost use Rattle.executor.specs.RowCalls.{Answered};
-ghost use Rattle.executor.specs.Sessions.{Deeds, Input, Session};
+ghost use Rattle.executor.specs.Sessions.{Effects, Input, Session};
 ghost use Rattle.executor.specs.Sights.{Sight};
-ghost use Rattle.executor.specs.Singles.{Alone, Single, cut, single_after_all, single_of};
+ghost use Rattle.executor.specs.Isolated.{Alone, Isolated, cut, isolated_after_all, isolated_of};
 ghost use Rattle.executor.specs.declared.opening.OpenError.{OpenError};
 ghost use Rattle.executor.specs.declared.opening.OpenError.TheVariants as why;
 
@@ -33,38 +33,38 @@ use exec_journal::laws::{found_once, what_stands};
 /// in. So it holds while none of its replies tells of a want that resources share, each turn ends done, and moments do not go
 /// back; what the others are told does not matter.
 pub fn each_alone<D: Disk>()
-    ensures alone { (x z : Sight D) (inputs : List Input) (replies : List Reply) (d : Deeds) (id : List ℕ)
-        → Apart x.state → Session D.view x inputs replies z d → AllByRecursion (λ p. IsPlain p.1) (part id inputs replies)
+    ensures alone { (x z : Sight D) (inputs : List Input) (replies : List Reply) (d : Effects) (id : List ℕ)
+        → DistinctKeys x.state → Session D.view x inputs replies z d → AllByRecursion (λ p. IsPlain p.1) (part id inputs replies)
         → AreRising x.state.clock inputs
-        → Alone id (single_of x id) (part id inputs replies) (entries_of_runs (own_runs id x.state d.events) d.entries)
+        → Alone id (isolated_of x id) (part id inputs replies) (entries_of_runs (own_runs id x.state d.events) d.entries)
         (events_of id d.events) }
     // it stands then where the session ends
-    ensures ends { (x z : Sight D) (inputs : List Input) (replies : List Reply) (d : Deeds) (id : List ℕ)
+    ensures ends { (x z : Sight D) (inputs : List Input) (replies : List Reply) (d : Effects) (id : List ℕ)
         → Session D.view x inputs replies z d → AllByRecursion (λ p. IsPlain p.1) (part id inputs replies) → AreRising x.state.clock inputs
-        → StandsAt (single_after_all (single_of x id) (events_of id d.events)) (single_of z id) }
+        → StandsAt (isolated_after_all (isolated_of x id) (events_of id d.events)) (isolated_of z id) }
     // and so of commands in a row
     ensures row { (now : ℕ) (x : Sight D) (commands : List Command) (replies : List Reply) (es : List Event) (id : List ℕ)
         → Answered now x.state commands replies es → AllByRecursion (λ p. IsPlain p.1) (part id (inputs_at now commands) replies)
-        → x.state.clock ≤ cut now → Alone id (single_of x id) (part id (inputs_at now commands) replies) [] (events_of id es) }
+        → x.state.clock ≤ cut now → Alone id (isolated_of x id) (part id (inputs_at now commands) replies) [] (events_of id es) }
 {}
 
 /// A resource's part of one session and its part of another, which begins where the first one ends, are one run of the machine
 /// that has this resource alone.
 pub fn parts_join()
-    ensures { (id : List ℕ) (x y : Single) (is js : List (Input × Reply)) (es fs : List Entry) (vs us : List Event) → Alone id x is es vs
-        → StandsAt (single_after_all x vs) y → Alone id y js fs us → Alone id x (is ++ js) (es ++ fs) (vs ++ us) }
+    ensures { (id : List ℕ) (x y : Isolated) (is js : List (Input × Reply)) (es fs : List Entry) (vs us : List Event) → Alone id x is es vs
+        → StandsAt (isolated_after_all x vs) y → Alone id y js fs us → Alone id x (is ++ js) (es ++ fs) (vs ++ us) }
 {}
 
 /// A session is the calls of its inputs.
 pub fn session_is_calls<D: Disk>()
-    ensures { (x z : Sight D) (inputs : List Input) (replies : List Reply) (d : Deeds) → Session D.view x inputs replies z d
+    ensures { (x z : Sight D) (inputs : List Input) (replies : List Reply) (d : Effects) → Session D.view x inputs replies z d
         → Calls D.view x (as_calls inputs replies) z d }
 {}
 
 /// A state is apart that is lawful and whose running actions each have an agent of their own: so is each state of an open
 /// executor.
-pub fn tended_apart()
-    ensures apart { (s : State) (live : List ℕ) → IsLawfulState s → Tends s live → Apart s }
+pub fn matched_apart()
+    ensures apart { (s : State) (live : List ℕ) → IsLawfulState s → AgentsLive s live → DistinctKeys s }
 {}
 
 /// Behind a whole life, of openings, calls and stops at any moment, every pair that may be left is found as the state after

@@ -1,7 +1,7 @@
 //! Sessions: many inputs at once.
 ghost use Rattle.std.specs.Prelude.{◌≡◌, ◌++◌, IfErr, OnOk, List};
 ghost use Rattle.ocf_types.specs.Kinds.{Reply};
-ghost use Rattle.executor.specs.Sessions.{Deeds, Sits, Takes};
+ghost use Rattle.executor.specs.Sessions.{Effects, Sits, Takes};
 
 use crate::Executor;
 use child_keeper::Children;
@@ -25,7 +25,7 @@ pub type Input<A = Global> = InputOf<Params<A>>;
 impl<D: Disk + Drop, C: Children + Drop, A: Allocator + Copy> Executor<D, C, A> {
     // Takes one input.
     fn take(&mut self, input: Input<A>) -> Reply<A>
-        ensures takes { (deeds : Deeds) × Takes D.view input self.old self.new result deeds }
+        ensures takes { (effects : Effects) × Takes D.view input self.old self.new result effects }
     {
         match input {
             InputOf::Request { now, request } => self.command(now, request),

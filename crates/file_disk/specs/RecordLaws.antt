@@ -4,7 +4,7 @@ use Rattle.std.proofs.Common.{arith, refl, sym, subst, ap, ◌∙◌}
 use Rattle.ocf_types.specs.declared.part.Part.{Part}
 use Rattle.ocf_types.specs.declared.part.Part.TheVariants.{A, B}
 use Rattle.disk_model.specs.Image.{Image, Written, bytes_of}
-use Rattle.disk_model.specs.View.{LAST, View, Called, Elapses, Rests, Spent, Synced, Tears}
+use Rattle.disk_model.specs.View.{LAST, View, Called, Elapses, Unwritten, Spent, Synced, Tears}
 use Rattle.disk_model.specs.declared.disk.DiskFault.{DiskFault}
 use Rattle.disk_model.specs.Laws.{rested, torn_same}
 use Rattle.disk_model.specs.PastLaws.{torn_put}
@@ -104,37 +104,37 @@ called_refused {T} x bytes r r2 noted =
     })
 
 -- a call that writes nothing
-rests_by : (w : Call) (bytes : List ℕ) (r r2 : Record) → Noted w bytes r r2
+unwritten_by : (w : Call) (bytes : List ℕ) (r r2 : Record) → Noted w bytes r r2
     → (reads_of r.first (event w bytes ∷ r.events) ≡ reads_of r.first r.events)
     → ((c : Image) → now_of r.first (event w bytes ∷ r.events) c → now_of r.first r.events c)
-    → Elapses (view_by r) (past_view r.first (event w bytes ∷ r.events)) → Rests (view_by r) (view_by r2)
-rests_by w bytes r r2 noted same still time = moved (λ first past. Rests (view_by r) (past_view first past)) w bytes r r2 noted
+    → Elapses (view_by r) (past_view r.first (event w bytes ∷ r.events)) → Unwritten (view_by r) (view_by r2)
+unwritten_by w bytes r r2 noted same still time = moved (λ first past. Unwritten (view_by r) (past_view first past)) w bytes r r2 noted
     (rested (view_by r) (past_view r.first (event w bytes ∷ r.events)) (λ h. past_lawful r.first r.events)
     (passes r.first r.events (event w bytes)) (λ h. same) (λ h c now. still c now) (λ h. time))
 
-pub rests_refused : (bytes : List ℕ) (r r2 : Record) → Noted call.Refused bytes r r2 → Rests (view_by r) (view_by r2)
-rests_refused bytes r r2 noted = rests_by call.Refused bytes r r2 noted refl (λ c now. now) (elapses_refused r.first r.events bytes)
+pub unwritten_refused : (bytes : List ℕ) (r r2 : Record) → Noted call.Refused bytes r r2 → Unwritten (view_by r) (view_by r2)
+unwritten_refused bytes r r2 noted = unwritten_by call.Refused bytes r r2 noted refl (λ c now. now) (elapses_refused r.first r.events bytes)
 
-pub rests_failed : (bytes : List ℕ) (r r2 : Record) → Noted call.Failed bytes r r2 → clock_of r.events < LAST
-    → Rests (view_by r) (view_by r2)
-rests_failed bytes r r2 noted clock =
-    rests_by call.Failed bytes r r2 noted refl (λ c now. now) (elapses r.first r.events (event call.Failed bytes) clock)
+pub unwritten_failed : (bytes : List ℕ) (r r2 : Record) → Noted call.Failed bytes r r2 → clock_of r.events < LAST
+    → Unwritten (view_by r) (view_by r2)
+unwritten_failed bytes r r2 noted clock =
+    unwritten_by call.Failed bytes r r2 noted refl (λ c now. now) (elapses r.first r.events (event call.Failed bytes) clock)
 
-pub rests_measured : (part : Part) (n : ℕ) (bytes : List ℕ) (r r2 : Record) → Noted (call.Measured part n) bytes r r2
-    → clock_of r.events < LAST → Rests (view_by r) (view_by r2)
-rests_measured part n bytes r r2 noted clock =
-    rests_by (call.Measured part n) bytes r r2 noted refl (λ c now. now)
+pub unwritten_measured : (part : Part) (n : ℕ) (bytes : List ℕ) (r r2 : Record) → Noted (call.Measured part n) bytes r r2
+    → clock_of r.events < LAST → Unwritten (view_by r) (view_by r2)
+unwritten_measured part n bytes r r2 noted clock =
+    unwritten_by (call.Measured part n) bytes r r2 noted refl (λ c now. now)
     (elapses r.first r.events (event (call.Measured part n) bytes) clock)
 
-pub rests_read : (part : Part) (at : ℕ) (bytes : List ℕ) (r r2 : Record) → Noted (call.Read part at) bytes r r2
-    → clock_of r.events < LAST → Rests (view_by r) (view_by r2)
-rests_read part at bytes r r2 noted clock =
-    rests_by (call.Read part at) bytes r r2 noted refl (λ c now. now) (elapses r.first r.events (event (call.Read part at) bytes) clock)
+pub unwritten_read : (part : Part) (at : ℕ) (bytes : List ℕ) (r r2 : Record) → Noted (call.Read part at) bytes r r2
+    → clock_of r.events < LAST → Unwritten (view_by r) (view_by r2)
+unwritten_read part at bytes r r2 noted clock =
+    unwritten_by (call.Read part at) bytes r r2 noted refl (λ c now. now) (elapses r.first r.events (event (call.Read part at) bytes) clock)
 
-pub rests_synced : (part : Part) (bytes : List ℕ) (r r2 : Record) → Noted (call.Synced part) bytes r r2 → clock_of r.events < LAST
-    → Rests (view_by r) (view_by r2)
-rests_synced part bytes r r2 noted clock =
-    rests_by (call.Synced part) bytes r r2 noted refl (λ c now. now.0) (elapses r.first r.events (event (call.Synced part) bytes) clock)
+pub unwritten_synced : (part : Part) (bytes : List ℕ) (r r2 : Record) → Noted (call.Synced part) bytes r r2 → clock_of r.events < LAST
+    → Unwritten (view_by r) (view_by r2)
+unwritten_synced part bytes r r2 noted clock =
+    unwritten_by (call.Synced part) bytes r r2 noted refl (λ c now. now.0) (elapses r.first r.events (event (call.Synced part) bytes) clock)
 
 -- what the last answer says of a disk that is honest after it, and when one stays honest
 pub measured : (part : Part) (n : ℕ) (bytes : List ℕ) (r r2 : Record) → Noted (call.Measured part n) bytes r r2 → (view_by r2).honest

@@ -1,7 +1,7 @@
 //! Two files as a disk.
 ghost use Rattle.std.specs.Prelude.{◌≡◌, ◌+◌, ◌≤◌, IfOk, IsErr, OnErr, OnOk, Some, [], drop, is_some, length, take, true};
 ghost use Rattle.disk_model.specs.Image.{Written, bytes_of};
-ghost use Rattle.disk_model.specs.View.{Called, Rests, Synced, Tears};
+ghost use Rattle.disk_model.specs.View.{Called, Unwritten, Synced, Tears};
 
 use crate::call::Call;
 use crate::entry::{entry_of, refuse_loss};
@@ -130,7 +130,7 @@ impl<R: Files<File = File> + Copy, A: Allocator + Copy> Disk for FileDisk<R, A> 
     fn len(&mut self, part: Part) -> Result<u64, DiskFault>
         ensures limit { IfOk result (λ n. n ≤ PART_LIMIT) }
         ensures length { (view_of self.new).honest → IfOk result (λ n. n ≡ length (bytes_of part (view_of self.old).reads)) }
-        ensures rests { Rests (view_of self.old) (view_of self.new) }
+        ensures unwritten { Unwritten (view_of self.old) (view_of self.new) }
         ensures called { Called (view_of self.old) (view_of self.new) result }
         ensures noted { IfOk result (λ n. Notes (Call.Measured part n) [] self.old self.new) }
         ensures failed { (IsStopped self.old → ⊥) → OnErr result (Notes Call.Failed [] self.old self.new) }
@@ -156,7 +156,7 @@ impl<R: Files<File = File> + Copy, A: Allocator + Copy> Disk for FileDisk<R, A> 
         requires range { at + length buf.old ≤ PART_LIMIT }
         ensures read { (view_of self.new).honest
             → OnOk result (buf.new ≡ take (length buf.old) (drop at (bytes_of part (view_of self.old).reads))) }
-        ensures rests { Rests (view_of self.old) (view_of self.new) }
+        ensures unwritten { Unwritten (view_of self.old) (view_of self.new) }
         ensures called { Called (view_of self.old) (view_of self.new) result }
         ensures noted { OnOk result (Notes (Call.Read part at) buf.new self.old self.new) }
         ensures failed { (IsStopped self.old → ⊥) → OnErr result (Notes Call.Failed [] self.old self.new) }
@@ -206,7 +206,7 @@ impl<R: Files<File = File> + Copy, A: Allocator + Copy> Disk for FileDisk<R, A> 
     /// It stays honest.
     fn sync(&mut self, part: Part) -> Result<(), DiskFault>
         ensures durable { OnOk result (Synced part (view_of self.new)) }
-        ensures rests { Rests (view_of self.old) (view_of self.new) }
+        ensures unwritten { Unwritten (view_of self.old) (view_of self.new) }
         ensures called { Called (view_of self.old) (view_of self.new) result }
         ensures noted { OnOk result (Notes (Call.Synced part) [] self.old self.new) }
         ensures failed { (IsStopped self.old → ⊥) → OnErr result (Notes Call.Failed [] self.old self.new) }

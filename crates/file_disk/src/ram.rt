@@ -2,7 +2,7 @@
 ghost use Rattle.std.specs.Prelude.{◌≡◌, ◌+◌, ◌≤◌, ◌↔◌, IfOk, IsErr, None, OnErr, OnOk, [], drop, length, take};
 ghost use Rattle.disk_model.specs.Image.{Written, bytes_of};
 ghost use Rattle.disk_model.specs.Parts.{image_of};
-ghost use Rattle.disk_model.specs.View.{Called, Rests, Synced, Tears};
+ghost use Rattle.disk_model.specs.View.{Called, Unwritten, Synced, Tears};
 ghost use Rattle.file_disk.specs.Past.{honest_of, reads_of};
 ghost use Rattle.file_disk.specs.PastLaws.{honest_prop};
 
@@ -74,7 +74,7 @@ impl<A: Allocator + Copy> Disk for RamDisk<A> {
     fn len(&mut self, part: Part) -> Result<u64, DiskFault>
         ensures limit { IfOk result (λ n. n ≤ PART_LIMIT) }
         ensures length { IfOk result (λ n. n ≡ length (bytes_of part (view_of self.old).reads)) }
-        ensures rests { Rests (view_of self.old) (view_of self.new) }
+        ensures unwritten { Unwritten (view_of self.old) (view_of self.new) }
         ensures called { Called (view_of self.old) (view_of self.new) result }
         ensures faults { IsErr result ↔ IsStopped self.old }
     {
@@ -90,7 +90,7 @@ impl<A: Allocator + Copy> Disk for RamDisk<A> {
         requires range { at + length buf.old ≤ PART_LIMIT }
         requires within { at + length buf.old ≤ length (bytes_of part (view_of self.old).reads) }
         ensures read { OnOk result (buf.new ≡ take (length buf.old) (drop at (bytes_of part (view_of self.old).reads))) }
-        ensures rests { Rests (view_of self.old) (view_of self.new) }
+        ensures unwritten { Unwritten (view_of self.old) (view_of self.new) }
         ensures called { Called (view_of self.old) (view_of self.new) result }
         ensures faults { IsErr result ↔ IsStopped self.old }
     {
@@ -128,7 +128,7 @@ impl<A: Allocator + Copy> Disk for RamDisk<A> {
 
     fn sync(&mut self, part: Part) -> Result<(), DiskFault>
         ensures durable { OnOk result (Synced part (view_of self.new)) }
-        ensures rests { Rests (view_of self.old) (view_of self.new) }
+        ensures unwritten { Unwritten (view_of self.old) (view_of self.new) }
         ensures called { Called (view_of self.old) (view_of self.new) result }
         ensures faults { IsErr result ↔ IsStopped self.old }
     {

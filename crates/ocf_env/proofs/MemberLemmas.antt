@@ -7,7 +7,7 @@ use Rattle.ocf_types.specs.Kinds.{Registration}
 use Rattle.ocf_types.specs.declared.action.Check.{Check}
 use Rattle.ocf_types.specs.declared.action.Task.{Task}
 use Rattle.ocf_types.specs.declared.action.Task.TheVariants as task
-use Rattle.ocf_env.specs.Places.{Place, Pair}
+use Rattle.ocf_env.specs.Places.{SiteView, Pair}
 use Rattle.ocf_env.specs.Variables.{reskey, IsAgentVariable, IsVariable, major, minor, of_provider, of_type, below_root, with_path}
 use Rattle.ocf_env.specs.Variables.{of_agent, level, instance, parameter}
 use Rattle.ocf_env.specs.Lists.{level_pairs, version_pairs, param_pairs, instance_pair, last_pairs, instance_pairs, action_pairs}
@@ -15,10 +15,10 @@ use Rattle.ocf_env.specs.Lists.{meta_pairs}
 use Rattle.ocf_env.proofs.Amongs.{Among, among, contained, among_left, among_right, among_cases}
 
 -- the variables of agents, in the two parts of a list that have them
-record InParts (site : Place) (provider agent : List ℕ) (x : Pair) : Type 0 where
+record InParts (site : SiteView) (provider agent : List ℕ) (x : Pair) : Type 0 where
   here : Among x version_pairs ⊎ Among x (last_pairs site provider agent)
 
-in_parts : (site : Place) (provider agent name value : List ℕ) → IsAgentVariable site provider agent name value
+in_parts : (site : SiteView) (provider agent name value : List ℕ) → IsAgentVariable site provider agent name value
     → InParts site provider agent (name, value)
 in_parts site provider agent name value major = record { here = inl (inl refl) }
 in_parts site provider agent name value minor = record { here = inl (inr (inl refl)) }
@@ -27,12 +27,12 @@ in_parts site provider agent name value of_type = record { here = inr (inr (inl 
 in_parts site provider agent name value below_root = record { here = inr (inr (inr (inl refl))) }
 in_parts site provider agent name value with_path = record { here = inr (inr (inr (inr (inl refl)))) }
 
-version_only : (site : Place) (provider agent : List ℕ) (x : Pair) → Among x version_pairs → IsAgentVariable site provider agent x.0 x.1
+version_only : (site : SiteView) (provider agent : List ℕ) (x : Pair) → Among x version_pairs → IsAgentVariable site provider agent x.0 x.1
 version_only site provider agent x (inl e) = subst (λ (p : Pair). IsAgentVariable site provider agent p.0 p.1) e major
 version_only site provider agent x (inr (inl e)) = subst (λ (p : Pair). IsAgentVariable site provider agent p.0 p.1) e minor
 version_only site provider agent x (inr (inr a)) = absurd a
 
-last_only : (site : Place) (provider agent : List ℕ) (x : Pair) → Among x (last_pairs site provider agent)
+last_only : (site : SiteView) (provider agent : List ℕ) (x : Pair) → Among x (last_pairs site provider agent)
     → IsAgentVariable site provider agent x.0 x.1
 last_only site provider agent x (inl e) = subst (λ (p : Pair). IsAgentVariable site provider agent p.0 p.1) e of_provider
 last_only site provider agent x (inr (inl e)) = subst (λ (p : Pair). IsAgentVariable site provider agent p.0 p.1) e of_type
@@ -40,7 +40,7 @@ last_only site provider agent x (inr (inr (inl e))) = subst (λ (p : Pair). IsAg
 last_only site provider agent x (inr (inr (inr (inl e)))) = subst (λ (p : Pair). IsAgentVariable site provider agent p.0 p.1) e with_path
 last_only site provider agent x (inr (inr (inr (inr a)))) = absurd a
 
-meta_among : (site : Place) (provider agent : List ℕ) (x : Pair) → InParts site provider agent x
+meta_among : (site : SiteView) (provider agent : List ℕ) (x : Pair) → InParts site provider agent x
     → Among x (version_pairs ++ last_pairs site provider agent)
 meta_among site provider agent x h =
     elim h.here [
@@ -49,12 +49,12 @@ meta_among site provider agent x h =
           (last_pairs site provider agent) x a
     ]
 
-meta_only : (site : Place) (provider agent : List ℕ) (x : Pair) → Among x version_pairs ⊎ Among x (last_pairs site provider agent)
+meta_only : (site : SiteView) (provider agent : List ℕ) (x : Pair) → Among x version_pairs ⊎ Among x (last_pairs site provider agent)
     → IsAgentVariable site provider agent x.0 x.1
 meta_only site provider agent x (inl a) = version_only site provider agent x a
 meta_only site provider agent x (inr a) = last_only site provider agent x a
 
-pub meta_members : (site : Place) (provider agent name value : List ℕ) → Contains (meta_pairs site provider agent) (name, value)
+pub meta_members : (site : SiteView) (provider agent name value : List ℕ) → Contains (meta_pairs site provider agent) (name, value)
     ↔ IsAgentVariable site provider agent name value
 unfolding meta_pairs
 meta_members site provider agent name value = (
@@ -78,28 +78,28 @@ param_from [] x a = absurd a
 param_from (p ∷ ps) x (inl e) = (p, inl refl, e)
 param_from (p ∷ ps) x (inr a) = let f = param_from ps x a in (f.0, inr f.1, f.2)
 
-abbrev behind : Place → Registration → List Pair
+abbrev behind : SiteView → Registration → List Pair
 behind site r = instance_pair r.id ∷ last_pairs site r.provider r.agent
 
 -- what is in a part of the list is in the list
-from_level : (site : Place) (r : Registration) (t : Task) (x : Pair) → Among x (level_pairs t) → Among x (action_pairs site r t)
+from_level : (site : SiteView) (r : Registration) (t : Task) (x : Pair) → Among x (level_pairs t) → Among x (action_pairs site r t)
 unfolding action_pairs
 from_level site r t x a = among_left (level_pairs t) (version_pairs ++ instance_pairs site r) x a
 
-from_version : (site : Place) (r : Registration) (t : Task) (x : Pair) → Among x version_pairs → Among x (action_pairs site r t)
+from_version : (site : SiteView) (r : Registration) (t : Task) (x : Pair) → Among x version_pairs → Among x (action_pairs site r t)
 unfolding action_pairs
 from_version site r t x a =
     among_right (level_pairs t) (version_pairs ++ instance_pairs site r) x (among_left version_pairs (instance_pairs site r) x a)
 
-from_rest : (site : Place) (r : Registration) (t : Task) (x : Pair) → Among x (instance_pairs site r) → Among x (action_pairs site r t)
+from_rest : (site : SiteView) (r : Registration) (t : Task) (x : Pair) → Among x (instance_pairs site r) → Among x (action_pairs site r t)
 unfolding action_pairs
 from_rest site r t x a =
     among_right (level_pairs t) (version_pairs ++ instance_pairs site r) x (among_right version_pairs (instance_pairs site r) x a)
 
-from_behind : (site : Place) (r : Registration) (t : Task) (x : Pair) → Among x (behind site r) → Among x (action_pairs site r t)
+from_behind : (site : SiteView) (r : Registration) (t : Task) (x : Pair) → Among x (behind site r) → Among x (action_pairs site r t)
 from_behind site r t x a = from_rest site r t x (among_right (param_pairs r.params) (behind site r) x a)
 
-from_parts : (site : Place) (r : Registration) (t : Task) (x : Pair) → Among x version_pairs ⊎ Among x (last_pairs site r.provider r.agent)
+from_parts : (site : SiteView) (r : Registration) (t : Task) (x : Pair) → Among x version_pairs ⊎ Among x (last_pairs site r.provider r.agent)
     → Among x (action_pairs site r t)
 from_parts site r t x (inl a) = from_version site r t x a
 from_parts site r t x (inr a) = from_behind site r t x (inr a)
@@ -108,7 +108,7 @@ level_among : (t : Task) (check : Check) → t ≡ task.Monitor check
     → Among (codes "OCF_CHECK_LEVEL", decimal (level_number check.level)) (level_pairs t)
 level_among t check e = rw e (inl refl)
 
-listed : (site : Place) (r : Registration) (t : Task) (name value : List ℕ) → IsVariable site r t name value
+listed : (site : SiteView) (r : Registration) (t : Task) (name value : List ℕ) → IsVariable site r t name value
     → Among (name, value) (action_pairs site r t)
 listed site r t name value (of_agent v) = from_parts site r t (name, value) (in_parts site r.provider r.agent name value v).here
 listed site r t name value (level {check} e) =
@@ -119,7 +119,7 @@ listed site r t name value (parameter {name = p} {value = v} h) =
     (among_left (param_pairs r.params) (behind site r) (reskey p, v) (param_among r.params p v (among r.params (p, v) h)))
 
 -- what is in a part of the list is a variable
-level_only : (site : Place) (r : Registration) (t : Task) (x : Pair) → Among x (level_pairs t) → IsVariable site r t x.0 x.1
+level_only : (site : SiteView) (r : Registration) (t : Task) (x : Pair) → Among x (level_pairs t) → IsVariable site r t x.0 x.1
 level_only site r (task.Monitor check) x (inl e) = subst (λ (p : Pair). IsVariable site r (task.Monitor check) p.0 p.1) e (level refl)
 level_only site r (task.Monitor check) x (inr a) = absurd a
 level_only site r task.Start x a = absurd a
@@ -129,31 +129,31 @@ level_only site r task.Demote x a = absurd a
 level_only site r task.ReloadAgent x a = absurd a
 level_only site r task.ValidateAll x a = absurd a
 
-params_only : (site : Place) (r : Registration) (t : Task) (x : Pair) → Among x (param_pairs r.params) → IsVariable site r t x.0 x.1
+params_only : (site : SiteView) (r : Registration) (t : Task) (x : Pair) → Among x (param_pairs r.params) → IsVariable site r t x.0 x.1
 params_only site r t x a =
     let f = param_from r.params x a in
     subst (λ (p : Pair). IsVariable site r t p.0 p.1) f.2 (parameter (contained r.params f.0 f.1))
 
-behind_only : (site : Place) (r : Registration) (t : Task) (x : Pair) → Among x (behind site r) → IsVariable site r t x.0 x.1
+behind_only : (site : SiteView) (r : Registration) (t : Task) (x : Pair) → Among x (behind site r) → IsVariable site r t x.0 x.1
 behind_only site r t x (inl e) = subst (λ (p : Pair). IsVariable site r t p.0 p.1) e instance
 behind_only site r t x (inr a) = of_agent (last_only site r.provider r.agent x a)
 
-rest_only : (site : Place) (r : Registration) (t : Task) (x : Pair) → Among x (param_pairs r.params) ⊎ Among x (behind site r)
+rest_only : (site : SiteView) (r : Registration) (t : Task) (x : Pair) → Among x (param_pairs r.params) ⊎ Among x (behind site r)
     → IsVariable site r t x.0 x.1
 rest_only site r t x (inl a) = params_only site r t x a
 rest_only site r t x (inr a) = behind_only site r t x a
 
-version_or : (site : Place) (r : Registration) (t : Task) (x : Pair) → Among x version_pairs ⊎ Among x (instance_pairs site r)
+version_or : (site : SiteView) (r : Registration) (t : Task) (x : Pair) → Among x version_pairs ⊎ Among x (instance_pairs site r)
     → IsVariable site r t x.0 x.1
 version_or site r t x (inl a) = of_agent (version_only site r.provider r.agent x a)
 version_or site r t x (inr a) = rest_only site r t x (among_cases (param_pairs r.params) (behind site r) x a)
 
-level_or : (site : Place) (r : Registration) (t : Task) (x : Pair)
+level_or : (site : SiteView) (r : Registration) (t : Task) (x : Pair)
     → Among x (level_pairs t) ⊎ Among x (version_pairs ++ instance_pairs site r) → IsVariable site r t x.0 x.1
 level_or site r t x (inl a) = level_only site r t x a
 level_or site r t x (inr a) = version_or site r t x (among_cases version_pairs (instance_pairs site r) x a)
 
-pub members : (site : Place) (r : Registration) (t : Task) (name value : List ℕ) → Contains (action_pairs site r t) (name, value)
+pub members : (site : SiteView) (r : Registration) (t : Task) (name value : List ℕ) → Contains (action_pairs site r t) (name, value)
     ↔ IsVariable site r t name value
 unfolding action_pairs
 members site r t name value = (

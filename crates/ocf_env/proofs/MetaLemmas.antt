@@ -9,7 +9,7 @@ use Rattle.ocf_types.specs.Params.{AreParams}
 use Rattle.ocf_types.specs.declared.operation.Running.{Running}
 use Rattle.ocf_env.specs.Lists.{interval_pair, name_pair, timeout_pair, with_meta, with_new}
 use Rattle.ocf_env.specs.MetaVariables.{IsGiven, IsMetaVariable, interval, name, timeout, own, meta}
-use Rattle.ocf_env.specs.Places.{Pair, Place}
+use Rattle.ocf_env.specs.Places.{Pair, SiteView}
 use Rattle.ocf_env.specs.Variables.{IsVariable, are_ascending, parameter, reskey}
 use Rattle.ocf_env.proofs.Amongs.{Among, among, contained}
 use Rattle.ocf_env.proofs.NewLemmas.{is_named, named, new_ascends, new_cases, new_here, new_keeps, unnamed}
@@ -47,11 +47,11 @@ interval_timeout running = refl
 name_timeout : (running : Running) → bytes_eq (name_pair running).0 (timeout_pair running).0 ≡ false
 name_timeout running = refl
 
-abbrev Are : Place → Registration → Running → List Pair → Type 0
+abbrev Are : SiteView → Registration → Running → List Pair → Type 0
 Are site r running xs = (n v : List ℕ) → Contains xs (n, v) ↔ IsVariable site r running.task n v
 
 -- a name that no variable has is none of the list's
-none_named : (site : Place) (r : Registration) (running : Running) (xs : List Pair) → Are site r running xs → (n : List ℕ)
+none_named : (site : SiteView) (r : Registration) (running : Running) (xs : List Pair) → Are site r running xs → (n : List ℕ)
     → ((other : List ℕ) → IsVariable site r running.task n other → ⊥) → is_named n xs ≡ false
 none_named site r running xs are n none = by (is_named n xs) refl
   where
@@ -60,21 +60,21 @@ none_named site r running xs are n none = by (is_named n xs) refl
     by true is = let found = named n xs is in absurd (none found.0 ((are n found.0).0 (contained xs (n, found.0) found.1)))
 
 -- a name that is none of the list's, no variable has
-no_variable : (site : Place) (r : Registration) (running : Running) (xs ys : List Pair) → Are site r running xs
+no_variable : (site : SiteView) (r : Registration) (running : Running) (xs ys : List Pair) → Are site r running xs
     → ((x : Pair) → Among x xs → Among x ys) → (n : List ℕ) → is_named n ys ≡ false → (other : List ℕ)
     → IsVariable site r running.task n other → ⊥
 no_variable site r running xs ys are more n none other v =
     unnamed n other ys none (more (n, other) (among xs (n, other) ((are n other).1 v)))
 
 -- one of Pacemaker's variables that was put into a longer list
-put : (site : Place) (r : Registration) (running : Running) (xs ys : List Pair) → site.meta ≡ true → Are site r running xs
+put : (site : SiteView) (r : Registration) (running : Running) (xs ys : List Pair) → site.meta ≡ true → Are site r running xs
     → ((x : Pair) → Among x xs → Among x ys) → (p x : Pair) → IsMetaVariable running p.0 p.1 → p ≡ x → is_named p.0 ys ≡ false
     → IsGiven site r running x.0 x.1
 put site r running xs ys asked are more p x is same none =
     subst (λ (q : Pair). IsGiven site r running q.0 q.1) same (meta asked is (no_variable site r running xs ys are more p.0 none))
 
 -- what is in the longer list is given
-given_only : (site : Place) (r : Registration) (running : Running) (xs : List Pair) → site.meta ≡ true → Are site r running xs → (x : Pair)
+given_only : (site : SiteView) (r : Registration) (running : Running) (xs : List Pair) → site.meta ≡ true → Are site r running xs → (x : Pair)
     → Among x (with_meta running xs) → IsGiven site r running x.0 x.1
 unfolding with_meta
 given_only site r running xs asked are x a =
@@ -94,7 +94,7 @@ given_only site r running xs asked are x a =
     ]
 
 -- and each that is given is in it
-given_each : (site : Place) (r : Registration) (running : Running) (xs : List Pair) → Are site r running xs → (n v : List ℕ)
+given_each : (site : SiteView) (r : Registration) (running : Running) (xs : List Pair) → Are site r running xs → (n v : List ℕ)
     → IsGiven site r running n v → Among (n, v) (with_meta running xs)
 unfolding with_meta
 given_each site r running xs are n v (own h) =
@@ -123,7 +123,7 @@ given_each site r running xs are n v (meta asked timeout none) =
     (still_new (interval_pair running) (timeout_pair running).0 xs (interval_timeout running)
     (none_named site r running xs are (timeout_pair running).0 none)))
 
-pub meta_members : (site : Place) (r : Registration) (running : Running) (xs : List Pair) → site.meta ≡ true
+pub meta_members : (site : SiteView) (r : Registration) (running : Running) (xs : List Pair) → site.meta ≡ true
     → ((n v : List ℕ) → Contains xs (n, v) ↔ IsVariable site r running.task n v)
     → (n v : List ℕ) → Contains (with_meta running xs) (n, v) ↔ IsGiven site r running n v
 meta_members site r running xs asked are n v = (
@@ -132,12 +132,12 @@ meta_members site r running xs asked are n v = (
 )
 
 -- without Pacemaker's variables
-own_only : (site : Place) (r : Registration) (running : Running) (n v : List ℕ) → site.meta ≡ false → IsGiven site r running n v
+own_only : (site : SiteView) (r : Registration) (running : Running) (n v : List ℕ) → site.meta ≡ false → IsGiven site r running n v
     → IsVariable site r running.task n v
 own_only site r running n v unasked (own h) = h
 own_only site r running n v unasked (meta asked is none) = absurd (let never : true ≡ false = sym asked ∙ unasked in cc)
 
-pub without : (site : Place) (r : Registration) (running : Running) (n v : List ℕ) → site.meta ≡ false
+pub without : (site : SiteView) (r : Registration) (running : Running) (n v : List ℕ) → site.meta ≡ false
     → IsGiven site r running n v ↔ IsVariable site r running.task n v
 without site r running n v unasked = (own_only site r running n v unasked, λ h. own h)
 
@@ -153,7 +153,7 @@ meta_once running n m v w timeout interval same = absurd cc
 meta_once running n m v w timeout name same = absurd cc
 meta_once running n m v w timeout timeout same = refl
 
-pub given_once : (site : Place) (r : Registration) (running : Running) (n v w : List ℕ) → AreParams r.params → IsGiven site r running n v
+pub given_once : (site : SiteView) (r : Registration) (running : Running) (n v w : List ℕ) → AreParams r.params → IsGiven site r running n v
     → IsGiven site r running n w → v ≡ w
 given_once site r running n v w lawful (own h) (own k) = one_value site r running.task n v w lawful h k
 given_once site r running n v w lawful (own h) (meta asked is none) = absurd (none v h)
@@ -161,7 +161,7 @@ given_once site r running n v w lawful (meta asked is none) (own k) = absurd (no
 given_once site r running n v w lawful (meta asked is none) (meta _ too _) = meta_once running n n v w is too ((bytes_eq-Decides n n).1 refl)
 
 -- a parameter has its own value
-pub param_wins : (site : Place) (r : Registration) (running : Running) (n mine value : List ℕ) → AreParams r.params
+pub param_wins : (site : SiteView) (r : Registration) (running : Running) (n mine value : List ℕ) → AreParams r.params
     → Contains r.params (n, mine) → IsGiven site r running (reskey n) value → value ≡ mine
 param_wins site r running n mine value lawful there given =
     given_once site r running (reskey n) value mine lawful given (own (parameter there))

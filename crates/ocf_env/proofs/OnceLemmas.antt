@@ -3,7 +3,7 @@ use Rattle.std.proofs.Common.{◌≡◌, inl, inr, ℕ, true, false, List, [], �
 use Rattle.ocf_types.specs.Params.{is_before, is_after, AreParams}
 use Rattle.ocf_types.specs.Kinds.{Registration}
 use Rattle.ocf_types.specs.declared.action.Task.{Task}
-use Rattle.ocf_env.specs.Places.{Place, Pair}
+use Rattle.ocf_env.specs.Places.{SiteView, Pair}
 use Rattle.ocf_env.specs.Variables.{IsVariable, are_ascending_after}
 use Rattle.ocf_env.specs.Lists.{action_pairs}
 use Rattle.ocf_types.specs.Laws.{before_trans, both, not_before_itself}
@@ -41,7 +41,7 @@ once last (z ∷ zs) x y n h (inr a) (inr b) =
     let s = both (is_after last z.0) (are_ascending_after (Some z.0) zs) h in
     once (Some z.0) zs x y n s.1 a b
 
-pub one_value : (site : Place) (r : Registration) (t : Task) (name v w : List ℕ) → AreParams r.params → IsVariable site r t name v
+pub one_value : (site : SiteView) (r : Registration) (t : Task) (name v w : List ℕ) → AreParams r.params → IsVariable site r t name v
     → IsVariable site r t name w → v ≡ w
 one_value site r t name v w lawful h k =
     let xs : List Pair = action_pairs site r t in

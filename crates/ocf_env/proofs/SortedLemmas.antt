@@ -6,7 +6,7 @@ use Rattle.ocf_types.specs.Params.{ParamList, is_before, are_params_after, ArePa
 use Rattle.ocf_types.specs.Kinds.{Registration}
 use Rattle.ocf_types.specs.declared.action.Task.{Task}
 use Rattle.ocf_types.specs.declared.action.Task.TheVariants as task
-use Rattle.ocf_env.specs.Places.{Place, Pair}
+use Rattle.ocf_env.specs.Places.{SiteView, Pair}
 use Rattle.ocf_env.specs.Variables.{reskey, are_ascending_after, are_ascending}
 use Rattle.ocf_env.specs.Lists.{param_pairs, instance_pair, last_pairs, action_pairs, meta_pairs}
 use Rattle.ocf_types.specs.Laws.{and_true, both}
@@ -24,11 +24,11 @@ params_before last (p ∷ ps) rest h k =
     let first = both (is_before last p.0) (is_param_name p.0) (both (is_before last p.0 && is_param_name p.0) (is_param_value p.1) s.0).0 in
     and_true _ _ first.0 (params_before p.0 ps rest s.1 k)
 
-behind_params : (site : Place) (r : Registration) (name : List ℕ)
+behind_params : (site : SiteView) (r : Registration) (name : List ℕ)
     → are_ascending_after (Some (reskey name)) (instance_pair r.id ∷ last_pairs site r.provider r.agent) ≡ true
 behind_params site r name = refl
 
-behind_version : (site : Place) (r : Registration) (ps : ParamList) → are_params_after None ps ≡ true
+behind_version : (site : SiteView) (r : Registration) (ps : ParamList) → are_params_after None ps ≡ true
     → are_ascending_after (Some (codes "OCF_RA_VERSION_MINOR")) (param_pairs ps ++ instance_pair r.id ∷ last_pairs site r.provider r.agent)
     ≡ true
 behind_version site r [] h = refl
@@ -36,7 +36,7 @@ behind_version site r (p ∷ ps) h =
     let s = both (is_param_name p.0 && is_param_value p.1) (are_params_after (Some p.0) ps) h in
     params_before p.0 ps (instance_pair r.id ∷ last_pairs site r.provider r.agent) s.1 (behind_params site r)
 
-pub ascending : (site : Place) (r : Registration) (t : Task) → AreParams r.params → are_ascending (action_pairs site r t) ≡ true
+pub ascending : (site : SiteView) (r : Registration) (t : Task) → AreParams r.params → are_ascending (action_pairs site r t) ≡ true
 unfolding action_pairs
 ascending site r task.Start h = behind_version site r r.params h.sorted
 ascending site r task.Stop h = behind_version site r r.params h.sorted
@@ -46,6 +46,6 @@ ascending site r task.Demote h = behind_version site r r.params h.sorted
 ascending site r task.ReloadAgent h = behind_version site r r.params h.sorted
 ascending site r task.ValidateAll h = behind_version site r r.params h.sorted
 
-pub meta_ascending : (site : Place) (provider agent : List ℕ) → are_ascending (meta_pairs site provider agent) ≡ true
+pub meta_ascending : (site : SiteView) (provider agent : List ℕ) → are_ascending (meta_pairs site provider agent) ≡ true
 unfolding meta_pairs
 meta_ascending site provider agent = refl

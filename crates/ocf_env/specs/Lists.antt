@@ -7,7 +7,7 @@ use Rattle.ocf_types.specs.Kinds.{Registration}
 use Rattle.ocf_types.specs.declared.action.Task.{Task}
 use Rattle.ocf_types.specs.declared.action.Task.TheVariants.{Monitor}
 use Rattle.ocf_types.specs.declared.operation.Running.{Running}
-use Rattle.ocf_env.specs.Places.{Place, Pair}
+use Rattle.ocf_env.specs.Places.{SiteView, Pair}
 use Rattle.ocf_env.specs.Variables.{reskey}
 
 -- OCF Resource Agent API 1.1, OCF_CHECK_LEVEL: of a monitor only
@@ -32,23 +32,23 @@ abbrev pub agent_pairs : List ℕ → List ℕ → List Pair
 agent_pairs provider agent = (codes "OCF_RESOURCE_PROVIDER", provider) ∷ (codes "OCF_RESOURCE_TYPE", agent) ∷ []
 
 -- OCF Resource Agent API 1.1, OCF_ROOT; this profile's PATH
-abbrev pub site_pairs : Place → List Pair
+abbrev pub site_pairs : SiteView → List Pair
 site_pairs site = (codes "OCF_ROOT", site.root) ∷ (codes "PATH", site.path) ∷ []
 
 -- the end of each environment
-abbrev pub last_pairs : Place → List ℕ → List ℕ → List Pair
+abbrev pub last_pairs : SiteView → List ℕ → List ℕ → List Pair
 last_pairs site provider agent = agent_pairs provider agent ++ site_pairs site
 
 -- the parameters and what comes behind them
-abbrev pub instance_pairs : Place → Registration → List Pair
+abbrev pub instance_pairs : SiteView → Registration → List Pair
 instance_pairs site r = param_pairs r.params ++ instance_pair r.id ∷ last_pairs site r.provider r.agent
 
 -- all variables of an action, in order
-unfoldable pub action_pairs : Place → Registration → Task → List Pair
+unfoldable pub action_pairs : SiteView → Registration → Task → List Pair
 action_pairs site r task = level_pairs task ++ (version_pairs ++ instance_pairs site r)
 
 -- all variables of meta-data, in order
-unfoldable pub meta_pairs : Place → List ℕ → List ℕ → List Pair
+unfoldable pub meta_pairs : SiteView → List ℕ → List ℕ → List Pair
 meta_pairs site provider agent = version_pairs ++ last_pairs site provider agent
 
 -- with a pair more, in its place by name, but where its name is there already

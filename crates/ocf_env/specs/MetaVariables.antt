@@ -3,7 +3,7 @@ use Rattle.std.specs.Prelude.{◌≡◌, true, ℕ, List, codes, decimal}
 use Rattle.ocf_types.specs.Actions.{action_of, action_word}
 use Rattle.ocf_types.specs.Kinds.{Registration}
 use Rattle.ocf_types.specs.declared.operation.Running.{Running}
-use Rattle.ocf_env.specs.Places.{Place}
+use Rattle.ocf_env.specs.Places.{SiteView}
 use Rattle.ocf_env.specs.Variables.{IsVariable}
 
 -- the name of the action, its interval in milliseconds, which is 0 for a one-time action, and its timeout in milliseconds: set by
@@ -14,7 +14,7 @@ pub data IsMetaVariable (running : Running) : List ℕ → List ℕ → Type 0 w
   timeout : IsMetaVariable running (codes "OCF_RESKEY_CRM_meta_timeout") (decimal running.timeout)
 
 -- what an action is given: its variables, and where the site says so Pacemaker's, each but where a variable of its name is
-pub data IsGiven (site : Place) (r : Registration) (running : Running) : List ℕ → List ℕ → Type 0 where
+pub data IsGiven (site : SiteView) (r : Registration) (running : Running) : List ℕ → List ℕ → Type 0 where
   own : {name value : List ℕ} → IsVariable site r running.task name value → IsGiven site r running name value
   meta : {name value : List ℕ} → site.meta ≡ true → IsMetaVariable running name value
       → ((other : List ℕ) → IsVariable site r running.task name other → ⊥) → IsGiven site r running name value

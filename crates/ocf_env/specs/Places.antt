@@ -2,7 +2,7 @@
 use Rattle.std.specs.Prelude.{ℕ, Bool, List, Option}
 
 -- where agents are: OCF_ROOT, PATH, and a program to run them through; and whether they get Pacemaker's own variables
-pub record Place : Type 0 where
+pub record SiteView : Type 0 where
   pub root : List ℕ
   pub path : List ℕ
   pub via : Option (List ℕ)

@@ -6,14 +6,14 @@ use Rattle.ocf_types.specs.Kinds.{Registration}
 use Rattle.ocf_types.specs.declared.action.Check.{Check}
 use Rattle.ocf_types.specs.declared.action.Task.{Task}
 use Rattle.ocf_types.specs.declared.action.Task.TheVariants.{Monitor}
-use Rattle.ocf_env.specs.Places.{Place, Pair}
+use Rattle.ocf_env.specs.Places.{SiteView, Pair}
 
 -- the variable of a parameter: OCF Resource Agent API 1.1, OCF_RESKEY_
 abbrev pub reskey : List ℕ → List ℕ
 reskey name = codes "OCF_RESKEY_" ++ name
 
 -- what each call of an agent has: OCF Resource Agent API 1.1, environment variables; PATH is this profile's own
-pub data IsAgentVariable (site : Place) (provider agent : List ℕ) : List ℕ → List ℕ → Type 0 where
+pub data IsAgentVariable (site : SiteView) (provider agent : List ℕ) : List ℕ → List ℕ → Type 0 where
   major : IsAgentVariable site provider agent (codes "OCF_RA_VERSION_MAJOR") (codes "1")
   minor : IsAgentVariable site provider agent (codes "OCF_RA_VERSION_MINOR") (codes "1")
   of_provider : IsAgentVariable site provider agent (codes "OCF_RESOURCE_PROVIDER") provider
@@ -22,7 +22,7 @@ pub data IsAgentVariable (site : Place) (provider agent : List ℕ) : List ℕ �
   with_path : IsAgentVariable site provider agent (codes "PATH") site.path
 
 -- what an action has: the same, the level of a monitor, the instance, and each parameter
-pub data IsVariable (site : Place) (r : Registration) (task : Task) : List ℕ → List ℕ → Type 0 where
+pub data IsVariable (site : SiteView) (r : Registration) (task : Task) : List ℕ → List ℕ → Type 0 where
   of_agent : {name value : List ℕ} → IsAgentVariable site r.provider r.agent name value → IsVariable site r task name value
   level : {check : Check} → task ≡ Monitor check → IsVariable site r task (codes "OCF_CHECK_LEVEL") (decimal (level_number check.level))
   instance : IsVariable site r task (codes "OCF_RESOURCE_INSTANCE") r.id

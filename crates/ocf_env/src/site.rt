@@ -17,9 +17,9 @@ pub struct Site<A: Allocator = Global> {
 }
 
 impl<A: Allocator> Model for Site<A> {
-    ghost use Rattle.ocf_env.specs.Places.{Place};
+    ghost use Rattle.ocf_env.specs.Places.{SiteView};
 
-    ghost Value = { Place };
+    ghost Value = { SiteView };
 
     ghost view = { λ s. record { root = s.root; path = s.path; via = s.via; meta = s.meta } };
 }

@@ -1,6 +1,6 @@
 -- From the words to a run.
 use Rattle.std.specs.Prelude.{◌≡◌, ◌⊎◌, ℕ, ⊤, true, List, IfErr, is_some, option_map, Result, Ok, Err}
-use Rattle.ocf_env.specs.Places.{Place}
+use Rattle.ocf_env.specs.Places.{SiteView}
 use Rattle.exec_options.specs.Faults.{AsksForText, IsFault, IsMisused}
 use Rattle.exec_options.specs.Words.{Gives, folder_of}
 use Rattle.exec_options.specs.declared.fault.WordsFault.{WordsFault}
@@ -18,7 +18,7 @@ status_of_end (Ok done) = 0
 status_of_end (Err f) = status_of f
 
 -- where these options say that agents are
-abbrev pub site_of : Options → Place
+abbrev pub site_of : Options → SiteView
 site_of o = record { root = o.root.now; path = o.path.now; via = option_map (λ s. s.now) o.via; meta = o.meta_variables }
 
 -- what an executor that was not opened ends the program with; fresh children are never of another journal

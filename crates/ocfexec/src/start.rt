@@ -14,7 +14,7 @@ use exec_commands::NoticeForm;
 use exec_lines::{Patient, RunClock, moment_now};
 use exec_options::{JournalPlace, Options, Subcommand, WordsFault, read_words};
 use exec_output::{Fault, Look, show, status};
-use exec_session::{Setting, Way, run_lines};
+use exec_session::{RunContext, Way, run_lines};
 use executor::{Executor, OpenError};
 use file_disk::{FileDisk, OpenFault, RamDisk, TellsError, read_parts};
 use std::env;
@@ -284,7 +284,7 @@ fn run_agents<D: Disk + TellsError + Drop>(
         Ok((executor, report)) => {
             wait_for_orphans(rt, &asked, &executor, options.orphans);
             let clock = RunClock::new(rt, executor.clock());
-            let setting = Setting {
+            let context = RunContext {
                 alloc,
                 clock: &clock,
                 metadata: &Agents { rt, site: asked },
@@ -295,7 +295,7 @@ fn run_agents<D: Disk + TellsError + Drop>(
             };
             let output = Patient::new(io::writer(rt), libc::STDOUT_FILENO);
             let mut client = Teller::new(alloc, output, &executor);
-            let run = run_lines(&setting, &mut reader, &mut client, executor, &report);
+            let run = run_lines(&context, &mut reader, &mut client, executor, &report);
             told(rt, options, &run.disk, run.ended)
         }
         Err(fault) => told(rt, options, &fault.disk, Err(opening_fault(fault.why))),

@@ -209,7 +209,7 @@ impl Sweep {
             Sweep::ChildFaults => {
                 Played::Once(acts, Failing::ChildFault).print(alloc, &"faults children", writer)
             }
-            Sweep::Stopped(fillings) => print_stopped(alloc, acts, fillings.as_slice(), writer),
+            Sweep::IoFault(fillings) => print_stopped(alloc, acts, fillings.as_slice(), writer),
             Sweep::Lives(fillings) => print_lives(alloc, acts, fillings.as_slice(), writer),
         }
     }

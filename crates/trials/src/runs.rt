@@ -7,7 +7,7 @@ use anyhow::{Result, bail, ensure};
 use disk_model::MemDisk;
 use exec_client::Teller;
 use exec_commands::NoticeForm;
-use exec_session::{Setting, Way, run_lines};
+use exec_session::{RunContext, Way, run_lines};
 use executor::Executor;
 use ocf_types::Part;
 use std::alloc::Global;
@@ -21,7 +21,7 @@ const TIDY_AT: u64 = 4_194_304;
 // Answers these lines over a fresh disk, and hands it back.
 fn answered(alloc: Global, lines: &[u8], output: &mut Vec<u8>) -> Result<MemDisk> {
     let clock = MovedClock::new(1_000);
-    let setting = Setting {
+    let context = RunContext {
         alloc,
         clock: &clock,
         metadata: &NoMetadata,
@@ -35,7 +35,7 @@ fn answered(alloc: Global, lines: &[u8], output: &mut Vec<u8>) -> Result<MemDisk
     match Executor::open(alloc, disk, agents(alloc, 1)?, nowhere(alloc), 1_000) {
         Ok((executor, report)) => {
             let mut client = Teller::new(alloc, output, &executor);
-            let run = run_lines(&setting, &mut reader, &mut client, executor, &report);
+            let run = run_lines(&context, &mut reader, &mut client, executor, &report);
             match run.ended {
                 Ok(()) => Ok(run.disk),
                 Err(_) => bail!("a run over a good disk ended with a fault"),

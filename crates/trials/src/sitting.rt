@@ -12,7 +12,7 @@ use disk_model::{Disk, MemDisk};
 use exec_client::Teller;
 use exec_commands::NoticeForm;
 use exec_lines::{RunClock, moment_now};
-use exec_session::{Metadata, Setting, run_lines};
+use exec_session::{Metadata, RunContext, run_lines};
 use executor::{Executor, OpenError};
 use ocf_types::{AgentType, MetaFault, Provider, StartFault};
 use std::alloc::Global;
@@ -50,7 +50,7 @@ pub fn sit(alloc: Global, disk: MemDisk, plan: Plan, output: &mut Vec<u8>) -> Re
     match Executor::open(alloc, disk, children, nowhere(alloc), now) {
         Ok((executor, report)) => {
             let shown = RunClock::new(&clock, executor.clock());
-            let setting = Setting {
+            let context = RunContext {
                 alloc,
                 clock: &shown,
                 metadata: &NoMetadata,
@@ -66,7 +66,7 @@ pub fn sit(alloc: Global, disk: MemDisk, plan: Plan, output: &mut Vec<u8>) -> Re
                 until: plan.length,
             };
             let mut teller = Teller::new(alloc, output, &executor);
-            let run = run_lines(&setting, &mut client, &mut teller, executor, &report);
+            let run = run_lines(&context, &mut client, &mut teller, executor, &report);
             Ok((run.disk.clock(), run.disk.kept))
         }
         Err(fault) => match fault.why {

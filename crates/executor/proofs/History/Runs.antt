@@ -192,7 +192,7 @@ ends_between s es follow before between later first second id call run next_call
         let behind : Follow t (first ∷ (between ++ second ∷ later)) =
         follow_behind s before (first ∷ (between ++ second ∷ later)) (subst (Follow s) is follow) in
         let one = begun_so t first id call run behind.0 begins in
-        let goes = stays id run (after t first) between one.1 (follow_first (after t first) between (second ∷ later) behind.1) one.2 one.4 none in
+        let crash = stays id run (after t first) between one.1 (follow_first (after t first) between (second ∷ later) behind.1) one.2 one.4 none in
         let last = follow_behind (after t first) between (second ∷ later) behind.1 in
         let two = begun_so (after_all (after t first) between) second id next_call next_run last.0 again in
-        absurd (let bad : Some one.1 ≡ None = sym goes ∙ two.0 in cc)
+        absurd (let bad : Some one.1 ≡ None = sym crash ∙ two.0 in cc)

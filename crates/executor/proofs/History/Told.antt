@@ -239,7 +239,7 @@ interrupted_once s es lawful follow before between later begin boot id call run 
     let going = follow_first u between (boot ∷ later) behind.1 in
     let v = after_all u between in
     let at_boot = follow_behind u between (boot ∷ later) behind.1 in
-    let goes = stays id run u between one.1 going one.2 one.4 none in
+    let crash = stays id run u between one.1 going one.2 one.4 none in
     let apart : AreApart t = apart_all id run s before (follow_first s before tail all) lawful.ids in
     let apart_u : AreApart u = apart_kept begin.at begin.change t behind.0 apart in
     let apart_v : AreApart v = apart_all id run u between going apart_u in
@@ -253,7 +253,7 @@ interrupted_once s es lawful follow before between later begin boot id call run 
     let middle : mine (interruptions u between) ≡ [] = ap mine (none_between id run u between none) in
     let told : mine (told_by v boot.at boot.change) ≡ interruption id boot.at one.1 ∷ [] =
     ap mine (told_boot v boot boots) ∙ told_of_it id run boot.at v.resources apart_v
-    ∙ ap (told_one id run boot.at) goes ∙ told_once id run boot.at one.1 one.4 in
+    ∙ ap (told_one id run boot.at) crash ∙ told_once id run boot.at one.1 one.4 in
     let last : mine (interruptions w later) ≡ [] =
     none_behind id run w later (apart_kept boot.at boot.change v at_boot.0 apart_v)
     (λ x runs. absurd (let bad : None ≡ Some x = sym (quiet_boot v boot id at_boot.0 boots) ∙ runs in cc)) low at_boot.1 in

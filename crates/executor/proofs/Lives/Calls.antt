@@ -3,33 +3,33 @@ use Rattle.std.proofs.Common.{◌≡◌, ℕ, Bool, true, false, List, [], ◌�
 use Rattle.std.proofs.lemmas.Bool.{false≢true}
 use Rattle.ocf_types.specs.Kinds.{Command, Event, Reply}
 use Rattle.ocf_types.specs.State.{after_all}
-use Rattle.disk_model.specs.Runs.{Goes}
+use Rattle.disk_model.specs.Runs.{CrashesTo}
 use Rattle.disk_model.specs.View.{Lawful, View}
 use Rattle.exec_journal.specs.Room.{Roomy}
 use Rattle.exec_turn.specs.Pieces.{Leaves}
-use Rattle.executor.specs.CallLaws.{both_assoc, both_none}
+use Rattle.executor.specs.CallLaws.{followed_by_assoc, followed_by_none}
 use Rattle.executor.specs.Lives.{Abandoned, Calls, Cleared, Does, Exchange, Row, Took, Tidied}
-use Rattle.executor.specs.RowCalls.{TakesRow, row_deeds}
-use Rattle.executor.specs.Sessions.{Deeds, TakesWhile, both, no_deeds}
+use Rattle.executor.specs.RowCalls.{TakesRow, row_effects}
+use Rattle.executor.specs.Sessions.{Effects, TakesWhile, followed_by, no_effects}
 use Rattle.executor.specs.Sights.{Sight}
 use Rattle.executor.specs.TidyCalls.{Tidies, TidiesWhile}
 use Rattle.executor.proofs.Sessions.Growing.{Onward, leads_open, leads_still, onward, onward_at, onward_joined}
 
 module _ {D : Type 0} (look : D → View) where
   -- what a closed executor is asked leaves it closed, over the same disk, and does nothing
-  pub record Closed (x y : Sight D) (d : Deeds) : Type 0 where
+  pub record Closed (x y : Sight D) (d : Effects) : Type 0 where
     pub is_closed : y.is_open ≡ false
     pub disk : y.disk ≡ x.disk
-    pub nothing : d ≡ no_deeds
+    pub nothing : d ≡ no_effects
 
-  stays_closed : (x y : Sight D) (d : Deeds) → x.is_open ≡ false → y ≡ x → d ≡ no_deeds → Closed x y d
+  stays_closed : (x y : Sight D) (d : Effects) → x.is_open ≡ false → y ≡ x → d ≡ no_effects → Closed x y d
   stays_closed x y d closed same nothing = record {
     is_closed = ap (λ (z : Sight D). z.is_open) same ∙ closed;
     disk = ap (λ (z : Sight D). z.disk) same;
     nothing = nothing;
   }
 
-  does_nothing : (e : Exchange) (x y : Sight D) (d : Deeds) → x.is_open ≡ false → Does look e x y d → Closed x y d
+  does_nothing : (e : Exchange) (x y : Sight D) (d : Effects) → x.is_open ≡ false → Does look e x y d → Closed x y d
   does_nothing (Took i reply) x y d closed does =
       let none = subst (λ (b : Bool). TakesWhile b look i x y reply d) closed does in
       stays_closed x y d closed none.1 none.2
@@ -48,7 +48,7 @@ module _ {D : Type 0} (look : D → View) where
     nothing = does.1;
   }
 
-  pub calls_closed : (x z : Sight D) (es : List Exchange) (d : Deeds) → x.is_open ≡ false → Calls look x es z d → Closed x z d
+  pub calls_closed : (x z : Sight D) (es : List Exchange) (d : Effects) → x.is_open ≡ false → Calls look x es z d → Closed x z d
   calls_closed x z [] d closed calls = stays_closed x z d closed calls.0 calls.1
   calls_closed x z (e ∷ es) d closed (mid, first, later, does, rest, is) =
       let one = does_nothing e x mid first closed does in
@@ -56,33 +56,33 @@ module _ {D : Type 0} (look : D → View) where
       record {
         is_closed = others.is_closed;
         disk = others.disk ∙ one.disk;
-        nothing = is ∙ (λ k. both (one.nothing k) (others.nothing k));
+        nothing = is ∙ (λ k. followed_by (one.nothing k) (others.nothing k));
       }
 
   -- a row goes on like any call
   row_going : (o : Bool) (x y : Sight D) (es : List Event) → y.is_open ≡ o
-      → Leaves (look x.disk) (look y.disk) x.state (after_all x.state (row_deeds o es).events) [] (row_deeds o es).events (row_deeds o es).pending
-      → y.state ≡ after_all x.state es → Goes (look x.disk) (look y.disk) Roomy → Onward look x y (row_deeds o es)
+      → Leaves (look x.disk) (look y.disk) x.state (after_all x.state (row_effects o es).events) [] (row_effects o es).events (row_effects o es).pending
+      → y.state ≡ after_all x.state es → CrashesTo (look x.disk) (look y.disk) Roomy → Onward look x y (row_effects o es)
   row_going true x y es is_open leaves state roomy =
-      record { leaves = leaves; state = λ _. state; roomy = roomy; whole = λ _. refl }
+      record { crash = leaves; state = λ _. state; roomy = roomy; whole = λ _. refl }
   row_going false x y es closed leaves state roomy = record {
-    leaves = leaves;
+    crash = leaves;
     state = λ is_open. absurd (false≢true (sym closed ∙ is_open));
     roomy = roomy;
     whole = λ is_open. absurd (false≢true (sym closed ∙ is_open));
   }
 
-  row_onward : (x y : Sight D) (now : ℕ) (commands : List Command) (replies : List Reply) (d : Deeds)
+  row_onward : (x y : Sight D) (now : ℕ) (commands : List Command) (replies : List Reply) (d : Effects)
       → TakesRow look now commands x y replies d → Onward look x y d
   row_onward x y now commands replies d takes =
       let row = takes.records in
-      subst (λ (e : Deeds). Onward look x y e) (sym takes.does)
-      (row_going y.is_open x y takes.events refl row.leaves (ap (λ (z : Sight D). z.state) row.went.same) row.roomy)
+      subst (λ (e : Effects). Onward look x y e) (sym takes.does)
+      (row_going y.is_open x y takes.events refl row.crash (ap (λ (z : Sight D). z.state) row.went.same) row.roomy)
 
   module _ (lawful : (d : D) → (look d).honest → Lawful (look d)) where
     -- one call more, of an open executor
-    taken_more : (o : Bool) (w x y : Sight D) (e : Exchange) (a d : Deeds) → x.is_open ≡ o → Does look e x y d → Onward look w x a
-        → Onward look w y (both a d)
+    taken_more : (o : Bool) (w x y : Sight D) (e : Exchange) (a d : Effects) → x.is_open ≡ o → Does look e x y d → Onward look w x a
+        → Onward look w y (followed_by a d)
     taken_more true w x y (Took i reply) a d is_open does so_far =
         onward_joined look w x y a d is_open so_far
         (onward look x y d (leads_open look i x y reply d (leads_still look w x a (lawful x.disk) is_open so_far)
@@ -91,40 +91,40 @@ module _ {D : Type 0} (look : D → View) where
         onward_joined look w x y a d is_open so_far (row_onward x y now commands replies d does)
     taken_more true w x y (Tidied end) a d is_open does so_far =
         let tidies : Tidies look x y end = subst (λ (b : Bool). TidiesWhile b look x y end) is_open does.0 in
-        subst (λ (b : Deeds). Onward look w y (both a b)) (sym does.1)
-        (onward_joined look w x y a no_deeds is_open so_far (onward_at look x y no_deeds tidies.leaves tidies.roomy (λ _. refl)))
+        subst (λ (b : Effects). Onward look w y (followed_by a b)) (sym does.1)
+        (onward_joined look w x y a no_effects is_open so_far (onward_at look x y no_effects tidies.crash tidies.roomy (λ _. refl)))
     taken_more true w x y Cleared a d is_open does so_far =
-        subst (λ (b : Deeds). Onward look w y b) (sym (both_none a) ∙ ap (both a) (sym does.1))
+        subst (λ (b : Effects). Onward look w y b) (sym (followed_by_none a) ∙ ap (followed_by a) (sym does.1))
         (subst (λ (z : Sight D). Onward look w z a) (sym does.0)
-        (record { leaves = so_far.leaves; state = so_far.state; roomy = so_far.roomy; whole = so_far.whole }))
+        (record { crash = so_far.crash; state = so_far.state; roomy = so_far.roomy; whole = so_far.whole }))
     taken_more true w x y Abandoned a d is_open does so_far =
-        subst (λ (b : Deeds). Onward look w y b) (sym (both_none a) ∙ ap (both a) (sym does.1))
+        subst (λ (b : Effects). Onward look w y b) (sym (followed_by_none a) ∙ ap (followed_by a) (sym does.1))
         (subst (λ (z : Sight D). Onward look w z a) (sym does.0)
-        (record { leaves = so_far.leaves; state = λ bad. absurd (false≢true bad); roomy = so_far.roomy; whole = λ bad. absurd (false≢true bad) }))
+        (record { crash = so_far.crash; state = λ bad. absurd (false≢true bad); roomy = so_far.roomy; whole = λ bad. absurd (false≢true bad) }))
     taken_more false w x y (Took i reply) a d closed does so_far =
         let none = subst (λ (b : Bool). TakesWhile b look i x y reply d) closed does in
-        subst (λ (b : Deeds). Onward look w y b) (sym (both_none a) ∙ ap (both a) (sym none.2))
+        subst (λ (b : Effects). Onward look w y b) (sym (followed_by_none a) ∙ ap (followed_by a) (sym none.2))
         (subst (λ (z : Sight D). Onward look w z a) (sym none.1) so_far)
     taken_more false w x y (Row now commands replies) a d closed does so_far = absurd (false≢true (sym closed ∙ does.was_open))
     taken_more false w x y (Tidied end) a d closed does so_far =
         let none = subst (λ (b : Bool). TidiesWhile b look x y end) closed does.0 in
-        subst (λ (b : Deeds). Onward look w y b) (sym (both_none a) ∙ ap (both a) (sym does.1))
+        subst (λ (b : Effects). Onward look w y b) (sym (followed_by_none a) ∙ ap (followed_by a) (sym does.1))
         (subst (λ (z : Sight D). Onward look w z a) (sym none.1) so_far)
     taken_more false w x y Cleared a d closed does so_far =
-        subst (λ (b : Deeds). Onward look w y b) (sym (both_none a) ∙ ap (both a) (sym does.1))
+        subst (λ (b : Effects). Onward look w y b) (sym (followed_by_none a) ∙ ap (followed_by a) (sym does.1))
         (subst (λ (z : Sight D). Onward look w z a) (sym does.0)
-        (record { leaves = so_far.leaves; state = so_far.state; roomy = so_far.roomy; whole = so_far.whole }))
+        (record { crash = so_far.crash; state = so_far.state; roomy = so_far.roomy; whole = so_far.whole }))
     taken_more false w x y Abandoned a d closed does so_far =
-        subst (λ (b : Deeds). Onward look w y b) (sym (both_none a) ∙ ap (both a) (sym does.1))
+        subst (λ (b : Effects). Onward look w y b) (sym (followed_by_none a) ∙ ap (followed_by a) (sym does.1))
         (subst (λ (z : Sight D). Onward look w z a) (sym does.0)
-        (record { leaves = so_far.leaves; state = λ bad. absurd (false≢true bad); roomy = so_far.roomy; whole = λ bad. absurd (false≢true bad) }))
+        (record { crash = so_far.crash; state = λ bad. absurd (false≢true bad); roomy = so_far.roomy; whole = λ bad. absurd (false≢true bad) }))
 
     -- any calls more
-    pub calls_more : (w x z : Sight D) (es : List Exchange) (a d : Deeds) → Calls look x es z d → Onward look w x a
-        → Onward look w z (both a d)
+    pub calls_more : (w x z : Sight D) (es : List Exchange) (a d : Effects) → Calls look x es z d → Onward look w x a
+        → Onward look w z (followed_by a d)
     calls_more w x z [] a d calls so_far =
-        subst (λ (y : Sight D). Onward look w y (both a d)) (sym calls.0)
-        (subst (λ (b : Deeds). Onward look w x b) (sym (both_none a) ∙ ap (both a) (sym calls.1)) so_far)
+        subst (λ (y : Sight D). Onward look w y (followed_by a d)) (sym calls.0)
+        (subst (λ (b : Effects). Onward look w x b) (sym (followed_by_none a) ∙ ap (followed_by a) (sym calls.1)) so_far)
     calls_more w x z (e ∷ es) a d (mid, first, later, does, rest, is) so_far =
-        subst (λ (b : Deeds). Onward look w z b) (sym (both_assoc a first later) ∙ ap (both a) (sym is))
-        (calls_more w mid z es (both a first) later rest (taken_more x.is_open w x mid e a first refl does so_far))
+        subst (λ (b : Effects). Onward look w z b) (sym (followed_by_assoc a first later) ∙ ap (followed_by a) (sym is))
+        (calls_more w mid z es (followed_by a first) later rest (taken_more x.is_open w x mid e a first refl does so_far))

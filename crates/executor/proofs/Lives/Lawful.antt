@@ -58,9 +58,9 @@ module _ (laws : LawfulLaws) where
     start_lawful [] is c left = found_lawful start c left.0
     start_lawful (InOpening old new now end ∷ older) (is, from, ends, honest) c left =
         let reads = (look old).reads in
-        start_lawful older is reads (from reads (lawful old (ends.did.goes.passed.honest honest)).reads_now)
+        start_lawful older is reads (from reads (lawful old (ends.did.crash.passed.honest honest)).reads_now)
     start_lawful (InService x ∷ older) (is, from, serves, honest) c left =
         let whole = whole_leads look law lawful x serves in
-        let was_honest = serves.opens.did.goes.passed.honest (whole.leaves.goes.passed.honest honest) in
+        let was_honest = serves.opens.did.crash.passed.honest (whole.crash.crash.passed.honest honest) in
         let reads = (look x.disk).reads in
         start_lawful older is reads (from reads (lawful x.disk was_honest).reads_now)

@@ -11,30 +11,30 @@ use Rattle.exec_journal.specs.Found.{FoundAs}
 use Rattle.exec_journal.specs.Room.{Roomy}
 use Rattle.exec_journal.specs.Rows.{EitherSide}
 use Rattle.executor.specs.Lives.{Serves, Service, Stands}
-use Rattle.executor.specs.Sessions.{Deeds, both, no_deeds}
+use Rattle.executor.specs.Sessions.{Effects, followed_by, no_effects}
 use Rattle.executor.proofs.Journaling.{WhatStands}
 use Rattle.executor.proofs.Lives.Calls.{calls_closed, calls_more}
 use Rattle.executor.proofs.Lives.Fronts.{EachBegun, FrontOf, GoesOn, all_begun, begin_among}
 use Rattle.executor.proofs.Sessions.Growing.{Onward, leads_start, leads_still, onward}
 
 -- the events of some deeds, those that are pending behind them
-abbrev all_of : Deeds → List Event
+abbrev all_of : Effects → List Event
 all_of d = d.events ++ d.pending
 
 module _ {D : Type 0} (look : D → View) (law : WhatStands) (lawful : (d : D) → (look d).honest → Lawful (look d)) where
   module _ (x : Service D) (serves : Serves look x) where
-    opened_leads : Onward look x.opened x.opened no_deeds
+    opened_leads : Onward look x.opened x.opened no_effects
     opened_leads =
-        onward look x.opened x.opened no_deeds
+        onward look x.opened x.opened no_effects
         (leads_start look law x.opened (lawful x.opened.disk) (serves.opens.sound serves.opens.over.is_open))
 
     -- what the calls leave that returned
     returned_leads : Onward look x.opened x.returned x.done
     returned_leads =
-        calls_more look lawful x.opened x.opened x.returned serves.calls no_deeds x.done serves.returns opened_leads
+        calls_more look lawful x.opened x.opened x.returned serves.calls no_effects x.done serves.returns opened_leads
 
     -- what all of its calls leave
-    pub whole_leads : Onward look x.opened x.last (both x.done x.under_way)
+    pub whole_leads : Onward look x.opened x.last (followed_by x.done x.under_way)
     whole_leads =
         calls_more look lawful x.opened x.returned x.last serves.begun x.done x.under_way serves.goes_on returned_leads
 
@@ -43,18 +43,18 @@ module _ {D : Type 0} (look : D → View) (law : WhatStands) (lawful : (d : D) �
       from_earlier t le = (lawful x.last.disk honest).earlier x.stop t c le left
 
       abbrev Base : Type 0
-      Base = (p : List Event) × FrontOf x.opened.state (all_of (both x.done x.under_way)) c p × GoesOn x.done.events p
+      Base = (p : List Event) × FrontOf x.opened.state (all_of (followed_by x.done x.under_way)) c p × GoesOn x.done.events p
 
       -- where the executor was open behind the last return, the pair is found behind some of what was under way
       base_open : x.returned.is_open ≡ true → Base
       base_open is_open =
           let going : Onward look x.returned x.last x.under_way =
-          calls_more look lawful x.returned x.returned x.last serves.begun no_deeds x.under_way serves.goes_on
-          (onward look x.returned x.returned no_deeds
+          calls_more look lawful x.returned x.returned x.last serves.begun no_effects x.under_way serves.goes_on
+          (onward look x.returned x.returned no_effects
           (leads_still look x.opened x.returned x.done (lawful x.returned.disk) is_open returned_leads)) in
           let d = x.done.events in
           let u = x.under_way in
-          let stands = going.leaves.goes.from_start honest c (from_earlier (look x.returned.disk).clock serves.behind) in
+          let stands = going.crash.crash.from_start honest c (from_earlier (look x.returned.disk).clock serves.behind) in
           let q = stands.0 in
           let none : x.done.pending ≡ [] = returned_leads.whole is_open in (
             d ++ q,
@@ -79,12 +79,12 @@ module _ {D : Type 0} (look : D → View) (law : WhatStands) (lawful : (d : D) �
           let was_left = subst (λ (y : D). (look y).since x.stop c) none.disk left in
           let still = lawful x.returned.disk was_honest in
           let now = still.only_now c (still.earlier x.stop (look x.returned.disk).clock c serves.behind was_left) in
-          by (returned_leads.leaves.now was_honest c now)
+          by (returned_leads.crash.now was_honest c now)
         where
           d : List Event
           d = x.done.events
 
-          all_is : all_of (both x.done x.under_way) ≡ d ++ x.done.pending
+          all_is : all_of (followed_by x.done x.under_way) ≡ d ++ x.done.pending
           all_is =
               let none = calls_closed look x.returned x.last serves.begun x.under_way closed serves.goes_on in
               (λ k. (d ++ (none.nothing k).events) ++ (x.done.pending ++ (none.nothing k).pending))
@@ -116,9 +116,9 @@ module _ {D : Type 0} (look : D → View) (law : WhatStands) (lawful : (d : D) �
       base_of false closed = base_closed closed
 
       -- behind a start that was asked before the stop the pair is found with its begin
-      each_begun : EachBegun x.opened.state (all_of (both x.done x.under_way)) c x.stop (both x.done x.under_way).entries
+      each_begun : EachBegun x.opened.state (all_of (followed_by x.done x.under_way)) c x.stop (followed_by x.done x.under_way).entries
       each_begun run clock asked le =
-          let begun = whole_leads.leaves.starts run clock asked in
+          let begun = whole_leads.crash.starts run clock asked in
           let stands = begun.since honest c (from_earlier clock le) in
           let q = stands.0 in (
             begun.first ++ q,
@@ -136,7 +136,7 @@ module _ {D : Type 0} (look : D → View) (law : WhatStands) (lawful : (d : D) �
       pub service_stands : (p : List Event) × Stands x p × FoundAs (after_all x.opened.state p) c
       service_stands =
           let base = base_of x.returned.is_open refl in
-          let all = all_begun x.opened.state (all_of (both x.done x.under_way)) c x.stop (both x.done x.under_way).entries each_begun
+          let all = all_begun x.opened.state (all_of (followed_by x.done x.under_way)) c x.stop (followed_by x.done x.under_way).entries each_begun
           base.0 base.1 in (
             all.0,
             record {
@@ -153,5 +153,5 @@ module _ {D : Type 0} (look : D → View) (law : WhatStands) (lawful : (d : D) �
       -- and what is left has room for its boot
       pub service_roomy : Roomy c
       service_roomy =
-          let later = returned_leads.leaves.goes.passed.clock in
+          let later = returned_leads.crash.crash.passed.clock in
           whole_leads.roomy.from_start honest c (from_earlier (look x.opened.disk).clock (omega (arith, later, serves.behind)))

@@ -100,9 +100,9 @@ module _ {D : Type 0} (look : D → View) (law : WhatStands) (once : OneFinding)
       → (look new).honest → (look old).honest → EndsOpening (look old) (look new) now end → (c : Image) → (look new).since (look old).clock c
       → Behind (InOpening old new now end ∷ older) c
   in_opening old new now None older from honest was ends c left =
-      may_boot old new now None older from was (tt {0}) c (ends.did.goes.from_start honest c left)
+      may_boot old new now None older from was (tt {0}) c (ends.did.crash.from_start honest c left)
   in_opening old new now (Some why.Disk) older from honest was ends c left =
-      may_boot old new now (Some why.Disk) older from was (tt {0}) c (ends.did.goes.from_start honest c left)
+      may_boot old new now (Some why.Disk) older from was (tt {0}) c (ends.did.crash.from_start honest c left)
   in_opening old new now (Some (why.Damaged d)) older from honest was ends c left =
       unbooted old new now (Some (why.Damaged d)) older from was c ((ends.unbooted (λ none. none)).from_start honest c left)
   in_opening old new now (Some why.Memory) older from honest was ends c left =
@@ -117,14 +117,14 @@ module _ {D : Type 0} (look : D → View) (law : WhatStands) (once : OneFinding)
   life_leaves [] is c left = (([], refl, left.0), left.1)
   life_leaves (InOpening old new now end ∷ older) (is, from, ends, honest) c left =
       let did = ends.did in
-      let was_honest = did.goes.passed.honest honest in (
+      let was_honest = did.crash.passed.honest honest in (
         in_opening old new now end older (λ d d_now. (life_leaves older is d (from d d_now)).0) honest was_honest ends c left,
         (did.roomy (λ _ d d_now. (life_leaves older is d (from d d_now)).1)).from_start honest c left,
       )
   life_leaves (InService x ∷ older) (is, from, serves, honest) c left =
       let whole = whole_leads look law lawful x serves in
-      let opened_honest = whole.leaves.goes.passed.honest honest in
-      let was_honest = serves.opens.did.goes.passed.honest opened_honest in
+      let opened_honest = whole.crash.crash.passed.honest honest in
+      let was_honest = serves.opens.did.crash.passed.honest opened_honest in
       let starts = serves.opens.starts opened_honest in
       let before = (life_leaves older is (look x.disk).reads (from (look x.disk).reads (lawful x.disk was_honest).reads_now)).0 in
       let ys = before.0 in
@@ -147,7 +147,7 @@ module _ {D : Type 0} (look : D → View) (law : WhatStands) (once : OneFinding)
   opened_behind life old from now x ran queued is goes_on opens honest =
       let starts = opens.starts honest in
       let reads = (look old).reads in
-      let before = (life_leaves life is reads (goes_on reads (lawful old (opens.did.goes.passed.honest honest)).reads_now)).0 in
+      let before = (life_leaves life is reads (goes_on reads (lawful old (opens.did.crash.passed.honest honest)).reads_now)).0 in
       let same = one_state starts.state (after_all start before.0) reads starts.found before.2 in
       record {
         stands = before.0;
@@ -162,7 +162,7 @@ module _ {D : Type 0} (look : D → View) (law : WhatStands) (once : OneFinding)
       → GoesOnFrom look start life old → NotOpened (look old) (look new) from to now fault → (look new).honest
       → (fault ≡ why.Full → ⊥) × ((d : Damage) → fault ≡ why.Damaged d → ⊥)
   opens_behind life old new from to now fault is goes_on fails honest =
-      let was_honest = fails.did.goes.passed.honest honest in
+      let was_honest = fails.did.crash.passed.honest honest in
       let reads = (life_leaves life is (look old).reads (goes_on (look old).reads (lawful old was_honest).reads_now)).0 in (
         fails.never_full (λ _ c c_now. (life_leaves life is c (goes_on c c_now)).1) honest,
         λ d bad. let same : Damaged d ≡ Whole (after_all start reads.0) =
@@ -182,6 +182,6 @@ refused_sits look old new from to now fault fails = record {
 pub looked_sits : {D : Type 0} (look : D → View) (old new : D) (now : ℕ) (end : Option OpenError) → Opens (look old) (look new)
     → Sat look (InOpening old new now end)
 looked_sits look old new now end opens = record {
-  did = read_only (look old) (look new) now opens.goes opens.roomy opens.unwritten;
-  unbooted = λ _. opens.goes;
+  did = read_only (look old) (look new) now opens.crash opens.roomy opens.unwritten;
+  unbooted = λ _. opens.crash;
 }

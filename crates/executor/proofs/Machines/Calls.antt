@@ -26,8 +26,8 @@ use Rattle.executor.specs.Commands.{Obeys, Records}
 use Rattle.executor.specs.Lives.{Abandoned, Calls, Cleared, Does, Exchange, Row, Tidied, Took}
 use Rattle.executor.specs.Machine.{AnswersClosed, Fails, GoesOn, Left, Machine, MovesAll, MovesOpen, MovesWhile, TakesAll, TakesOne, TurnEnds, TurnsWhole}
 use Rattle.executor.specs.Replies.{acknowledged, due_left, pending, recorded}
-use Rattle.executor.specs.RowCalls.{Adds, Answered, TakesRow, failed, row_deeds, row_replies}
-use Rattle.executor.specs.Sessions.{Deeds, TakesATurn, TakesRequest, TakesWhile, command_deeds, no_deeds}
+use Rattle.executor.specs.RowCalls.{Adds, Answered, TakesRow, failed, row_effects, row_replies}
+use Rattle.executor.specs.Sessions.{Effects, TakesATurn, TakesRequest, TakesWhile, command_effects, no_effects}
 use Rattle.executor.specs.Sights.{Sight, due_in}
 use Rattle.executor.specs.TidyCalls.{Tidies, TidiesWhile}
 use Rattle.executor.specs.declared.session.InputOf.TheVariants as input
@@ -36,7 +36,7 @@ use Rattle.executor.specs.declared.session.InputOf.TheVariants as input
 abbrev pub machine_of : {D : Type 0} → Sight D → Machine
 machine_of x = record { is_open = x.is_open; state = x.state; due = due_in x; told = x.told }
 
-abbrev pub left_of : Deeds → Left
+abbrev pub left_of : Effects → Left
 left_of d = record { events = d.events; pending = d.pending }
 
 pub same_machine : (m n : Machine) → m.is_open ≡ n.is_open → m.state ≡ n.state → m.due ≡ n.due → m.told ≡ n.told → m ≡ n
@@ -84,20 +84,20 @@ picks_so turn_end.BookFull x bs p = absurd p.0
 picks_so turn_end.Disk x bs p = absurd p.0
 
 module _ {D : Type 0} (look : D → View) where
-  still : (x y : Sight D) (d : Deeds) → y ≡ x → d ≡ no_deeds → GoesOn [] (machine_of x) (machine_of y) (left_of d)
+  still : (x y : Sight D) (d : Effects) → y ≡ x → d ≡ no_effects → GoesOn [] (machine_of x) (machine_of y) (left_of d)
   still x y d same none = (ap machine_of same, ap left_of none)
 
   -- a command
   records : (now : ℕ) (c : Command) (x y : Sight D) (reply : Reply) (e : Event) → event_of x.state now c ≡ Ok e → Records look e x y reply
       → x.is_open ≡ true → (y.is_open ≡ false → reply ≡ Refused Disk) → (reply ≡ Refused Disk → y.is_open ≡ false)
-      → TakesOne now c reply (machine_of x) (machine_of y) (left_of (command_deeds (Ok e) reply))
+      → TakesOne now c reply (machine_of x) (machine_of y) (left_of (command_effects (Ok e) reply))
   records now c x y reply e is r was closes closed = by r.told
     where
       so : Acknowledged x.state (due_in x) e e.change
       so = is_acknowledged x.state (due_in x) e e.change
 
       by : (reply ≡ acknowledged e.change) ⊎ ((reply ≡ Refused JournalFull) ⊎ ((reply ≡ Refused Memory) ⊎ (reply ≡ Refused Disk)))
-          → TakesOne now c reply (machine_of x) (machine_of y) (left_of (command_deeds (Ok e) reply))
+          → TakesOne now c reply (machine_of x) (machine_of y) (left_of (command_effects (Ok e) reply))
       by (inl told) =
           let row : recorded e reply ≡ e ∷ [] = ap (recorded e) told ∙ so.0 in
           let open_still : y.is_open ≡ true = is_true y.is_open (λ bad. not_refused e.change Disk (sym told ∙ closes bad)) in
@@ -108,7 +108,7 @@ module _ {D : Type 0} (look : D → View) where
             inl (
               refl,
               (
-                same_machine (machine_of y) _ (open_still ∙ sym was) (r.leaves.state ∙ ap (after_all x.state) row)
+                same_machine (machine_of y) _ (open_still ∙ sym was) (r.crash.state ∙ ap (after_all x.state) row)
                     (r.due ∙ ap (λ (a : Reply). due_left x.state e a (due_in x)) told ∙ so.2) r.told_still,
                 same_left _ _ row (ap (pending e) told ∙ so.1),
               ),
@@ -138,21 +138,21 @@ module _ {D : Type 0} (look : D → View) where
             ),
           )
 
-  one_command : (now : ℕ) (c : Command) (x y : Sight D) (reply : Reply) (d : Deeds) → TakesRequest look now (asked.Command c) x y reply d
+  one_command : (now : ℕ) (c : Command) (x y : Sight D) (reply : Reply) (d : Effects) → TakesRequest look now (asked.Command c) x y reply d
       → x.is_open ≡ true → TakesOne now c reply (machine_of x) (machine_of y) (left_of d)
   one_command now c x y reply d takes was =
-      subst (λ (k : Deeds). TakesOne now c reply (machine_of x) (machine_of y) (left_of k)) (sym takes.does)
+      subst (λ (k : Effects). TakesOne now c reply (machine_of x) (machine_of y) (left_of k)) (sym takes.does)
       (by (event_of x.state now c) refl takes.serves)
     where
       by : (v : Result Event Refusal) → event_of x.state now c ≡ v → Obeys look v x y reply
-          → TakesOne now c reply (machine_of x) (machine_of y) (left_of (command_deeds v reply))
+          → TakesOne now c reply (machine_of x) (machine_of y) (left_of (command_effects v reply))
       by (Err refusal) is serves =
-          inl (reply ∷ [], [], answers x.state now c reply [] (Err refusal) is (serves.0, refl), inl (refl, still x y no_deeds serves.1 refl))
+          inl (reply ∷ [], [], answers x.state now c reply [] (Err refusal) is (serves.0, refl), inl (refl, still x y no_effects serves.1 refl))
       by (Ok e) is serves = records now c x y reply e is serves was takes.closes.0 takes.closes.1
 
   -- commands in a row
-  row_so : (o : Bool) (now : ℕ) (cs : List Command) (rs : List Reply) (x y : Sight D) (d : Deeds) (t : TakesRow look now cs x y rs d)
-      → y.is_open ≡ o → TakesAll now cs (row_replies o t.meant) (machine_of x) (machine_of y) (left_of (row_deeds o t.events))
+  row_so : (o : Bool) (now : ℕ) (cs : List Command) (rs : List Reply) (x y : Sight D) (d : Effects) (t : TakesRow look now cs x y rs d)
+      → y.is_open ≡ o → TakesAll now cs (row_replies o t.meant) (machine_of x) (machine_of y) (left_of (row_effects o t.events))
   row_so true now cs rs x y d t is = (
     t.meant,
     t.events,
@@ -177,11 +177,11 @@ module _ {D : Type 0} (look : D → View) where
     ),
   )
 
-  one_row : (now : ℕ) (cs : List Command) (rs : List Reply) (x y : Sight D) (d : Deeds) → TakesRow look now cs x y rs d
+  one_row : (now : ℕ) (cs : List Command) (rs : List Reply) (x y : Sight D) (d : Effects) → TakesRow look now cs x y rs d
       → TakesAll now cs rs (machine_of x) (machine_of y) (left_of d)
   one_row now cs rs x y d t =
       subst (λ (l : List Reply). TakesAll now cs l (machine_of x) (machine_of y) (left_of d)) (sym t.told)
-      (subst (λ (k : Deeds). TakesAll now cs (row_replies y.is_open t.meant) (machine_of x) (machine_of y) (left_of k)) (sym t.does)
+      (subst (λ (k : Effects). TakesAll now cs (row_replies y.is_open t.meant) (machine_of x) (machine_of y) (left_of k)) (sym t.does)
       (row_so y.is_open now cs rs x y d t refl))
 
   -- a turn
@@ -243,19 +243,19 @@ module _ {D : Type 0} (look : D → View) where
           ),
         )
 
-  one_turn : (now : ℕ) (x y : Sight D) (reply : Reply) (d : Deeds) → TakesATurn look now x y reply d → x.is_open ≡ true
+  one_turn : (now : ℕ) (x y : Sight D) (reply : Reply) (d : Effects) → TakesATurn look now x y reply d → x.is_open ≡ true
       → MovesOpen (Took (input.Turn now) reply) (machine_of x) (machine_of y) (left_of d)
   one_turn now x y reply d takes was =
       let turns = takes.takes.turns in (
         takes.end,
         takes.replies,
-        subst (λ (k : Deeds). TurnEnds takes.end (moment x.state now) (machine_of x) (machine_of y) (left_of k)) (sym takes.does)
-            (turn_so now x y turns.entries turns.events turns.pending turns.leaves.state turns.due_is was takes.end takes.takes.closes.0
+        subst (λ (k : Effects). TurnEnds takes.end (moment x.state now) (machine_of x) (machine_of y) (left_of k)) (sym takes.does)
+            (turn_so now x y turns.entries turns.events turns.pending turns.crash.state turns.due_is was takes.end takes.takes.closes.0
             takes.takes.closes.1 turns.does),
       )
 
   -- a tidy
-  one_tidy : (o : Bool) (end : TidyEnd) (x y : Sight D) (d : Deeds) → y.is_open ≡ o → Tidies look x y end → d ≡ no_deeds → x.is_open ≡ true
+  one_tidy : (o : Bool) (end : TidyEnd) (x y : Sight D) (d : Effects) → y.is_open ≡ o → Tidies look x y end → d ≡ no_effects → x.is_open ≡ true
       → MovesOpen (Tidied end) (machine_of x) (machine_of y) (left_of d)
   one_tidy true end x y d is t none was = inr (
     λ disk. false≢true (sym (t.closes.1 disk) ∙ is),
@@ -268,7 +268,7 @@ module _ {D : Type 0} (look : D → View) where
   one_tidy false end x y d is t none was = inl (t.closes.0 is, (is, ap left_of none))
 
   -- an open executor
-  moves_open : (e : Exchange) (x y : Sight D) (d : Deeds) → x.is_open ≡ true → Does look e x y d
+  moves_open : (e : Exchange) (x y : Sight D) (d : Effects) → x.is_open ≡ true → Does look e x y d
       → MovesOpen e (machine_of x) (machine_of y) (left_of d)
   moves_open (Took (input.Request now (asked.Question q)) reply) x y d was does =
       let t : TakesRequest look now (asked.Question q) x y reply d =
@@ -285,10 +285,10 @@ module _ {D : Type 0} (look : D → View) where
   moves_open Abandoned x y d was does = (ap (λ (z : Sight D). z.is_open) does.0, ap left_of does.1)
 
   -- a closed one
-  closed_still : (x y : Sight D) (d : Deeds) → x.is_open ≡ false → y ≡ x → d ≡ no_deeds → Fails [] (machine_of y) (left_of d)
+  closed_still : (x y : Sight D) (d : Effects) → x.is_open ≡ false → y ≡ x → d ≡ no_effects → Fails [] (machine_of y) (left_of d)
   closed_still x y d was same none = (ap (λ (z : Sight D). z.is_open) same ∙ was, ap left_of none)
 
-  moves_closed : (e : Exchange) (x y : Sight D) (d : Deeds) → x.is_open ≡ false → Does look e x y d
+  moves_closed : (e : Exchange) (x y : Sight D) (d : Effects) → x.is_open ≡ false → Does look e x y d
       → AnswersClosed e × Fails [] (machine_of y) (left_of d)
   moves_closed (Took i reply) x y d was does =
       let t = subst (λ (b : Bool). TakesWhile b look i x y reply d) was does in (t.0, closed_still x y d was t.1 t.2)
@@ -298,13 +298,13 @@ module _ {D : Type 0} (look : D → View) where
   moves_closed Cleared x y d was does = (tt, (ap (λ (z : Sight D). z.is_open) does.0 ∙ was, ap left_of does.1))
   moves_closed Abandoned x y d was does = (tt, (ap (λ (z : Sight D). z.is_open) does.0, ap left_of does.1))
 
-  moves : (o : Bool) (e : Exchange) (x y : Sight D) (d : Deeds) → x.is_open ≡ o → Does look e x y d
+  moves : (o : Bool) (e : Exchange) (x y : Sight D) (d : Effects) → x.is_open ≡ o → Does look e x y d
       → MovesWhile o e (machine_of x) (machine_of y) (left_of d)
   moves true e x y d was does = moves_open e x y d was does
   moves false e x y d was does = moves_closed e x y d was does
 
   -- calls, one behind the other
-  pub moves_all : (es : List Exchange) (x y : Sight D) (d : Deeds) → Calls look x es y d → MovesAll es (machine_of x) (machine_of y) (left_of d)
+  pub moves_all : (es : List Exchange) (x y : Sight D) (d : Effects) → Calls look x es y d → MovesAll es (machine_of x) (machine_of y) (left_of d)
   moves_all [] x y d calls = (ap machine_of calls.0, ap left_of calls.1)
   moves_all (e ∷ es) x y d (mid, first, later, does, rest, is) =
       (machine_of mid, left_of first, left_of later, moves x.is_open e x mid first refl does, moves_all es mid y later rest, ap left_of is)

@@ -28,8 +28,8 @@ use Rattle.ocf_types.specs.declared.outcome.RunEnd.{RunEnd}
 use Rattle.exec_turn.specs.Actives.{Active, active, active_in, active_of, all_in, result_of}
 use Rattle.exec_turn.specs.Picks.{ArePicks, begin_of, begins, begun_in}
 use Rattle.executor.specs.Histories.{Follow}
-use Rattle.executor.proofs.Alone.Lists.{each_both, each_first, each_map, each_unmap}
-use Rattle.executor.proofs.Alone.Picks.{begun_one, picks_ready}
+use Rattle.executor.proofs.Isolation.Lists.{each_both, each_first, each_map, each_unmap}
+use Rattle.executor.proofs.Isolation.Picks.{begun_one, picks_ready}
 use Rattle.executor.proofs.History.Events.{lookup-own}
 use Rattle.executor.proofs.History.Runs.{running_at, runs_in}
 

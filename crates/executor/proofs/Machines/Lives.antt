@@ -66,9 +66,9 @@ module _ {D : Type 0} (look : D → View) (law : WhatStands) (once : OneFinding)
       → EndsOpening (look old) (look new) now end → (c : Image) → (look new).since (look old).clock c
       → Behind (InOpening old new now end ∷ older) (Opening now end ∷ xs) c
   in_opening old new now None older xs from honest was ends c left =
-      may_boot old new now None older xs from was (tt {0}) c (ends.did.goes.from_start honest c left)
+      may_boot old new now None older xs from was (tt {0}) c (ends.did.crash.from_start honest c left)
   in_opening old new now (Some why.Disk) older xs from honest was ends c left =
-      may_boot old new now (Some why.Disk) older xs from was (tt {0}) c (ends.did.goes.from_start honest c left)
+      may_boot old new now (Some why.Disk) older xs from was (tt {0}) c (ends.did.crash.from_start honest c left)
   in_opening old new now (Some (why.Damaged d)) older xs from honest was ends c left =
       unbooted old new now (Some (why.Damaged d)) older xs from was c ((ends.unbooted (λ none. none)).from_start honest c left)
   in_opening old new now (Some why.Memory) older xs from honest was ends c left =
@@ -95,11 +95,11 @@ module _ {D : Type 0} (look : D → View) (law : WhatStands) (once : OneFinding)
   life_runs [] is c left = ([], refl, refl, left.0)
   life_runs (InOpening old new now end ∷ older) (is, from, ends, honest) c left =
       in_opening old new now end older (seen look start older is) (λ d d_now. life_runs older is d (from d d_now))
-      honest (ends.did.goes.passed.honest honest) ends c left
+      honest (ends.did.crash.passed.honest honest) ends c left
   life_runs (InService x ∷ older) (is, from, serves, honest) c left =
       let whole = whole_leads look law lawful x serves in
-      let opened_honest = whole.leaves.goes.passed.honest honest in
-      let was_honest = serves.opens.did.goes.passed.honest opened_honest in
+      let opened_honest = whole.crash.crash.passed.honest honest in
+      let was_honest = serves.opens.did.crash.passed.honest opened_honest in
       let starts = serves.opens.starts opened_honest in
       let before = life_runs older is (look x.disk).reads (from (look x.disk).reads (lawful x.disk was_honest).reads_now) in
       let ys = before.0 in

@@ -34,7 +34,7 @@ use Rattle.executor.specs.Runs.{opened_on}
 use Rattle.executor.specs.Openings.{booted}
 use Rattle.executor.specs.RowCalls.{Adds, Answered}
 use Rattle.executor.specs.declared.session.InputOf.TheVariants as input
-use Rattle.executor.proofs.Alone.Lists.{each_unmap}
+use Rattle.executor.proofs.Isolation.Lists.{each_unmap}
 use Rattle.executor.proofs.History.Events.{runs_ascend}
 use Rattle.executor.proofs.History.Order.{begin_in_order}
 use Rattle.executor.proofs.History.Runs.{ends_between, follow_first}
@@ -147,18 +147,18 @@ went_wrong m n es fs left opened shut is follow = subst (Went m n) (sym is) (rec
 })
 
 goes_on : (m n : Machine) (es : List Event) (left : Left) → m.is_open ≡ true → GoesOn es m n left → (Fine m.state → Follow m.state es) → Went m n left
-goes_on m n es left opened goes follow = went_on m n es left opened (ap (λ (k : Machine). k.state) goes.0) goes.1 follow
+goes_on m n es left opened crash follow = went_on m n es left opened (ap (λ (k : Machine). k.state) crash.0) crash.1 follow
 
 takes_all : (m n : Machine) (now : ℕ) (cs : List Command) (rs : List Reply) (left : Left) → m.is_open ≡ true → TakesAll now cs rs m n left
     → Went m n left
-takes_all m n now cs rs left opened (meant, es, answered, inl (told, goes)) =
-    goes_on m n es left opened goes (λ fine. answered_follow m.state now cs meant es fine.low answered)
+takes_all m n now cs rs left opened (meant, es, answered, inl (told, crash)) =
+    goes_on m n es left opened crash (λ fine. answered_follow m.state now cs meant es fine.low answered)
 takes_all m n now cs rs left opened (meant, es, answered, inr (some, told, fails)) =
     went_wrong m n [] es left opened fails.0 fails.1 (λ fine. answered_follow m.state now cs meant es fine.low answered)
 
 turns_whole : (end : TurnEnd) (at : ℕ) (m n : Machine) (left : Left) → m.is_open ≡ true → TurnsWhole end at m n left → Went m n left
-turns_whole end at m n left opened (ps, bs, out, xs, each, next, starts, whole, goes) =
-    went_on m n (results at ps ++ begins at bs ++ refusals at xs) left opened (ap (λ (k : Machine). k.state) goes.0) goes.1
+turns_whole end at m n left opened (ps, bs, out, xs, each, next, starts, whole, crash) =
+    went_on m n (results at ps ++ begins at bs ++ refusals at xs) left opened (ap (λ (k : Machine). k.state) crash.0) crash.1
     (λ fine. three_follow at m ps bs out xs each next starts fine)
 
 turn_fails : (at : ℕ) (m n : Machine) (left : Left) → m.is_open ≡ true → n.is_open ≡ false → TurnFails at m left → Went m n left
@@ -172,7 +172,7 @@ turn_fails at m n left opened shut (ps, each, inr (bs, out, next, inr (xs, start
 
 turn_ends : (end : TurnEnd) (at : ℕ) (m n : Machine) (left : Left) → m.is_open ≡ true → TurnEnds end at m n left → Went m n left
 turn_ends turn_end.Closed at m n left opened bad = absurd bad
-turn_ends turn_end.BookFull at m n left opened goes = went_on m n [] left opened (ap (λ (k : Machine). k.state) goes.0) goes.1 (λ fine. tt)
+turn_ends turn_end.BookFull at m n left opened crash = went_on m n [] left opened (ap (λ (k : Machine). k.state) crash.0) crash.1 (λ fine. tt)
 turn_ends turn_end.Disk at m n left opened (shut, fails) = turn_fails at m n left opened shut fails
 turn_ends turn_end.Done at m n left opened turns = turns_whole turn_end.Done at m n left opened turns
 turn_ends turn_end.RunsSpent at m n left opened turns = turns_whole turn_end.RunsSpent at m n left opened turns
@@ -187,8 +187,8 @@ moves_open (Took (input.Request now (asked.Command c)) reply) m n left opened (i
 moves_open (Took (input.Turn now) reply) m n left opened (end, replies, turns) = turn_ends end (moment m.state now) m n left opened turns
 moves_open (Row now cs rs) m n left opened takes = takes_all m n now cs rs left opened takes
 moves_open (Tidied end) m n left opened (inl (disk, fails)) = went_wrong m n [] [] left opened fails.0 fails.1 (λ fine. tt)
-moves_open (Tidied end) m n left opened (inr (done, goes)) = goes_on m n [] left opened goes (λ fine. tt)
-moves_open Cleared m n left opened goes = goes_on m n [] left opened goes (λ fine. tt)
+moves_open (Tidied end) m n left opened (inr (done, crash)) = goes_on m n [] left opened crash (λ fine. tt)
+moves_open Cleared m n left opened crash = goes_on m n [] left opened crash (λ fine. tt)
 moves_open Abandoned m n left opened fails = went_wrong m n [] [] left opened fails.0 fails.1 (λ fine. tt)
 
 moves_so : (o : Bool) (e : Exchange) (m n : Machine) (left : Left) → m.is_open ≡ o → MovesWhile o e m n left → Went m n left
@@ -254,12 +254,12 @@ boots_follow s now = by (any_busy s) refl
 sits_follow : (x : Seen) (s : State) (zs : List Event) → Fine s → Sits x s zs → Follow s zs
 sits_follow (Opening now end) s zs fine (inl none) = subst (Follow s) (sym none) tt
 sits_follow (Opening now end) s zs fine (inr (may, is)) = subst (Follow s) (sym is) (boots_follow s now)
-sits_follow (Serving now ran queued calls begun) s zs fine (ran_is, queued_is, m, n, done, under_way, p, returns, goes, stands, is) =
+sits_follow (Serving now ran queued calls begun) s zs fine (ran_is, queued_is, m, n, done, under_way, p, returns, crash, stands, is) =
     let boot = boots_follow s now in
     let open_state : after_all s (boots s now) ≡ booted s now = boots_is s now in
     let fine2 : Fine (booted s now) = subst Fine open_state (fine_on s (boots s now) boot fine) in
     let went = went_both (opened_on s now) m n done under_way (moves_all_so calls (opened_on s now) m done returns)
-    (moves_all_so begun m n under_way goes) in
+    (moves_all_so begun m n under_way crash) in
     let all = went.follow refl fine2 in
     let first : Follow (booted s now) p = follow_first (booted s now) p stands.1 (subst (Follow (booted s now)) (sym stands.3) all) in
     subst (Follow s) (sym is) (follow_both s (boots s now) p boot (subst (λ (t : State). Follow t p) (sym open_state) first))

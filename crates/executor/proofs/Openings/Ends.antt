@@ -10,8 +10,8 @@ use Rattle.ocf_types.specs.declared.reply.Notice.{Notice}
 use Rattle.child_keeper.specs.Children.{Admits, ChildrenView, given_up}
 use Rattle.disk_model.specs.Image.{Image}
 use Rattle.disk_model.specs.Laws.{joined, passed_on, supposed, weakened}
-use Rattle.disk_model.specs.Runs.{Goes}
-use Rattle.disk_model.specs.View.{Passed, Rests, View}
+use Rattle.disk_model.specs.Runs.{CrashesTo}
+use Rattle.disk_model.specs.View.{Passed, Unwritten, View}
 use Rattle.gated_slots.specs.declared.append.SlotFault.{SlotFault}
 use Rattle.gated_slots.specs.declared.append.SlotFault.TheVariants as slot
 use Rattle.exec_journal.specs.Found.{FoundAs, IsToWrite, StandsAt}
@@ -29,8 +29,8 @@ use Rattle.executor.specs.Openings.{Boots, BootsFrom, IsQuiet, LacksBoot, LacksR
 use Rattle.executor.specs.Openings.{told_fault, told_slot, IsForeign, IsOver, IsUnready}
 use Rattle.executor.specs.Reports.{dropped, interrupted}
 use Rattle.executor.specs.Sights.{Sight, due_in}
-use Rattle.exec_turn.specs.Turns.{Tended}
-use Rattle.executor.proofs.Keeping.{quiet_tended}
+use Rattle.exec_turn.specs.Turns.{ChildrenMatch}
+use Rattle.executor.proofs.Keeping.{quiet_matched}
 use Rattle.executor.proofs.Journaling.{WhatStands}
 
 -- after a boot nothing is queued or running
@@ -48,20 +48,20 @@ boot_next s m = by (any_busy s)
     by true = omega arith
     by false = refl
 
-opens_like : (old new : View) (now : ℕ) → Goes old new (OpensLike old) → Goes old new (StartsLike old now)
-opens_like old new now goes = weakened old new (OpensLike old) (StartsLike old now) (λ h c left. inl left) goes
+opens_like : (old new : View) (now : ℕ) → CrashesTo old new (OpensLike old) → CrashesTo old new (StartsLike old now)
+opens_like old new now crash = weakened old new (OpensLike old) (StartsLike old now) (λ h c left. inl left) crash
 
 -- only the journal was opened, or not even that
-pub read_only : (old new : View) (now : ℕ) → Goes old new (OpensLike old) → ((old.honest → AllRoomy old) → Goes old new Roomy)
-    → ((old.honest → IsToWrite old.reads → ⊥) → Rests old new) → OpensDisk old new now
-read_only old new now goes roomy unwritten =
-    record { goes = opens_like old new now goes; roomy = roomy; unwritten = λ quiet. unwritten (λ h. (quiet h).0) }
+pub read_only : (old new : View) (now : ℕ) → CrashesTo old new (OpensLike old) → ((old.honest → AllRoomy old) → CrashesTo old new Roomy)
+    → ((old.honest → IsToWrite old.reads → ⊥) → Unwritten old new) → OpensDisk old new now
+read_only old new now crash roomy unwritten =
+    record { crash = opens_like old new now crash; roomy = roomy; unwritten = λ quiet. unwritten (λ h. (quiet h).0) }
 
 module _ (old new : View) (from : ChildrenView) (now : ℕ) where
   -- the journal was not opened
   pub journal_refused : (fault : JournalFault) → FailsToOpen fault old new → NotOpened old new from from now (told_fault fault)
   journal_refused fault fails = record {
-    did = read_only old new now fails.opens.goes fails.opens.roomy fails.opens.unwritten;
+    did = read_only old new now fails.opens.crash fails.opens.roomy fails.opens.unwritten;
     children = inl refl;
     untouched = λ d is. refl;
     foreign = λ is. absurd (never_foreign fault is);
@@ -71,8 +71,8 @@ module _ (old new : View) (from : ChildrenView) (now : ℕ) where
     full = λ h is. absurd (never_full fault is);
     not_foreign = λ h is. absurd (never_full fault is);
     never_full = λ roomy h is. never_full fault is;
-    unbooted = λ _. fails.opens.goes;
-    foreign_unbooted = λ _. fails.opens.goes;
+    unbooted = λ _. fails.opens.crash;
+    foreign_unbooted = λ _. fails.opens.crash;
     unwritten = λ _. fails.opens.unwritten;
   }
     where
@@ -100,7 +100,7 @@ module _ (old new : View) (from : ChildrenView) (now : ℕ) where
 pub unready_memory : (old new : View) (from to : ChildrenView) (now : ℕ) → Opens old new → to ≡ given_up from
     → (new.honest → IsForeign old.reads from → ⊥) → NotOpened old new from to now why.Memory
 unready_memory old new from to now opens kids own = record {
-  did = read_only old new now opens.goes opens.roomy opens.unwritten;
+  did = read_only old new now opens.crash opens.roomy opens.unwritten;
   children = inr kids;
   untouched = λ d is. let none : ⊥ = cc in absurd none;
   foreign = λ is. let none : ⊥ = cc in absurd none;
@@ -110,8 +110,8 @@ unready_memory old new from to now opens kids own = record {
   not_foreign = λ h is. let none : ⊥ = cc in absurd none;
   never_full = λ roomy h is. cc;
   spared = λ h other. absurd (own h other);
-  unbooted = λ _. opens.goes;
-  foreign_unbooted = λ _. opens.goes;
+  unbooted = λ _. opens.crash;
+  foreign_unbooted = λ _. opens.crash;
   unwritten = λ _. opens.unwritten;
 }
 
@@ -119,7 +119,7 @@ unready_memory old new from to now opens kids own = record {
 unready_foreign : (old new : View) (p : Place) (s : State) (from to : ChildrenView) (now : ℕ) → OpensAt p s old new → to ≡ from
     → s.next_run ≤ from.last_run → NotOpened old new from to now why.Foreign
 unready_foreign old new p s from to now opens kids later = record {
-  did = read_only old new now opens.opens.goes opens.opens.roomy opens.opens.unwritten;
+  did = read_only old new now opens.opens.crash opens.opens.roomy opens.opens.unwritten;
   children = inl kids;
   untouched = λ d is. kids;
   foreign = λ is. (kids, λ h. record { state = s; found = opens.found h; later = later });
@@ -129,8 +129,8 @@ unready_foreign old new p s from to now opens kids later = record {
   not_foreign = λ h is. let none : ⊥ = cc in absurd none;
   never_full = λ roomy h is. cc;
   spared = λ h other. kids;
-  unbooted = λ _. opens.opens.goes;
-  foreign_unbooted = λ _. opens.opens.goes;
+  unbooted = λ _. opens.opens.crash;
+  foreign_unbooted = λ _. opens.opens.crash;
   unwritten = λ _. opens.opens.unwritten;
 }
 
@@ -166,30 +166,30 @@ module _ {D : Type 0} (look : D → View) (law : WhatStands) (once : (c : Image)
 
   module _ (new : Sight D) where
     both_passed : Passed (look mid.disk) (look new.disk) → Passed old (look new.disk)
-    both_passed passed = passed_on old (look mid.disk) (look new.disk) opens.opens.goes.passed passed
+    both_passed passed = passed_on old (look mid.disk) (look new.disk) opens.opens.crash.passed passed
 
-    did_both : (goes : Goes (look mid.disk) (look new.disk) (BootsFrom mid.state now))
-        → (HasRoom mid.place.tail mid.state → Goes (look mid.disk) (look new.disk) Roomy) → (any_busy mid.state ≡ false → new ≡ mid)
+    did_both : (crash : CrashesTo (look mid.disk) (look new.disk) (BootsFrom mid.state now))
+        → (HasRoom mid.place.tail mid.state → CrashesTo (look mid.disk) (look new.disk) Roomy) → (any_busy mid.state ≡ false → new ≡ mid)
         → OpensDisk old (look new.disk) now
-    did_both goes roomy quiet = record {
-      goes = joined old (look mid.disk) (look new.disk) (StartsLike old now)
-          (opens_like old (look mid.disk) now opens.opens.goes)
+    did_both crash roomy quiet = record {
+      crash = joined old (look mid.disk) (look new.disk) (StartsLike old now)
+          (opens_like old (look mid.disk) now opens.opens.crash)
           (weakened (look mid.disk) (look new.disk) (BootsFrom mid.state now) (StartsLike old now)
-          (λ h c left. inr (mid.state, opens.found (goes.passed.honest h), left)) goes);
+          (λ h c left. inr (mid.state, opens.found (crash.passed.honest h), left)) crash);
       roomy =
           λ all. joined old (look mid.disk) (look new.disk) Roomy (opens.opens.roomy all)
-          (supposed (look mid.disk) (look new.disk) Roomy goes.passed (λ h. roomy (opens.room all (goes.passed.honest h))));
+          (supposed (look mid.disk) (look new.disk) Roomy crash.passed (λ h. roomy (opens.room all (crash.passed.honest h))));
       unwritten = λ is_quiet. rests is_quiet (any_busy mid.state) refl;
     }
       where
-        rests : (old.honest → IsQuiet old.reads) → (b : Bool) → any_busy mid.state ≡ b → Rests old (look new.disk)
+        rests : (old.honest → IsQuiet old.reads) → (b : Bool) → any_busy mid.state ≡ b → Unwritten old (look new.disk)
         rests is_quiet false not =
-            subst (λ (x : Sight D). Rests old (look x.disk)) (sym (quiet not)) (opens.opens.unwritten (λ h. (is_quiet h).0))
+            subst (λ (x : Sight D). Unwritten old (look x.disk)) (sym (quiet not)) (opens.opens.unwritten (λ h. (is_quiet h).0))
         rests is_quiet true busy =
-            let never : (look new.disk).honest → ⊥ = λ h. let mid_h = goes.passed.honest h in
-            true≢false (sym busy ∙ (is_quiet (opens.opens.goes.passed.honest mid_h)).1 mid.state (opens.found mid_h)) in
+            let never : (look new.disk).honest → ⊥ = λ h. let mid_h = crash.passed.honest h in
+            true≢false (sym busy ∙ (is_quiet (opens.opens.crash.passed.honest mid_h)).1 mid.state (opens.found mid_h)) in
             record {
-              passed = both_passed goes.passed;
+              passed = both_passed crash.passed;
               same = λ h. absurd (never h);
               still = λ h. absurd (never h);
               since = λ h. absurd (never h);
@@ -239,19 +239,19 @@ module _ {D : Type 0} (look : D → View) (law : WhatStands) (once : (c : Image)
                 (subst (λ (s : State). IsSettled new.place s (look final.disk)) (sym state)
                 (subst (λ (d : D). IsSettled new.place new.state (look d)) (sym disk) (boots.settled (honest_new h))));
             room = λ busy. absurd (true≢false (sym busy ∙ quiet_now));
-            tended = subst (λ (v : ChildrenView). Tended final.state v) (sym given) (quiet_tended final.state from quiet_now rising);
+            matched = subst (λ (v : ChildrenView). ChildrenMatch final.state v) (sym given) (quiet_matched final.state from quiet_now rising);
             admits = subst (λ (v : ChildrenView). Admits v.site final.site) (sym given) admits;
           };
           starts = λ h. record {
             state = mid.state;
-            found = opens.found (boots.goes.passed.honest (honest_new h));
+            found = opens.found (boots.crash.passed.honest (honest_new h));
             boot = done;
             due_is = due;
             ran = ran_is;
             queued = queued_is;
           };
-          did = subst (λ (d : D). OpensDisk old (look d) now) (sym disk) (did_both boots.goes boots.roomy boots.quiet);
-          fits = λ h lacks. let bad = boots.full.1 (lacks_boot (boots.goes.passed.honest (honest_new h)) lacks) in let none : ⊥ = cc in
+          did = subst (λ (d : D). OpensDisk old (look d) now) (sym disk) (did_both boots.crash boots.roomy boots.quiet);
+          fits = λ h lacks. let bad = boots.full.1 (lacks_boot (boots.crash.passed.honest (honest_new h)) lacks) in let none : ⊥ = cc in
               none;
         }
 
@@ -259,31 +259,31 @@ module _ {D : Type 0} (look : D → View) (law : WhatStands) (once : (c : Image)
     pub boot_refused : (fault : SlotFault) (d : D) (to : ChildrenView) → Boots look now mid new (Err fault) → d ≡ new.disk
         → to ≡ new.children → NotOpened old (look d) from to now (told_slot fault)
     boot_refused fault d to boots same kids = subst (λ (x : D). NotOpened old (look x) from to now (told_slot fault)) (sym same) (record {
-      did = did_both boots.goes boots.roomy boots.quiet;
+      did = did_both boots.crash boots.roomy boots.quiet;
       children = inr (kids ∙ boots.children ∙ over.children);
       untouched = λ x is. absurd (no_damage fault x is);
       foreign = λ is. absurd (no_foreign fault is);
       damaged = λ h x is. absurd (no_damage fault x is);
-      cause = λ is. let grew = boots.cause (ap Err (as_disk fault is)) in let before = opens.opens.goes.passed.failures in
-          omega (arith, grew, before);
-      full = λ h is. lacks_room (boots.goes.passed.honest h) (boots.full.0 (ap Err (as_full fault is)));
+      cause = λ is. let increased = boots.cause (ap Err (as_disk fault is)) in let before = opens.opens.crash.passed.failures in
+          omega (arith, increased, before);
+      full = λ h is. lacks_room (boots.crash.passed.honest h) (boots.full.0 (ap Err (as_full fault is)));
       never_full = λ roomy h is.
           let lacks = boots.full.0 (ap Err (as_full fault is)) in
-          let room = opens.room roomy (boots.goes.passed.honest h) lacks.0 in
+          let room = opens.room roomy (boots.crash.passed.honest h) lacks.0 in
           let short = lacks.1 in
           omega (arith, room, short);
       not_foreign = λ h _. own h;
       spared = λ h other. absurd (own h other);
       foreign_unbooted = λ other.
-          supposed old (look new.disk) (OpensLike old) (both_passed boots.goes.passed) (λ h. absurd (own h (other h)));
+          supposed old (look new.disk) (OpensLike old) (both_passed boots.crash.passed) (λ h. absurd (own h (other h)));
       unwritten = λ not_disk not.
-          subst (λ (x : D). Rests old (look x)) (sym (boots.unwritten (ap Err (else_full fault not_disk)))) (opens.opens.unwritten not);
+          subst (λ (x : D). Unwritten old (look x)) (sym (boots.unwritten (ap Err (else_full fault not_disk)))) (opens.opens.unwritten not);
       unbooted = λ not_disk.
-          subst (λ (x : D). Goes old (look x) (OpensLike old)) (sym (boots.unwritten (ap Err (else_full fault not_disk)))) opens.opens.goes;
+          subst (λ (x : D). CrashesTo old (look x) (OpensLike old)) (sym (boots.unwritten (ap Err (else_full fault not_disk)))) opens.opens.crash;
     })
       where
         own : (look new.disk).honest → IsForeign old.reads from → ⊥
-        own h = own_children once old.reads mid.state from (opens.found (boots.goes.passed.honest h)) over.rising
+        own h = own_children once old.reads mid.state from (opens.found (boots.crash.passed.honest h)) over.rising
 
         no_damage : (f : SlotFault) (x : Damage) → told_slot f ≡ why.Damaged x → ⊥
         no_damage slot.Disk x is = cc

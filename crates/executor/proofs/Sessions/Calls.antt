@@ -4,10 +4,10 @@ use Rattle.ocf_types.specs.Kinds.{Reply}
 use Rattle.disk_model.specs.View.{View}
 use Rattle.executor.specs.Joins.{as_calls}
 use Rattle.executor.specs.Lives.{Calls}
-use Rattle.executor.specs.Sessions.{Deeds, Input, Session}
+use Rattle.executor.specs.Sessions.{Effects, Input, Session}
 use Rattle.executor.specs.Sights.{Sight}
 
-pub session_is_calls : {D : Type 0} (look : D → View) (x z : Sight D) (is : List Input) (rs : List Reply) (d : Deeds)
+pub session_is_calls : {D : Type 0} (look : D → View) (x z : Sight D) (is : List Input) (rs : List Reply) (d : Effects)
     → Session look x is rs z d → Calls look x (as_calls is rs) z d
 session_is_calls look x z [] [] d session = session
 session_is_calls look x z [] (r ∷ rs) d session = absurd session

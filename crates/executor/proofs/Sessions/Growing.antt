@@ -12,14 +12,14 @@ use Rattle.ocf_types.specs.declared.reply.TurnEnd.{TurnEnd}
 use Rattle.disk_model.specs.View.{View}
 use Rattle.child_keeper.specs.declared.answer.Entry.{Entry}
 use Rattle.exec_turn.specs.Turn.{due_after_all}
-use Rattle.executor.specs.Sessions.{Deeds, Input, Session, Takes, TakesWhile, both, no_deeds, request_deeds}
+use Rattle.executor.specs.Sessions.{Effects, Input, Session, Takes, TakesWhile, followed_by, no_effects, request_effects}
 use Rattle.executor.specs.Sights.{Sight, due_in}
 use Rattle.ocf_types.specs.Answer.{event_of}
 use Rattle.ocf_types.specs.declared.command.RequestOf.TheVariants as asked
 use Rattle.ocf_types.specs.declared.refusal.Refusal.{Refusal}
 use Rattle.ocf_types.specs.declared.reply.ReplyOf.TheVariants.{Accepted, Done, History, Info, List as ListOf}
 use Rattle.disk_model.specs.Laws.{joined as runs_joined, left_now, started}
-use Rattle.disk_model.specs.Runs.{Goes}
+use Rattle.disk_model.specs.Runs.{CrashesTo}
 use Rattle.disk_model.specs.View.{Lawful}
 use Rattle.child_keeper.specs.Children.{ChildrenView}
 use Rattle.exec_journal.specs.Room.{Roomy}
@@ -28,8 +28,8 @@ use Rattle.exec_turn.specs.Laws.{asked_none, due_after_all-append, joined, told}
 use Rattle.exec_turn.specs.Pieces.{Leaves}
 use Rattle.executor.specs.Commands.{Obeys, ServesOpen}
 use Rattle.executor.specs.Replies.{due_left, pending, recorded}
-use Rattle.executor.specs.CallLaws.{both_assoc, both_none}
-use Rattle.executor.specs.Sessions.{Leads, Sits, TakesOpen, command_deeds}
+use Rattle.executor.specs.CallLaws.{followed_by_assoc, followed_by_none}
+use Rattle.executor.specs.Sessions.{Leads, Sits, TakesOpen, command_effects}
 use Rattle.executor.specs.Sights.{IsSound, Keeps}
 use Rattle.executor.specs.TurnCalls.{TakesTurn}
 use Rattle.executor.proofs.Journaling.{WhatStands, same_roomy, settled_found}
@@ -37,34 +37,34 @@ use Rattle.executor.specs.declared.session.InputOf.TheVariants as input
 
 -- one input more
 pub session_more : {D : Type 0} (look : D → View) (x y z : Sight D) (is : List Input) (rs : List Reply) (i : Input) (r : Reply)
-    (a b : Deeds)
-    → Session look x is rs y a → Takes look i y z r b → Session look x (is ++ i ∷ []) (rs ++ r ∷ []) z (both a b)
+    (a b : Effects)
+    → Session look x is rs y a → Takes look i y z r b → Session look x (is ++ i ∷ []) (rs ++ r ∷ []) z (followed_by a b)
 session_more look x y z [] [] i r a b s t = (
   z,
   b,
-  no_deeds,
+  no_effects,
   subst (λ (v : Sight _). Takes look i v z r b) s.0 t,
   (refl, refl),
-  ap (λ (d : Deeds). both d b) s.1
-      ∙ sym (both_none b),
+  ap (λ (d : Effects). followed_by d b) s.1
+      ∙ sym (followed_by_none b),
 )
 session_more look x y z [] (q ∷ rs) i r a b s t = absurd s
 session_more look x y z (j ∷ is) [] i r a b s t = absurd s
 session_more look x y z (j ∷ is) (q ∷ rs) i r a b (m, first, later, takes, rest, does) t = (
   m,
   first,
-  both later b,
+  followed_by later b,
   takes,
   session_more look m y z is rs i r later b rest t,
-  ap (λ (d : Deeds). both d b) does
-      ∙ sym (both_assoc first later b),
+  ap (λ (d : Effects). followed_by d b) does
+      ∙ sym (followed_by_assoc first later b),
 )
 
 -- where nothing was done, nothing is left but what was there
 pub leads_start : {D : Type 0} (look : D → View) (law : WhatStands) (x : Sight D) → ((look x.disk).honest → Lawful (look x.disk))
-    → Keeps look x → Leads look x x no_deeds
+    → Keeps look x → Leads look x x no_effects
 leads_start look law x lawful keeps = record {
-  leaves = told (look x.disk) x.state [] lawful (settled_found law x.place x.state (look x.disk) keeps.journal) asked_none;
+  crash = told (look x.disk) x.state [] lawful (settled_found law x.place x.state (look x.disk) keeps.journal) asked_none;
   book = sym (append-nil x.children.book);
   log = sym (append-nil x.children.log);
   site = refl;
@@ -75,34 +75,34 @@ leads_start look law x lawful keeps = record {
 
 -- What calls leave, whatever became of the children's book: from one sight of an executor to another. What a disk fault closed may
 -- have gone on to a state that is not recorded.
-pub record Onward {D : Type 0} (look : D → View) (old new : Sight D) (deeds : Deeds) : Type 0 where
-  pub leaves : Leaves (look old.disk) (look new.disk) old.state (after_all old.state deeds.events) deeds.entries deeds.events deeds.pending
-  pub state : new.is_open ≡ true → new.state ≡ after_all old.state deeds.events
-  pub roomy : Goes (look old.disk) (look new.disk) Roomy
-  pub whole : new.is_open ≡ true → deeds.pending ≡ []
+pub record Onward {D : Type 0} (look : D → View) (old new : Sight D) (effects : Effects) : Type 0 where
+  pub crash : Leaves (look old.disk) (look new.disk) old.state (after_all old.state effects.events) effects.entries effects.events effects.pending
+  pub state : new.is_open ≡ true → new.state ≡ after_all old.state effects.events
+  pub roomy : CrashesTo (look old.disk) (look new.disk) Roomy
+  pub whole : new.is_open ≡ true → effects.pending ≡ []
 
 -- where the state is the one that is recorded
-pub onward_at : {D : Type 0} (look : D → View) (x y : Sight D) (d : Deeds)
-    → Leaves (look x.disk) (look y.disk) x.state y.state d.entries d.events d.pending → Goes (look x.disk) (look y.disk) Roomy
+pub onward_at : {D : Type 0} (look : D → View) (x y : Sight D) (d : Effects)
+    → Leaves (look x.disk) (look y.disk) x.state y.state d.entries d.events d.pending → CrashesTo (look x.disk) (look y.disk) Roomy
     → (y.is_open ≡ true → d.pending ≡ []) → Onward look x y d
 onward_at look x y d leaves roomy whole = record {
-  leaves = subst (λ (t : State). Leaves (look x.disk) (look y.disk) x.state t d.entries d.events d.pending) leaves.state leaves;
+  crash = subst (λ (t : State). Leaves (look x.disk) (look y.disk) x.state t d.entries d.events d.pending) leaves.state leaves;
   state = λ _. leaves.state;
   roomy = roomy;
   whole = whole;
 }
 
-pub onward : {D : Type 0} (look : D → View) (x y : Sight D) (d : Deeds) → Leads look x y d → Onward look x y d
-onward look x y d leads = onward_at look x y d leads.leaves leads.roomy leads.whole
+pub onward : {D : Type 0} (look : D → View) (x y : Sight D) (d : Effects) → Leads look x y d → Onward look x y d
+onward look x y d leads = onward_at look x y d leads.crash leads.roomy leads.whole
 
 -- where calls left it open, nothing is left but what they left
-pub leads_still : {D : Type 0} (look : D → View) (w x : Sight D) (a : Deeds) → ((look x.disk).honest → Lawful (look x.disk))
-    → x.is_open ≡ true → Onward look w x a → Leads look x x no_deeds
+pub leads_still : {D : Type 0} (look : D → View) (w x : Sight D) (a : Effects) → ((look x.disk).honest → Lawful (look x.disk))
+    → x.is_open ≡ true → Onward look w x a → Leads look x x no_effects
 leads_still look w x a lawful is_open so_far = record {
-  leaves = told (look x.disk) x.state [] lawful
+  crash = told (look x.disk) x.state [] lawful
       (λ h c now. ⊎_elim (λ here. here) (λ here. here)
       (subst (λ (p : List Event). EitherSide x.state p c) (so_far.whole is_open)
-      (subst (λ (s : State). EitherSide s a.pending c) (sym (so_far.state is_open)) (so_far.leaves.now h c now)))) asked_none;
+      (subst (λ (s : State). EitherSide s a.pending c) (sym (so_far.state is_open)) (so_far.crash.now h c now)))) asked_none;
   book = sym (append-nil x.children.book);
   log = sym (append-nil x.children.log);
   site = refl;
@@ -124,12 +124,12 @@ no_pending : (e : Event) (reply : Reply) → (reply ≡ Refused Disk → ⊥) �
 no_pending e (Refused Disk) not_disk = absurd (not_disk refl)
 no_pending e reply not_disk = refl
 
-leads_command : {D : Type 0} (look : D → View) (x y : Sight D) (r : Result Event Refusal) (reply : Reply) → Leads look x x no_deeds
-    → Obeys look r x y reply → ((y.is_open ≡ false) ↔ (reply ≡ Refused Disk)) → Leads look x y (command_deeds r reply)
+leads_command : {D : Type 0} (look : D → View) (x y : Sight D) (r : Result Event Refusal) (reply : Reply) → Leads look x x no_effects
+    → Obeys look r x y reply → ((y.is_open ≡ false) ↔ (reply ≡ Refused Disk)) → Leads look x y (command_effects r reply)
 leads_command look x y (Err refusal) reply still obeys closes =
-    subst (λ (z : Sight _). Leads look x z no_deeds) (sym obeys.1) still
+    subst (λ (z : Sight _). Leads look x z no_effects) (sym obeys.1) still
 leads_command look x y (Ok e) reply still records closes = record {
-  leaves = records.leaves;
+  crash = records.crash;
   book = ap (λ (c : ChildrenView). c.book) records.children ∙ sym (append-nil x.children.book);
   log = ap (λ (c : ChildrenView). c.log) records.children ∙ sym (append-nil x.children.log);
   site = records.site;
@@ -138,18 +138,18 @@ leads_command look x y (Ok e) reply still records closes = record {
   whole = λ is_open. no_pending e reply (λ disk. absurd (true≢false (sym is_open ∙ closes.1 disk)));
 }
 
-leads_request : {D : Type 0} (look : D → View) (now : ℕ) (request : Request) (x y : Sight D) (reply : Reply) → Leads look x x no_deeds
+leads_request : {D : Type 0} (look : D → View) (now : ℕ) (request : Request) (x y : Sight D) (reply : Reply) → Leads look x x no_effects
     → ServesOpen look now request x y reply → ((y.is_open ≡ false) ↔ (reply ≡ Refused Disk))
-    → Leads look x y (request_deeds x.state now request reply)
+    → Leads look x y (request_effects x.state now request reply)
 leads_request look now (asked.Question question) x y reply still serves closes =
-    subst (λ (z : Sight _). Leads look x z no_deeds) (sym serves.1) still
+    subst (λ (z : Sight _). Leads look x z no_effects) (sym serves.1) still
 leads_request look now (asked.Command command) x y reply still serves closes =
     leads_command look x y (event_of x.state now command) reply still serves closes
 
 leads_turn : {D : Type 0} (look : D → View) (now : ℕ) (x y : Sight D) (end : TurnEnd) (takes : TakesTurn look now x y end)
     → Leads look x y (record { entries = takes.turns.entries; events = takes.turns.events; pending = takes.turns.pending })
 leads_turn look now x y end takes = record {
-  leaves = takes.turns.leaves;
+  crash = takes.turns.crash;
   book = takes.turns.book;
   log = takes.turns.log;
   site = takes.site;
@@ -159,28 +159,28 @@ leads_turn look now x y end takes = record {
 }
 
 -- what one input leaves
-pub leads_open : {D : Type 0} (look : D → View) (i : Input) (x y : Sight D) (reply : Reply) (d : Deeds) → Leads look x x no_deeds
+pub leads_open : {D : Type 0} (look : D → View) (i : Input) (x y : Sight D) (reply : Reply) (d : Effects) → Leads look x x no_effects
     → TakesOpen look i x y reply d → Leads look x y d
 leads_open look (input.Request now request) x y reply d still takes =
-    subst (λ (e : Deeds). Leads look x y e) (sym takes.does)
+    subst (λ (e : Effects). Leads look x y e) (sym takes.does)
     (leads_request look now request x y reply still takes.serves takes.closes)
 leads_open look (input.Turn now) x y reply d still takes =
-    subst (λ (e : Deeds). Leads look x y e) (sym takes.does) (leads_turn look now x y takes.end takes.takes)
+    subst (λ (e : Effects). Leads look x y e) (sym takes.does) (leads_turn look now x y takes.end takes.takes)
 
 -- calls behind others
-pub onward_joined : {D : Type 0} (look : D → View) (x y z : Sight D) (a b : Deeds) → y.is_open ≡ true → Onward look x y a
-    → Onward look y z b → Onward look x z (both a b)
+pub onward_joined : {D : Type 0} (look : D → View) (x y z : Sight D) (a b : Effects) → y.is_open ≡ true → Onward look x y a
+    → Onward look y z b → Onward look x z (followed_by a b)
 onward_joined look x y z a b is_open one two =
     let nothing : a.pending ≡ [] = one.whole is_open in
     let t : State = after_all x.state a.events in
     let all : after_all x.state (a.events ++ b.events) ≡ after_all t b.events = after_all-append x.state a.events b.events in
     let later : Leaves (look y.disk) (look z.disk) t (after_all t b.events) b.entries b.events b.pending =
     subst (λ (s : State). Leaves (look y.disk) (look z.disk) s (after_all s b.events) b.entries b.events b.pending) (one.state is_open)
-    two.leaves in
+    two.crash in
     let joined_at : Leaves (look x.disk) (look z.disk) x.state (after_all t b.events) (a.entries ++ b.entries) (a.events ++ b.events) b.pending =
     joined (look x.disk) (look y.disk) (look z.disk) x.state t (after_all t b.events) a.entries b.entries a.events b.events b.pending
-    (subst (λ (p : List Event). Leaves (look x.disk) (look y.disk) x.state t a.entries a.events p) nothing one.leaves) later in record {
-      leaves =
+    (subst (λ (p : List Event). Leaves (look x.disk) (look y.disk) x.state t a.entries a.events p) nothing one.crash) later in record {
+      crash =
           subst (λ (p : List Event). Leaves (look x.disk) (look z.disk) x.state (after_all x.state (a.events ++ b.events)) (a.entries ++ b.entries)
           (a.events ++ b.events) (p ++ b.pending)) (sym nothing)
           (subst (λ (s : State). Leaves (look x.disk) (look z.disk) x.state s (a.entries ++ b.entries) (a.events ++ b.events) b.pending)
@@ -190,20 +190,20 @@ onward_joined look x y z a b is_open one two =
       whole = λ still. ap (λ (p : List Event). p ++ b.pending) nothing ∙ two.whole still;
     }
 
-leads_joined : {D : Type 0} (look : D → View) (x y z : Sight D) (a b : Deeds) → y.is_open ≡ true → Leads look x y a → Leads look y z b
-    → Leads look x z (both a b)
+leads_joined : {D : Type 0} (look : D → View) (x y z : Sight D) (a b : Effects) → y.is_open ≡ true → Leads look x y a → Leads look y z b
+    → Leads look x z (followed_by a b)
 leads_joined look x y z a b is_open one two =
     let on = onward_joined look x y z a b is_open (onward look x y a one) (onward look y z b two) in
-    let reached : z.state ≡ after_all x.state (a.events ++ b.events) = two.leaves.state
-    ∙ ap (λ (s : State). after_all s b.events) one.leaves.state ∙ sym (after_all-append x.state a.events b.events) in record {
-      leaves =
+    let reached : z.state ≡ after_all x.state (a.events ++ b.events) = two.crash.state
+    ∙ ap (λ (s : State). after_all s b.events) one.crash.state ∙ sym (after_all-append x.state a.events b.events) in record {
+      crash =
           subst (λ (s : State). Leaves (look x.disk) (look z.disk) x.state s (a.entries ++ b.entries) (a.events ++ b.events)
-          (a.pending ++ b.pending)) (sym reached) on.leaves;
+          (a.pending ++ b.pending)) (sym reached) on.crash;
       book = two.book ∙ ap (λ (es : List Entry). es ++ b.entries) one.book ∙ append_assoc x.children.book a.entries b.entries;
       log = two.log ∙ ap (λ (es : List Entry). es ++ b.entries) one.log ∙ append_assoc x.children.log a.entries b.entries;
       site = two.site ∙ one.site;
       due =
-          two.due ∙ ap (λ (s : State). due_after_all s (due_in y) b.events) one.leaves.state
+          two.due ∙ ap (λ (s : State). due_after_all s (due_in y) b.events) one.crash.state
           ∙ ap (λ (d : Due). due_after_all (after_all x.state a.events) d b.events) one.due
           ∙ sym (due_after_all-append x.state (due_in x) a.events b.events);
       roomy = on.roomy;
@@ -211,27 +211,27 @@ leads_joined look x y z a b is_open one two =
     }
 
 -- one input more, taken while the executor is open or closed
-leads_more : {D : Type 0} (o : Bool) (look : D → View) (i : Input) (x y z : Sight D) (reply : Reply) (a b : Deeds) → y.is_open ≡ o
+leads_more : {D : Type 0} (o : Bool) (look : D → View) (i : Input) (x y z : Sight D) (reply : Reply) (a b : Effects) → y.is_open ≡ o
     → ((look y.disk).honest → Lawful (look y.disk)) → TakesWhile o look i y z reply b → Leads look x y a
-    → Leads look x z (both a b)
+    → Leads look x z (followed_by a b)
 leads_more true look i x y z reply a b is_open lawful takes leads =
     leads_joined look x y z a b is_open leads
     (leads_open look i y z reply b (leads_still look x y a lawful is_open (onward look x y a leads)) takes)
 leads_more false look i x y z reply a b closed lawful takes leads =
-    subst (λ (w : Sight _). Leads look x w (both a b)) (sym takes.1)
-    (subst (λ (d : Deeds). Leads look x y (both a d)) (sym takes.2) (subst (λ (d : Deeds). Leads look x y d) (sym (both_none a)) leads))
+    subst (λ (w : Sight _). Leads look x w (followed_by a b)) (sym takes.1)
+    (subst (λ (d : Effects). Leads look x y (followed_by a d)) (sym takes.2) (subst (λ (d : Effects). Leads look x y d) (sym (followed_by_none a)) leads))
 
 -- one input more, in a session
-pub sits_more : {D : Type 0} (look : D → View) (x y z : Sight D) (is : List Input) (rs : List Reply) (i : Input) (r : Reply) (b : Deeds)
+pub sits_more : {D : Type 0} (look : D → View) (x y z : Sight D) (is : List Input) (rs : List Reply) (i : Input) (r : Reply) (b : Effects)
     → ((look y.disk).honest → Lawful (look y.disk)) → Sits look is x y rs → Takes look i y z r b
     → Sits look (is ++ i ∷ []) x z (rs ++ r ∷ [])
 sits_more look x y z is rs i r b lawful sits takes = record {
-  deeds = both sits.deeds b;
-  each = session_more look x y z is rs i r sits.deeds b sits.each takes;
-  leads = λ was_open. leads_more y.is_open look i x y z r sits.deeds b refl lawful takes (sits.leads was_open);
+  effects = followed_by sits.effects b;
+  each = session_more look x y z is rs i r sits.effects b sits.each takes;
+  leads = λ was_open. leads_more y.is_open look i x y z r sits.effects b refl lawful takes (sits.leads was_open);
 }
 
 pub sits_start : {D : Type 0} (look : D → View) (law : WhatStands) (x : Sight D) → ((look x.disk).honest → Lawful (look x.disk))
     → IsSound look x → Sits look [] x x []
 sits_start look law x lawful sound =
-    record { deeds = no_deeds; each = (refl, refl); leads = λ is_open. leads_start look law x lawful (sound is_open) }
+    record { effects = no_effects; each = (refl, refl); leads = λ is_open. leads_start look law x lawful (sound is_open) }

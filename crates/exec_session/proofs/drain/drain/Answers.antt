@@ -3,7 +3,7 @@ use Rattle.ocf_types.specs.Boot.{any_busy}
 use Rattle.exec_lines.proofs.PieceLemmas.{on_err}
 use Rattle.exec_session.specs.Drains.{at_start, further, spot}
 use Rattle.exec_session.specs.Breaks.{behind_turns, in_turn}
-use Rattle.exec_session.specs.Limits.{limits_of}
+use Rattle.exec_session.specs.Rules.{rules_of}
 use Rattle.exec_session.proofs.DrainLemmas.{closes, still_open, told_end}
 use Rattle.exec_session.proofs.BreakLemmas.{turn_whole}
 use Rattle.exec_session.proofs.drain.drain.Goals as goal
@@ -62,7 +62,7 @@ returns-then-not-is_heard-clause-breaks g c =
     let last = spot c.loop-turns.executor (g.T.Client.heard c.loop-turns.client) in
     let next = spot c.make_turn.new.executor (g.T.Client.heard c.make_turn.new.client) in
     in_turn c.loop-turns.turns c.loop-turns.now last c.in_ok-end.end c.loop-turns.invariant.gone_on
-    (turn_whole g.D.Disk.view (limits_of c.args.setting.now) c.loop-turns.now last next c.in_ok-end.end c.in_ok-end.ensures.made)
+    (turn_whole g.D.Disk.view (rules_of c.args.context.now) c.loop-turns.now last next c.in_ok-end.end c.in_ok-end.ensures.made)
 
 pub returns-clause-breaks : goal.returns-clause-breaks
 returns-clause-breaks g c = behind_turns c.loop-turns.turns c.loop-turns.now c.loop-turns.invariant.gone_on

@@ -3,5 +3,5 @@ use Rattle.exec_session.proofs.laws.turns_are_calls.Goals as goal
 
 pub returns : goal.returns
 returns g c =
-    λ limits terms start turns now p q is_open goes_on.
-    (turns_go g.D.Disk.view limits terms start p turns now q is_open goes_on).0
+    λ rules terms start turns now p q is_open goes_on.
+    (turns_go g.D.Disk.view rules terms start p turns now q is_open goes_on).0

@@ -1,8 +1,8 @@
 use Rattle.std.proofs.Common.{◌≡◌, ◌+◌, true, arith, rules, subst, sym}
 use Rattle.exec_lines.proofs.PieceLemmas.{on_err}
 use Rattle.exec_session.specs.Gathered.{waiting}
-use Rattle.exec_session.specs.Limits.{limits_of}
-use Rattle.exec_session.specs.Progress.{place}
+use Rattle.exec_session.specs.Rules.{rules_of}
+use Rattle.exec_session.specs.Progress.{position}
 use Rattle.exec_session.specs.Waiting.{ComesOrEnds}
 use Rattle.exec_session.specs.declared.lines.Progress.TheVariants.{End}
 use Rattle.exec_session.specs.Drains.{spot}
@@ -13,20 +13,20 @@ use Rattle.exec_session.proofs.lines.take_other.Goals as goal
 pub returns-clause-takes : goal.returns-clause-takes
 returns-clause-takes g c = λ p most left now may read come.
     let look = g.D.Disk.view in
-    let source = g.M.Metadata.gives c.args.setting.now.metadata.now in
-    let limits = limits_of c.args.setting.now in
+    let source = g.M.Metadata.gives c.args.context.now.metadata.now in
+    let rules = rules_of c.args.context.now in
     let gathered = c.answer_gathered.new.gathered in
     let middle = c.answer_gathered.new.executor in
     let written = g.T.Client.heard c.answer_gathered.new.client in
-    let before = place middle left written in
-    let after = place c.answer_found.new.executor now (g.T.Client.heard c.answer_found.new.client) in
-    let answered = all_answered look source limits p most (λ n few. may n (omega (arith, few))) (waiting c.args.gathered.now)
+    let before = position middle left written in
+    let after = position c.answer_found.new.executor now (g.T.Client.heard c.answer_found.new.client) in
+    let answered = all_answered look source rules p most (λ n few. may n (omega (arith, few))) (waiting c.args.gathered.now)
     c.args.executor.now middle left (g.T.Client.heard c.args.client.now) written
     (open_while c.args.executor.now (waiting c.args.gathered.now) c.requires.waits) come
     c.in_ok-answer_gathered.ensures.answers in
     let is : c.eq.result ≡ true → c.in_ok-progress.progress ≡ End = λ e. search (rules, c.eq.ensures, e) in
-    subst (λ cs. ComesOrEnds look source limits p (most + 1) cs after c.eq.result) (sym c.answer_gathered.ensures.none)
-    (one_taken look source limits p most may before after c.in_ok-progress.progress c.eq.result is answered
+    subst (λ cs. ComesOrEnds look source rules p (most + 1) cs after c.eq.result) (sym c.answer_gathered.ensures.none)
+    (one_taken look source rules p most may before after c.in_ok-progress.progress c.eq.result is answered
     (c.in_ok-progress.ensures.progress left now read))
 
 pub returns-in_err-answer_gathered-clause-breaks : goal.returns-in_err-answer_gathered-clause-breaks
@@ -34,21 +34,21 @@ returns-in_err-answer_gathered-clause-breaks g c = λ p most left now may read c
     let old = c.args.executor.now in
     let new = c.answer_gathered.new in
     let commands = waiting c.args.gathered.now in
-    on_err c.from_residual.result _ (row_breaks g.D.Disk.view (g.M.Metadata.gives c.args.setting.now.metadata.now) (limits_of c.args.setting.now)
+    on_err c.from_residual.result _ (row_breaks g.D.Disk.view (g.M.Metadata.gives c.args.context.now.metadata.now) (rules_of c.args.context.now)
     p most commands old left (g.T.Client.heard c.args.client.now) (spot new.executor (g.T.Client.heard new.client))
     (open_while old commands c.requires.waits) come c.in_err-answer_gathered.ensures.breaks)
 
 pub returns-in_err-progress-clause-breaks : goal.returns-in_err-progress-clause-breaks
 returns-in_err-progress-clause-breaks g c = λ p most left now may read come.
     let look = g.D.Disk.view in
-    let source = g.M.Metadata.gives c.args.setting.now.metadata.now in
-    let limits = limits_of c.args.setting.now in
+    let source = g.M.Metadata.gives c.args.context.now.metadata.now in
+    let rules = rules_of c.args.context.now in
     let middle = c.answer_gathered.new.executor in
     let heard = g.T.Client.heard c.answer_gathered.new.client in
     let new = c.answer_found.new in
-    let answered = all_answered look source limits p most (λ n few. may n (omega (arith, few))) (waiting c.args.gathered.now)
+    let answered = all_answered look source rules p most (λ n few. may n (omega (arith, few))) (waiting c.args.gathered.now)
     c.args.executor.now middle left (g.T.Client.heard c.args.client.now) heard
     (open_while c.args.executor.now (waiting c.args.gathered.now) c.requires.waits) come
     c.in_ok-answer_gathered.ensures.answers in
-    on_err c.from_residual-in_err-progress.result _ (next_breaks look source limits p most (place middle left heard)
+    on_err c.from_residual-in_err-progress.result _ (next_breaks look source rules p most (position middle left heard)
     (spot new.executor (g.T.Client.heard new.client)) answered (c.in_err-progress.ensures.breaks left now read))

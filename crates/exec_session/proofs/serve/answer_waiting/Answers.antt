@@ -2,8 +2,8 @@ use Rattle.std.proofs.Common.{arith, subst}
 use Rattle.exec_lines.specs.Buffer.{line_bytes}
 use Rattle.exec_lines.proofs.PieceLemmas.{on_err}
 use Rattle.exec_session.specs.Gathered.{waiting}
-use Rattle.exec_session.specs.Limits.{limits_of}
-use Rattle.exec_session.specs.Progress.{place}
+use Rattle.exec_session.specs.Rules.{rules_of}
+use Rattle.exec_session.specs.Progress.{position}
 use Rattle.exec_session.specs.Serving.{ComesMidOrEnds}
 use Rattle.exec_session.specs.Drains.{spot}
 use Rattle.exec_session.proofs.ServeLemmas.{mid_answered}
@@ -13,10 +13,10 @@ use Rattle.exec_session.proofs.serve.answer_waiting.Goals as goal
 
 pub returns-then-branch-clause-takes : goal.returns-then-branch-clause-takes
 returns-then-branch-clause-takes g c = λ p come.
-    let q = place c.take_waiting.new.executor
+    let q = position c.take_waiting.new.executor
     (g.R.Read.remaining c.take_waiting.new.reader) (g.T.Client.heard c.take_waiting.new.client) in
-    subst (ComesMidOrEnds g.D.Disk.view (g.M.Metadata.gives c.args.setting.now.metadata.now)
-    (limits_of c.args.setting.now) p 64 (waiting c.take_waiting.new.gathered) (line_bytes c.take_waiting.new.buffer) q) c.if-branch.true
+    subst (ComesMidOrEnds g.D.Disk.view (g.M.Metadata.gives c.args.context.now.metadata.now)
+    (rules_of c.args.context.now) p 64 (waiting c.take_waiting.new.gathered) (line_bytes c.take_waiting.new.buffer) q) c.if-branch.true
     (c.in_ok-take_waiting.ensures.takes p come)
 
 pub answer_gathered-requires : goal.answer_gathered-requires
@@ -27,12 +27,12 @@ answer_gathered-requires g c = record {
 
 pub returns-clause-takes : goal.returns-clause-takes
 returns-clause-takes g c = λ p come.
-    let source = g.M.Metadata.gives c.args.setting.now.metadata.now in
+    let source = g.M.Metadata.gives c.args.context.now.metadata.now in
     let now = g.R.Read.remaining c.take_waiting.new.reader in
-    let q = place c.take_waiting.new.executor now (g.T.Client.heard c.take_waiting.new.client) in
-    let still = subst (ComesMidOrEnds g.D.Disk.view source (limits_of c.args.setting.now) p 64 (waiting c.take_waiting.new.gathered)
+    let q = position c.take_waiting.new.executor now (g.T.Client.heard c.take_waiting.new.client) in
+    let still = subst (ComesMidOrEnds g.D.Disk.view source (rules_of c.args.context.now) p 64 (waiting c.take_waiting.new.gathered)
     (line_bytes c.take_waiting.new.buffer) q) c.if-branch.false (c.in_ok-take_waiting.ensures.takes p come) in
-    mid_answered g.D.Disk.view source (limits_of c.args.setting.now) p 64 (λ n few. may_serve c.args.setting.now.way 63 c.requires.way (omega arith) n (omega (arith, few)))
+    mid_answered g.D.Disk.view source (rules_of c.args.context.now) p 64 (λ n few. may_serve c.args.context.now.way 63 c.requires.way (omega arith) n (omega (arith, few)))
     (waiting c.take_waiting.new.gathered) (line_bytes c.take_waiting.new.buffer) c.take_waiting.new.executor c.answer_gathered.new.executor now
     (g.T.Client.heard c.take_waiting.new.client) (g.T.Client.heard c.answer_gathered.new.client)
     (open_while c.take_waiting.new.executor (waiting c.take_waiting.new.gathered) c.in_ok-take_waiting.ensures.waits) still
@@ -43,12 +43,12 @@ returns-in_err-take_waiting-clause-breaks g c = λ p come. on_err c.from_residua
 
 pub returns-in_err-answer_gathered-clause-breaks : goal.returns-in_err-answer_gathered-clause-breaks
 returns-in_err-answer_gathered-clause-breaks g c = λ p come.
-    let source = g.M.Metadata.gives c.args.setting.now.metadata.now in
+    let source = g.M.Metadata.gives c.args.context.now.metadata.now in
     let middle = c.take_waiting.new in
-    let q = place middle.executor (g.R.Read.remaining middle.reader) (g.T.Client.heard middle.client) in
-    let (left, mid, waits) = subst (ComesMidOrEnds g.D.Disk.view source (limits_of c.args.setting.now) p 64 (waiting middle.gathered)
+    let q = position middle.executor (g.R.Read.remaining middle.reader) (g.T.Client.heard middle.client) in
+    let (left, mid, waits) = subst (ComesMidOrEnds g.D.Disk.view source (rules_of c.args.context.now) p 64 (waiting middle.gathered)
     (line_bytes middle.buffer) q) c.if-branch.false (c.in_ok-take_waiting.ensures.takes p come) in
     let new = c.answer_gathered.new in
-    on_err c.from_residual-in_err-answer_gathered.result _ (row_breaks g.D.Disk.view source (limits_of c.args.setting.now) p 64 (waiting middle.gathered)
+    on_err c.from_residual-in_err-answer_gathered.result _ (row_breaks g.D.Disk.view source (rules_of c.args.context.now) p 64 (waiting middle.gathered)
     middle.executor left (g.T.Client.heard middle.client) (spot new.executor (g.T.Client.heard new.client))
     (open_while middle.executor (waiting middle.gathered) c.in_ok-take_waiting.ensures.waits) waits c.in_err-answer_gathered.ensures.breaks)

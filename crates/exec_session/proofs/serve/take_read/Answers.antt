@@ -2,8 +2,8 @@ use Rattle.std.proofs.Common.{◌+◌, arith}
 use Rattle.exec_lines.specs.Buffer.{line_bytes}
 use Rattle.exec_lines.proofs.PieceLemmas.{on_err}
 use Rattle.exec_session.specs.Gathered.{waiting}
-use Rattle.exec_session.specs.Limits.{limits_of}
-use Rattle.exec_session.specs.Progress.{place}
+use Rattle.exec_session.specs.Rules.{rules_of}
+use Rattle.exec_session.specs.Progress.{position}
 use Rattle.exec_session.specs.Serving.{ComesMidOrEnds}
 use Rattle.exec_session.specs.Waiting.{ComesOrEnds}
 use Rattle.exec_session.proofs.ServeLemmas.{at_none, at_some, mid_taken}
@@ -17,29 +17,29 @@ returns-in_default-clause-takes g c = λ p most may (left, mid, come).
     let written = g.T.Client.heard c.args.client.now in (
       left,
       at_none c.in_ok-next.field-0 _ _ c.in_default.is (c.in_ok-next.ensures.gathers left mid),
-      come_more g.D.Disk.view (g.M.Metadata.gives c.args.setting.now.metadata.now) (limits_of c.args.setting.now) p most
-          (most + 1) (waiting c.args.gathered.now) (place executor left written) (omega arith) come,
+      come_more g.D.Disk.view (g.M.Metadata.gives c.args.context.now.metadata.now) (rules_of c.args.context.now) p most
+          (most + 1) (waiting c.args.gathered.now) (position executor left written) (omega arith) come,
     )
 
 pub returns-clause-takes : goal.returns-clause-takes
 returns-clause-takes g c = λ p most may (left, mid, come).
     let look = g.D.Disk.view in
-    let source = g.M.Metadata.gives c.args.setting.now.metadata.now in
-    let limits = limits_of c.args.setting.now in
+    let source = g.M.Metadata.gives c.args.context.now.metadata.now in
+    let rules = rules_of c.args.context.now in
     let now = g.R.Read.remaining c.gather_line.new.reader in
     let commands = waiting c.take_found.new.gathered in
     let kept = line_bytes c.clear.new.self in
-    let q = place c.take_found.new.executor now (g.T.Client.heard c.take_found.new.client) in
+    let q = position c.take_found.new.executor now (g.T.Client.heard c.take_found.new.client) in
     let next = at_some c.in_ok-next.field-0 c.in-Some.next _ _ c.in-Some.is (c.in_ok-next.ensures.gathers left mid) in
-    if_ok (ComesOrEnds look source limits p (most + 1) commands q) (ComesMidOrEnds look source limits p (most + 1) commands kept q)
-    c.take_found.result (λ ended. mid_taken look source limits p (most + 1) commands kept q ended c.clear.ensures)
+    if_ok (ComesOrEnds look source rules p (most + 1) commands q) (ComesMidOrEnds look source rules p (most + 1) commands kept q)
+    c.take_found.result (λ ended. mid_taken look source rules p (most + 1) commands kept q ended c.clear.ensures)
     (c.take_found.ensures.takes p most left now may (c.found_in-found.ensures.found left now next) come)
 
 pub returns-in_err-next-clause-breaks : goal.returns-in_err-next-clause-breaks
 returns-in_err-next-clause-breaks g c = λ p most may come.
-    on_err c.from_residual.result _ (between_reads g.D.Disk.view (g.M.Metadata.gives c.args.setting.now.metadata.now)
-    (limits_of c.args.setting.now) p most (waiting c.args.gathered.now) (line_bytes c.args.buffer.now)
-    (place c.args.executor.now (g.R.Read.remaining c.args.reader.now) (g.T.Client.heard c.args.client.now)) come)
+    on_err c.from_residual.result _ (between_reads g.D.Disk.view (g.M.Metadata.gives c.args.context.now.metadata.now)
+    (rules_of c.args.context.now) p most (waiting c.args.gathered.now) (line_bytes c.args.buffer.now)
+    (position c.args.executor.now (g.R.Read.remaining c.args.reader.now) (g.T.Client.heard c.args.client.now)) come)
 
 pub returns-clause-breaks : goal.returns-clause-breaks
 returns-clause-breaks g c = λ p most may (left, mid, come).

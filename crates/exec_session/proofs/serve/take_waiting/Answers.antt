@@ -2,8 +2,8 @@ use Rattle.std.proofs.Common.{◌+◌, arith, refl, subst, sym, ◌∙◌}
 use Rattle.exec_lines.specs.Buffer.{line_bytes}
 use Rattle.exec_lines.proofs.PieceLemmas.{on_err}
 use Rattle.exec_session.specs.Gathered.{waiting}
-use Rattle.exec_session.specs.Limits.{limits_of}
-use Rattle.exec_session.specs.Progress.{place}
+use Rattle.exec_session.specs.Rules.{rules_of}
+use Rattle.exec_session.specs.Progress.{position}
 use Rattle.exec_session.specs.Serving.{ComesMidOrEnds, HasComeMid}
 use Rattle.exec_session.proofs.ServeLemmas.{mid_more, mid_same}
 use Rattle.exec_session.proofs.WaitLemmas.{may_serve, none_waits}
@@ -11,15 +11,15 @@ use Rattle.exec_session.proofs.serve.take_waiting.Goals as goal
 
 pub loop-reads-init : goal.loop-reads-init
 loop-reads-init g c =
-    let source = g.M.Metadata.gives c.args.setting.now.metadata.now in
-    let q = place c.args.executor.now (g.R.Read.remaining c.args.reader.now) (g.T.Client.heard c.args.client.now) in
+    let source = g.M.Metadata.gives c.args.context.now.metadata.now in
+    let q = position c.args.executor.now (g.R.Read.remaining c.args.reader.now) (g.T.Client.heard c.args.client.now) in
     record {
       way = c.requires.way;
       waits = none_waits c.args.executor.now (waiting c.args.gathered.now) c.requires.none;
       stands = c.requires.stands;
       opened = refl;
       come = λ p come.
-          subst (λ commands. HasComeMid g.D.Disk.view source (limits_of c.args.setting.now) p 0 commands (line_bytes c.args.buffer.now) q)
+          subst (λ commands. HasComeMid g.D.Disk.view source (rules_of c.args.context.now) p 0 commands (line_bytes c.args.buffer.now) q)
           (sym c.requires.none) come;
     }
 
@@ -33,10 +33,10 @@ returns-then-not-is_ready-clause-takes g c = λ p come.
 pub returns-then-branch-clause-takes : goal.returns-then-branch-clause-takes
 returns-then-branch-clause-takes g c = λ p come.
     let n = c.loop-reads._reads in
-    let q = place c.take_read.new.executor (g.R.Read.remaining c.take_read.new.reader) (g.T.Client.heard c.take_read.new.client) in
-    subst (ComesMidOrEnds g.D.Disk.view (g.M.Metadata.gives c.args.setting.now.metadata.now)
-    (limits_of c.args.setting.now) p (n + 1) (waiting c.take_read.new.gathered) (line_bytes c.take_read.new.buffer) q) c.if-branch.true
-    (c.in_ok-take_read.ensures.takes p n (may_serve c.args.setting.now.way n c.loop-reads.invariant.way (omega (arith, c.loop-reads-test.true)))
+    let q = position c.take_read.new.executor (g.R.Read.remaining c.take_read.new.reader) (g.T.Client.heard c.take_read.new.client) in
+    subst (ComesMidOrEnds g.D.Disk.view (g.M.Metadata.gives c.args.context.now.metadata.now)
+    (rules_of c.args.context.now) p (n + 1) (waiting c.take_read.new.gathered) (line_bytes c.take_read.new.buffer) q) c.if-branch.true
+    (c.in_ok-take_read.ensures.takes p n (may_serve c.args.context.now.way n c.loop-reads.invariant.way (omega (arith, c.loop-reads-test.true)))
     (mid_same _ _ _ p n (waiting c.loop-reads.gathered) (line_bytes c.loop-reads.buffer) c.loop-reads.executor
     (g.T.Client.heard c.loop-reads.client) (g.R.Read.remaining c.loop-reads.reader) (g.R.Read.remaining c.is_ready.new.self)
     c.is_ready.ensures.same (c.loop-reads.invariant.come p come)))
@@ -44,17 +44,17 @@ returns-then-branch-clause-takes g c = λ p come.
 pub loop-reads-preserved : goal.loop-reads-preserved
 loop-reads-preserved g c =
     let n = c.loop-reads._reads in
-    let q = place c.take_read.new.executor (g.R.Read.remaining c.take_read.new.reader) (g.T.Client.heard c.take_read.new.client) in
+    let q = position c.take_read.new.executor (g.R.Read.remaining c.take_read.new.reader) (g.T.Client.heard c.take_read.new.client) in
     record {
       way = c.loop-reads.invariant.way;
       waits = c.in_ok-take_read.ensures.waits;
       stands = c.in_ok-take_read.ensures.stands;
       opened = c.in_ok-take_read.ensures.opened ∙ c.loop-reads.invariant.opened;
       come = λ p come.
-          subst (ComesMidOrEnds g.D.Disk.view (g.M.Metadata.gives c.args.setting.now.metadata.now) (limits_of c.args.setting.now)
+          subst (ComesMidOrEnds g.D.Disk.view (g.M.Metadata.gives c.args.context.now.metadata.now) (rules_of c.args.context.now)
           p (n + 1) (waiting c.take_read.new.gathered) (line_bytes c.take_read.new.buffer) q) c.if-branch.false
           (c.in_ok-take_read.ensures.takes p n
-          (may_serve c.args.setting.now.way n c.loop-reads.invariant.way (omega (arith, c.loop-reads-test.true)))
+          (may_serve c.args.context.now.way n c.loop-reads.invariant.way (omega (arith, c.loop-reads-test.true)))
           (mid_same _ _ _ p n (waiting c.loop-reads.gathered) (line_bytes c.loop-reads.buffer) c.loop-reads.executor
           (g.T.Client.heard c.loop-reads.client) (g.R.Read.remaining c.loop-reads.reader) (g.R.Read.remaining c.is_ready.new.self)
           c.is_ready.ensures.same (c.loop-reads.invariant.come p come)));
@@ -68,7 +68,7 @@ pub returns-in_err-take_read-clause-breaks : goal.returns-in_err-take_read-claus
 returns-in_err-take_read-clause-breaks g c = λ p come.
     let n = c.loop-reads._reads in
     on_err c.from_residual.result _ (c.in_err-take_read.ensures.breaks p n
-    (may_serve c.args.setting.now.way n c.loop-reads.invariant.way (omega (arith, c.loop-reads-test.true)))
+    (may_serve c.args.context.now.way n c.loop-reads.invariant.way (omega (arith, c.loop-reads-test.true)))
     (mid_same _ _ _ p n (waiting c.loop-reads.gathered) (line_bytes c.loop-reads.buffer) c.loop-reads.executor
     (g.T.Client.heard c.loop-reads.client) (g.R.Read.remaining c.loop-reads.reader) (g.R.Read.remaining c.is_ready.new.self)
     c.is_ready.ensures.same (c.loop-reads.invariant.come p come)))

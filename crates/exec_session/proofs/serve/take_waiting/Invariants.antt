@@ -2,23 +2,23 @@ use Rattle.std.proofs.Common.{◌≡◌, []}
 use Rattle.exec_lines.specs.Buffer.{line_bytes}
 use Rattle.exec_client.specs.MayTell.{AllStand}
 use Rattle.exec_session.specs.Gathered.{waiting}
-use Rattle.exec_session.specs.Limits.{limits_of}
-use Rattle.exec_session.specs.Progress.{Place, place}
+use Rattle.exec_session.specs.Rules.{rules_of}
+use Rattle.exec_session.specs.Progress.{Position, position}
 use Rattle.exec_session.specs.Serving.{HasComeMid}
 use Rattle.exec_session.specs.Waiting.{MayWait}
-use Rattle.exec_session.specs.declared.setting.Way.TheVariants.{Serve}
+use Rattle.exec_session.specs.declared.context.Way.TheVariants.{Serve}
 use Rattle.exec_session.proofs.serve.take_waiting.Given as goal
 
 abbrev pub invariant-loop-reads : goal.invariant-loop-reads
 invariant-loop-reads g l = record {
-  way : l.setting.way ≡ Serve;
+  way : l.context.way ≡ Serve;
   waits : MayWait l.executor (waiting l.gathered);
   stands : AllStand g.D.Disk.view (g.T.Client.heard l.client) l.executor;
   opened : (g.T.Client.heard l.client).opened ≡ (g.T.Client.heard l.fn.client).opened;
-  come : (p : Place g.row.D.Denot)
-      → HasComeMid g.D.Disk.view (g.M.Metadata.gives l.setting.metadata.now) (limits_of l.setting) p 0 []
-      (line_bytes l.fn.buffer) (place l.fn.executor (g.R.Read.remaining l.fn.reader) (g.T.Client.heard l.fn.client))
-      → HasComeMid g.D.Disk.view (g.M.Metadata.gives l.setting.metadata.now) (limits_of l.setting) p l._reads
+  come : (p : Position g.row.D.Denot)
+      → HasComeMid g.D.Disk.view (g.M.Metadata.gives l.context.metadata.now) (rules_of l.context) p 0 []
+      (line_bytes l.fn.buffer) (position l.fn.executor (g.R.Read.remaining l.fn.reader) (g.T.Client.heard l.fn.client))
+      → HasComeMid g.D.Disk.view (g.M.Metadata.gives l.context.metadata.now) (rules_of l.context) p l._reads
       (waiting l.gathered) (line_bytes l.buffer)
-      (place l.executor (g.R.Read.remaining l.reader) (g.T.Client.heard l.client));
+      (position l.executor (g.R.Read.remaining l.reader) (g.T.Client.heard l.client));
 }

@@ -8,7 +8,7 @@ use Rattle.exec_client.specs.MayTell.{StandsBehind}
 use Rattle.exec_client.specs.Said.{Noticed}
 use Rattle.exec_client.specs.Heard.{HearsPart}
 use Rattle.exec_client.proofs.Growing.{all_still_stand, may_tell}
-use Rattle.exec_session.specs.Limits.{MakesRoom, limits_of}
+use Rattle.exec_session.specs.Rules.{MakesRoom, rules_of}
 use Rattle.exec_session.proofs.TellLemmas.{after_told, cleared_room, turn_behind_room}
 use Rattle.exec_session.proofs.turn.make_turn.Goals as goal
 
@@ -19,7 +19,7 @@ returns-then-not-make_room-clause-made g c =
       middle = middle;
       room =
           subst (λ (x : Sight g.row.D.Denot). MakesRoom g.D.Disk.view
-          (limits_of c.args.setting.now) x middle) c.clear_book.ensures.cleared c.make_room.ensures.makes;
+          (rules_of c.args.context.now) x middle) c.clear_book.ensures.cleared c.make_room.ensures.makes;
       takes = λ is_open. absurd (true≢false (sym is_open ∙ closed));
       hears = λ is_open. absurd (true≢false (sym is_open ∙ closed));
       fails = λ _. (refl, refl, refl);
@@ -55,10 +55,10 @@ returns-clause-made g c =
       middle = middle;
       room =
           subst (λ (x : Sight g.row.D.Denot). MakesRoom g.D.Disk.view
-          (limits_of c.args.setting.now) x middle) c.clear_book.ensures.cleared c.make_room.ensures.makes;
+          (rules_of c.args.context.now) x middle) c.clear_book.ensures.cleared c.make_room.ensures.makes;
       takes = λ _. subst (λ b. TurnsWhile b g.D.Disk.view c.args.now middle last c.turn-end.result) is_open c.turn-end.ensures.turns;
       hears =
-          λ _. subst (λ (told : List Notice). Hears c.args.setting.now.form (g.T.Client.heard c.args.client.now)
+          λ _. subst (λ (told : List Notice). Hears c.args.context.now.form (g.T.Client.heard c.args.client.now)
           (g.T.Client.heard c.tell.new.self) (map Noticed told)) c.notices.ensures.value c.in_ok-tell.ensures.hears;
       fails = λ closed. absurd (true≢false (sym is_open ∙ closed));
     }
@@ -102,10 +102,10 @@ returns-in_err-tell-clause-breaks g c =
         middle = middle;
         room =
             subst (λ (x : Sight g.row.D.Denot). MakesRoom g.D.Disk.view
-            (limits_of c.args.setting.now) x middle) c.clear_book.ensures.cleared c.make_room.ensures.makes;
+            (rules_of c.args.context.now) x middle) c.clear_book.ensures.cleared c.make_room.ensures.makes;
         takes = λ _. subst (λ b. TurnsWhile b g.D.Disk.view c.args.now middle last c.turn-end.result) is_open c.turn-end.ensures.turns;
         hears =
-            λ _. subst (λ (told : List Notice). HearsPart c.args.setting.now.form (g.T.Client.heard c.args.client.now)
+            λ _. subst (λ (told : List Notice). HearsPart c.args.context.now.form (g.T.Client.heard c.args.client.now)
             (g.T.Client.heard c.tell.new.self) (map Noticed told)) c.notices.ensures.value c.in_err-tell.ensures.breaks;
         fails = λ closed. absurd (true≢false (sym is_open ∙ closed));
       },

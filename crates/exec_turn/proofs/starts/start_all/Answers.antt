@@ -3,7 +3,7 @@ use Rattle.std.proofs.lemmas.List.{append-nil, drop_more, map-append, take_more}
 use Rattle.ocf_types.specs.declared.reply.Notice.{Notice}
 use Rattle.child_keeper.specs.Children.{ChildrenView}
 use Rattle.exec_journal.specs.Journal.{journal_disk}
-use Rattle.ocf_env.specs.Places.{Call, Place}
+use Rattle.ocf_env.specs.Places.{Call, SiteView}
 use Rattle.child_keeper.specs.MayStart.{IsLaunch}
 use Rattle.exec_turn.specs.Actives.{Active, notice_of}
 use Rattle.exec_turn.specs.Launches.{IsOfOne, all_starting, what_starts}
@@ -33,7 +33,7 @@ pub start_one-requires-clause-launches : goal.start_one-requires-clause-launches
 start_one-requires-clause-launches g c =
     let at_first = each_at (λ (x : StartOf Call). IsLaunch (g.C.Children.view c.args.children.now).site c.args.state.now.state x.launch)
     c.args.starts.now c.loop-start.start-index c.start-item.result c.requires.launches c.loop-start-test.true c.start-item.is in
-    subst (λ (site : Option Place). IsLaunch site c.args.state.now.state c.start-item.result.launch) (sym c.loop-start.invariant.site) at_first
+    subst (λ (site : Option SiteView). IsLaunch site c.args.state.now.state c.start-item.result.launch) (sym c.loop-start.invariant.site) at_first
 
 pub start_one-requires-clause-of_one : goal.start_one-requires-clause-of_one
 start_one-requires-clause-of_one g c =

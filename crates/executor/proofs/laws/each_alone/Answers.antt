@@ -1,4 +1,4 @@
-use Rattle.executor.proofs.Alone.Sessions.{alone_ends, each_alone, row_alone}
+use Rattle.executor.proofs.Isolation.Sessions.{alone_ends, each_alone, row_alone}
 use Rattle.executor.proofs.laws.each_alone.Goals as goal
 
 pub returns : goal.returns

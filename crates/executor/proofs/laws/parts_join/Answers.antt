@@ -1,4 +1,4 @@
-use Rattle.executor.proofs.Alone.Joins.{parts_join}
+use Rattle.executor.proofs.Isolation.Joins.{parts_join}
 use Rattle.executor.proofs.laws.parts_join.Goals as goal
 
 pub returns : goal.returns

@@ -1,5 +1,5 @@
-use Rattle.executor.proofs.Alone.Runs.{tended_apart}
-use Rattle.executor.proofs.laws.tended_apart.Goals as goal
+use Rattle.executor.proofs.Isolation.Runs.{matched_apart}
+use Rattle.executor.proofs.laws.matched_apart.Goals as goal
 
 pub returns : goal.returns
-returns c = record { apart = tended_apart }
+returns c = record { apart = matched_apart }

@@ -1,16 +1,16 @@
 use Rattle.std.proofs.Common.{◌<◌, [], rules}
 use Rattle.disk_model.specs.View.{LAST}
 use Rattle.file_disk.specs.RamDisk.{view_of}
-use Rattle.file_disk.specs.RecordLaws.{called_refused, rests_refused, rests_read}
+use Rattle.file_disk.specs.RecordLaws.{called_refused, unwritten_refused, unwritten_read}
 use Rattle.file_disk.proofs.ram.RamDiskDisk.read_at.Goals as goal
 
-pub returns-then-not-goes_on-clause-rests : goal.returns-then-not-goes_on-clause-rests
-returns-then-not-goes_on-clause-rests g c = rests_refused [] _ _ c.fail.ensures
+pub returns-then-not-goes_on-clause-unwritten : goal.returns-then-not-goes_on-clause-unwritten
+returns-then-not-goes_on-clause-unwritten g c = unwritten_refused [] _ _ c.fail.ensures
 
 pub returns-then-not-goes_on-clause-called : goal.returns-then-not-goes_on-clause-called
 returns-then-not-goes_on-clause-called g c = called_refused _ [] _ _ c.fail.ensures
 
-pub returns-clause-rests : goal.returns-clause-rests
-returns-clause-rests g c =
+pub returns-clause-unwritten : goal.returns-clause-unwritten
+returns-clause-unwritten g c =
     let unspent : (view_of c.args.self.now).clock < LAST = search rules in
-    rests_read c.args.part c.args.at _ _ _ c.pass.ensures unspent
+    unwritten_read c.args.part c.args.at _ _ _ c.pass.ensures unspent

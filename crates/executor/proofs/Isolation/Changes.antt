@@ -18,7 +18,7 @@ use Rattle.ocf_types.specs.declared.event.Step.TheVariants as step
 use Rattle.ocf_types.specs.RegistryLaws.{other_id, other_stays, same_id}
 use Rattle.exec_turn.specs.Turn.{due_after_all}
 use Rattle.executor.specs.Parts.{events_of}
-use Rattle.executor.specs.Singles.{Single, above_call, above_run, has_monitor, single_after, single_after_all, single_changed, single_sets}
+use Rattle.executor.specs.Isolated.{Isolated, above_call, above_run, has_monitor, isolated_after, isolated_after_all, isolated_changed, isolated_sets}
 
 -- the numbers that a change draws are the next ones, and the id that it registers is not there; no boot
 abbrev pub IsFresh : State → Change → Type 0
@@ -81,7 +81,7 @@ module _ {A : Type 0} where
 
 -- the resource that a change names
 own_changed : (at : ℕ) (c : Change) (s : State) (id : List ℕ) → named c ≡ Some id → IsFresh s c
-    → lookup (bytes_eq id) (changed at c s.resources) ≡ single_changed at c (resource_at s id)
+    → lookup (bytes_eq id) (changed at c s.resources) ≡ isolated_changed at c (resource_at s id)
 own_changed at (change.Register r) s id n next =
     let is : r.id ≡ id = cc in
     let absent : lookup (bytes_eq id) s.resources ≡ None = subst (λ (k : List ℕ). lookup (bytes_eq k) s.resources ≡ None) is next in
@@ -95,7 +95,7 @@ own_changed at (change.Step i what) s id n next =
 own_changed at change.Boot s id n next = absurd next
 
 own_sets : (at : ℕ) (c : Change) (s : State) (id : List ℕ) (call : ℕ) → named c ≡ Some id
-    → sets s (record { at = at; change = c }) id call ≡ single_sets at c (resource_at s id) call
+    → sets s (record { at = at; change = c }) id call ≡ isolated_sets at c (resource_at s id) call
 own_sets at (change.Register r) s id call n = refl
 own_sets at (change.Unregister i) s id call n = refl
 own_sets at (change.Step i what) s id call n =
@@ -124,8 +124,8 @@ monitor_stepped at (step.Recur m) r call h none = find_before (λ x. x.call == c
 monitor_stepped at (step.Cancel interval) r call h none = find_fewer (λ x. x.call == call) (λ x. not (x.interval == interval)) r.recurring h
 monitor_stepped at _ r call h none = h
 
-pub monitor_before : (at : ℕ) (c : Change) (was : Option Resource) (call : ℕ) → has_monitor (single_changed at c was) call ≡ true
-    → single_sets at c was call ≡ None
+pub monitor_before : (at : ℕ) (c : Change) (was : Option Resource) (call : ℕ) → has_monitor (isolated_changed at c was) call ≡ true
+    → isolated_sets at c was call ≡ None
     → has_monitor was call ≡ true
 monitor_before at (change.Register r) was call h none = absurd (cc)
 monitor_before at (change.Unregister i) was call h none = absurd (cc)
@@ -135,7 +135,7 @@ monitor_before at change.Boot was call h none = h
 
 -- The machine as it stands for a resource in a state with these due moments: what it has of the resource, the moments of
 -- the monitors that are there, and numbers that are not above the next ones.
-pub record Stands (y : Single) (s : State) (moments : Due) (id : List ℕ) : Type 0 where
+pub record Stands (y : Isolated) (s : State) (moments : Due) (id : List ℕ) : Type 0 where
   pub resource : y.resource ≡ resource_at s id
   pub due : (call : ℕ) → has_monitor (resource_at s id) call ≡ true → y.due call ≡ moments id call
   pub calls : y.next_call ≤ s.next_call
@@ -155,25 +155,25 @@ or_else_alike None a b h = h refl
 or_else_alike (Some n) a b h = refl
 
 -- an event that names it
-stands_own : (y : Single) (s : State) (moments : Due) (id : List ℕ) (e : Event) → Stands y s moments id → named e.change ≡ Some id
+stands_own : (y : Isolated) (s : State) (moments : Due) (id : List ℕ) (e : Event) → Stands y s moments id → named e.change ≡ Some id
     → IsFresh s e.change
-    → Stands (single_after y e) (after s e) (due_after s moments e) id
+    → Stands (isolated_after y e) (after s e) (due_after s moments e) id
 stands_own y s moments id e stands n next =
-    let is : resource_at (after s e) id ≡ single_changed e.at e.change (resource_at s id) = own_changed e.at e.change s id n next in
+    let is : resource_at (after s e) id ≡ isolated_changed e.at e.change (resource_at s id) = own_changed e.at e.change s id n next in
     let has : (call : ℕ) → has_monitor (resource_at (after s e) id) call
-    ≡ has_monitor (single_changed e.at e.change (resource_at s id)) call = λ call. ap (λ o. has_monitor o call) is in record {
-      resource = ap (single_changed e.at e.change) stands.resource ∙ sym is;
+    ≡ has_monitor (isolated_changed e.at e.change (resource_at s id)) call = λ call. ap (λ o. has_monitor o call) is in record {
+      resource = ap (isolated_changed e.at e.change) stands.resource ∙ sym is;
       due = λ call there.
-          let there2 : has_monitor (single_changed e.at e.change (resource_at s id)) call ≡ true = sym (has call) ∙ there in
+          let there2 : has_monitor (isolated_changed e.at e.change (resource_at s id)) call ≡ true = sym (has call) ∙ there in
           rw (stands.resource, there2, there, own_sets e.at e.change s id call n)
-          (or_else_alike (single_sets e.at e.change (resource_at s id) call) (y.due call) (moments id call)
+          (or_else_alike (isolated_sets e.at e.change (resource_at s id) call) (y.due call) (moments id call)
           (λ none. stands.due call (monitor_before e.at e.change (resource_at s id) call there2 none)));
       calls = calls_above s e.change y.next_call next stands.calls;
       runs = runs_above s e.change y.next_run next stands.runs;
     }
 
 -- one that names another
-stands_other : (y : Single) (s : State) (moments : Due) (id other : List ℕ) (e : Event) → Stands y s moments id
+stands_other : (y : Isolated) (s : State) (moments : Due) (id other : List ℕ) (e : Event) → Stands y s moments id
     → named e.change ≡ Some other → other ≢ id
     → Stands y (after s e) (due_after s moments e) id
 stands_other y s moments id other e stands n differs =
@@ -187,12 +187,12 @@ stands_other y s moments id other e stands n differs =
     }
 
 -- an event
-pub stands_on : (y : Single) (s : State) (moments : Due) (id : List ℕ) (e : Event) → Stands y s moments id → IsFresh s e.change
-    → Stands (single_after_all y (events_of id (e ∷ []))) (after s e) (due_after s moments e) id
+pub stands_on : (y : Isolated) (s : State) (moments : Due) (id : List ℕ) (e : Event) → Stands y s moments id → IsFresh s e.change
+    → Stands (isolated_after_all y (events_of id (e ∷ []))) (after s e) (due_after s moments e) id
 stands_on y s moments id e stands next = by_name e.change refl
   where
     goal : Bool → Type 0
-    goal b = Stands (single_after_all y (cond b (e ∷ []) [])) (after s e) (due_after s moments e) id
+    goal b = Stands (isolated_after_all y (cond b (e ∷ []) [])) (after s e) (due_after s moments e) id
 
     by_own : (other : List ℕ) (b : Bool) → named e.change ≡ Some other → bytes_eq id other ≡ b → goal b
     by_own other true n same = stands_own y s moments id e stands (n ∙ ap Some (sym ((bytes_eq-Decides id other).0 same))) next
@@ -205,18 +205,18 @@ stands_on y s moments id e stands next = by_name e.change refl
     by_name (change.Step i what) is = by_own i (bytes_eq id i) (ap named is) refl
     by_name change.Boot is = absurd (subst (IsFresh s) is next)
 
-pub single-append : (y : Single) (es fs : List Event) → single_after_all y (es ++ fs) ≡ single_after_all (single_after_all y es) fs
+pub single-append : (y : Isolated) (es fs : List Event) → isolated_after_all y (es ++ fs) ≡ isolated_after_all (isolated_after_all y es) fs
 single-append y [] fs = refl
-single-append y (e ∷ es) fs = single-append (single_after y e) es fs
+single-append y (e ∷ es) fs = single-append (isolated_after y e) es fs
 
 -- events, each of which names one resource
-pub stands_all : (y : Single) (s : State) (moments : Due) (id : List ℕ) (es : List Event) → Stands y s moments id → AreFresh s es
-    → Stands (single_after_all y (events_of id es)) (after_all s es) (due_after_all s moments es) id
+pub stands_all : (y : Isolated) (s : State) (moments : Due) (id : List ℕ) (es : List Event) → Stands y s moments id → AreFresh s es
+    → Stands (isolated_after_all y (events_of id es)) (after_all s es) (due_after_all s moments es) id
 stands_all y s moments id [] stands next = stands
 stands_all y s moments id (e ∷ es) stands next =
     let one = events_of id (e ∷ []) in
-    let split : single_after_all y (events_of id (e ∷ es)) ≡ single_after_all (single_after_all y one) (events_of id es) =
-    ap (single_after_all y) (filter-append (λ f. option_map_or (bytes_eq id) (named f.change) false) (e ∷ []) es)
+    let split : isolated_after_all y (events_of id (e ∷ es)) ≡ isolated_after_all (isolated_after_all y one) (events_of id es) =
+    ap (isolated_after_all y) (filter-append (λ f. option_map_or (bytes_eq id) (named f.change) false) (e ∷ []) es)
     ∙ single-append y one (events_of id es) in
-    subst (λ (z : Single). Stands z (after_all (after s e) es) (due_after_all (after s e) (due_after s moments e) es) id) (sym split)
-    (stands_all (single_after_all y one) (after s e) (due_after s moments e) id es (stands_on y s moments id e stands next.0) next.1)
+    subst (λ (z : Isolated). Stands z (after_all (after s e) es) (due_after_all (after s e) (due_after s moments e) es) id) (sym split)
+    (stands_all (isolated_after_all y one) (after s e) (due_after s moments e) id es (stands_on y s moments id e stands next.0) next.1)

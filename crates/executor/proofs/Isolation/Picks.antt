@@ -20,8 +20,8 @@ use Rattle.ocf_types.specs.declared.operation.Running.{Running}
 use Rattle.ocf_types.specs.Laws.{each_weaken}
 use Rattle.exec_turn.specs.Actives.{Active, active_of}
 use Rattle.exec_turn.specs.Picks.{ArePicks, begin_of, begins, begun_in}
-use Rattle.executor.proofs.Alone.Changes.{AreFresh}
-use Rattle.executor.proofs.Alone.Lists.{filter_alike}
+use Rattle.executor.proofs.Isolation.Changes.{AreFresh}
+use Rattle.executor.proofs.Isolation.Lists.{filter_alike}
 
 -- each monitor is found by its call
 found_more : (m : Recur) (ms : List Recur) (call : ℕ) → is_some (of_call call ms) ≡ true → is_some (of_call call (m ∷ ms)) ≡ true

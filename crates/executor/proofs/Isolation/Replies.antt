@@ -16,8 +16,8 @@ use Rattle.ocf_types.specs.declared.refusal.Refusal.TheVariants as refusal
 use Rattle.ocf_types.specs.declared.reply.ReplyOf.TheVariants as reply
 use Rattle.exec_state.specs.Answers.{IsReplyOrMemory}
 use Rattle.executor.specs.Parts.{IsPlain, commanded, is_about}
-use Rattle.executor.specs.Singles.{Follows, Single, SingleCommand, cut, single_answer, single_event, single_tests}
-use Rattle.executor.proofs.Alone.Requests.{moment_is}
+use Rattle.executor.specs.Isolated.{Follows, Isolated, IsolatedCommand, cut, isolated_answer, isolated_event, isolated_tests}
+use Rattle.executor.proofs.Isolation.Requests.{moment_is}
 
 -- refused for a want that resources share
 abbrev IsShared : Result Event Refusal → Type 0
@@ -48,36 +48,36 @@ many_between false false c e = inl refl
 
 -- the machine meets the same refusal, or none as well, but for a want that resources share
 first_alike : (s : State) (c : Command) (size : ℕ) (e : Event)
-    → (first_of (tests s c size) e ≡ first_of (single_tests (resource_at s (commanded c)) c size) e)
+    → (first_of (tests s c size) e ≡ first_of (isolated_tests (resource_at s (commanded c)) c size) e)
     ⊎ IsShared (first_of (tests s c size) e)
 first_alike s (command.Register r) size e = many_between _ _ _ e
-first_alike s (command.Exec i task timeout) size e = spent_last (single_tests (resource_at s i) (command.Exec i task timeout) size) _ e
+first_alike s (command.Exec i task timeout) size e = spent_last (isolated_tests (resource_at s i) (command.Exec i task timeout) size) _ e
 first_alike s (command.Recur i interval timeout level) size e =
-    spent_last (single_tests (resource_at s i) (command.Recur i interval timeout level) size) _ e
+    spent_last (isolated_tests (resource_at s i) (command.Recur i interval timeout level) size) _ e
 first_alike s _ size e = inl refl
 
 -- the command's event with its moment as it is handed in
 abbrev asked_at : ℕ → ℕ → Command → Event
 asked_at at call c = record { at = at; change = change_of call c }
 
-pub single_command : (y : Single) (s : State) (now : ℕ) (c : Command) (answer : Reply) (events : List Event)
+pub isolated_command : (y : Isolated) (s : State) (now : ℕ) (c : Command) (answer : Reply) (events : List Event)
     → y.resource ≡ resource_at s (commanded c) → y.next_call ≤ s.next_call
-    → s.clock ≤ cut now → IsPlain answer → Follows (event_of s now c) answer events → SingleCommand (cut now) y c answer events
-single_command y s now c answer events same calls clock plain follows =
+    → s.clock ≤ cut now → IsPlain answer → Follows (event_of s now c) answer events → IsolatedCommand (cut now) y c answer events
+isolated_command y s now c answer events same calls clock plain follows =
     let e = asked_event s now c in
-    let one : Follows (single_event (resource_at s (commanded c)) e c) answer events = ⊎_elim
+    let one : Follows (isolated_event (resource_at s (commanded c)) e c) answer events = ⊎_elim
     (λ alike. subst (λ (v : Result Event Refusal). Follows v answer events) alike follows)
     (λ shared.
     let refused : Follows (Err shared.0) answer events = subst (λ (v : Result Event Refusal). Follows v answer events) shared.1 follows in
     absurd (shared.2 (subst IsPlain refused.0 plain)))
     (first_alike s c (length (spelled_event e)) e) in
-    let cut_off : Follows (single_event (resource_at s (commanded c)) (asked_at (cut now) s.next_call c) c) answer events =
-    subst (λ (at : ℕ). Follows (single_event (resource_at s (commanded c)) (asked_at at s.next_call c) c) answer events)
+    let cut_off : Follows (isolated_event (resource_at s (commanded c)) (asked_at (cut now) s.next_call c) c) answer events =
+    subst (λ (at : ℕ). Follows (isolated_event (resource_at s (commanded c)) (asked_at at s.next_call c) c) answer events)
     (moment_is s now clock) one in record {
       call = s.next_call;
       above = calls;
       follows =
-          subst (λ (o : Option Resource). Follows (single_event o (asked_at (cut now) s.next_call c) c) answer events) (sym same) cut_off;
+          subst (λ (o : Option Resource). Follows (isolated_event o (asked_at (cut now) s.next_call c) c) answer events) (sym same) cut_off;
     }
 
 -- a plain reply to a question is that of the state
@@ -85,13 +85,13 @@ plain_reply : (r given : Reply) → IsReplyOrMemory r given → IsPlain given �
 plain_reply (reply.Refused why) given h plain = h
 plain_reply _ given h plain = ⊎_elim (λ same. same) (λ memory. absurd (subst IsPlain memory plain)) h
 
-pub single_question : (resource : Option Resource) (s : State) (id : List ℕ) (q : Question) (given : Reply) → resource ≡ resource_at s id
+pub isolated_question : (resource : Option Resource) (s : State) (id : List ℕ) (q : Question) (given : Reply) → resource ≡ resource_at s id
     → is_about id (asked.Question q) ≡ true
-    → IsReplyOrMemory (reply_to s q) given → IsPlain given → given ≡ single_answer resource q
-single_question resource s id question.List given same about h plain = absurd (cc)
-single_question resource s id (question.Info other) given same about h plain =
+    → IsReplyOrMemory (reply_to s q) given → IsPlain given → given ≡ isolated_answer resource q
+isolated_question resource s id question.List given same about h plain = absurd (cc)
+isolated_question resource s id (question.Info other) given same about h plain =
     let is : resource ≡ resource_at s other = same ∙ ap (resource_at s) ((bytes_eq-Decides id other).0 about) in
     rw is (plain_reply (reply_to s (question.Info other)) given h plain)
-single_question resource s id (question.History other) given same about h plain =
+isolated_question resource s id (question.History other) given same about h plain =
     let is : resource ≡ resource_at s other = same ∙ ap (resource_at s) ((bytes_eq-Decides id other).0 about) in
     rw is (plain_reply (reply_to s (question.History other)) given h plain)

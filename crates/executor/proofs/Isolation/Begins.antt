@@ -14,13 +14,13 @@ use Rattle.child_keeper.specs.declared.answer.Entry.{Entry}
 use Rattle.exec_turn.specs.Actives.{Active, result_of}
 use Rattle.exec_turn.specs.Picks.{begins}
 use Rattle.exec_turn.specs.Starts.{Started, refusals, refused_end, starts}
-use Rattle.executor.specs.Singles.{Single, SingleBegin, SingleRest, has_monitor}
-use Rattle.executor.proofs.Alone.Picks.{IsChosen, begun_one, pick_same}
+use Rattle.executor.specs.Isolated.{Isolated, IsolatedBegin, IsolatedRest, has_monitor}
+use Rattle.executor.proofs.Isolation.Picks.{IsChosen, begun_one, pick_same}
 
 -- it begins nothing where nothing of it is begun
-rests : (y : Single) (at clock : ℕ) (bs : List Active) (zs : List Started) → bs ≡ [] → map (λ x. x.what) zs ≡ bs
+rests : (y : Isolated) (at clock : ℕ) (bs : List Active) (zs : List Started) → bs ≡ [] → map (λ x. x.what) zs ≡ bs
     → ((r : Resource) → y.resource ≡ Some r → IsPick r y.due at None)
-    → SingleRest at y (starts clock zs) (begins at bs ++ refusals at zs)
+    → IsolatedRest at y (starts clock zs) (begins at bs ++ refusals at zs)
 rests y at clock bs [] none each picks =
     record { none_picked = picks; no_entries = refl; no_events = ap (λ (l : List Active). begins at l ++ []) none }
 rests y at clock bs (z ∷ zs) none each picks = absurd (let no : z.what ∷ map (λ x. x.what) zs ≡ [] = each ∙ none in cc)
@@ -32,10 +32,10 @@ begun_events id at call run ends =
     ∷ map (λ end. record { at = at; change = change.Step id (step.Result run end) }) ends
 
 -- it begins what is begun of it
-begins_it : (y : Single) (id : List ℕ) (at clock n c : ℕ) (r : Resource) (bs : List Active) (zs : List Started) (x : Running)
+begins_it : (y : Isolated) (id : List ℕ) (at clock n c : ℕ) (r : Resource) (bs : List Active) (zs : List Started) (x : Running)
     → y.resource ≡ Some r → y.next_run ≤ n
     → IsPick r y.due at (Some c) → bs ≡ record { id = id; running = x } ∷ [] → x.call ≡ c → x.run ≡ n → map (λ x. x.what) zs ≡ bs
-    → SingleBegin id at y (starts clock zs) (begins at bs ++ refusals at zs)
+    → IsolatedBegin id at y (starts clock zs) (begins at bs ++ refusals at zs)
 begins_it y id at clock n c r bs [] x is le pick one call run each =
     let a : Active = record { id = id; running = x } in
     absurd (let no : [] ≡ a ∷ [] = each ∙ one in cc)
@@ -65,19 +65,19 @@ begins_it y id at clock n c r bs (z ∷ []) x is le pick one call run each =
     }
 
 -- what is begun of it behind the results, where it stands there with these due moments
-pub single_begins : (y : Single) (id : List ℕ) (at clock run : ℕ) (moments : Due) (o : Option Resource) (bs : List Active)
+pub isolated_begins : (y : Isolated) (id : List ℕ) (at clock run : ℕ) (moments : Due) (o : Option Resource) (bs : List Active)
     (zs : List Started) → y.resource ≡ o
     → ((call : ℕ) → has_monitor o call ≡ true → y.due call ≡ moments id call) → y.next_run ≤ run → IsChosen moments at run id o bs
     → map (λ x. x.what) zs ≡ bs
-    → SingleRest at y (starts clock zs) (begins at bs ++ refusals at zs)
-    ⊎ SingleBegin id at y (starts clock zs) (begins at bs ++ refusals at zs)
-single_begins y id at clock run moments None bs zs is due le none each =
+    → IsolatedRest at y (starts clock zs) (begins at bs ++ refusals at zs)
+    ⊎ IsolatedBegin id at y (starts clock zs) (begins at bs ++ refusals at zs)
+isolated_begins y id at clock run moments None bs zs is due le none each =
     inl (rests y at clock bs zs none each (λ r there. absurd (let no : None ≡ Some r = sym is ∙ there in cc)))
-single_begins y id at clock run moments (Some r) bs zs is due le (None, n, above, pick, none) each =
+isolated_begins y id at clock run moments (Some r) bs zs is due le (None, n, above, pick, none) each =
     inl (rests y at clock bs zs none each (λ q there.
     let same : r ≡ q = let both : Some r ≡ Some q = sym is ∙ there in cc in
     subst (λ (p : Resource). IsPick p y.due at None) same (pick_same r (moments id) y.due at None due pick)))
-single_begins y id at clock run moments (Some r) bs zs is due le (Some c, n, above, pick, mine) each =
+isolated_begins y id at clock run moments (Some r) bs zs is due le (Some c, n, above, pick, mine) each =
     let one = begun_one (moments id) at n (id, r) c pick in
     inr (begins_it y id at clock n c r bs zs one.0 is (omega (arith, le, above)) (pick_same r (moments id) y.due at (Some c) due pick)
     (mine ∙ one.1) one.2 one.3 each)

@@ -36,35 +36,35 @@ use Rattle.executor.specs.Sights.{Sight, due_in}
 use Rattle.executor.specs.declared.session.InputOf.TheVariants as input
 
 -- the resource, if it is registered, when each of its monitors is due, by call, and numbers above all that were handed in
-pub record Single : Type 0 where
+pub record Isolated : Type 0 where
   pub resource : Option Resource
   pub due : ℕ → Option ℕ
   pub next_call : ℕ
   pub next_run : ℕ
 
 -- it as it stands in an executor
-abbrev pub single_of : {D : Type 0} → Sight D → List ℕ → Single
-single_of x id = record { resource = resource_at x.state id; due = due_in x id; next_call = x.state.next_call; next_run = x.state.next_run }
+abbrev pub isolated_of : {D : Type 0} → Sight D → List ℕ → Isolated
+isolated_of x id = record { resource = resource_at x.state id; due = due_in x id; next_call = x.state.next_call; next_run = x.state.next_run }
 
 -- the resource after a change that names it
-abbrev pub single_changed : ℕ → Change → Option Resource → Option Resource
-single_changed at (change.Register r) was = Some (registered r).1
-single_changed at (change.Unregister id) was = None
-single_changed at (change.Step id what) was = option_map (stepped at what) was
-single_changed at change.Boot was = was
+abbrev pub isolated_changed : ℕ → Change → Option Resource → Option Resource
+isolated_changed at (change.Register r) was = Some (registered r).1
+isolated_changed at (change.Unregister id) was = None
+isolated_changed at (change.Step id what) was = option_map (stepped at what) was
+isolated_changed at change.Boot was = was
 
 -- the due moment that it sets for a call
-abbrev pub single_sets : ℕ → Change → Option Resource → ℕ → Option ℕ
-single_sets at (change.Step id what) was call = option_and_then (λ r. step_sets r at what call) was
-single_sets at _ was call = None
+abbrev pub isolated_sets : ℕ → Change → Option Resource → ℕ → Option ℕ
+isolated_sets at (change.Step id what) was call = option_and_then (λ r. step_sets r at what call) was
+isolated_sets at _ was call = None
 
 -- the resource has a monitor of this call
 abbrev pub has_monitor : Option Resource → ℕ → Bool
 has_monitor resource call = option_map_or (λ r. is_some (of_call call r.recurring)) resource false
 
 -- the due moments after it: of the monitors that are there then, what it sets, else what was
-abbrev pub single_due : ℕ → Change → Option Resource → (ℕ → Option ℕ) → ℕ → Option ℕ
-single_due at c was due call = if has_monitor (single_changed at c was) call then or_else (single_sets at c was call) (due call) else None
+abbrev pub isolated_due : ℕ → Change → Option Resource → (ℕ → Option ℕ) → ℕ → Option ℕ
+isolated_due at c was due call = if has_monitor (isolated_changed at c was) call then or_else (isolated_sets at c was call) (due call) else None
 
 -- above the numbers that it draws
 abbrev pub above_call : Change → ℕ → ℕ
@@ -77,42 +77,42 @@ above_run (change.Step id (step.Begin call run)) next = run + 1
 above_run _ next = next
 
 -- the machine after an event, and after a list of them
-abbrev pub single_after : Single → Event → Single
-single_after x e = record {
-  resource = single_changed e.at e.change x.resource;
-  due = single_due e.at e.change x.resource x.due;
+abbrev pub isolated_after : Isolated → Event → Isolated
+isolated_after x e = record {
+  resource = isolated_changed e.at e.change x.resource;
+  due = isolated_due e.at e.change x.resource x.due;
   next_call = above_call e.change x.next_call;
   next_run = above_run e.change x.next_run;
 }
 
-abbrev pub single_after_all : Single → List Event → Single
-single_after_all x [] = x
-single_after_all x (e ∷ es) = single_after_all (single_after x e) es
+abbrev pub isolated_after_all : Isolated → List Event → Isolated
+isolated_after_all x [] = x
+isolated_after_all x (e ∷ es) = isolated_after_all (isolated_after x e) es
 
 -- the resource is registered, and the test holds of it
 abbrev pub holds : Option Resource → (Resource → Bool) → Bool
 holds resource test = option_map_or test resource false
 
 -- the refusals that a command may meet, each with its test, in the order in which they are tried
-abbrev pub single_tests : Option Resource → Command → ℕ → List (Refusal × Bool)
-single_tests resource (command.Register r) size = (Exists, is_some resource) ∷ (TooLarge, nat_lt event_limit size) ∷ []
-single_tests resource (command.Unregister id) size =
+abbrev pub isolated_tests : Option Resource → Command → ℕ → List (Refusal × Bool)
+isolated_tests resource (command.Register r) size = (Exists, is_some resource) ∷ (TooLarge, nat_lt event_limit size) ∷ []
+isolated_tests resource (command.Unregister id) size =
     (UnknownResource, is_none resource) ∷ (Busy, holds resource (λ r. is_busy r.history)) ∷ []
-single_tests resource (command.SetParams id ps) size = (UnknownResource, is_none resource) ∷ (TooLarge, nat_lt event_limit size) ∷ []
-single_tests resource (command.Exec id task timeout) size =
+isolated_tests resource (command.SetParams id ps) size = (UnknownResource, is_none resource) ∷ (TooLarge, nat_lt event_limit size) ∷ []
+isolated_tests resource (command.Exec id task timeout) size =
     (UnknownResource, is_none resource) ∷ (QueueFull, holds resource (λ r. nat_le queue_limit (length r.history.queue))) ∷ []
-single_tests resource (command.Recur id interval timeout level) size =
+isolated_tests resource (command.Recur id interval timeout level) size =
     (UnknownResource, is_none resource) ∷ (Exists, holds resource (λ r. is_some (of_interval interval r.recurring)))
     ∷ (RecurringFull, holds resource (λ r. nat_le recurring_limit (length r.recurring))) ∷ []
-single_tests resource (command.Cancel id interval) size =
+isolated_tests resource (command.Cancel id interval) size =
     (UnknownResource, is_none resource) ∷ (NoSuchRecurring, holds resource (λ r. is_none (of_interval interval r.recurring))) ∷ []
-single_tests resource (command.Forget id) size = (UnknownResource, is_none resource) ∷ []
-single_tests resource (command.Withdraw id call) size =
+isolated_tests resource (command.Forget id) size = (UnknownResource, is_none resource) ∷ []
+isolated_tests resource (command.Withdraw id call) size =
     (UnknownResource, is_none resource) ∷ (NotQueued, holds resource (λ r. is_none (queued_of call r.history.queue))) ∷ []
 
 -- the event that a command asks for, or the first refusal
-abbrev pub single_event : Option Resource → Event → Command → Result Event Refusal
-single_event resource e c = first_of (single_tests resource c (length (spelled_event e))) e
+abbrev pub isolated_event : Option Resource → Event → Command → Result Event Refusal
+isolated_event resource e c = first_of (isolated_tests resource c (length (spelled_event e))) e
 
 -- what a command is answered that is this event or this refusal, and what it records
 abbrev pub Follows : Result Event Refusal → Reply → List Event → Type 0
@@ -120,39 +120,39 @@ Follows (Err refusal) answer events = (answer ≡ reply.Refused refusal) × (eve
 Follows (Ok e) answer events = (answer ≡ acknowledged e.change) × (events ≡ e ∷ [])
 
 -- a command, under a call that is handed in
-pub record SingleCommand (at : ℕ) (x : Single) (c : Command) (answer : Reply) (events : List Event) : Type 0 where
+pub record IsolatedCommand (at : ℕ) (x : Isolated) (c : Command) (answer : Reply) (events : List Event) : Type 0 where
   pub call : ℕ
   pub above : x.next_call ≤ call
-  pub follows : Follows (single_event x.resource (record { at = at; change = change_of call c }) c) answer events
+  pub follows : Follows (isolated_event x.resource (record { at = at; change = change_of call c }) c) answer events
 
 -- what is said of it, or that it is not registered
 abbrev pub said : Option Resource → (Resource → Reply) → Reply
 said resource say = option_map_or say resource (reply.Refused UnknownResource)
 
-abbrev pub single_answer : Option Resource → Question → Reply
-single_answer resource (question.Info id) = said resource (λ r. reply.Info (info_of id r))
-single_answer resource (question.History id) = said resource (λ r. reply.History r.history.ended)
-single_answer resource question.List = reply.List []
+abbrev pub isolated_answer : Option Resource → Question → Reply
+isolated_answer resource (question.Info id) = said resource (λ r. reply.Info (info_of id r))
+isolated_answer resource (question.History id) = said resource (λ r. reply.History r.history.ended)
+isolated_answer resource question.List = reply.List []
 
 -- what runs
-abbrev pub running_in : Single → Option Running
+abbrev pub running_in : Isolated → Option Running
 running_in x = option_and_then (λ r. r.history.running) x.resource
 
 -- its own poll, of what runs, if anything runs: the entries, and the result where it ended
-abbrev pub SinglePoll : List ℕ → ℕ → Option Running → List Entry → List Event → Type 0
-SinglePoll id at None entries events = (entries ≡ []) × (events ≡ [])
-SinglePoll id at (Some running) entries events = (poll : Poll) × (kill : Result Unit KillFault) × IsPoll poll
+abbrev pub IsolatedPoll : List ℕ → ℕ → Option Running → List Entry → List Event → Type 0
+IsolatedPoll id at None entries events = (entries ≡ []) × (events ≡ [])
+IsolatedPoll id at (Some running) entries events = (poll : Poll) × (kill : Result Unit KillFault) × IsPoll poll
     × (entries ≡ entries_of at running poll kill)
     × (events ≡ map (result_of at (record { id = id; running = running })) (option_to_list (ending at running poll)))
 
 -- It begins nothing.
-pub record SingleRest (at : ℕ) (x : Single) (entries : List Entry) (events : List Event) : Type 0 where
+pub record IsolatedRest (at : ℕ) (x : Isolated) (entries : List Entry) (events : List Event) : Type 0 where
   pub none_picked : (r : Resource) → x.resource ≡ Some r → IsPick r x.due at None
   pub no_entries : entries ≡ []
   pub no_events : events ≡ []
 
 -- It begins what it picks, under a run that is handed in, and starts it; a start that is refused ends it.
-pub record SingleBegin (id : List ℕ) (at : ℕ) (x : Single) (entries : List Entry) (events : List Event) : Type 0 where
+pub record IsolatedBegin (id : List ℕ) (at : ℕ) (x : Isolated) (entries : List Entry) (events : List Event) : Type 0 where
   pub resource : Resource
   pub is : x.resource ≡ Some resource
   pub call : ℕ
@@ -166,7 +166,7 @@ pub record SingleBegin (id : List ℕ) (at : ℕ) (x : Single) (entries : List E
       ∷ map (λ end. record { at = at; change = change.Step id (step.Result run end) }) (refused_end answer)
 
 -- A turn: its poll, and then what it begins.
-pub record SingleTurn (id : List ℕ) (at : ℕ) (x : Single) (answer : Reply) (entries : List Entry) (events : List Event) : Type 0 where
+pub record IsolatedTurn (id : List ℕ) (at : ℕ) (x : Isolated) (answer : Reply) (entries : List Entry) (events : List Event) : Type 0 where
   pub done : answer ≡ reply.Turn Done
   pub polled : List Entry
   pub started : List Entry
@@ -174,24 +174,24 @@ pub record SingleTurn (id : List ℕ) (at : ℕ) (x : Single) (answer : Reply) (
   pub begins : List Event
   pub all_entries : entries ≡ polled ++ started
   pub all_events : events ≡ results ++ begins
-  pub polls : SinglePoll id at (running_in x) polled results
-  pub goes_on : SingleRest at (single_after_all x results) started begins ⊎ SingleBegin id at (single_after_all x results) started begins
+  pub polls : IsolatedPoll id at (running_in x) polled results
+  pub goes_on : IsolatedRest at (isolated_after_all x results) started begins ⊎ IsolatedBegin id at (isolated_after_all x results) started begins
 
 -- the moment that is handed in, cut at the greatest one
 abbrev pub cut : ℕ → ℕ
 cut now = min now num_max
 
 -- the machine takes an input
-abbrev pub SingleTakes : List ℕ → Single → Input → Reply → List Entry → List Event → Type 0
-SingleTakes id x (input.Request now (asked.Command c)) answer entries events = (entries ≡ []) × SingleCommand (cut now) x c answer events
-SingleTakes id x (input.Request now (asked.Question q)) answer entries events =
-    (entries ≡ []) × (events ≡ []) × (answer ≡ single_answer x.resource q)
-SingleTakes id x (input.Turn now) answer entries events = SingleTurn id (cut now) x answer entries events
+abbrev pub IsolatedTakes : List ℕ → Isolated → Input → Reply → List Entry → List Event → Type 0
+IsolatedTakes id x (input.Request now (asked.Command c)) answer entries events = (entries ≡ []) × IsolatedCommand (cut now) x c answer events
+IsolatedTakes id x (input.Request now (asked.Question q)) answer entries events =
+    (entries ≡ []) × (events ≡ []) × (answer ≡ isolated_answer x.resource q)
+IsolatedTakes id x (input.Turn now) answer entries events = IsolatedTurn id (cut now) x answer entries events
 
 -- it takes inputs, one after the other, with their replies
-abbrev pub Alone : List ℕ → Single → List (Input × Reply) → List Entry → List Event → Type 0
+abbrev pub Alone : List ℕ → Isolated → List (Input × Reply) → List Entry → List Event → Type 0
 Alone id x [] entries events = (entries ≡ []) × (events ≡ [])
 Alone id x (i ∷ is) entries events =
     (first_entries : List Entry) × (later_entries : List Entry) × (first_events : List Event) × (later_events : List Event)
     × (entries ≡ first_entries ++ later_entries) × (events ≡ first_events ++ later_events)
-    × SingleTakes id x i.0 i.1 first_entries first_events × Alone id (single_after_all x first_events) is later_entries later_events
+    × IsolatedTakes id x i.0 i.1 first_entries first_events × Alone id (isolated_after_all x first_events) is later_entries later_events

@@ -29,16 +29,16 @@ use Rattle.exec_turn.specs.Polls.{IsPoll, Polled, polls, results}
 use Rattle.exec_turn.specs.Starts.{Started, refusals, starts}
 use Rattle.exec_turn.specs.Turn.{IsTurn, Told, Whole, due_after_all, scene}
 use Rattle.executor.specs.Parts.{IsPlain, events_of}
-use Rattle.executor.specs.Sessions.{Deeds, TakesATurn}
+use Rattle.executor.specs.Sessions.{Effects, TakesATurn}
 use Rattle.executor.specs.Sights.{Sight, due_in}
-use Rattle.executor.specs.Singles.{Single, SingleTurn, cut, running_in, single_after_all}
-use Rattle.executor.proofs.Alone.Changes.{AreFresh, IsFresh, Stands, stands_all}
-use Rattle.executor.proofs.Alone.Lists.{each_first, each_last, each_map, each_of_all, each_unmap, filter-map}
-use Rattle.executor.proofs.Alone.Begins.{single_begins}
-use Rattle.executor.proofs.Alone.Picks.{begins_fresh, chosen, own_of}
-use Rattle.executor.proofs.Alone.Requests.{Does, moment_is, seen}
-use Rattle.executor.proofs.Alone.Rows.{AreOwn, IsEnd, begins_kept, ends_fresh, names_it, own_active, polls_kept, refusals_end, refusals_kept}
-use Rattle.executor.proofs.Alone.Rows.{results_end, results_kept, single_poll, starts_kept}
+use Rattle.executor.specs.Isolated.{Isolated, IsolatedTurn, cut, running_in, isolated_after_all}
+use Rattle.executor.proofs.Isolation.Changes.{AreFresh, IsFresh, Stands, stands_all}
+use Rattle.executor.proofs.Isolation.Lists.{each_first, each_last, each_map, each_of_all, each_unmap, filter-map}
+use Rattle.executor.proofs.Isolation.Begins.{isolated_begins}
+use Rattle.executor.proofs.Isolation.Picks.{begins_fresh, chosen, own_of}
+use Rattle.executor.proofs.Isolation.Requests.{Does, moment_is, seen}
+use Rattle.executor.proofs.Isolation.Rows.{AreOwn, IsEnd, begins_kept, ends_fresh, names_it, own_active, polls_kept, refusals_end, refusals_kept}
+use Rattle.executor.proofs.Isolation.Rows.{results_end, results_kept, isolated_poll, starts_kept}
 
 -- new events behind new events
 pub fresh-append : (s : State) (es fs : List Event) → AreFresh s es → AreFresh (after_all s es) fs → AreFresh s (es ++ fs)
@@ -75,18 +75,18 @@ abbrev pub AllBeginOwn : (ℕ → Bool) → List ℕ → List Event → Type 0
 AllBeginOwn mine id es = AllByRecursion (λ e. BeginsOwn mine id e.change) es
 
 -- A turn that ended done, at the moment that was handed in.
-pub record TurnDone {D : Type 0} (now : ℕ) (old new : Sight D) (given : Reply) (deeds : Deeds) : Type 0 where
+pub record TurnDone {D : Type 0} (now : ℕ) (old new : Sight D) (given : Reply) (effects : Effects) : Type 0 where
   pub done : given ≡ reply.Turn Done
   pub t : Told Done (scene old.state (due_in old) old.place (cut now))
-  pub entries : deeds.entries ≡ polls (cut now) t.polled ++ starts t.clock t.started
-  pub events : deeds.events ≡ results (cut now) t.polled ++ (begins (cut now) t.begun ++ refusals (cut now) t.started)
-  pub state : new.state ≡ after_all old.state deeds.events
-  pub due : due_in new ≡ due_after_all old.state (due_in old) deeds.events
+  pub entries : effects.entries ≡ polls (cut now) t.polled ++ starts t.clock t.started
+  pub events : effects.events ≡ results (cut now) t.polled ++ (begins (cut now) t.begun ++ refusals (cut now) t.started)
+  pub state : new.state ≡ after_all old.state effects.events
+  pub due : due_in new ≡ due_after_all old.state (due_in old) effects.events
 
-pub turn_done : {D : Type 0} (look : D → View) (now : ℕ) (old new : Sight D) (given : Reply) (deeds : Deeds) → old.state.clock ≤ cut now
+pub turn_done : {D : Type 0} (look : D → View) (now : ℕ) (old new : Sight D) (given : Reply) (effects : Effects) → old.state.clock ≤ cut now
     → IsPlain given
-    → TakesATurn look now old new given deeds → TurnDone now old new given deeds
-turn_done {D} look now old new given deeds clock plain takes =
+    → TakesATurn look now old new given effects → TurnDone now old new given effects
+turn_done {D} look now old new given effects clock plain takes =
     let turns = takes.takes.turns in
     let is_done : takes.end ≡ Done = subst IsPlain takes.replies plain in
     let raw : Whole Done (scene old.state (due_in old) old.place (moment old.state now)) turns.entries turns.events turns.pending new.told =
@@ -95,18 +95,18 @@ turn_done {D} look now old new given deeds clock plain takes =
     let whole : Whole Done (scene old.state (due_in old) old.place (cut now)) turns.entries turns.events turns.pending new.told =
     subst (λ (at : ℕ). Whole Done (scene old.state (due_in old) old.place at) turns.entries turns.events turns.pending new.told)
     (moment_is old.state now clock) raw in
-    let row : deeds.events ≡ turns.events = ap (λ (x : Deeds). x.events) takes.does in record {
+    let row : effects.events ≡ turns.events = ap (λ (x : Effects). x.events) takes.does in record {
       done = takes.replies ∙ ap (λ (e : TurnEnd). reply.Turn e) is_done;
       t = whole.0;
-      entries = ap (λ (x : Deeds). x.entries) takes.does ∙ whole.1;
+      entries = ap (λ (x : Effects). x.entries) takes.does ∙ whole.1;
       events =
           row ∙ whole.2 ∙ append_assoc (results (cut now) whole.0.polled) (begins (cut now) whole.0.begun)
           (refusals (cut now) whole.0.started);
-      state = turns.leaves.state ∙ ap (after_all old.state) (sym row);
+      state = turns.crash.state ∙ ap (after_all old.state) (sym row);
       due = turns.due_is ∙ ap (due_after_all old.state (due_in old)) (sym row);
     }
 
-module _ {D : Type 0} (now : ℕ) (old new : Sight D) (given : Reply) (deeds : Deeds) (turn : TurnDone now old new given deeds) where
+module _ {D : Type 0} (now : ℕ) (old new : Sight D) (given : Reply) (effects : Effects) (turn : TurnDone now old new given effects) where
   at : ℕ
   at = cut now
 
@@ -145,7 +145,7 @@ module _ {D : Type 0} (now : ℕ) (old new : Sight D) (given : Reply) (deeds : D
       ended es h = each_weaken (IsEnd at) (λ e. e.at ≡ at) (λ e end. end.now) es h
 
   -- it leaves what its events make of what it finds
-  pub turn_does : old.state.clock ≤ cut now → Does now (seen old) (seen new) deeds.events
+  pub turn_does : old.state.clock ≤ cut now → Does now (seen old) (seen new) effects.events
   unfolding at mid behind
   turn_does clock = record {
     state = turn.state;
@@ -156,7 +156,7 @@ module _ {D : Type 0} (now : ℕ) (old new : Sight D) (given : Reply) (deeds : D
         (clock_behind old.state at (cut now) (results at turn.t.polled ++ behind) now_all (le_refl (cut now)) clock));
   }
 
-  module _ (mine : ℕ → Bool) (id : List ℕ) (y : Single) where
+  module _ (mine : ℕ → Bool) (id : List ℕ) (y : Isolated) where
     -- its own polls, begins and starts
     own_polled : List Polled
     own_polled = filter (λ p. bytes_eq id p.who.id) turn.t.polled
@@ -168,11 +168,11 @@ module _ {D : Type 0} (now : ℕ) (old new : Sight D) (given : Reply) (deeds : D
     own_started = filter (λ x. bytes_eq id x.what.id) turn.t.started
 
     -- the machine makes its part of the turn
-    pub turn_single : Stands y old.state (due_in old) id → AreApart old.state → AreOwn mine id (active old.state)
-        → AllBeginOwn mine id deeds.events
-        → SingleTurn id (cut now) y given (filter (λ e. mine e.run) deeds.entries) (events_of id deeds.events)
+    pub turn_isolated : Stands y old.state (due_in old) id → AreApart old.state → AreOwn mine id (active old.state)
+        → AllBeginOwn mine id effects.events
+        → IsolatedTurn id (cut now) y given (filter (λ e. mine e.run) effects.entries) (events_of id effects.events)
     unfolding at mid moments behind own_polled own_begun own_started
-    turn_single stands apart runs own =
+    turn_isolated stands apart runs own =
         let test : Entry → Bool = λ e. mine e.run in
         let polled_own : AreOwn mine id (map (λ p. p.who) turn.t.polled) = subst (AreOwn mine id) (sym turn.t.each_polled.each) runs in
         let all_own : AllBeginOwn mine id (results at turn.t.polled ++ (begins at turn.t.begun ++ refusals at turn.t.started)) = subst
@@ -192,8 +192,8 @@ module _ {D : Type 0} (now : ℕ) (old new : Sight D) (given : Reply) (deeds : D
         let what : map (λ x. x.what) own_started ≡ own_begun = sym (filter-map (λ a. bytes_eq id a.id) (λ x. x.what) turn.t.started)
         ∙ ap (own_of id) turn.t.each_started in
         let row : events_of id (results at turn.t.polled) ≡ results at own_polled = results_kept id at turn.t.polled in
-        let there : Stands (single_after_all y (results at own_polled)) mid moments id = subst
-        (λ (l : List Event). Stands (single_after_all y l) mid moments id) row
+        let there : Stands (isolated_after_all y (results at own_polled)) mid moments id = subst
+        (λ (l : List Event). Stands (isolated_after_all y l) mid moments id) row
         (stands_all y old.state (due_in old) id (results at turn.t.polled) stands results_new) in record {
           done = turn.done;
           polled = polls at own_polled;
@@ -208,9 +208,9 @@ module _ {D : Type 0} (now : ℕ) (old new : Sight D) (given : Reply) (deeds : D
               ∙ filter-append (names_it id) (results at turn.t.polled) (begins at turn.t.begun ++ refusals at turn.t.started)
               ∙ ap₂ (λ (a b : List Event). a ++ b) row (filter-append (names_it id) (begins at turn.t.begun) (refusals at turn.t.started)
               ∙ ap₂ (λ (a b : List Event). a ++ b) (begins_kept id at turn.t.begun) (refusals_kept id at turn.t.started));
-          polls = single_poll id at (running_in y) own_polled own_bytes who;
+          polls = isolated_poll id at (running_in y) own_polled own_bytes who;
           goes_on =
-              single_begins (single_after_all y (results at own_polled)) id at turn.t.clock mid.next_run moments
+              isolated_begins (isolated_after_all y (results at own_polled)) id at turn.t.clock mid.next_run moments
               (resource_at mid id) own_begun own_started there.resource there.due there.runs
               (chosen moments at mid.next_run mid.resources turn.t.begun id
               (ids_stay old.state (results at turn.t.polled) results_new apart) picks) what;

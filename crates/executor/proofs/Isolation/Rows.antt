@@ -23,10 +23,10 @@ use Rattle.exec_turn.specs.Polls.{IsPoll, Polled, ending, ends_of, entries_of, i
 use Rattle.exec_turn.specs.Starts.{Started, refusals, refused_end, starts}
 use Rattle.ocf_types.specs.Laws.{each_weaken}
 use Rattle.executor.specs.Parts.{events_of}
-use Rattle.executor.specs.Singles.{SinglePoll}
-use Rattle.executor.proofs.Alone.Changes.{AreFresh, IsFresh}
-use Rattle.executor.proofs.Alone.Lists.{each_flat_map, each_map, each_of_all, each_unmap, filter-flat_map, filter-map, filter_alike}
-use Rattle.executor.proofs.Alone.Lists.{filter_same}
+use Rattle.executor.specs.Isolated.{IsolatedPoll}
+use Rattle.executor.proofs.Isolation.Changes.{AreFresh, IsFresh}
+use Rattle.executor.proofs.Isolation.Lists.{each_flat_map, each_map, each_of_all, each_unmap, filter-flat_map, filter-map, filter_alike}
+use Rattle.executor.proofs.Isolation.Lists.{filter_same}
 
 -- an event that names this id
 abbrev pub names_it : List ℕ → Event → Bool
@@ -159,13 +159,13 @@ ends_draw at [] h t = refl
 ends_draw at (e ∷ es) h t = let rest = ends_draw at es h.1 (after t e) in omega (arith, rest, h.0.draws)
 
 -- its own poll, of what runs
-pub single_poll : (id : List ℕ) (at : ℕ) (o : Option Running) (ps : List Polled) → AllByRecursion (λ p. IsPoll p.poll) ps
+pub isolated_poll : (id : List ℕ) (at : ℕ) (o : Option Running) (ps : List Polled) → AllByRecursion (λ p. IsPoll p.poll) ps
     → map (λ p. p.who) ps ≡ active_of id o
-    → SinglePoll id at o (polls at ps) (results at ps)
-single_poll id at None [] bytes h = (refl, refl)
-single_poll id at None (p ∷ ps) bytes h = absurd (let no : p.who ∷ map (λ p. p.who) ps ≡ [] = h in cc)
-single_poll id at (Some x) [] bytes h = absurd (let no : [] ≡ active_of id (Some x) = h in cc)
-single_poll id at (Some x) (p ∷ []) bytes h =
+    → IsolatedPoll id at o (polls at ps) (results at ps)
+isolated_poll id at None [] bytes h = (refl, refl)
+isolated_poll id at None (p ∷ ps) bytes h = absurd (let no : p.who ∷ map (λ p. p.who) ps ≡ [] = h in cc)
+isolated_poll id at (Some x) [] bytes h = absurd (let no : [] ≡ active_of id (Some x) = h in cc)
+isolated_poll id at (Some x) (p ∷ []) bytes h =
     let w : Active = record { id = id; running = x } in
     let is : p.who ≡ w = let one : p.who ∷ [] ≡ w ∷ [] = h in cc in (
       p.poll,
@@ -175,6 +175,6 @@ single_poll id at (Some x) (p ∷ []) bytes h =
       append-nil (map (result_of at p.who) (ends_of at p))
           ∙ ap (λ (a : Active). map (result_of at a) (option_to_list (ending at a.running p.poll))) is,
     )
-single_poll id at (Some x) (p ∷ q ∷ ps) bytes h =
+isolated_poll id at (Some x) (p ∷ q ∷ ps) bytes h =
     let w : Active = record { id = id; running = x } in
     absurd (let no : p.who ∷ q.who ∷ map (λ p. p.who) ps ≡ w ∷ [] = h in cc)

@@ -21,11 +21,11 @@ use Rattle.exec_turn.specs.Turn.{due_after_all}
 use Rattle.executor.specs.Commands.{Obeys, Records}
 use Rattle.executor.specs.Parts.{IsPlain, commanded}
 use Rattle.executor.specs.Replies.{IsReplyTo, acknowledged, due_left, recorded}
-use Rattle.executor.specs.RowCalls.{Adds, row_deeds}
-use Rattle.executor.specs.Sessions.{Deeds, TakesRequest, command_deeds}
+use Rattle.executor.specs.RowCalls.{Adds, row_effects}
+use Rattle.executor.specs.Sessions.{Effects, TakesRequest, command_effects}
 use Rattle.executor.specs.Sights.{Sight, due_in}
-use Rattle.executor.specs.Singles.{Follows, cut}
-use Rattle.executor.proofs.Alone.Changes.{AreFresh, IsFresh}
+use Rattle.executor.specs.Isolated.{Follows, cut}
+use Rattle.executor.proofs.Isolation.Changes.{AreFresh, IsFresh}
 
 -- what a machine of one resource sees of an executor
 pub record Seen : Type 0 where
@@ -110,28 +110,28 @@ one_clock s now c e is clock =
     subst (λ (f : Event). f.at ≤ cut now) went.0 (le_of_eq (moment_is s now clock))
 
 -- What a command does, and what it is answered where that is plain.
-pub record Commands (now : ℕ) (c : Command) (old new : Seen) (reply : Reply) (deeds : Deeds) : Type 0 where
-  pub no_entries : deeds.entries ≡ []
-  pub names : AllName (commanded c) deeds.events
-  pub does : Does now old new deeds.events
-  pub follows : IsPlain reply → Follows (event_of old.state now c) reply deeds.events
+pub record Commands (now : ℕ) (c : Command) (old new : Seen) (reply : Reply) (effects : Effects) : Type 0 where
+  pub no_entries : effects.entries ≡ []
+  pub names : AllName (commanded c) effects.events
+  pub does : Does now old new effects.events
+  pub follows : IsPlain reply → Follows (event_of old.state now c) reply effects.events
 
-pub commands : {D : Type 0} (look : D → View) (now : ℕ) (c : Command) (old new : Sight D) (reply : Reply) (deeds : Deeds)
+pub commands : {D : Type 0} (look : D → View) (now : ℕ) (c : Command) (old new : Sight D) (reply : Reply) (effects : Effects)
     → old.state.clock ≤ cut now
-    → TakesRequest look now (asked.Command c) old new reply deeds → Commands now c (seen old) (seen new) reply deeds
-commands {D} look now c old new reply deeds clock takes =
-    subst (λ (x : Deeds). Commands now c (seen old) (seen new) reply x) (sym takes.does) (by (event_of old.state now c) refl takes.serves)
+    → TakesRequest look now (asked.Command c) old new reply effects → Commands now c (seen old) (seen new) reply effects
+commands {D} look now c old new reply effects clock takes =
+    subst (λ (x : Effects). Commands now c (seen old) (seen new) reply x) (sym takes.does) (by (event_of old.state now c) refl takes.serves)
   where
     by_reply : (e : Event) → event_of old.state now c ≡ Ok e → Records look e old new reply
-        → (reply ≡ acknowledged e.change) ⊎ IsRefused reply → Commands now c (seen old) (seen new) reply (command_deeds (Ok e) reply)
+        → (reply ≡ acknowledged e.change) ⊎ IsRefused reply → Commands now c (seen old) (seen new) reply (command_effects (Ok e) reply)
     by_reply e is serves (inl told) =
         let done = told_done old.state e e.change (due_in old) in
         let row : recorded e reply ≡ e ∷ [] = ap (recorded e) told ∙ done.0 in
-        let after_one : new.state ≡ after old.state e = serves.leaves.state ∙ ap (after_all old.state) row in record {
+        let after_one : new.state ≡ after old.state e = serves.crash.state ∙ ap (after_all old.state) row in record {
           no_entries = refl;
           names = subst (AllName (commanded c)) (sym row) (one_names old.state now c e is);
           does = record {
-            state = serves.leaves.state;
+            state = serves.crash.state;
             due =
                 serves.due ∙ ap (λ (r : Reply). due_left old.state e r (due_in old)) told ∙ done.1
                 ∙ ap (due_after_all old.state (due_in old)) (sym row);
@@ -142,11 +142,11 @@ commands {D} look now c old new reply deeds clock takes =
         }
     by_reply e is serves (inr (why, refused, shared)) =
         let row : recorded e reply ≡ [] = ap (recorded e) refused in
-        let still : new.state ≡ old.state = serves.leaves.state ∙ ap (after_all old.state) row in record {
+        let still : new.state ≡ old.state = serves.crash.state ∙ ap (after_all old.state) row in record {
           no_entries = refl;
           names = subst (AllName (commanded c)) (sym row) tt;
           does = record {
-            state = serves.leaves.state;
+            state = serves.crash.state;
             due = serves.due ∙ ap (λ (r : Reply). due_left old.state e r (due_in old)) refused ∙ ap (due_after_all old.state (due_in old)) (sym row);
             next = subst (AreFresh old.state) (sym row) tt;
             clock = subst (λ (x : State). x.clock ≤ cut now) (sym still) clock;
@@ -155,7 +155,7 @@ commands {D} look now c old new reply deeds clock takes =
         }
 
     by : (v : Result Event Refusal) → event_of old.state now c ≡ v → Obeys look v old new reply
-        → Commands now c (seen old) (seen new) reply (command_deeds v reply)
+        → Commands now c (seen old) (seen new) reply (command_effects v reply)
     by (Err why) is serves = record {
       no_entries = refl;
       names = tt;
@@ -166,11 +166,11 @@ commands {D} look now c old new reply deeds clock takes =
 
 -- the same of a command in a row
 pub added : (now : ℕ) (c : Command) (old : Seen) (reply : Reply) (first : List Event) → old.state.clock ≤ cut now
-    → Adds (event_of old.state now c) reply first → Commands now c old (seen_behind old first) reply (row_deeds true first)
+    → Adds (event_of old.state now c) reply first → Commands now c old (seen_behind old first) reply (row_effects true first)
 added now c old reply first clock adds = by (event_of old.state now c) refl adds
   where
     none_added : (found : Result Event Refusal) → event_of old.state now c ≡ found → first ≡ [] → (IsPlain reply → Follows found reply first)
-        → Commands now c old (seen_behind old first) reply (row_deeds true first)
+        → Commands now c old (seen_behind old first) reply (row_effects true first)
     none_added found is none follows = record {
       no_entries = refl;
       names = subst (AllName (commanded c)) (sym none) tt;
@@ -184,7 +184,7 @@ added now c old reply first clock adds = by (event_of old.state now c) refl adds
     }
 
     by : (found : Result Event Refusal) → event_of old.state now c ≡ found → Adds found reply first
-        → Commands now c old (seen_behind old first) reply (row_deeds true first)
+        → Commands now c old (seen_behind old first) reply (row_effects true first)
     by (Err why) is refused = none_added (Err why) is refused.1 (λ plain. refused)
     by (Ok e) is (inr memory) = none_added (Ok e) is memory.2 (λ plain. absurd (subst IsPlain memory.0 plain))
     by (Ok e) is (inl told) = record {

@@ -9,11 +9,11 @@ use Rattle.ocf_types.specs.declared.event.Step.TheVariants as step
 use Rattle.child_keeper.specs.declared.answer.Entry.{Entry}
 use Rattle.executor.specs.Joins.{StandsAt}
 use Rattle.executor.specs.Sessions.{Input}
-use Rattle.executor.specs.Singles.{Alone, Single, SingleBegin, SingleRest, SingleTakes, above_call, above_run, cut, has_monitor}
-use Rattle.executor.specs.Singles.{single_after, single_after_all, single_answer, single_changed, single_sets}
+use Rattle.executor.specs.Isolated.{Alone, Isolated, IsolatedBegin, IsolatedRest, IsolatedTakes, above_call, above_run, cut, has_monitor}
+use Rattle.executor.specs.Isolated.{isolated_after, isolated_after_all, isolated_answer, isolated_changed, isolated_sets}
 use Rattle.executor.specs.declared.session.InputOf.TheVariants as input
-use Rattle.executor.proofs.Alone.Changes.{monitor_before, or_else_alike, single-append}
-use Rattle.executor.proofs.Alone.Picks.{pick_same}
+use Rattle.executor.proofs.Isolation.Changes.{monitor_before, or_else_alike, single-append}
+use Rattle.executor.proofs.Isolation.Picks.{pick_same}
 
 -- a machine that stands where another does goes on to stand there
 above_call_kept : (c : Change) (m n : ℕ) → m ≤ n → above_call c m ≤ above_call c n
@@ -25,28 +25,28 @@ above_run_kept : (c : Change) (m n : ℕ) → m ≤ n → above_run c m ≤ abov
 above_run_kept (change.Step id (step.Begin call run)) m n le = le_refl _
 above_run_kept _ m n le = le
 
-stands_one : (x y : Single) (e : Event) → StandsAt x y → StandsAt (single_after x e) (single_after y e)
+stands_one : (x y : Isolated) (e : Event) → StandsAt x y → StandsAt (isolated_after x e) (isolated_after y e)
 stands_one x y e s = record {
-  resource = ap (single_changed e.at e.change) s.resource;
+  resource = ap (isolated_changed e.at e.change) s.resource;
   due = λ call there.
       rw (s.resource, there)
-      (or_else_alike (single_sets e.at e.change y.resource call) (x.due call) (y.due call)
+      (or_else_alike (isolated_sets e.at e.change y.resource call) (x.due call) (y.due call)
       (λ none. s.due call (monitor_before e.at e.change y.resource call there none)));
   calls = above_call_kept e.change x.next_call y.next_call s.calls;
   runs = above_run_kept e.change x.next_run y.next_run s.runs;
 }
 
-stands_on : (x y : Single) (es : List Event) → StandsAt x y → StandsAt (single_after_all x es) (single_after_all y es)
+stands_on : (x y : Isolated) (es : List Event) → StandsAt x y → StandsAt (isolated_after_all x es) (isolated_after_all y es)
 stands_on x y [] s = s
-stands_on x y (e ∷ es) s = stands_on (single_after x e) (single_after y e) es (stands_one x y e s)
+stands_on x y (e ∷ es) s = stands_on (isolated_after x e) (isolated_after y e) es (stands_one x y e s)
 
 -- and takes what the other takes
-pick_there : (x y : Single) (at : ℕ) (r : Resource) (pick : Option ℕ) → StandsAt x y → y.resource ≡ Some r → IsPick r y.due at pick → IsPick r x.due at pick
+pick_there : (x y : Isolated) (at : ℕ) (r : Resource) (pick : Option ℕ) → StandsAt x y → y.resource ≡ Some r → IsPick r y.due at pick → IsPick r x.due at pick
 pick_there x y at r pick s is picked = pick_same r y.due x.due at pick
     (λ call known. s.due call (subst (λ (o : Option Resource). has_monitor o call ≡ true) (sym is) known)) picked
 
-goes_there : (id : List ℕ) (at : ℕ) (x y : Single) (entries : List Entry) (events : List Event) → StandsAt x y
-    → SingleRest at y entries events ⊎ SingleBegin id at y entries events → SingleRest at x entries events ⊎ SingleBegin id at x entries events
+goes_there : (id : List ℕ) (at : ℕ) (x y : Isolated) (entries : List Entry) (events : List Event) → StandsAt x y
+    → IsolatedRest at y entries events ⊎ IsolatedBegin id at y entries events → IsolatedRest at x entries events ⊎ IsolatedBegin id at x entries events
 goes_there id at x y entries events s (inl r) = inl (record {
   none_picked = λ q is. let there = sym s.resource ∙ is in pick_there x y at q _ s there (r.none_picked q there);
   no_entries = r.no_entries;
@@ -65,8 +65,8 @@ goes_there id at x y entries events s (inr b) = inr (record {
   begins = b.begins;
 })
 
-takes_there : (id : List ℕ) (x y : Single) (i : Input) (r : Reply) (entries : List Entry) (events : List Event) → StandsAt x y
-    → SingleTakes id y i r entries events → SingleTakes id x i r entries events
+takes_there : (id : List ℕ) (x y : Isolated) (i : Input) (r : Reply) (entries : List Entry) (events : List Event) → StandsAt x y
+    → IsolatedTakes id y i r entries events → IsolatedTakes id x i r entries events
 takes_there id x y (input.Request now (asked.Command c)) r entries events s (none, c_takes) = (
   none,
   record {
@@ -76,7 +76,7 @@ takes_there id x y (input.Request now (asked.Command c)) r entries events s (non
   },
 )
 takes_there id x y (input.Request now (asked.Question q)) r entries events s (none, no_events, answers) =
-    (none, no_events, answers ∙ ap (λ (o : Option Resource). single_answer o q) (sym s.resource))
+    (none, no_events, answers ∙ ap (λ (o : Option Resource). isolated_answer o q) (sym s.resource))
 takes_there id x y (input.Turn now) r entries events s t = record {
   done = t.done;
   polled = t.polled;
@@ -87,10 +87,10 @@ takes_there id x y (input.Turn now) r entries events s t = record {
   all_events = t.all_events;
   polls = rw s.resource t.polls;
   goes_on =
-      goes_there id (cut now) (single_after_all x t.results) (single_after_all y t.results) t.started t.begins (stands_on x y t.results s) t.goes_on;
+      goes_there id (cut now) (isolated_after_all x t.results) (isolated_after_all y t.results) t.started t.begins (stands_on x y t.results s) t.goes_on;
 }
 
-alone_there : (id : List ℕ) (x y : Single) (is : List (Input × Reply)) (entries : List Entry) (events : List Event) → StandsAt x y
+alone_there : (id : List ℕ) (x y : Isolated) (is : List (Input × Reply)) (entries : List Entry) (events : List Event) → StandsAt x y
     → Alone id y is entries events → Alone id x is entries events
 alone_there id x y [] entries events s h = h
 alone_there id x y (i ∷ is) entries events s (es, fs, vs, us, entries_are, events_are, takes, rest) = (
@@ -101,19 +101,19 @@ alone_there id x y (i ∷ is) entries events s (es, fs, vs, us, entries_are, eve
   entries_are,
   events_are,
   takes_there id x y i.0 i.1 es vs s takes,
-  alone_there id (single_after_all x vs) (single_after_all y vs) is fs us (stands_on x y vs s) rest,
+  alone_there id (isolated_after_all x vs) (isolated_after_all y vs) is fs us (stands_on x y vs s) rest,
 )
 
 -- one part, and another from where it ended
-pub parts_join : (id : List ℕ) (x y : Single) (is js : List (Input × Reply)) (es fs : List Entry) (vs us : List Event) → Alone id x is es vs
-    → StandsAt (single_after_all x vs) y → Alone id y js fs us → Alone id x (is ++ js) (es ++ fs) (vs ++ us)
+pub parts_join : (id : List ℕ) (x y : Isolated) (is js : List (Input × Reply)) (es fs : List Entry) (vs us : List Event) → Alone id x is es vs
+    → StandsAt (isolated_after_all x vs) y → Alone id y js fs us → Alone id x (is ++ js) (es ++ fs) (vs ++ us)
 parts_join id x y [] js es fs vs us (no_entries, no_events) s h =
     subst (λ (l : List Entry). Alone id x js (l ++ fs) (vs ++ us)) (sym no_entries)
     (subst (λ (l : List Event). Alone id x js fs (l ++ us)) (sym no_events)
-    (alone_there id x y js fs us (subst (λ (l : List Event). StandsAt (single_after_all x l) y) no_events s) h))
+    (alone_there id x y js fs us (subst (λ (l : List Event). StandsAt (isolated_after_all x l) y) no_events s) h))
 parts_join id x y (i ∷ is) js es fs vs us (e1, e2, v1, v2, entries_are, events_are, takes, rest) s h =
-    let there : StandsAt (single_after_all (single_after_all x v1) v2) y =
-    subst (λ (z : Single). StandsAt z y) (ap (single_after_all x) events_are ∙ single-append x v1 v2) s in (
+    let there : StandsAt (isolated_after_all (isolated_after_all x v1) v2) y =
+    subst (λ (z : Isolated). StandsAt z y) (ap (isolated_after_all x) events_are ∙ single-append x v1 v2) s in (
       e1,
       e2 ++ fs,
       v1,
@@ -121,5 +121,5 @@ parts_join id x y (i ∷ is) js es fs vs us (e1, e2, v1, v2, entries_are, events
       ap (λ (l : List Entry). l ++ fs) entries_are ∙ append_assoc e1 e2 fs,
       ap (λ (l : List Event). l ++ us) events_are ∙ append_assoc v1 v2 us,
       takes,
-      parts_join id (single_after_all x v1) y is js e2 fs v2 us rest there h,
+      parts_join id (isolated_after_all x v1) y is js e2 fs v2 us rest there h,
     )

@@ -22,12 +22,12 @@ use Rattle.ocf_types.specs.declared.operation.Running.{Running}
 use Rattle.ocf_types.specs.RegistryLaws.{each_filter}
 use Rattle.ocf_types.specs.Laws.{distinct_none, each_append, each_weaken}
 use Rattle.exec_turn.specs.Actives.{Active, active, active_in, runs_of, active_of}
-use Rattle.exec_turn.specs.Lives.{Tends}
-use Rattle.executor.specs.Parts.{Apart, own_runs, run_begun}
-use Rattle.executor.proofs.Alone.Changes.{AreFresh, IsFresh}
-use Rattle.executor.proofs.Alone.Lists.{each_first, each_into, each_last, each_map, each_out, each_unmap, filter-map, owned}
-use Rattle.executor.proofs.Alone.Rows.{AreOwn}
-use Rattle.executor.proofs.Alone.Turns.{AllBeginOwn, BeginsOwn}
+use Rattle.exec_turn.specs.AgentsLive.{AgentsLive}
+use Rattle.executor.specs.Parts.{DistinctKeys, own_runs, run_begun}
+use Rattle.executor.proofs.Isolation.Changes.{AreFresh, IsFresh}
+use Rattle.executor.proofs.Isolation.Lists.{each_first, each_into, each_last, each_map, each_out, each_unmap, filter-map, owned}
+use Rattle.executor.proofs.Isolation.Rows.{AreOwn}
+use Rattle.executor.proofs.Isolation.Turns.{AllBeginOwn, BeginsOwn}
 
 -- numbers that rise, the first not below this one
 abbrev Rises : ℕ → List ℕ → Type 0
@@ -86,7 +86,7 @@ marks s es = map mark_of (active s) ++ all_begun es
 abbrev is_its : List ℕ → Mark → Bool
 is_its id m = bytes_eq id m.0
 
-marks_distinct : (s : State) (es : List Event) → Apart s → AreFresh s es → IsDistinct nat_eq (map (λ m. m.1) (marks s es))
+marks_distinct : (s : State) (es : List Event) → DistinctKeys s → AreFresh s es → IsDistinct nat_eq (map (λ m. m.1) (marks s es))
 marks_distinct s es apart fresh =
     rw (map-append (λ (m : Mark). m.1) (map mark_of (active s)) (all_begun es), map-map (λ (m : Mark). m.1) mark_of (active s))
     (below_distinct s.next_run (runs_of (active s)) (map (λ m. m.1) (all_begun es)) apart.runs apart.below (begun_rise s es fresh))
@@ -135,7 +135,7 @@ begins_told mine id (e ∷ es) h = (
 )
 
 -- of all runs, its runs are those of its actions and of what it begins
-pub runs_own : (id : List ℕ) (s : State) (es : List Event) → Apart s → AreFresh s es
+pub runs_own : (id : List ℕ) (s : State) (es : List Event) → DistinctKeys s → AreFresh s es
     → AreOwn (is_mine id s es) id (active s) × AllBeginOwn (is_mine id s es) id es
 runs_own id s es apart fresh =
     let mine : ℕ → Bool = is_mine id s es in
@@ -196,10 +196,10 @@ running_below : (next_call next_run clock : ℕ) (id : List ℕ) (o : Option Run
 running_below next_call next_run clock id None h = tt
 running_below next_call next_run clock id (Some x) h = (h.3, tt)
 
-pub tended_apart : (s : State) (live : List ℕ) → IsLawfulState s → Tends s live → Apart s
-tended_apart s live lawful tends = record {
+pub matched_apart : (s : State) (live : List ℕ) → IsLawfulState s → AgentsLive s live → DistinctKeys s
+matched_apart s live lawful agents_live = record {
   ids = lawful.ids;
-  runs = tends.distinct;
+  runs = agents_live.distinct;
   below = each_map (λ run. run < s.next_run) (λ a. a.running.run) (active s)
       (each_out (λ a. a.running.run < s.next_run) active_in s.resources
       (each_weaken (λ e. IsLawfulResource s.next_call s.next_run s.clock e.1)

@@ -13,7 +13,7 @@ pub enum Way {
 
 /// What a run is given beside its executor, its input and its output.
 #[derive(Drop)]
-pub struct Setting<'a, K, M> {
+pub struct RunContext<'a, K, M> {
     pub alloc: Global,
     /// It shows the moments, and pauses go by it.
     pub clock: &'a K,
