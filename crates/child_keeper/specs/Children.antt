@@ -5,8 +5,7 @@ use Rattle.ocf_env.specs.Places.{SiteView}
 use Rattle.ocf_types.specs.Limits.{resources_limit}
 use Rattle.ocf_types.specs.declared.outcome.StartFault.{StartFault}
 use Rattle.child_keeper.specs.declared.answer.Answer.{Answer}
-use Rattle.child_keeper.specs.declared.answer.Answer.TheVariants.{Started, StartFault as NotStarted, Running, Exited, Signaled, PollFault}
-use Rattle.child_keeper.specs.declared.answer.Answer.TheVariants.{Killed, KillFault as NotKilled}
+use Rattle.child_keeper.specs.declared.answer.Answer.TheVariants as asked
 use Rattle.child_keeper.specs.declared.answer.Entry.{Entry}
 use Rattle.child_keeper.specs.declared.answer.KillFault.{KillFault}
 use Rattle.child_keeper.specs.declared.answer.Poll.{Poll}
@@ -36,19 +35,14 @@ abbrev pub without_run : ℕ → List ℕ → List ℕ
 without_run run live = filter (λ r. not (r == run)) live
 
 -- what the book says of a start, a poll and a kill
-abbrev pub start_answer : {X : Type 0} → Result X StartFault → Answer
-start_answer (Ok x) = Started
-start_answer (Err fault) = NotStarted fault
+abbrev pub start_answer : Result Unit StartFault → Answer
+start_answer answer = asked.Start answer
 
 abbrev pub poll_answer : Poll → Answer
-poll_answer poll.Running = Running
-poll_answer (poll.Exited code) = Exited code
-poll_answer poll.Signaled = Signaled
-poll_answer poll.Fault = PollFault
+poll_answer answer = asked.Poll answer
 
-abbrev pub kill_answer : {X : Type 0} → Result X KillFault → Answer
-kill_answer (Ok x) = Killed
-kill_answer (Err fault) = NotKilled
+abbrev pub kill_answer : Result Unit KillFault → Answer
+kill_answer answer = asked.Kill answer
 
 -- one entry more: of this run, at this count of device calls
 abbrev pub noted : List Entry → ℕ → ℕ → Answer → List Entry
@@ -59,7 +53,7 @@ abbrev pub with_entry : ChildrenView → ℕ → ℕ → Answer → ChildrenView
 with_entry v run at answer = record v { book = noted v.book run at answer; log = noted v.log run at answer; room = v.room - 1 }
 
 -- a run that was started lives
-abbrev pub live_started : {X : Type 0} → Result X StartFault → ℕ → List ℕ → List ℕ
+abbrev pub live_started : Result Unit StartFault → ℕ → List ℕ → List ℕ
 live_started (Ok x) run live = live ++ run ∷ []
 live_started (Err fault) run live = live
 
@@ -69,7 +63,7 @@ live_polled poll.Running run live = live
 live_polled _ run live = without_run run live
 
 -- after a start of a run, asked when the journal's disk had had so many device calls
-abbrev pub after_start : {X : Type 0} → ChildrenView → ℕ → ℕ → Result X StartFault → ChildrenView
+abbrev pub after_start : ChildrenView → ℕ → ℕ → Result Unit StartFault → ChildrenView
 after_start v run at answer = record (with_entry v run at (start_answer answer)) { last_run = run; live = live_started answer run v.live }
 
 -- after a poll of a run
@@ -77,7 +71,7 @@ abbrev pub after_poll : ChildrenView → ℕ → Poll → ChildrenView
 after_poll v run answer = record (with_entry v run 0 (poll_answer answer)) { live = live_polled answer run v.live }
 
 -- after a kill of a run: it lives no more, whatever the kill answered
-abbrev pub after_kill : {X : Type 0} → ChildrenView → ℕ → Result X KillFault → ChildrenView
+abbrev pub after_kill : ChildrenView → ℕ → Result Unit KillFault → ChildrenView
 after_kill v run answer = record (with_entry v run 0 (kill_answer answer)) { live = without_run run v.live }
 
 -- after all were given up
@@ -94,8 +88,7 @@ Adds old new entry = (new.book ≡ old.book ++ entry ∷ []) × (new.log ≡ old
 
 -- what the book says of a start, whether or not it was done
 abbrev pub IsOfStart : Answer → Type 0
-IsOfStart Started = ⊤
-IsOfStart (NotStarted fault) = ⊤
+IsOfStart (asked.Start answer) = ⊤
 IsOfStart _ = ⊥
 
 -- the book asked for a start of this run when the journal's disk had had so many device calls

@@ -148,7 +148,7 @@ impl<R: process::Processes + Clock + Eprint + Drop, A: Allocator + Copy> Childre
         self.book.note(Entry {
             run,
             at: journal.clock(),
-            answer: Answer::of_start(answer),
+            answer: Answer::Start(answer),
         });
         self.last_run = run.get();
         answer
@@ -159,7 +159,7 @@ impl<R: process::Processes + Clock + Eprint + Drop, A: Allocator + Copy> Childre
         self.book.note(Entry {
             run,
             at: 0,
-            answer: Answer::of_poll(answer),
+            answer: Answer::Poll(answer),
         });
         match answer {
             Poll::Running => {}
@@ -176,7 +176,7 @@ impl<R: process::Processes + Clock + Eprint + Drop, A: Allocator + Copy> Childre
         self.book.note(Entry {
             run,
             at: 0,
-            answer: Answer::of_kill(answer),
+            answer: Answer::Kill(answer),
         });
         answer
     }

@@ -101,7 +101,7 @@ impl<A: Allocator + Copy> Children for Scripted<A> {
         self.book.note(Entry {
             run,
             at: journal.clock(),
-            answer: Answer::of_start(answer),
+            answer: Answer::Start(answer),
         });
         if answer.is_ok() {
             self.live.add(run);
@@ -123,7 +123,7 @@ impl<A: Allocator + Copy> Children for Scripted<A> {
         self.book.note(Entry {
             run,
             at: 0,
-            answer: Answer::of_poll(answer),
+            answer: Answer::Poll(answer),
         });
         match answer {
             Poll::Running => {}
@@ -145,7 +145,7 @@ impl<A: Allocator + Copy> Children for Scripted<A> {
         self.book.note(Entry {
             run,
             at: 0,
-            answer: Answer::of_kill(answer),
+            answer: Answer::Kill(answer),
         });
         self.live.remove(run);
         answer

@@ -1,7 +1,7 @@
 //! The pause between two turns.
 ghost use Rattle.std.specs.Prelude.{◌≤◌};
 
-use child_keeper::{Answer, Children, Entry};
+use child_keeper::{Answer, Children, Entry, Poll};
 use disk_model::Disk;
 use executor::Executor;
 use std::rt::Clock;
@@ -39,7 +39,7 @@ pub struct Pause {
 // Whether nothing ended or began in a turn with these entries: each child that was asked still runs, and none was started.
 fn is_quiet(book: &[Entry]) -> bool {
     book.iter()
-        .all(|entry| matches!(entry.answer, Answer::Running))
+        .all(|entry| matches!(entry.answer, Answer::Poll(Poll::Running)))
 }
 
 // How long it is since then, in microseconds; nothing where the clock fails.

@@ -1,5 +1,5 @@
 -- The ends of a turn.
-use Rattle.std.proofs.Common.{◌≡◌, ⊎_elim, inl, inr, ℕ, List, [], ◌++◌, Ok, Err, map, refl, sym, ◌∙◌, ap, subst, append_assoc, append-nil}
+use Rattle.std.proofs.Common.{◌≡◌, ⊎_elim, inl, inr, ℕ, List, [], ◌++◌, Ok, Err, map, refl, sym, ◌∙◌, ap, subst, append_assoc, append-nil, arith}
 use Rattle.ocf_types.specs.Due.{Due}
 use Rattle.ocf_types.specs.Kinds.{Event}
 use Rattle.ocf_types.specs.Laws.{after_all-append}
@@ -46,12 +46,12 @@ book_full look k x from leaves roomy = record {
   roomy = roomy;
 }
 
-module _ {D : Type 0} (look : D → View) (at : ℕ) (k0 k1 : D) (s0 s1 : State) (d0 d1 : Due) (p0 p1 : Place) (from c1 : ChildrenView) (n1 : List Notice)
-    (roomy1 : CrashesTo (look k0) (look k1) Roomy) where
+module _ {D : Type 0} {look : D → View} {at : ℕ} {k0 k1 : D} {s0 s1 : State} {d0 d1 : Due} {p0 p1 : Place} {from c1 : ChildrenView}
+    {n1 : List Notice} where
   -- the row of results failed
-  pub no_results : (f : DiskFault) → PollsRow (look k0) (look k1) (scene s0 d0 p0 at) (scene s1 d1 p1 at) from c1 n1 (Err f)
-      → Increased (look k0).failures (look k1).failures → Turns look k0 k1 (scene s0 d0 p0 at) s1 d1 from c1 n1 turn_end.Disk
-  no_results f p increased = record {
+  pub no_results : {f : DiskFault} → PollsRow look k0 k1 (scene s0 d0 p0 at) (scene s1 d1 p1 at) from c1 n1 (Err f)
+      → Turns look k0 k1 (scene s0 d0 p0 at) s1 d1 from c1 n1 turn_end.Disk
+  no_results p = record {
     entries = polls at p.answers;
     events = [];
     pending = results at p.answers;
@@ -63,26 +63,27 @@ module _ {D : Type 0} (look : D → View) (at : ℕ) (k0 k1 : D) (s0 s1 : State)
     asked = λ run u h. absurd (polls_ask_nothing at p.answers run u h);
     due_is = p.moves.1;
     whole = λ not. absurd (not refl);
-    cause = λ _. increased;
-    roomy = roomy1;
+    cause = λ _. p.cause;
+    roomy = p.roomy;
   }
 
-  module _ (u : Unit) (p : PollsRow (look k0) (look k1) (scene s0 d0 p0 at) (scene s1 d1 p1 at) from c1 n1 (Ok u)) (k2 : D) (s2 : State) (d2 : Due)
-      (p2 : Place) (begun : List Active) (end : TurnEnd) (roomy2 : CrashesTo (look k1) (look k2) Roomy) where
-    roomy12 : CrashesTo (look k0) (look k2) Roomy
-    roomy12 = runs_joined (look k0) (look k1) (look k2) Roomy roomy1 roomy2
+  module _ {u : Unit} (p : PollsRow look k0 k1 (scene s0 d0 p0 at) (scene s1 d1 p1 at) from c1 n1 (Ok u)) {k2 : D} {s2 : State} {d2 : Due} {p2 : Place}
+      {begun : List Active} where
+    roomy12 : CrashesTo (look k1) (look k2) Roomy → CrashesTo (look k0) (look k2) Roomy
+    roomy12 roomy2 = runs_joined (look k0) (look k1) (look k2) Roomy p.roomy roomy2
 
     due1 : d1 ≡ due_after_all s0 d0 (results at p.answers)
     due1 = ap (λ (x : Scene). x.due) p.moves
 
-    picks : PickedAt end (scene s1 d1 p1 at) begun → PicksBehind end (scene s0 d0 p0 at) p.answers begun
-    picks picked = subst (λ (x : Scene). PickedAt end x begun) p.moves picked
+    picks : (end : TurnEnd) → PickedAt end (scene s1 d1 p1 at) begun → PicksBehind end (scene s0 d0 p0 at) p.answers begun
+    picks end picked = subst (λ (x : Scene). PickedAt end x begun) p.moves picked
 
     -- the row of begins failed
-    pub no_begins : (f : DiskFault) → BeginsRow (look k1) (look k2) (scene s1 d1 p1 at) (scene s2 d2 p2 at) begun end (Err f)
-        → Increased (look k1).failures (look k2).failures → Increased (look k0).failures (look k2).failures → Turns look k0 k2 (scene s0 d0 p0 at) s2 d2 from c1 n1 turn_end.Disk
-    no_begins f b increased since =
-        let both = joined (look k0) (look k1) (look k2) s0 s1 s2 (polls at p.answers) [] (results at p.answers) [] (begins at begun) p.crash b.crash in
+    pub no_begins : {f : DiskFault} → BeginsRow look k1 k2 (scene s1 d1 p1 at) (scene s2 d2 p2 at) begun (Err f)
+        → Turns look k0 k2 (scene s0 d0 p0 at) s2 d2 from c1 n1 turn_end.Disk
+    no_begins b =
+        let row = b.recorded in
+        let both = joined (look k0) (look k1) (look k2) s0 s1 s2 (polls at p.answers) [] (results at p.answers) [] (begins at begun) p.crash row.crash in
         record {
           entries = polls at p.answers;
           events = results at p.answers;
@@ -90,37 +91,41 @@ module _ {D : Type 0} (look : D → View) (at : ℕ) (k0 k1 : D) (s0 s1 : State)
           book = p.book;
           log = p.log;
           site = p.site;
-          does = inr (inl (p.answers, end, begun, p.each, picks b.picked, refl, refl, refl, p.told_is));
+          does = inr (inl (p.answers, b.end, begun, p.each, picks b.end b.picked, refl, refl, refl, p.told_is));
           crash =
               subst (λ (l : List Entry). Leaves (look k0) (look k2) s0 s2 l (results at p.answers) (begins at begun)) (append-nil (polls at p.answers))
               (subst (λ (l : List Event). Leaves (look k0) (look k2) s0 s2 (polls at p.answers ++ []) l (begins at begun))
               (append-nil (results at p.answers)) both);
           asked = λ run u h. absurd (polls_ask_nothing at p.answers run u h);
-          due_is = b.moves.1 ∙ due1;
+          due_is = row.moves.1 ∙ due1;
           whole = λ not. absurd (not refl);
-          cause = λ _. since;
-          roomy = roomy12;
+          cause = λ _. let increased = row.cause in let older = p.roomy.passed.failures in omega (arith, increased, older);
+          roomy = roomy12 row.roomy;
         }
 
-    module _ (w : Unit) (b : BeginsRow (look k1) (look k2) (scene s1 d1 p1 at) (scene s2 d2 p2 at) begun end (Ok w)) (k3 : D) (s3 : State) (d3 : Due)
-        (p3 : Place) (c2 : ChildrenView) (n3 : List Notice) (roomy3 : CrashesTo (look k2) (look k3) Roomy) (lawful : (look k2).honest → Lawful (look k2)) where
+    module _ {end : TurnEnd} (b : BeginsRow look k1 k2 (scene s1 d1 p1 at) (scene s2 d2 p2 at) begun (Ok end))
+        (lawful : (look k2).honest → Lawful (look k2)) {k3 : D} {s3 : State} {d3 : Due} {p3 : Place} {c2 : ChildrenView} {n3 : List Notice} where
       abbrev before : List Event
       before = results at p.answers ++ begins at begun
 
-      roomy13 : CrashesTo (look k0) (look k3) Roomy
-      roomy13 = runs_joined (look k0) (look k2) (look k3) Roomy roomy12 roomy3
+      roomy13 : CrashesTo (look k2) (look k3) Roomy → CrashesTo (look k0) (look k3) Roomy
+      roomy13 roomy3 = runs_joined (look k0) (look k2) (look k3) Roomy (roomy12 b.recorded.roomy) roomy3
 
       state1 : s1 ≡ after_all s0 (results at p.answers)
       state1 = ap (λ (x : Scene). x.state) p.moves
 
       due2 : d2 ≡ due_after_all s0 d0 before
-      due2 = ap (λ (x : Scene). x.due) b.moves
+      due2 = ap (λ (x : Scene). x.due) b.recorded.moves
           ∙ ap (λ (s : State). due_after_all s d1 (begins at begun)) state1
           ∙ ap (λ (d : Due). due_after_all (after_all s0 (results at p.answers)) d (begins at begun)) due1
           ∙ sym (due_after_all-append s0 d0 (results at p.answers) (begins at begun))
 
       state2 : s2 ≡ after_all s1 (begins at begun)
-      state2 = ap (λ (x : Scene). x.state) b.moves
+      state2 = ap (λ (x : Scene). x.state) b.recorded.moves
+
+      -- what ended the picks is what is told
+      picked : PickedAt end (scene s1 d1 p1 at) begun
+      picked = subst (λ (e : TurnEnd). PickedAt e (scene s1 d1 p1 at) begun) (sym b.ended) b.picked
 
       module _ (answers : List Started) (each : map (λ a. a.what) answers ≡ begun)
           (book2 : c2.book ≡ c1.book ++ starts (look k2).clock answers) where
@@ -140,7 +145,7 @@ module _ {D : Type 0} (look : D → View) (at : ℕ) (k0 k1 : D) (s0 s1 : State)
         begun_leaves : Leaves (look k0) (look k2) s0 s2 entries before []
         begun_leaves =
             joined (look k0) (look k1) (look k2) s0 s1 s2 (polls at p.answers) (starts (look k2).clock answers) (results at p.answers) (begins at begun) [] p.crash
-            (then_started (look k1) (look k2) s1 s2 at (look k2).clock begun answers lawful refl each b.crash)
+            (then_started (look k1) (look k2) s1 s2 at (look k2).clock begun answers lawful refl each b.recorded.crash)
 
         ended : (es pending : List Event) → Leaves (look k2) (look k3) s2 s3 [] es pending → Leaves (look k0) (look k3) s0 s3 entries (before ++ es) pending
         ended es pending last = subst (λ (l : List Entry). Leaves (look k0) (look k3) s0 s3 l (before ++ es) pending) (append-nil entries)
@@ -173,14 +178,14 @@ module _ {D : Type 0} (look : D → View) (at : ℕ) (k0 k1 : D) (s0 s1 : State)
           started = answers;
           clock = (look k2).clock;
           each_polled = p.each;
-          picked = picks b.picked;
+          picked = picks end picked;
           each_started = each;
         }
 
       -- the row of refused starts failed
-      pub no_refusals : (f : DiskFault) → StartsRow (look k2) (look k3) (scene s2 d2 p2 at) (scene s3 d3 p3 at) begun c1 c2 n1 n3 (Err f)
-          → Increased (look k0).failures (look k3).failures → Turns look k0 k3 (scene s0 d0 p0 at) s3 d3 from c2 n3 turn_end.Disk
-      no_refusals f x since = record {
+      pub no_refusals : {f : DiskFault} → StartsRow look k2 k3 (scene s2 d2 p2 at) (scene s3 d3 p3 at) begun c1 c2 n1 n3 (Err f)
+          → Turns look k0 k3 (scene s0 d0 p0 at) s3 d3 from c2 n3 turn_end.Disk
+      no_refusals x = let row = x.recorded in record {
         entries = entries x.answers x.each x.book;
         events = before;
         pending = refusals at x.answers;
@@ -190,15 +195,19 @@ module _ {D : Type 0} (look : D → View) (at : ℕ) (k0 k1 : D) (s0 s1 : State)
         does = inr (inr (end, all_told x.answers x.each x.book, refl, refl, refl, x.told_is ∙ p.told_is));
         crash =
             subst (λ (l : List Event). Leaves (look k0) (look k3) s0 s3 (entries x.answers x.each x.book) l (refusals at x.answers)) (append-nil before)
-            (ended x.answers x.each x.book [] (refusals at x.answers) x.crash);
+            (ended x.answers x.each x.book [] (refusals at x.answers) row.crash);
         asked =
             subst (λ (l : List Event). (run u : ℕ) → Asked (entries x.answers x.each x.book) run u
             → AskedOn look k0 k3 s0 (l ++ refusals at x.answers) run u) (append-nil before)
-            (asked_behind x.answers x.each x.book [] (refusals at x.answers) x.crash);
-        due_is = x.moves.1 ∙ due2;
+            (asked_behind x.answers x.each x.book [] (refusals at x.answers) row.crash);
+        due_is = row.moves.1 ∙ due2;
         whole = λ not. absurd (not refl);
-        cause = λ _. since;
-        roomy = roomy13;
+        cause = λ _.
+            let increased = row.cause in
+            let old = b.recorded.roomy.passed.failures in
+            let older = p.roomy.passed.failures in
+            omega (arith, increased, old, older);
+        roomy = roomy13 row.roomy;
       }
 
       is_whole : (e : TurnEnd) (x : Scene) (es : List Entry) (events pending : List Event) (told : List Notice)
@@ -221,10 +230,11 @@ module _ {D : Type 0} (look : D → View) (at : ℕ) (k0 k1 : D) (s0 s1 : State)
       not_disk turn_end.Disk h is = absurd h.0
 
       -- all of it went well
-      pub whole_turn : (z : Unit) → StartsRow (look k2) (look k3) (scene s2 d2 p2 at) (scene s3 d3 p3 at) begun c1 c2 n1 n3 (Ok z)
+      pub whole_turn : {z : Unit} → StartsRow look k2 k3 (scene s2 d2 p2 at) (scene s3 d3 p3 at) begun c1 c2 n1 n3 (Ok z)
           → Turns look k0 k3 (scene s0 d0 p0 at) s3 d3 from c2 n3 end
-      whole_turn z x =
-          let due3 : d3 ≡ due_after_all s0 d0 (before ++ refusals at x.answers) = ap (λ (y : Scene). y.due) x.moves
+      whole_turn x =
+          let row = x.recorded in
+          let due3 : d3 ≡ due_after_all s0 d0 (before ++ refusals at x.answers) = ap (λ (y : Scene). y.due) row.moves
           ∙ ap (λ (s : State). due_after_all s d2 (refusals at x.answers))
           (state2 ∙ ap (λ (s : State). after_all s (begins at begun)) state1
           ∙ sym (after_all-append s0 (results at p.answers) (begins at begun)))
@@ -238,7 +248,7 @@ module _ {D : Type 0} (look : D → View) (at : ℕ) (k0 k1 : D) (s0 s1 : State)
             book = book_all x.answers x.each x.book;
             log = log_all x.answers x.each x.book x.log;
             site = x.site ∙ p.site;
-            does = is_whole end (scene s0 d0 p0 at) es (before ++ refusals at x.answers) [] n3 b.picked (
+            does = is_whole end (scene s0 d0 p0 at) es (before ++ refusals at x.answers) [] n3 picked (
               all_told x.answers x.each x.book,
               refl,
               refl,
@@ -246,10 +256,16 @@ module _ {D : Type 0} (look : D → View) (at : ℕ) (k0 k1 : D) (s0 s1 : State)
               x.told_is
                   ∙ ap (λ (l : List Notice). l ++ refusal_notices at x.answers) p.told_is,
             );
-            crash = ended x.answers x.each x.book (refusals at x.answers) [] x.crash;
-            asked = asked_behind x.answers x.each x.book (refusals at x.answers) [] x.crash;
+            crash = ended x.answers x.each x.book (refusals at x.answers) [] row.crash;
+            asked = asked_behind x.answers x.each x.book (refusals at x.answers) [] row.crash;
             due_is = due3;
             whole = λ _. refl;
-            cause = λ is. absurd (not_disk end b.picked is);
-            roomy = roomy13;
+            cause = λ is. absurd (not_disk end picked is);
+            roomy = roomy13 row.roomy;
           }
+
+-- what ends picks is no full book
+pub not_full : {D : Type 0} {look : D → View} {k l : D} {x y : Scene} {begun : List Active} {end : TurnEnd}
+    → BeginsRow look k l x y begun (Ok end) → end ≡ turn_end.BookFull → ⊥
+not_full {x = x} {begun = begun} b is =
+    let picked = subst (λ (e : TurnEnd). PickedAt e x begun) (sym b.ended ∙ is) b.picked in absurd picked.0

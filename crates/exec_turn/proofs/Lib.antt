@@ -10,5 +10,6 @@ pub mod Begun
 pub mod Picking
 pub mod Living
 pub mod Turning
+pub mod Beginning
 pub mod Ends
 pub mod Resting

@@ -118,14 +118,10 @@ polls_site at v (p ∷ ps) =
 
 -- no poll and no kill is a start
 poll_unasked : (answer : Poll) → IsOfStart (poll_answer answer) → ⊥
-poll_unasked poll.Running h = h
-poll_unasked (poll.Exited code) h = h
-poll_unasked poll.Signaled h = h
-poll_unasked poll.Fault h = h
+poll_unasked answer h = h
 
 kill_unasked : (kill : Result Unit KillFault) → IsOfStart (kill_answer kill) → ⊥
-kill_unasked (Ok x) h = h
-kill_unasked (Err x) h = h
+kill_unasked kill h = h
 
 abbrev IsUnasked : Entry → Type 0
 IsUnasked e = IsOfStart e.answer → ⊥

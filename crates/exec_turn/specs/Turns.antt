@@ -1,5 +1,6 @@
 -- What a turn's call does, and what its steps hand on.
-use Rattle.std.specs.Prelude.{◌≡◌, ◌≢◌, ℕ, ◌*◌, ◌+◌, ◌<◌, ◌≤◌, List, [], ◌++◌, length, map, Result, Ok, Err, is_ok, if◌then◌else◌}
+use Rattle.std.specs.Prelude.{◌≡◌, ◌≢◌, ℕ, ◌*◌, ◌+◌, ◌<◌, ◌≤◌, List, [], ◌++◌, length, map, Result, Ok, Err, IfOk, OnErr, is_ok, if◌then◌else◌}
+use Rattle.std.specs.List.{AllByRecursion}
 use Rattle.ocf_types.specs.Due.{Due}
 use Rattle.ocf_types.specs.Kinds.{Event}
 use Rattle.ocf_types.specs.State.{State}
@@ -9,35 +10,59 @@ use Rattle.ocf_types.specs.declared.reply.TurnEnd.TheVariants as turn_end
 use Rattle.disk_model.specs.Runs.{CrashesTo}
 use Rattle.disk_model.specs.View.{Increased, View}
 use Rattle.disk_model.specs.declared.disk.DiskFault.{DiskFault}
+use Rattle.ocf_env.specs.Places.{Call}
 use Rattle.child_keeper.specs.Children.{Asked, ChildrenView}
 use Rattle.child_keeper.specs.declared.answer.Entry.{Entry}
-use Rattle.exec_journal.specs.Room.{Roomy}
+use Rattle.exec_journal.specs.Journal.{journal_place}
+use Rattle.exec_journal.specs.Place.{Place}
+use Rattle.exec_journal.specs.Room.{HasRoom, Roomy}
+use Rattle.exec_journal.specs.Settled.{IsSettled}
+use Rattle.exec_journal.specs.declared.journal.Journal.{Journal}
+use Rattle.exec_state.specs.Store.{Store, dues}
 use Rattle.exec_turn.specs.Actives.{Active}
-use Rattle.exec_turn.specs.AgentsLive.{AgentsLive}
+use Rattle.exec_turn.specs.AgentsLive.{AgentsLive, AgentsLiveBut}
+use Rattle.exec_turn.specs.Launches.{AllLaunch, IsOfOne, all_starting}
 use Rattle.exec_turn.specs.Picks.{begins}
 use Rattle.exec_turn.specs.Pieces.{AskedOn, Leaves}
 use Rattle.exec_turn.specs.Polls.{Polled, polls, result_notices, results}
-use Rattle.exec_turn.specs.Starts.{Started, refusal_notices, refusals, starts}
+use Rattle.exec_turn.specs.Starts.{AllRun, Rising, Started, refusal_notices, refusals, starts}
+use Rattle.exec_turn.specs.Turn.{EachPolled, IsTurn, PickedAt, Scene, behind, due_after_all, scene}
 use Rattle.exec_turn.specs.declared.buffers.TurnBuffers.{TurnBuffers}
-use Rattle.exec_turn.specs.Turn.{EachPolled, IsTurn, PickedAt, Scene, behind, due_after_all}
+use Rattle.exec_turn.specs.declared.picks.StartOf.{StartOf}
 
 -- the agents of all that runs live, and the next run is above all that were asked to start
 pub record ChildrenMatch (s : State) (v : ChildrenView) : Type 0 where
   pub agents_live : AgentsLive s v.live
   pub rising : v.last_run < s.next_run
 
+-- the journal is settled at this state where its disk is honest, and has room for the results of what runs and for a boot
+pub record Holds {D : Type 0} (look : D → View) (k : D) (p : Place) (s : State) : Type 0 where
+  pub settled : (look k).honest → IsSettled p s (look k)
+  pub room : HasRoom p.tail s
+
+-- what a turn finds in a journal and a state at this moment
+abbrev pub scene_of : {D M : Type 0} → Journal D M → Store → ℕ → Scene
+scene_of journal state at = scene state.state (dues state) (journal_place journal) at
+
 -- A row that was recorded leads from one scene to another; one that was not leaves all but perhaps the disk as it was.
-abbrev pub Moves : Scene → Scene → List Event → Result Unit DiskFault → Type 0
+abbrev pub Moves : {T : Type 0} → Scene → Scene → List Event → Result T DiskFault → Type 0
 Moves x y row (Ok done) = y ≡ behind x row
 Moves x y row (Err fault) = (y.state ≡ x.state) × (y.due ≡ x.due)
 
 -- what a step leaves that makes these entries, and whose row was recorded or not
-abbrev pub LeavesRow : View → View → Scene → Scene → List Entry → List Event → Result Unit DiskFault → Type 0
+abbrev pub LeavesRow : {T : Type 0} → View → View → Scene → Scene → List Entry → List Event → Result T DiskFault → Type 0
 LeavesRow old new x y entries row (Ok done) = Leaves old new x.state y.state entries row []
 LeavesRow old new x y entries row (Err fault) = Leaves old new x.state y.state entries [] row
 
+-- A row was recorded, or a disk fault met it: what a stop leaves has room all the while, and the fault has a cause.
+pub record RecordsRow {D T : Type 0} (look : D → View) (k l : D) (x y : Scene) (row : List Event) (result : Result T DiskFault) : Type 0 where
+  pub moves : Moves x y row result
+  pub crash : LeavesRow (look k) (look l) x y [] row result
+  pub roomy : CrashesTo (look k) (look l) Roomy
+  pub cause : OnErr result (Increased (look k).failures (look l).failures)
+
 -- The first step: polls, and the row of their results.
-pub record PollsRow (old new : View) (x y : Scene) (from to : ChildrenView) (told : List Notice)
+pub record PollsRow {D : Type 0} (look : D → View) (k l : D) (x y : Scene) (from to : ChildrenView) (told : List Notice)
     (result : Result Unit DiskFault) : Type 0 where
   pub answers : List Polled
   pub each : EachPolled x answers
@@ -46,26 +71,43 @@ pub record PollsRow (old new : View) (x y : Scene) (from to : ChildrenView) (tol
   pub site : to.site ≡ from.site
   pub left : from.room ≤ to.room + 2 * length x.state.resources
   pub moves : Moves x y (results x.at answers) result
-  pub crash : LeavesRow old new x y (polls x.at answers) (results x.at answers) result
+  pub crash : LeavesRow (look k) (look l) x y (polls x.at answers) (results x.at answers) result
+  pub roomy : CrashesTo (look k) (look l) Roomy
+  pub cause : OnErr result (Increased (look k).failures (look l).failures)
   pub told_is : told ≡ (if is_ok result then result_notices x.at answers else [])
 
--- The second: what is begun, and the row of begins.
-pub record BeginsRow (old new : View) (x y : Scene) (begun : List Active) (end : TurnEnd) (result : Result Unit DiskFault) : Type 0 where
+-- The second: what is begun, by what ended the picks, and the row of begins.
+pub record BeginsRow {D : Type 0} (look : D → View) (k l : D) (x y : Scene) (begun : List Active) (result : Result TurnEnd DiskFault) : Type 0 where
+  pub end : TurnEnd
+  pub ended : IfOk result (λ told. told ≡ end)
   pub picked : PickedAt end x begun
-  pub moves : Moves x y (begins x.at begun) result
-  pub crash : LeavesRow old new x y [] (begins x.at begun) result
+  pub recorded : RecordsRow look k l x y (begins x.at begun) result
+
+-- What has begun may be started: each runs, carries the launch of its action, and its run is above all that were asked for;
+-- the agents of all else that runs live.
+pub record Startable (s : State) (v : ChildrenView) (begun : List (StartOf Call)) : Type 0 where
+  pub run : AllRun s (all_starting begun)
+  pub launches : AllLaunch v.site s begun
+  pub of_one : AllByRecursion IsOfOne begun
+  pub rising : Rising v.last_run (all_starting begun)
+  pub last : v.last_run < s.next_run
+  pub agents_live : AgentsLiveBut s v.live (all_starting begun)
 
 -- The third: starts, and the row of results of those that were refused.
-pub record StartsRow (old new : View) (x y : Scene) (begun : List Active) (from to : ChildrenView) (was told : List Notice)
-    (result : Result Unit DiskFault) : Type 0 where
+pub record StartsRow {D : Type 0} (look : D → View) (k l : D) (x y : Scene) (begun : List Active) (from to : ChildrenView)
+    (was told : List Notice) (result : Result Unit DiskFault) : Type 0 where
   pub answers : List Started
   pub each : map (λ a. a.what) answers ≡ begun
-  pub book : to.book ≡ from.book ++ starts old.clock answers
-  pub log : to.log ≡ from.log ++ starts old.clock answers
+  pub book : to.book ≡ from.book ++ starts (look k).clock answers
+  pub log : to.log ≡ from.log ++ starts (look k).clock answers
   pub site : to.site ≡ from.site
-  pub moves : Moves x y (refusals x.at answers) result
-  pub crash : LeavesRow old new x y [] (refusals x.at answers) result
+  pub recorded : RecordsRow look k l x y (refusals x.at answers) result
   pub told_is : told ≡ (if is_ok result then was ++ refusal_notices x.at answers else was)
+
+-- how a turn ends whose rows were recorded, or met a disk fault
+abbrev pub end_of : Result TurnEnd DiskFault → TurnEnd
+end_of (Ok end) = end
+end_of (Err fault) = turn_end.Disk
 
 -- A turn of an open executor: from what it finds to a state, due moments and children, with what is told.
 pub record Turns {D : Type 0} (look : D → View) (old new : D) (x : Scene) (t : State) (due : Due) (from to : ChildrenView)
@@ -92,5 +134,5 @@ pub record Turns {D : Type 0} (look : D → View) (old new : D) (x : Scene) (t :
   pub roomy : CrashesTo (look old) (look new) Roomy
 
 -- what is told of the last turn
-abbrev pub told_of : {M : Type 0} → Rows M → List Notice
+abbrev pub told_of : {M : Type 0} → TurnBuffers M → List Notice
 told_of rows = rows.notices.items

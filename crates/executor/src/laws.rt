@@ -63,7 +63,7 @@ pub fn session_is_calls<D: Disk>()
 
 /// A state is apart that is lawful and whose running actions each have an agent of their own: so is each state of an open
 /// executor.
-pub fn matched_apart()
+pub fn distinct_keys()
     ensures apart { (s : State) (live : List ℕ) → IsLawfulState s → AgentsLive s live → DistinctKeys s }
 {}
 

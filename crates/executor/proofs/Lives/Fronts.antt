@@ -11,7 +11,7 @@ use Rattle.ocf_types.specs.State.{State, after_all}
 use Rattle.disk_model.specs.Image.{Image}
 use Rattle.child_keeper.specs.Children.{Asked, IsOfStart}
 use Rattle.child_keeper.specs.declared.answer.Answer.{Answer}
-use Rattle.child_keeper.specs.declared.answer.Answer.TheVariants as told
+use Rattle.child_keeper.specs.declared.answer.Answer.TheVariants as asked
 use Rattle.child_keeper.specs.declared.answer.Entry.{Entry}
 use Rattle.exec_journal.specs.Found.{FoundAs}
 use Rattle.exec_turn.specs.Laws.{asked_in, asked_none, asked_one}
@@ -45,14 +45,9 @@ begin_among run p q on h = subst (λ (l : List Event). HasBegin run l) (sym on.1
 
 -- an answer is that of a start or not
 is_start : (a : Answer) → IsOfStart a ⊎ (IsOfStart a → ⊥)
-is_start told.Started = inl tt
-is_start (told.StartFault fault) = inl tt
-is_start told.Running = inr (λ h. h)
-is_start (told.Exited code) = inr (λ h. h)
-is_start told.Signaled = inr (λ h. h)
-is_start told.PollFault = inr (λ h. h)
-is_start told.Killed = inr (λ h. h)
-is_start told.KillFault = inr (λ h. h)
+is_start (asked.Start answer) = inl tt
+is_start (asked.Poll answer) = inr (λ h. h)
+is_start (asked.Kill answer) = inr (λ h. h)
 
 asked_here : (e : Entry) (xs : List Entry) → IsOfStart e.answer → Asked (e ∷ xs) e.run e.at
 asked_here e xs start = (e.answer, start, Contains-append_left (e ∷ []) xs e (Contains-push [] e))

@@ -6,8 +6,7 @@ use Rattle.child_keeper.specs.declared.answer.Entry.{Entry}
 use Rattle.child_keeper.proofs.laws.starts_asked.Goals as goal
 
 of_start : (answer : Result Unit StartFault) → IsOfStart (start_answer answer)
-of_start (Ok done) = tt
-of_start (Err fault) = tt
+of_start answer = tt
 
 abbrev entry_of : ℕ → ℕ → Result Unit StartFault → Entry
 entry_of run at answer = record { run = run; at = at; answer = start_answer answer }
