@@ -1,6 +1,6 @@
 -- A run that breaks off.
 use Rattle.std.specs.List.{flat_map}
-use Rattle.std.proofs.Common.{◌≡◌, ◌≢◌, ℕ, true, List, [], ◌∷◌, Option, refl, sym}
+use Rattle.std.proofs.Common.{◌≡◌, ◌≢◌, ℕ, Bool, true, List, [], ◌∷◌, Option, Result, Ok, Err, IsErr, refl, sym}
 use Rattle.std.proofs.lemmas.List.{append-nil}
 use Rattle.ocf_types.specs.Kinds.{Command}
 use Rattle.ocf_types.specs.declared.reply.TurnEnd.{TurnEnd}
@@ -9,15 +9,17 @@ use Rattle.executor.specs.Sights.{Sight}
 use Rattle.exec_commands.specs.declared.notice.NoticeForm.{NoticeForm}
 use Rattle.exec_client.specs.Heard.{Heard, Hears, HearsPart}
 use Rattle.exec_client.specs.Said.{Said, line_of}
+use Rattle.exec_output.specs.declared.send.IoFault.{IoFault}
 use Rattle.exec_session.specs.Answers.{Source}
-use Rattle.exec_session.specs.Breaks.{BreaksIn, BreaksOff, RowBreaks, between, in_own_turn, in_row}
+use Rattle.exec_session.specs.Breaks.{BreaksIn, BreaksOff, EndsOrBreaks, RowBreaks, TakesOrBreaks, between, in_own_turn, in_row}
 use Rattle.exec_session.specs.Drains.{MakesTurn, Spot, TurnHeard, spot}
 use Rattle.exec_session.specs.Rules.{Rules}
 use Rattle.exec_session.specs.Progress.{Position, position}
-use Rattle.exec_session.specs.Serving.{HasComeMid}
-use Rattle.exec_session.specs.Waiting.{HasCome}
+use Rattle.exec_session.specs.Serving.{ComesMid, HasComeMid}
+use Rattle.exec_session.specs.Waiting.{Comes, HasCome}
 use Rattle.exec_session.specs.declared.context.Way.TheVariants.{Serve}
-use Rattle.exec_session.proofs.ServeLemmas.{turns_serve}
+use Rattle.exec_session.specs.declared.lines.Progress.{Progress}
+use Rattle.exec_session.proofs.ServeLemmas.{mid_taken, turns_serve}
 use Rattle.exec_session.proofs.WaitLemmas.{at_line}
 
 -- all of it is a front of it
@@ -81,3 +83,29 @@ module _ {D : Type 0} (look : D → View) (source : Source) (rules : Rules) (p :
       → TurnHeard (HearsPart rules.form) look rules now (spot q.executor q.heard) s end → Breaks s
   turn_breaks way most kept q s now end (left, mid, come) is_open heard =
       next_breaks most (position q.executor left q.heard) s come (in_own_turn now end (turns_serve rules.way way) is_open heard)
+
+-- an error of a step is that of a run that broke off
+module _ {D : Type 0} {look : D → View} {source : Source} {rules : Rules} {p q : Position D} where
+  pub takes_err : (r : Result Progress IoFault) → IsErr r → BreaksIn look source rules p (spot q.executor q.heard) → TakesOrBreaks look source rules p q r
+  takes_err (Ok x) bad breaks = absurd bad
+  takes_err (Err e) bad breaks = breaks
+
+  pub ends_err : (r : Result Unit IoFault) → IsErr r → BreaksOff look source rules p (spot q.executor q.heard) → EndsOrBreaks look source rules p q r
+  ends_err (Ok x) bad breaks = absurd bad
+  ends_err (Err e) bad breaks = breaks
+
+  pub comes_err : {most : ℕ} {commands : List Command} (r : Result Bool IoFault) → IsErr r
+      → BreaksOff look source rules p (spot q.executor q.heard) → Comes look source rules p most commands q r
+  comes_err (Ok x) bad breaks = absurd bad
+  comes_err (Err e) bad breaks = breaks
+
+  pub mid_err : {most : ℕ} {commands : List Command} {kept : List ℕ} (r : Result Bool IoFault) → IsErr r
+      → BreaksOff look source rules p (spot q.executor q.heard) → ComesMid look source rules p most commands kept q r
+  mid_err (Ok x) bad breaks = absurd bad
+  mid_err (Err e) bad breaks = breaks
+
+  -- a line was taken, and the buffer is empty
+  pub comes_mid : {most : ℕ} {commands : List Command} {kept : List ℕ} (r : Result Bool IoFault) → kept ≡ []
+      → Comes look source rules p most commands q r → ComesMid look source rules p most commands kept q r
+  comes_mid {most = most} {commands = commands} {kept = kept} (Ok ended) none come = mid_taken look source rules p most commands kept q ended none come
+  comes_mid (Err e) none breaks = breaks

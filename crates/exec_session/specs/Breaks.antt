@@ -1,5 +1,5 @@
 -- Where a run breaks off: its input or its output failed, nobody hears what is told, or a reply or a notice found no memory.
-use Rattle.std.specs.Prelude.{◌≡◌, ℕ, ◌+◌, Bool, true, false, List, [], ◌∷◌, ◌++◌, Option, Result, Ok}
+use Rattle.std.specs.Prelude.{◌≡◌, ℕ, ◌+◌, Bool, true, false, List, [], ◌∷◌, ◌++◌, Option, Result, Ok, Err}
 use Rattle.ocf_types.specs.Kinds.{Command}
 use Rattle.ocf_types.specs.declared.refusal.Refusal.{Refusal}
 use Rattle.ocf_types.specs.declared.reply.TurnEnd.{TurnEnd}
@@ -9,12 +9,14 @@ use Rattle.exec_commands.specs.declared.line.Line.{Line}
 use Rattle.exec_commands.specs.declared.line.Line.TheVariants as line
 use Rattle.exec_client.specs.Heard.{Heard, Hears, HearsPart}
 use Rattle.exec_client.specs.Said.{Said}
+use Rattle.exec_output.specs.declared.send.IoFault.{IoFault}
 use Rattle.exec_session.specs.declared.drain.Terms.{Terms}
+use Rattle.exec_session.specs.declared.lines.Progress.{Progress}
 use Rattle.exec_session.specs.Answers.{Source}
 use Rattle.exec_session.specs.Drains.{GoesOn, Spot, TurnHeard, spot}
 use Rattle.exec_session.specs.Rules.{Rules}
-use Rattle.exec_session.specs.Progress.{AnswersHeard, Position, ReadsLine, position}
-use Rattle.exec_session.specs.Runs.{MakesTurns, Reaches, report_told}
+use Rattle.exec_session.specs.Progress.{AnswersHeard, Position, ReadsLine, Takes, position}
+use Rattle.exec_session.specs.Runs.{MakesTurns, Reaches, ReachesEnd, report_told}
 use Rattle.exec_session.specs.Together.{ReadsCommands, TogetherHeard}
 
 -- A drain broke off behind turns that go on, or in the one behind them, of whose notices a front is written, maybe all.
@@ -58,6 +60,16 @@ pub record BreaksOff {D : Type 0} (look : D → View) (source : Source) (rules :
   pub last : Position D
   pub reached : Reaches look source rules p count last
   pub breaks : BreaksIn look source rules last q
+
+-- what stands next in the input was taken, or the run broke off in it
+abbrev pub TakesOrBreaks : {D : Type 0} → (D → View) → Source → Rules → Position D → Position D → Result Progress IoFault → Type 0
+TakesOrBreaks look source rules p q (Ok progress) = Takes look source rules p q progress
+TakesOrBreaks look source rules p q (Err fault) = BreaksIn look source rules p (spot q.executor q.heard)
+
+-- a run came to the end of its input, or broke off before
+abbrev pub EndsOrBreaks : {D : Type 0} → (D → View) → Source → Rules → Position D → Position D → Result Unit IoFault → Type 0
+EndsOrBreaks look source rules p q (Ok done) = ReachesEnd look source rules p q
+EndsOrBreaks look source rules p q (Err fault) = BreaksOff look source rules p (spot q.executor q.heard)
 
 -- A run broke off in telling the report, of which a front was told and a front of that is written, or behind that.
 pub data RunBreaks {D N : Type 0} (look : D → View) (source : Source) (rules : Rules) (report : Report N)

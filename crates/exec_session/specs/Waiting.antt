@@ -1,9 +1,12 @@
 -- A run whose commands wait to be answered together.
-use Rattle.std.specs.Prelude.{◌≡◌, ◌⊎◌, ℕ, ◌+◌, ◌<◌, ◌≤◌, Bool, true, false, List, [], length, Option}
+use Rattle.std.specs.Prelude.{◌≡◌, ◌⊎◌, ℕ, ◌+◌, ◌<◌, ◌≤◌, Bool, true, false, List, [], length, Option, Result, Ok, Err}
 use Rattle.ocf_types.specs.Kinds.{Command}
 use Rattle.disk_model.specs.View.{View}
 use Rattle.executor.specs.Sights.{Sight}
+use Rattle.exec_output.specs.declared.send.IoFault.{IoFault}
 use Rattle.exec_session.specs.Answers.{Source}
+use Rattle.exec_session.specs.Breaks.{BreaksOff}
+use Rattle.exec_session.specs.Drains.{spot}
 use Rattle.exec_session.specs.Rules.{Rules}
 use Rattle.exec_session.specs.Progress.{Position, position}
 use Rattle.exec_session.specs.Runs.{MayTake, Reaches, ReachesEnd}
@@ -39,6 +42,12 @@ abbrev pub ComesOrEnds : {D : Type 0} → (D → View) → Source → Rules → 
     → List Command → Position D → Bool → Type 0
 ComesOrEnds look source rules p most commands q false = HasCome look source rules p most commands q
 ComesOrEnds look source rules p most commands q true = ReachesEnd look source rules p q
+
+-- it has come so far or to the end of the input, or it broke off
+abbrev pub Comes : {D : Type 0} → (D → View) → Source → Rules → Position D → ℕ
+    → List Command → Position D → Result Bool IoFault → Type 0
+Comes look source rules p most commands q (Ok ended) = ComesOrEnds look source rules p most commands q ended
+Comes look source rules p most commands q (Err fault) = BreaksOff look source rules p (spot q.executor q.heard)
 
 -- a run may take a line behind at most so many since its last turn
 abbrev pub MayTakeBehind : Way → ℕ → Type 0

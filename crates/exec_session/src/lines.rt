@@ -1,15 +1,14 @@
 //! The next line of the input, and what is done with it.
-ghost use Rattle.std.specs.Prelude.{◌≡◌, ℕ, ◌+◌, ◌<◌, [], List, true, length, Option, IfOk, OnErr, OnOk};
+ghost use Rattle.std.specs.Prelude.{◌≡◌, ℕ, ◌+◌, ◌<◌, [], List, true, length, Option};
 ghost use Rattle.exec_lines.specs.Buffer.{line_bytes};
 ghost use Rattle.exec_lines.specs.Pieces.{IsNext};
 ghost use Rattle.exec_client.specs.MayTell.{AllStand};
-ghost use Rattle.exec_session.specs.Breaks.{BreaksIn, BreaksOff};
-ghost use Rattle.exec_session.specs.Drains.{spot};
+ghost use Rattle.exec_session.specs.Breaks.{TakesOrBreaks};
 ghost use Rattle.exec_session.specs.Gathered.{waiting};
 ghost use Rattle.exec_session.specs.Rules.{rules_of};
-ghost use Rattle.exec_session.specs.Progress.{Position, ReadsInput, Takes, position};
+ghost use Rattle.exec_session.specs.Progress.{Position, ReadsInput, position};
 ghost use Rattle.exec_session.specs.Together.{ReadsCommand};
-ghost use Rattle.exec_session.specs.Waiting.{ComesOrEnds, HasCome, MayTakeBehind, MayWait};
+ghost use Rattle.exec_session.specs.Waiting.{Comes, HasCome, MayTakeBehind, MayWait};
 
 use crate::answer::reply_to;
 use crate::context::RunContext;
@@ -72,12 +71,8 @@ fn answer_found<D: Disk + Drop, C: Children + Drop, T: Client<D, C>, K: Clock, M
     requires stands { AllStand D.view (T.heard client.old) executor.old }
     ensures stands { AllStand D.view (T.heard client.new) executor.new }
     ensures opened { (T.heard client.new).opened ≡ (T.heard client.old).opened }
-    ensures progress { (left now : Option (List ℕ)) → ReadsInput left now found
-        → IfOk result (Takes D.view (M.gives context.now.metadata.now) (rules_of context.now)
-        (position executor.old left (T.heard client.old)) (position executor.new now (T.heard client.new))) }
-    ensures breaks { (left now : Option (List ℕ)) → ReadsInput left now found
-        → OnErr result (BreaksIn D.view (M.gives context.now.metadata.now) (rules_of context.now)
-        (position executor.old left (T.heard client.old)) (spot executor.new (T.heard client.new))) }
+    ensures takes { (left now : Option (List ℕ)) → ReadsInput left now found → TakesOrBreaks D.view (M.gives context.now.metadata.now) (rules_of context.now)
+        (position executor.old left (T.heard client.old)) (position executor.new now (T.heard client.new)) result }
 {
     let line = match found {
         Found::End => return Ok(Progress::End),
@@ -89,7 +84,7 @@ fn answer_found<D: Disk + Drop, C: Children + Drop, T: Client<D, C>, K: Clock, M
     Ok(Progress::Answered)
 }
 
-// Has a command wait behind the others, and answers all of them unless the next line is there already.
+// Has a command wait behind the others, and answers all of them unless the next line is there already. The input has not ended.
 fn take_command<D: Disk + Drop, C: Children + Drop, T: Client<D, C>, K: Clock, M: Metadata>(
     context: &RunContext<K, M>,
     client: &mut T,
@@ -97,7 +92,7 @@ fn take_command<D: Disk + Drop, C: Children + Drop, T: Client<D, C>, K: Clock, M
     gathered: &mut Gathered,
     command: Command,
     has_next: bool,
-) -> Result<(), IoFault>
+) -> Result<bool, IoFault>
     requires open { executor.old.is_open ≡ true }
     requires few { length (waiting gathered.old) < 64 }
     requires stands { AllStand D.view (T.heard client.old) executor.old }
@@ -108,20 +103,15 @@ fn take_command<D: Disk + Drop, C: Children + Drop, T: Client<D, C>, K: Clock, M
         → MayTakeBehind context.now.way most → ReadsCommand left now command
         → HasCome D.view (M.gives context.now.metadata.now) (rules_of context.now) p most
         (waiting gathered.old) (position executor.old left (T.heard client.old))
-        → OnOk result (HasCome D.view (M.gives context.now.metadata.now) (rules_of context.now) p (most + 1)
-        (waiting gathered.new) (position executor.new now (T.heard client.new))) }
-    ensures breaks { (p : Position D) (most : ℕ) (left now : Option (List ℕ))
-        → ReadsCommand left now command
-        → HasCome D.view (M.gives context.now.metadata.now) (rules_of context.now) p most
-        (waiting gathered.old) (position executor.old left (T.heard client.old))
-        → OnErr result (BreaksOff D.view (M.gives context.now.metadata.now) (rules_of context.now) p
-        (spot executor.new (T.heard client.new))) }
+        → Comes D.view (M.gives context.now.metadata.now) (rules_of context.now) p (most + 1)
+        (waiting gathered.new) (position executor.new now (T.heard client.new)) result }
 {
     gathered.push(command);
     if has_next && !gathered.is_full() {
-        return Ok(());
+        return Ok(false);
     }
-    answer_gathered(context, client, executor, gathered)
+    answer_gathered(context, client, executor, gathered)?;
+    Ok(false)
 }
 
 // Answers the commands that wait, and then what stands next in the input. Whether the input ended.
@@ -141,14 +131,8 @@ fn take_other<D: Disk + Drop, C: Children + Drop, T: Client<D, C>, K: Clock, M: 
         → MayTakeBehind context.now.way most → ReadsInput left now found
         → HasCome D.view (M.gives context.now.metadata.now) (rules_of context.now) p most
         (waiting gathered.old) (position executor.old left (T.heard client.old))
-        → IfOk result (ComesOrEnds D.view (M.gives context.now.metadata.now) (rules_of context.now) p (most + 1)
-        (waiting gathered.new) (position executor.new now (T.heard client.new))) }
-    ensures breaks { (p : Position D) (most : ℕ) (left now : Option (List ℕ))
-        → MayTakeBehind context.now.way most → ReadsInput left now found
-        → HasCome D.view (M.gives context.now.metadata.now) (rules_of context.now) p most
-        (waiting gathered.old) (position executor.old left (T.heard client.old))
-        → OnErr result (BreaksOff D.view (M.gives context.now.metadata.now) (rules_of context.now) p
-        (spot executor.new (T.heard client.new))) }
+        → Comes D.view (M.gives context.now.metadata.now) (rules_of context.now) p (most + 1)
+        (waiting gathered.new) (position executor.new now (T.heard client.new)) result }
 {
     answer_gathered(context, client, executor, gathered)?;
     let progress = answer_found(context, client, executor, found)?;
@@ -174,19 +158,12 @@ pub fn take_found<D: Disk + Drop, C: Children + Drop, T: Client<D, C>, K: Clock,
         → MayTakeBehind context.now.way most → ReadsInput left now found
         → HasCome D.view (M.gives context.now.metadata.now) (rules_of context.now) p most
         (waiting gathered.old) (position executor.old left (T.heard client.old))
-        → IfOk result (ComesOrEnds D.view (M.gives context.now.metadata.now) (rules_of context.now) p (most + 1)
-        (waiting gathered.new) (position executor.new now (T.heard client.new))) }
-    ensures breaks { (p : Position D) (most : ℕ) (left now : Option (List ℕ))
-        → MayTakeBehind context.now.way most → ReadsInput left now found
-        → HasCome D.view (M.gives context.now.metadata.now) (rules_of context.now) p most
-        (waiting gathered.old) (position executor.old left (T.heard client.old))
-        → OnErr result (BreaksOff D.view (M.gives context.now.metadata.now) (rules_of context.now) p
-        (spot executor.new (T.heard client.new))) }
+        → Comes D.view (M.gives context.now.metadata.now) (rules_of context.now) p (most + 1)
+        (waiting gathered.new) (position executor.new now (T.heard client.new)) result }
 {
     match found {
         Found::Line(Ok(Line::Request(Request::Command(command)))) if executor.is_open() => {
-            take_command(context, client, executor, gathered, command, has_next)?;
-            Ok(false)
+            take_command(context, client, executor, gathered, command, has_next)
         }
         found => take_other(context, client, executor, gathered, found),
     }

@@ -38,8 +38,7 @@ pub struct Pause {
 
 // Whether nothing ended or began in a turn with these entries: each child that was asked still runs, and none was started.
 fn is_quiet(book: &[Entry]) -> bool {
-    book.iter()
-        .all(|entry| matches!(entry.answer, Answer::Poll(Poll::Running)))
+    book.iter().all(|entry| matches!(entry.answer, Answer::Poll(Poll::Running)))
 }
 
 // How long it is since then, in microseconds; nothing where the clock fails.

@@ -4,13 +4,12 @@ ghost use Rattle.exec_lines.specs.Buffer.{line_bytes};
 ghost use Rattle.ocf_types.specs.declared.reply.TurnEnd.{TurnEnd};
 ghost use Rattle.exec_client.specs.Heard.{HearsPart};
 ghost use Rattle.exec_client.specs.MayTell.{AllStand};
-ghost use Rattle.exec_session.specs.Breaks.{BreaksOff};
+ghost use Rattle.exec_session.specs.Breaks.{EndsOrBreaks};
 ghost use Rattle.exec_session.specs.Drains.{TurnHeard, spot};
 ghost use Rattle.exec_session.specs.Gathered.{waiting};
 ghost use Rattle.exec_session.specs.Rules.{rules_of};
 ghost use Rattle.exec_session.specs.Progress.{Position, position};
-ghost use Rattle.exec_session.specs.Runs.{ReachesEnd};
-ghost use Rattle.exec_session.specs.Serving.{ComesMidOrEnds, HasComeMid, TurnsAlone};
+ghost use Rattle.exec_session.specs.Serving.{ComesMid, HasComeMid, TurnsAlone};
 ghost use Rattle.exec_session.specs.Waiting.{MayTakeBehind, MayWait};
 
 use crate::context::{RunContext, Way};
@@ -53,13 +52,8 @@ fn take_read<R: Input, D: Disk + Drop, C: Children + Drop, T: Client<D, C>, K: C
     ensures takes { (p : Position D) (most : ℕ) → MayTakeBehind context.now.way most
         → HasComeMid D.view (M.gives context.now.metadata.now) (rules_of context.now) p most (waiting gathered.old)
         (line_bytes buffer.old) (position executor.old (R.remaining reader.old) (T.heard client.old))
-        → IfOk result (ComesMidOrEnds D.view (M.gives context.now.metadata.now) (rules_of context.now) p (most + 1)
-        (waiting gathered.new) (line_bytes buffer.new) (position executor.new (R.remaining reader.new) (T.heard client.new))) }
-    ensures breaks { (p : Position D) (most : ℕ) → MayTakeBehind context.now.way most
-        → HasComeMid D.view (M.gives context.now.metadata.now) (rules_of context.now) p most (waiting gathered.old)
-        (line_bytes buffer.old) (position executor.old (R.remaining reader.old) (T.heard client.old))
-        → OnErr result (BreaksOff D.view (M.gives context.now.metadata.now) (rules_of context.now) p
-        (spot executor.new (T.heard client.new))) }
+        → ComesMid D.view (M.gives context.now.metadata.now) (rules_of context.now) p (most + 1) (waiting gathered.new)
+        (line_bytes buffer.new) (position executor.new (R.remaining reader.new) (T.heard client.new)) result }
 {
     let Some(next) = gather_line(reader, buffer)? else {
         return Ok(false);
@@ -95,13 +89,8 @@ fn take_waiting<
     ensures takes { (p : Position D)
         → HasComeMid D.view (M.gives context.now.metadata.now) (rules_of context.now) p 0 []
         (line_bytes buffer.old) (position executor.old (R.remaining reader.old) (T.heard client.old))
-        → IfOk result (ComesMidOrEnds D.view (M.gives context.now.metadata.now) (rules_of context.now) p 64
-        (waiting gathered.new) (line_bytes buffer.new) (position executor.new (R.remaining reader.new) (T.heard client.new))) }
-    ensures breaks { (p : Position D)
-        → HasComeMid D.view (M.gives context.now.metadata.now) (rules_of context.now) p 0 []
-        (line_bytes buffer.old) (position executor.old (R.remaining reader.old) (T.heard client.old))
-        → OnErr result (BreaksOff D.view (M.gives context.now.metadata.now) (rules_of context.now) p
-        (spot executor.new (T.heard client.new))) }
+        → ComesMid D.view (M.gives context.now.metadata.now) (rules_of context.now) p 64 (waiting gathered.new)
+        (line_bytes buffer.new) (position executor.new (R.remaining reader.new) (T.heard client.new)) result }
 {
     for _reads in 0..READS_A_TURN {
         if !reader.is_ready(0) {
@@ -139,13 +128,8 @@ fn answer_waiting<
     ensures takes { (p : Position D)
         → HasComeMid D.view (M.gives context.now.metadata.now) (rules_of context.now) p 0 []
         (line_bytes buffer.old) (position executor.old (R.remaining reader.old) (T.heard client.old))
-        → IfOk result (ComesMidOrEnds D.view (M.gives context.now.metadata.now) (rules_of context.now) p 64 []
-        (line_bytes buffer.new) (position executor.new (R.remaining reader.new) (T.heard client.new))) }
-    ensures breaks { (p : Position D)
-        → HasComeMid D.view (M.gives context.now.metadata.now) (rules_of context.now) p 0 []
-        (line_bytes buffer.old) (position executor.old (R.remaining reader.old) (T.heard client.old))
-        → OnErr result (BreaksOff D.view (M.gives context.now.metadata.now) (rules_of context.now) p
-        (spot executor.new (T.heard client.new))) }
+        → ComesMid D.view (M.gives context.now.metadata.now) (rules_of context.now) p 64 []
+        (line_bytes buffer.new) (position executor.new (R.remaining reader.new) (T.heard client.new)) result }
 {
     if take_waiting(context, reader, client, executor, buffer, gathered)? {
         return Ok(true);
@@ -249,11 +233,9 @@ pub fn serve_all<
     requires stands { AllStand D.view (T.heard client.old) executor.old }
     ensures stands { AllStand D.view (T.heard client.new) executor.new }
     ensures opened { (T.heard client.new).opened ≡ (T.heard client.old).opened }
-    ensures lines { OnOk result (ReachesEnd D.view (M.gives context.now.metadata.now) (rules_of context.now)
+    ensures lines { EndsOrBreaks D.view (M.gives context.now.metadata.now) (rules_of context.now)
         (position executor.old (R.remaining reader.old) (T.heard client.old))
-        (position executor.new (R.remaining reader.new) (T.heard client.new))) }
-    ensures breaks { OnErr result (BreaksOff D.view (M.gives context.now.metadata.now) (rules_of context.now)
-        (position executor.old (R.remaining reader.old) (T.heard client.old)) (spot executor.new (T.heard client.new))) }
+        (position executor.new (R.remaining reader.new) (T.heard client.new)) result }
 {
     let mut pause = Pause::new();
     for _ in 0..NUM_MAX {

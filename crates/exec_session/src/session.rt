@@ -1,15 +1,15 @@
 //! Command lines answered one by one.
-ghost use Rattle.std.specs.Prelude.{◌≡◌, ℕ, ◌+◌, [], IfOk, OnErr, OnOk};
+ghost use Rattle.std.specs.Prelude.{◌≡◌, ℕ, ◌+◌, [], OnErr, OnOk};
 ghost use Rattle.exec_lines.specs.Buffer.{line_bytes};
 ghost use Rattle.exec_client.specs.MayTell.{AllStand};
-ghost use Rattle.exec_session.specs.Breaks.{BreaksOff, RunBreaks};
+ghost use Rattle.exec_session.specs.Breaks.{EndsOrBreaks, RunBreaks};
 ghost use Rattle.exec_session.specs.Drains.{spot};
 ghost use Rattle.exec_session.specs.Ends.{ClosesByCalls, Ended, EndsAs, Runs};
 ghost use Rattle.exec_session.specs.Gathered.{waiting};
 ghost use Rattle.exec_session.specs.Rules.{rules_of};
 ghost use Rattle.exec_session.specs.Progress.{Position, position};
-ghost use Rattle.exec_session.specs.Runs.{IsNew, IsReportOf, ReachesEnd};
-ghost use Rattle.exec_session.specs.Waiting.{ComesOrEnds, HasCome, MayTakeBehind, MayWait};
+ghost use Rattle.exec_session.specs.Runs.{IsNew, IsReportOf};
+ghost use Rattle.exec_session.specs.Waiting.{Comes, HasCome, MayTakeBehind, MayWait};
 
 use crate::context::{RunContext, Way};
 use crate::gathered::Gathered;
@@ -53,13 +53,8 @@ fn take_next<R: Input, D: Disk + Drop, C: Children + Drop, T: Client<D, C>, K: C
     ensures takes { (p : Position D) (most : ℕ) → MayTakeBehind context.now.way most
         → HasCome D.view (M.gives context.now.metadata.now) (rules_of context.now) p most
         (waiting gathered.old) (position executor.old (R.remaining reader.old) (T.heard client.old))
-        → IfOk result (ComesOrEnds D.view (M.gives context.now.metadata.now) (rules_of context.now) p (most + 1)
-        (waiting gathered.new) (position executor.new (R.remaining reader.new) (T.heard client.new))) }
-    ensures breaks { (p : Position D) (most : ℕ) → MayTakeBehind context.now.way most
-        → HasCome D.view (M.gives context.now.metadata.now) (rules_of context.now) p most
-        (waiting gathered.old) (position executor.old (R.remaining reader.old) (T.heard client.old))
-        → OnErr result (BreaksOff D.view (M.gives context.now.metadata.now) (rules_of context.now) p
-        (spot executor.new (T.heard client.new))) }
+        → Comes D.view (M.gives context.now.metadata.now) (rules_of context.now) p (most + 1)
+        (waiting gathered.new) (position executor.new (R.remaining reader.new) (T.heard client.new)) result }
 {
     let next = next_line(reader, buffer)?;
     let found = found_in(context.alloc, buffer, next);
@@ -81,11 +76,9 @@ fn answer_all<R: Input, D: Disk + Drop, C: Children + Drop, T: Client<D, C>, K: 
     requires stands { AllStand D.view (T.heard client.old) executor.old }
     ensures stands { AllStand D.view (T.heard client.new) executor.new }
     ensures opened { (T.heard client.new).opened ≡ (T.heard client.old).opened }
-    ensures lines { OnOk result (ReachesEnd D.view (M.gives context.now.metadata.now) (rules_of context.now)
+    ensures lines { EndsOrBreaks D.view (M.gives context.now.metadata.now) (rules_of context.now)
         (position executor.old (R.remaining reader.old) (T.heard client.old))
-        (position executor.new (R.remaining reader.new) (T.heard client.new))) }
-    ensures breaks { OnErr result (BreaksOff D.view (M.gives context.now.metadata.now) (rules_of context.now)
-        (position executor.old (R.remaining reader.old) (T.heard client.old)) (spot executor.new (T.heard client.new))) }
+        (position executor.new (R.remaining reader.new) (T.heard client.new)) result }
 {
     for _ in 0..NUM_MAX {
         if take_next(context, reader, client, executor, buffer, gathered)? {
@@ -117,11 +110,9 @@ fn answer_in_way<
     requires stands { AllStand D.view (T.heard client.old) executor.old }
     ensures stands { AllStand D.view (T.heard client.new) executor.new }
     ensures opened { (T.heard client.new).opened ≡ (T.heard client.old).opened }
-    ensures lines { OnOk result (ReachesEnd D.view (M.gives context.now.metadata.now) (rules_of context.now)
+    ensures lines { EndsOrBreaks D.view (M.gives context.now.metadata.now) (rules_of context.now)
         (position executor.old (R.remaining reader.old) (T.heard client.old))
-        (position executor.new (R.remaining reader.new) (T.heard client.new))) }
-    ensures breaks { OnErr result (BreaksOff D.view (M.gives context.now.metadata.now) (rules_of context.now)
-        (position executor.old (R.remaining reader.old) (T.heard client.old)) (spot executor.new (T.heard client.new))) }
+        (position executor.new (R.remaining reader.new) (T.heard client.new)) result }
 {
     match context.way {
         Way::Run => answer_all(context, reader, client, executor, buffer, gathered),

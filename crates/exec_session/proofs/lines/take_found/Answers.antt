@@ -1,7 +1,6 @@
 use Rattle.std.proofs.Common.{◌≡◌, Ok, subst}
 use Rattle.ocf_types.specs.declared.command.RequestOf.TheVariants as asked
 use Rattle.exec_commands.specs.declared.line.Line.TheVariants as line
-use Rattle.exec_lines.proofs.PieceLemmas.{on_err}
 use Rattle.exec_session.specs.Progress.{ReadsInput}
 use Rattle.exec_session.specs.declared.lines.Found.{Found}
 use Rattle.exec_session.specs.declared.lines.Found.TheVariants as found
@@ -9,13 +8,11 @@ use Rattle.exec_session.proofs.lines.take_found.Goals as goal
 use Rattle.exec_session.proofs.lines.take_found.Goals.{in_default-via-in-Line-Ok-Request-Command+else-is_open, in_default-via-in-Line+in-Ok+in-Request+in-Question-1}
 use Rattle.exec_session.proofs.lines.take_found.Goals.{in_default-via-in-Line+in-Ok+in-Drain-1, in_default-via-in-Line+in-Err-1, in_default-via-in-Empty-1}
 
-pub returns-in_ok-take_command-in-Line-Ok-Request-Command-clause-takes :
-    goal.returns-in_ok-take_command-in-Line-Ok-Request-Command-clause-takes
-returns-in_ok-take_command-in-Line-Ok-Request-Command-clause-takes g c = λ p most left now may read come.
+pub returns-in-Line-Ok-Request-Command-clause-takes : goal.returns-in-Line-Ok-Request-Command-clause-takes
+returns-in-Line-Ok-Request-Command-clause-takes g c = λ p most left now may read come.
     let arm = c.in-Line-Ok-Request-Command in
     let is : c.args.found ≡ found.Line (Ok (line.Request (asked.Command arm.command))) = cc in
-    c.in_ok-take_command-in-Line-Ok-Request-Command.ensures.takes p most left now may
-    (subst (λ (f : Found). ReadsInput left now f) is read) come
+    c.take_command.ensures.takes p most left now may (subst (λ (f : Found). ReadsInput left now f) is read) come
 
 pub returns-in_default-clause-takes : goal.returns-in_default-clause-takes
 returns-in_default-clause-takes g c = λ p most left now may read come.
@@ -27,22 +24,3 @@ returns-in_default-clause-takes g c = λ p most left now may read come.
       | in_default-via-in-Empty-1 w ↦ cc
     ] in
     c.take_other.ensures.takes p most left now may (subst (λ (f : Found). ReadsInput left now f) same read) come
-
-pub returns-in_err-take_command-in-Line-Ok-Request-Command-clause-breaks :
-    goal.returns-in_err-take_command-in-Line-Ok-Request-Command-clause-breaks
-returns-in_err-take_command-in-Line-Ok-Request-Command-clause-breaks g c = λ p most left now may read come.
-    let arm = c.in-Line-Ok-Request-Command in
-    let is : c.args.found ≡ found.Line (Ok (line.Request (asked.Command arm.command))) = cc in
-    on_err c.from_residual.result _ (c.in_err-take_command-in-Line-Ok-Request-Command.ensures.breaks p most left now
-    (subst (λ (f : Found). ReadsInput left now f) is read) come)
-
-pub returns-in_default-clause-breaks : goal.returns-in_default-clause-breaks
-returns-in_default-clause-breaks g c = λ p most left now may read come.
-    let same : c.args.found ≡ c.in_default-1.found = elim c.in_default-1.branch [
-      | in_default-via-in-Line-Ok-Request-Command+else-is_open w ↦ cc
-      | in_default-via-in-Line+in-Ok+in-Request+in-Question-1 w ↦ cc
-      | in_default-via-in-Line+in-Ok+in-Drain-1 w ↦ cc
-      | in_default-via-in-Line+in-Err-1 w ↦ cc
-      | in_default-via-in-Empty-1 w ↦ cc
-    ] in
-    c.take_other.ensures.breaks p most left now may (subst (λ (f : Found). ReadsInput left now f) same read) come

@@ -1,5 +1,4 @@
 use Rattle.std.proofs.Common.{◌≡◌, ◌+◌, true, arith, rules, subst, sym}
-use Rattle.exec_lines.proofs.PieceLemmas.{on_err}
 use Rattle.exec_session.specs.Gathered.{waiting}
 use Rattle.exec_session.specs.Rules.{rules_of}
 use Rattle.exec_session.specs.Progress.{position}
@@ -7,7 +6,7 @@ use Rattle.exec_session.specs.Waiting.{ComesOrEnds}
 use Rattle.exec_session.specs.declared.lines.Progress.TheVariants.{End}
 use Rattle.exec_session.specs.Drains.{spot}
 use Rattle.exec_session.proofs.WaitLemmas.{all_answered, one_taken, open_while}
-use Rattle.exec_session.proofs.BreakLemmas.{next_breaks, row_breaks}
+use Rattle.exec_session.proofs.BreakLemmas.{comes_err, next_breaks, row_breaks}
 use Rattle.exec_session.proofs.lines.take_other.Goals as goal
 
 pub returns-clause-takes : goal.returns-clause-takes
@@ -27,19 +26,19 @@ returns-clause-takes g c = λ p most left now may read come.
     let is : c.eq.result ≡ true → c.in_ok-progress.progress ≡ End = λ e. search (rules, c.eq.ensures, e) in
     subst (λ cs. ComesOrEnds look source rules p (most + 1) cs after c.eq.result) (sym c.answer_gathered.ensures.none)
     (one_taken look source rules p most may before after c.in_ok-progress.progress c.eq.result is answered
-    (c.in_ok-progress.ensures.progress left now read))
+    (c.in_ok-progress.ensures.takes left now read))
 
-pub returns-in_err-answer_gathered-clause-breaks : goal.returns-in_err-answer_gathered-clause-breaks
-returns-in_err-answer_gathered-clause-breaks g c = λ p most left now may read come.
+pub returns-in_err-answer_gathered-clause-takes : goal.returns-in_err-answer_gathered-clause-takes
+returns-in_err-answer_gathered-clause-takes g c = λ p most left now may read come.
     let old = c.args.executor.now in
     let new = c.answer_gathered.new in
     let commands = waiting c.args.gathered.now in
-    on_err c.from_residual.result _ (row_breaks g.D.Disk.view (g.M.Metadata.gives c.args.context.now.metadata.now) (rules_of c.args.context.now)
+    comes_err c.from_residual.result c.from_residual.ensures.0 (row_breaks g.D.Disk.view (g.M.Metadata.gives c.args.context.now.metadata.now) (rules_of c.args.context.now)
     p most commands old left (g.T.Client.heard c.args.client.now) (spot new.executor (g.T.Client.heard new.client))
     (open_while old commands c.requires.waits) come c.in_err-answer_gathered.ensures.breaks)
 
-pub returns-in_err-progress-clause-breaks : goal.returns-in_err-progress-clause-breaks
-returns-in_err-progress-clause-breaks g c = λ p most left now may read come.
+pub returns-in_err-progress-clause-takes : goal.returns-in_err-progress-clause-takes
+returns-in_err-progress-clause-takes g c = λ p most left now may read come.
     let look = g.D.Disk.view in
     let source = g.M.Metadata.gives c.args.context.now.metadata.now in
     let rules = rules_of c.args.context.now in
@@ -50,5 +49,5 @@ returns-in_err-progress-clause-breaks g c = λ p most left now may read come.
     c.args.executor.now middle left (g.T.Client.heard c.args.client.now) heard
     (open_while c.args.executor.now (waiting c.args.gathered.now) c.requires.waits) come
     c.in_ok-answer_gathered.ensures.answers in
-    on_err c.from_residual-in_err-progress.result _ (next_breaks look source rules p most (position middle left heard)
-    (spot new.executor (g.T.Client.heard new.client)) answered (c.in_err-progress.ensures.breaks left now read))
+    comes_err c.from_residual-in_err-progress.result c.from_residual-in_err-progress.ensures.0 (next_breaks look source rules p most (position middle left heard)
+    (spot new.executor (g.T.Client.heard new.client)) answered (c.in_err-progress.ensures.takes left now read))

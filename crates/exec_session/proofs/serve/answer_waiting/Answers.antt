@@ -1,6 +1,5 @@
 use Rattle.std.proofs.Common.{arith, subst}
 use Rattle.exec_lines.specs.Buffer.{line_bytes}
-use Rattle.exec_lines.proofs.PieceLemmas.{on_err}
 use Rattle.exec_session.specs.Gathered.{waiting}
 use Rattle.exec_session.specs.Rules.{rules_of}
 use Rattle.exec_session.specs.Progress.{position}
@@ -8,7 +7,7 @@ use Rattle.exec_session.specs.Serving.{ComesMidOrEnds}
 use Rattle.exec_session.specs.Drains.{spot}
 use Rattle.exec_session.proofs.ServeLemmas.{mid_answered}
 use Rattle.exec_session.proofs.WaitLemmas.{may_serve, open_while}
-use Rattle.exec_session.proofs.BreakLemmas.{row_breaks}
+use Rattle.exec_session.proofs.BreakLemmas.{mid_err, row_breaks}
 use Rattle.exec_session.proofs.serve.answer_waiting.Goals as goal
 
 pub returns-then-branch-clause-takes : goal.returns-then-branch-clause-takes
@@ -38,17 +37,17 @@ returns-clause-takes g c = λ p come.
     (open_while c.take_waiting.new.executor (waiting c.take_waiting.new.gathered) c.in_ok-take_waiting.ensures.waits) still
     c.in_ok-answer_gathered.ensures.answers
 
-pub returns-in_err-take_waiting-clause-breaks : goal.returns-in_err-take_waiting-clause-breaks
-returns-in_err-take_waiting-clause-breaks g c = λ p come. on_err c.from_residual.result _ (c.in_err-take_waiting.ensures.breaks p come)
+pub returns-in_err-take_waiting-clause-takes : goal.returns-in_err-take_waiting-clause-takes
+returns-in_err-take_waiting-clause-takes g c = λ p come. mid_err c.from_residual.result c.from_residual.ensures.0 (c.in_err-take_waiting.ensures.takes p come)
 
-pub returns-in_err-answer_gathered-clause-breaks : goal.returns-in_err-answer_gathered-clause-breaks
-returns-in_err-answer_gathered-clause-breaks g c = λ p come.
+pub returns-in_err-answer_gathered-clause-takes : goal.returns-in_err-answer_gathered-clause-takes
+returns-in_err-answer_gathered-clause-takes g c = λ p come.
     let source = g.M.Metadata.gives c.args.context.now.metadata.now in
     let middle = c.take_waiting.new in
     let q = position middle.executor (g.R.Read.remaining middle.reader) (g.T.Client.heard middle.client) in
     let (left, mid, waits) = subst (ComesMidOrEnds g.D.Disk.view source (rules_of c.args.context.now) p 64 (waiting middle.gathered)
     (line_bytes middle.buffer) q) c.if-branch.false (c.in_ok-take_waiting.ensures.takes p come) in
     let new = c.answer_gathered.new in
-    on_err c.from_residual-in_err-answer_gathered.result _ (row_breaks g.D.Disk.view source (rules_of c.args.context.now) p 64 (waiting middle.gathered)
+    mid_err c.from_residual-in_err-answer_gathered.result c.from_residual-in_err-answer_gathered.ensures.0 (row_breaks g.D.Disk.view source (rules_of c.args.context.now) p 64 (waiting middle.gathered)
     middle.executor left (g.T.Client.heard middle.client) (spot new.executor (g.T.Client.heard new.client))
     (open_while middle.executor (waiting middle.gathered) c.in_ok-take_waiting.ensures.waits) waits c.in_err-answer_gathered.ensures.breaks)

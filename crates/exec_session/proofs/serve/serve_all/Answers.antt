@@ -1,12 +1,11 @@
 use Rattle.std.proofs.Common.{[], refl, subst, ◌∙◌}
 use Rattle.exec_lines.specs.Buffer.{line_bytes}
-use Rattle.exec_lines.proofs.PieceLemmas.{on_err}
 use Rattle.exec_session.specs.Rules.{rules_of}
 use Rattle.exec_session.specs.Progress.{position}
 use Rattle.exec_session.specs.Serving.{ComesMidOrEnds}
 use Rattle.exec_session.specs.Drains.{spot}
 use Rattle.exec_session.proofs.ServeLemmas.{first_mid, one_turn}
-use Rattle.exec_session.proofs.BreakLemmas.{between_reads, turn_breaks}
+use Rattle.exec_session.proofs.BreakLemmas.{between_reads, ends_err, turn_breaks}
 use Rattle.exec_session.proofs.serve.serve_all.Goals as goal
 
 pub loop-init : goal.loop-init
@@ -45,13 +44,13 @@ loop-preserved g c =
           c.wait.ensures.same come c.in_ok-make_own_turn.ensures.turns;
     }
 
-pub returns-in_err-answer_waiting-clause-breaks : goal.returns-in_err-answer_waiting-clause-breaks
-returns-in_err-answer_waiting-clause-breaks g c =
+pub returns-in_err-answer_waiting-clause-lines : goal.returns-in_err-answer_waiting-clause-lines
+returns-in_err-answer_waiting-clause-lines g c =
     let p = position c.args.executor.now (g.R.Read.remaining c.args.reader.now) (g.T.Client.heard c.args.client.now) in
-    on_err c.from_residual.result _ (c.in_err-answer_waiting.ensures.breaks p c.loop.invariant.come)
+    ends_err c.from_residual.result c.from_residual.ensures.0 (c.in_err-answer_waiting.ensures.takes p c.loop.invariant.come)
 
-pub returns-in_err-make_own_turn-clause-breaks : goal.returns-in_err-make_own_turn-clause-breaks
-returns-in_err-make_own_turn-clause-breaks g c =
+pub returns-in_err-make_own_turn-clause-lines : goal.returns-in_err-make_own_turn-clause-lines
+returns-in_err-make_own_turn-clause-lines g c =
     let look = g.D.Disk.view in
     let source = g.M.Metadata.gives c.args.context.now.metadata.now in
     let rules = rules_of c.args.context.now in
@@ -62,11 +61,11 @@ returns-in_err-make_own_turn-clause-breaks g c =
     (c.in_ok-answer_waiting.ensures.takes p c.loop.invariant.come) in
     let (is_open, now, end, heard) = c.in_err-make_own_turn.ensures.breaks in
     let new = c.make_own_turn.new in
-    on_err c.from_residual-in_err-make_own_turn.result _ (turn_breaks look source rules p c.loop.invariant.way 64 (line_bytes middle.buffer) q
+    ends_err c.from_residual-in_err-make_own_turn.result c.from_residual-in_err-make_own_turn.ensures.0 (turn_breaks look source rules p c.loop.invariant.way 64 (line_bytes middle.buffer) q
     (spot new.executor (g.T.Client.heard new.client)) now end come is_open heard)
 
-pub returns-in_err-wait-clause-breaks : goal.returns-in_err-wait-clause-breaks
-returns-in_err-wait-clause-breaks g c =
+pub returns-in_err-wait-clause-lines : goal.returns-in_err-wait-clause-lines
+returns-in_err-wait-clause-lines g c =
     let look = g.D.Disk.view in
     let source = g.M.Metadata.gives c.args.context.now.metadata.now in
     let rules = rules_of c.args.context.now in
@@ -78,11 +77,11 @@ returns-in_err-wait-clause-breaks g c =
     (c.in_ok-answer_waiting.ensures.takes p c.loop.invariant.come) in
     let new = c.make_own_turn.new in
     let last = position new.executor (g.R.Read.remaining middle.reader) (g.T.Client.heard new.client) in
-    on_err c.from_residual-in_err-wait.result _ (between_reads look source rules p 0 [] kept last
+    ends_err c.from_residual-in_err-wait.result c.from_residual-in_err-wait.ensures.0 (between_reads look source rules p 0 [] kept last
     (one_turn look source rules p c.loop.invariant.way 64 kept q last refl come c.in_ok-make_own_turn.ensures.turns))
 
-pub returns-clause-breaks : goal.returns-clause-breaks
-returns-clause-breaks g c =
+pub returns-clause-lines : goal.returns-clause-lines
+returns-clause-lines g c =
     let p = position c.args.executor.now (g.R.Read.remaining c.args.reader.now) (g.T.Client.heard c.args.client.now) in
     between_reads g.D.Disk.view (g.M.Metadata.gives c.args.context.now.metadata.now) (rules_of c.args.context.now) p 0 []
     (line_bytes c.loop.buffer) (position c.loop.executor (g.R.Read.remaining c.loop.reader) (g.T.Client.heard c.loop.client))

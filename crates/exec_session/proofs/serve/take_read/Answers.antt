@@ -1,14 +1,11 @@
 use Rattle.std.proofs.Common.{◌+◌, arith}
 use Rattle.exec_lines.specs.Buffer.{line_bytes}
-use Rattle.exec_lines.proofs.PieceLemmas.{on_err}
 use Rattle.exec_session.specs.Gathered.{waiting}
 use Rattle.exec_session.specs.Rules.{rules_of}
 use Rattle.exec_session.specs.Progress.{position}
-use Rattle.exec_session.specs.Serving.{ComesMidOrEnds}
-use Rattle.exec_session.specs.Waiting.{ComesOrEnds}
-use Rattle.exec_session.proofs.ServeLemmas.{at_none, at_some, mid_taken}
-use Rattle.exec_session.proofs.WaitLemmas.{come_more, if_ok}
-use Rattle.exec_session.proofs.BreakLemmas.{between_reads}
+use Rattle.exec_session.proofs.ServeLemmas.{at_none, at_some}
+use Rattle.exec_session.proofs.WaitLemmas.{come_more}
+use Rattle.exec_session.proofs.BreakLemmas.{between_reads, comes_mid, mid_err}
 use Rattle.exec_session.proofs.serve.take_read.Goals as goal
 
 pub returns-in_default-clause-takes : goal.returns-in_default-clause-takes
@@ -23,26 +20,13 @@ returns-in_default-clause-takes g c = λ p most may (left, mid, come).
 
 pub returns-clause-takes : goal.returns-clause-takes
 returns-clause-takes g c = λ p most may (left, mid, come).
-    let look = g.D.Disk.view in
-    let source = g.M.Metadata.gives c.args.context.now.metadata.now in
-    let rules = rules_of c.args.context.now in
     let now = g.R.Read.remaining c.gather_line.new.reader in
-    let commands = waiting c.take_found.new.gathered in
-    let kept = line_bytes c.clear.new.self in
-    let q = position c.take_found.new.executor now (g.T.Client.heard c.take_found.new.client) in
     let next = at_some c.in_ok-next.field-0 c.in-Some.next _ _ c.in-Some.is (c.in_ok-next.ensures.gathers left mid) in
-    if_ok (ComesOrEnds look source rules p (most + 1) commands q) (ComesMidOrEnds look source rules p (most + 1) commands kept q)
-    c.take_found.result (λ ended. mid_taken look source rules p (most + 1) commands kept q ended c.clear.ensures)
-    (c.take_found.ensures.takes p most left now may (c.found_in-found.ensures.found left now next) come)
+    comes_mid c.take_found.result c.clear.ensures (c.take_found.ensures.takes p most left now may (c.found_in-found.ensures.found left now next) come)
 
-pub returns-in_err-next-clause-breaks : goal.returns-in_err-next-clause-breaks
-returns-in_err-next-clause-breaks g c = λ p most may come.
-    on_err c.from_residual.result _ (between_reads g.D.Disk.view (g.M.Metadata.gives c.args.context.now.metadata.now)
+pub returns-in_err-next-clause-takes : goal.returns-in_err-next-clause-takes
+returns-in_err-next-clause-takes g c = λ p most may come.
+    mid_err c.from_residual.result c.from_residual.ensures.0
+    (between_reads g.D.Disk.view (g.M.Metadata.gives c.args.context.now.metadata.now)
     (rules_of c.args.context.now) p most (waiting c.args.gathered.now) (line_bytes c.args.buffer.now)
     (position c.args.executor.now (g.R.Read.remaining c.args.reader.now) (g.T.Client.heard c.args.client.now)) come)
-
-pub returns-clause-breaks : goal.returns-clause-breaks
-returns-clause-breaks g c = λ p most may (left, mid, come).
-    let now = g.R.Read.remaining c.gather_line.new.reader in
-    let next = at_some c.in_ok-next.field-0 c.in-Some.next _ _ c.in-Some.is (c.in_ok-next.ensures.gathers left mid) in
-    c.take_found.ensures.breaks p most left now may (c.found_in-found.ensures.found left now next) come

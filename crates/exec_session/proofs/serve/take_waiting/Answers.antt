@@ -1,6 +1,6 @@
 use Rattle.std.proofs.Common.{◌+◌, arith, refl, subst, sym, ◌∙◌}
 use Rattle.exec_lines.specs.Buffer.{line_bytes}
-use Rattle.exec_lines.proofs.PieceLemmas.{on_err}
+use Rattle.exec_session.proofs.BreakLemmas.{mid_err}
 use Rattle.exec_session.specs.Gathered.{waiting}
 use Rattle.exec_session.specs.Rules.{rules_of}
 use Rattle.exec_session.specs.Progress.{position}
@@ -64,10 +64,10 @@ pub returns-clause-takes : goal.returns-clause-takes
 returns-clause-takes g c = λ p come.
     mid_more _ _ _ p c.loop-reads._reads 64 _ _ _ (omega (arith, c.loop-reads.auto)) (c.loop-reads.invariant.come p come)
 
-pub returns-in_err-take_read-clause-breaks : goal.returns-in_err-take_read-clause-breaks
-returns-in_err-take_read-clause-breaks g c = λ p come.
+pub returns-in_err-take_read-clause-takes : goal.returns-in_err-take_read-clause-takes
+returns-in_err-take_read-clause-takes g c = λ p come.
     let n = c.loop-reads._reads in
-    on_err c.from_residual.result _ (c.in_err-take_read.ensures.breaks p n
+    mid_err c.from_residual.result c.from_residual.ensures.0 (c.in_err-take_read.ensures.takes p n
     (may_serve c.args.context.now.way n c.loop-reads.invariant.way (omega (arith, c.loop-reads-test.true)))
     (mid_same _ _ _ p n (waiting c.loop-reads.gathered) (line_bytes c.loop-reads.buffer) c.loop-reads.executor
     (g.T.Client.heard c.loop-reads.client) (g.R.Read.remaining c.loop-reads.reader) (g.R.Read.remaining c.is_ready.new.self)

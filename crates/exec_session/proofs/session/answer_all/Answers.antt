@@ -1,11 +1,10 @@
 use Rattle.std.proofs.Common.{◌+◌, refl, subst, ◌∙◌}
-use Rattle.exec_lines.proofs.PieceLemmas.{on_err}
 use Rattle.exec_session.specs.Gathered.{waiting}
 use Rattle.exec_session.specs.Rules.{rules_of}
 use Rattle.exec_session.specs.Progress.{position}
 use Rattle.exec_session.specs.Waiting.{ComesOrEnds}
 use Rattle.exec_session.proofs.WaitLemmas.{at_first, come_none, may_run, none_waits}
-use Rattle.exec_session.proofs.BreakLemmas.{between_lines}
+use Rattle.exec_session.proofs.BreakLemmas.{between_lines, ends_err}
 use Rattle.exec_session.proofs.session.answer_all.Goals as goal
 
 pub loop-init : goal.loop-init
@@ -52,14 +51,14 @@ loop-preserved g c =
       );
     }
 
-pub returns-in_err-take_next-clause-breaks : goal.returns-in_err-take_next-clause-breaks
-returns-in_err-take_next-clause-breaks g c =
+pub returns-in_err-take_next-clause-lines : goal.returns-in_err-take_next-clause-lines
+returns-in_err-take_next-clause-lines g c =
     let p = position c.args.executor.now (g.R.Read.remaining c.args.reader.now) (g.T.Client.heard c.args.client.now) in
     let most = c.loop.invariant.come.0 in
-    on_err c.from_residual.result _ (c.in_err-take_next.ensures.breaks p most (may_run c.args.context.now.way most c.loop.invariant.way) c.loop.invariant.come.1)
+    ends_err c.from_residual.result c.from_residual.ensures.0 (c.in_err-take_next.ensures.takes p most (may_run c.args.context.now.way most c.loop.invariant.way) c.loop.invariant.come.1)
 
-pub returns-clause-breaks : goal.returns-clause-breaks
-returns-clause-breaks g c =
+pub returns-clause-lines : goal.returns-clause-lines
+returns-clause-lines g c =
     let p = position c.args.executor.now (g.R.Read.remaining c.args.reader.now) (g.T.Client.heard c.args.client.now) in
     between_lines g.D.Disk.view (g.M.Metadata.gives c.args.context.now.metadata.now) (rules_of c.args.context.now) p c.loop.invariant.come.0
     (waiting c.loop.gathered) (position c.loop.executor (g.R.Read.remaining c.loop.reader) (g.T.Client.heard c.loop.client)) c.loop.invariant.come.1

@@ -11,4 +11,4 @@ returns-in_err-tell_report-clause-breaks g c =
 pub returns-in_err-answer_in_way-clause-breaks : goal.returns-in_err-answer_in_way-clause-breaks
 returns-in_err-answer_in_way-clause-breaks g c =
     on_err c.from_residual-in_err-answer_in_way.result _
-    (behind_report (g.T.Client.heard c.tell_report.new.client) c.in_ok-tell_report.ensures.told c.in_err-answer_in_way.ensures.breaks)
+    (behind_report (g.T.Client.heard c.tell_report.new.client) c.in_ok-tell_report.ensures.told c.in_err-answer_in_way.ensures.lines)
