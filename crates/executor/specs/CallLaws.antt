@@ -5,16 +5,14 @@ use Rattle.std.proofs.lemmas.List.{append-nil}
 use Rattle.ocf_types.specs.Kinds.{Event, Reply, Request}
 use Rattle.ocf_types.specs.declared.refusal.Refusal.TheVariants.{Disk}
 use Rattle.ocf_types.specs.declared.reply.ReplyOf.TheVariants.{Refused, Turn}
-use Rattle.ocf_types.specs.declared.reply.TidyEnd.{TidyEnd}
 use Rattle.ocf_types.specs.declared.reply.TurnEnd.{TurnEnd}
 use Rattle.disk_model.specs.View.{View}
 use Rattle.child_keeper.specs.declared.answer.Entry.{Entry}
-use Rattle.executor.specs.Commands.{Serves, ServesWhile}
-use Rattle.executor.specs.Lives.{Abandoned, ByCalls, Calls, Cleared, Does, Exchange, Tidied, Took}
+use Rattle.executor.specs.Commands.{ServesWhile}
+use Rattle.executor.specs.Lives.{Calls, Exchange}
 use Rattle.executor.specs.Sessions.{Effects, TakesWhile, followed_by, no_effects, request_effects}
 use Rattle.executor.specs.Sights.{Sight}
-use Rattle.executor.specs.TidyCalls.{TidiesWhile}
-use Rattle.executor.specs.TurnCalls.{TurnsWhile, abandoned, with_empty_book}
+use Rattle.executor.specs.TurnCalls.{TurnsWhile}
 use Rattle.executor.specs.declared.session.InputOf.TheVariants as input
 
 -- a request that was served was taken
@@ -34,7 +32,7 @@ turn_taken true look now x y end turns = (
 )
 turn_taken false look now x y end turns = (no_effects, (ap (λ (e : TurnEnd). Turn e) turns.0, turns.1, refl))
 
--- deeds behind others
+-- effects behind others
 pub followed_by_assoc : (a b c : Effects) → followed_by a (followed_by b c) ≡ followed_by (followed_by a b) c
 followed_by_assoc a b c =
     let f : List Entry → List Event → List Event → Effects = λ x y z. record { entries = x; events = y; pending = z } in
@@ -66,34 +64,3 @@ module _ {D : Type 0} (look : D → View) where
     calls_behind mid y z es fs rest b calls later,
     ap (λ (d : Effects). followed_by d b) is ∙ sym (followed_by_assoc first rest b),
   )
-
-  -- no call, one call, and calls behind others
-  pub by_none : (x y : Sight D) → y ≡ x → ByCalls look x y
-  by_none x y same = ([], no_effects, (same, refl))
-
-  by_one : (x y : Sight D) (e : Exchange) (d : Effects) → Does look e x y d → ByCalls look x y
-  by_one x y e d does = (e ∷ [], d, (y, d, no_effects, does, (refl, refl), sym (followed_by_none d)))
-
-  pub by_both : (x y z : Sight D) → ByCalls look x y → ByCalls look y z → ByCalls look x z
-  by_both x y z (es, a, one) (fs, b, two) = (es ++ fs, followed_by a b, calls_behind x y z es fs a b one two)
-
-  -- what each call of an executor promises is one call
-  pub by_command : (now : ℕ) (request : Request) (x y : Sight D) (reply : Reply) → Serves look now request x y reply
-      → (x.is_open ≡ true → ((y.is_open ≡ false) ↔ (reply ≡ Refused Disk))) → ByCalls look x y
-  by_command now request x y reply serves closes =
-      let taken = request_taken x.is_open look now request x y reply serves closes in
-      by_one x y (Took (input.Request now request) reply) taken.0 taken.1
-
-  pub by_turn : (now : ℕ) (x y : Sight D) (end : TurnEnd) → TurnsWhile x.is_open look now x y end → ByCalls look x y
-  by_turn now x y end turns =
-      let taken = turn_taken x.is_open look now x y end turns in
-      by_one x y (Took (input.Turn now) (Turn end)) taken.0 taken.1
-
-  pub by_tidy : (x y : Sight D) (end : TidyEnd) → TidiesWhile x.is_open look x y end → ByCalls look x y
-  by_tidy x y end tidies = by_one x y (Tidied end) no_effects (tidies, refl)
-
-  pub by_clear : (x y : Sight D) → y ≡ with_empty_book x → ByCalls look x y
-  by_clear x y cleared = by_one x y Cleared no_effects (cleared, refl)
-
-  pub by_abandon : (x y : Sight D) → y ≡ abandoned x → ByCalls look x y
-  by_abandon x y given_up = by_one x y Abandoned no_effects (given_up, refl)

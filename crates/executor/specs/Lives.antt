@@ -48,10 +48,6 @@ Calls {D} look old (e ∷ es) new effects =
     (mid : Sight D) × (first : Effects) × (later : Effects) × Does look e old mid first × Calls look mid es new later
     × (effects ≡ followed_by first later)
 
--- calls alone lead from one sight of an executor to another
-abbrev pub ByCalls : {D : Type 0} → (D → View) → Sight D → Sight D → Type 0
-ByCalls look old new = (es : List Exchange) × (effects : Effects) × Calls look old es new effects
-
 -- An executor's service: the disk that its opening was handed, and when; the executor as it was opened, as the calls that
 -- returned left it, and as those under way would have left it; what they did; and the moment of the disk's clock at which
 -- it was stopped or closed.

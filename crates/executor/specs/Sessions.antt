@@ -35,7 +35,7 @@ pub record Effects : Type 0 where
 abbrev pub no_effects : Effects
 no_effects = record { entries = []; events = []; pending = [] }
 
--- some deeds, and then others
+-- some effects, and then others
 abbrev pub followed_by : Effects → Effects → Effects
 followed_by a b = record { entries = a.entries ++ b.entries; events = a.events ++ b.events; pending = a.pending ++ b.pending }
 

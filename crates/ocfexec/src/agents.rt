@@ -32,14 +32,14 @@ pub fn site_of(alloc: Global, options: Options) -> Result<Site, AllocError>
     Ok(Site::new(root, path, via).with_meta(options.meta_variables))
 }
 
-/// The agents of a site, which are asked for their metadata.
+/// The metadata of a site's agents, each of which is asked for it.
 #[derive(Drop)]
-pub struct Agents<'a> {
+pub struct SiteMetadata<'a> {
     pub rt: &'a HostRuntime,
     pub site: Site,
 }
 
-impl Metadata for Agents<'_> {
+impl Metadata for SiteMetadata<'_> {
     ghost gives = { λ source provider agent limit given. IfOk given (λ bytes. length bytes.items ≤ metadata_limit) };
 
     fn metadata(

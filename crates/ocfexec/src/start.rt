@@ -3,7 +3,7 @@ ghost use Rattle.std.specs.Prelude.{◌≡◌, IfOk, map, string_bytes};
 ghost use Rattle.exec_output.specs.Faults.{IsRunEnd};
 ghost use Rattle.ocfexec.specs.Starts.{EndsFor, IsNotOpened, IsToldAs, opening_fault};
 
-use crate::agents::{Agents, BOOK_ROOM, site_of};
+use crate::agents::{BOOK_ROOM, SiteMetadata, site_of};
 use crate::log::log_of;
 use crate::orphans::wait_for_orphans;
 use crate::signals::children_ignored;
@@ -287,7 +287,7 @@ fn run_agents<D: Disk + TellsError + Drop>(
             let context = RunContext {
                 alloc,
                 clock: &clock,
-                metadata: &Agents { rt, site: asked },
+                metadata: &SiteMetadata { rt, site: asked },
                 way,
                 form: form_of(way),
                 most_turns: MOST_TURNS,

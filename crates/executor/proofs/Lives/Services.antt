@@ -17,7 +17,7 @@ use Rattle.executor.proofs.Lives.Calls.{calls_closed, calls_more}
 use Rattle.executor.proofs.Lives.Fronts.{EachBegun, FrontOf, GoesOn, all_begun, begin_among}
 use Rattle.executor.proofs.Sessions.Growing.{Onward, leads_start, leads_still, onward}
 
--- the events of some deeds, those that are pending behind them
+-- the events of some effects, those that are pending behind them
 abbrev all_of : Effects → List Event
 all_of d = d.events ++ d.pending
 
