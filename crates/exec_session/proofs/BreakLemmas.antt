@@ -87,21 +87,21 @@ module _ {D : Type 0} (look : D → View) (source : Source) (rules : Rules) (p :
 -- an error of a step is that of a run that broke off
 module _ {D : Type 0} {look : D → View} {source : Source} {rules : Rules} {p q : Position D} where
   pub takes_err : (r : Result Progress IoFault) → IsErr r → BreaksIn look source rules p (spot q.executor q.heard) → TakesOrBreaks look source rules p q r
-  takes_err (Ok x) bad breaks = absurd bad
+  takes_err (Ok x) bad breaks = let none : ⊥ = cc in absurd none
   takes_err (Err e) bad breaks = breaks
 
   pub ends_err : (r : Result Unit IoFault) → IsErr r → BreaksOff look source rules p (spot q.executor q.heard) → EndsOrBreaks look source rules p q r
-  ends_err (Ok x) bad breaks = absurd bad
+  ends_err (Ok x) bad breaks = let none : ⊥ = cc in absurd none
   ends_err (Err e) bad breaks = breaks
 
   pub comes_err : {most : ℕ} {commands : List Command} (r : Result Bool IoFault) → IsErr r
       → BreaksOff look source rules p (spot q.executor q.heard) → Comes look source rules p most commands q r
-  comes_err (Ok x) bad breaks = absurd bad
+  comes_err (Ok x) bad breaks = let none : ⊥ = cc in absurd none
   comes_err (Err e) bad breaks = breaks
 
   pub mid_err : {most : ℕ} {commands : List Command} {kept : List ℕ} (r : Result Bool IoFault) → IsErr r
       → BreaksOff look source rules p (spot q.executor q.heard) → ComesMid look source rules p most commands kept q r
-  mid_err (Ok x) bad breaks = absurd bad
+  mid_err (Ok x) bad breaks = let none : ⊥ = cc in absurd none
   mid_err (Err e) bad breaks = breaks
 
   -- a line was taken, and the buffer is empty

@@ -1,5 +1,5 @@
 -- The ends of a turn.
-use Rattle.std.proofs.Common.{◌≡◌, ⊎_elim, inl, inr, ℕ, List, [], ◌++◌, Ok, Err, map, refl, sym, ◌∙◌, ap, subst, append_assoc, append-nil, arith}
+use Rattle.std.proofs.Common.{◌≡◌, ⊎_elim, inl, inr, ℕ, List, [], ◌++◌, Result, Ok, Err, IsErr, map, refl, sym, ◌∙◌, ap, subst, append_assoc, append-nil, arith}
 use Rattle.ocf_types.specs.Due.{Due}
 use Rattle.ocf_types.specs.Kinds.{Event}
 use Rattle.ocf_types.specs.Laws.{after_all-append}
@@ -9,7 +9,7 @@ use Rattle.ocf_types.specs.declared.reply.TurnEnd.{TurnEnd}
 use Rattle.ocf_types.specs.declared.reply.TurnEnd.TheVariants as turn_end
 use Rattle.disk_model.specs.Laws.{joined as runs_joined}
 use Rattle.disk_model.specs.Runs.{CrashesTo}
-use Rattle.disk_model.specs.View.{Increased, Lawful, View}
+use Rattle.disk_model.specs.View.{Lawful, View}
 use Rattle.disk_model.specs.declared.disk.DiskFault.{DiskFault}
 use Rattle.child_keeper.specs.Children.{Asked, ChildrenView}
 use Rattle.child_keeper.specs.declared.answer.Entry.{Entry}
@@ -23,7 +23,7 @@ use Rattle.exec_turn.specs.Pieces.{AskedOn, HasBegin, Leaves, Prefix}
 use Rattle.exec_turn.specs.Polls.{polls, results}
 use Rattle.exec_turn.specs.Starts.{Started, refusal_notices, refusals, starts}
 use Rattle.exec_turn.specs.Turn.{IsTurn, PickedAt, PicksBehind, Scene, Told, Whole, due_after_all, scene}
-use Rattle.exec_turn.specs.Turns.{BeginsRow, PollsRow, StartsRow, Turns}
+use Rattle.exec_turn.specs.Turns.{BeginsRow, PollsRow, StartsRow, Turns, end_of}
 use Rattle.exec_turn.proofs.Polling.{polls_ask_nothing}
 
 -- nothing was done
@@ -46,12 +46,12 @@ book_full look k x from leaves roomy = record {
   roomy = roomy;
 }
 
-module _ {D : Type 0} {look : D → View} {at : ℕ} {k0 k1 : D} {s0 s1 : State} {d0 d1 : Due} {p0 p1 : Place} {from c1 : ChildrenView}
-    {n1 : List Notice} where
+module _ {D : Type 0} (look : D → View) (at : ℕ) (k0 k1 : D) (s0 s1 : State) (d0 d1 : Due) (p0 p1 : Place) (from c1 : ChildrenView)
+    (n1 : List Notice) where
   -- the row of results failed
-  pub no_results : {f : DiskFault} → PollsRow look k0 k1 (scene s0 d0 p0 at) (scene s1 d1 p1 at) from c1 n1 (Err f)
+  results_failed : (f : DiskFault) → PollsRow look k0 k1 (scene s0 d0 p0 at) (scene s1 d1 p1 at) from c1 n1 (Err f)
       → Turns look k0 k1 (scene s0 d0 p0 at) s1 d1 from c1 n1 turn_end.Disk
-  no_results p = record {
+  results_failed f p = record {
     entries = polls at p.answers;
     events = [];
     pending = results at p.answers;
@@ -67,8 +67,8 @@ module _ {D : Type 0} {look : D → View} {at : ℕ} {k0 k1 : D} {s0 s1 : State}
     roomy = p.roomy;
   }
 
-  module _ {u : Unit} (p : PollsRow look k0 k1 (scene s0 d0 p0 at) (scene s1 d1 p1 at) from c1 n1 (Ok u)) {k2 : D} {s2 : State} {d2 : Due} {p2 : Place}
-      {begun : List Active} where
+  module _ (u : Unit) (p : PollsRow look k0 k1 (scene s0 d0 p0 at) (scene s1 d1 p1 at) from c1 n1 (Ok u)) (k2 : D) (s2 : State) (d2 : Due) (p2 : Place)
+      (begun : List Active) where
     roomy12 : CrashesTo (look k1) (look k2) Roomy → CrashesTo (look k0) (look k2) Roomy
     roomy12 roomy2 = runs_joined (look k0) (look k1) (look k2) Roomy p.roomy roomy2
 
@@ -79,9 +79,9 @@ module _ {D : Type 0} {look : D → View} {at : ℕ} {k0 k1 : D} {s0 s1 : State}
     picks end picked = subst (λ (x : Scene). PickedAt end x begun) p.moves picked
 
     -- the row of begins failed
-    pub no_begins : {f : DiskFault} → BeginsRow look k1 k2 (scene s1 d1 p1 at) (scene s2 d2 p2 at) begun (Err f)
+    begins_failed : (f : DiskFault) → BeginsRow look k1 k2 (scene s1 d1 p1 at) (scene s2 d2 p2 at) begun (Err f)
         → Turns look k0 k2 (scene s0 d0 p0 at) s2 d2 from c1 n1 turn_end.Disk
-    no_begins b =
+    begins_failed f b =
         let row = b.recorded in
         let both = joined (look k0) (look k1) (look k2) s0 s1 s2 (polls at p.answers) [] (results at p.answers) [] (begins at begun) p.crash row.crash in
         record {
@@ -103,8 +103,8 @@ module _ {D : Type 0} {look : D → View} {at : ℕ} {k0 k1 : D} {s0 s1 : State}
           roomy = roomy12 row.roomy;
         }
 
-    module _ {end : TurnEnd} (b : BeginsRow look k1 k2 (scene s1 d1 p1 at) (scene s2 d2 p2 at) begun (Ok end))
-        (lawful : (look k2).honest → Lawful (look k2)) {k3 : D} {s3 : State} {d3 : Due} {p3 : Place} {c2 : ChildrenView} {n3 : List Notice} where
+    module _ (end : TurnEnd) (b : BeginsRow look k1 k2 (scene s1 d1 p1 at) (scene s2 d2 p2 at) begun (Ok end))
+        (lawful : (look k2).honest → Lawful (look k2)) (k3 : D) (s3 : State) (d3 : Due) (p3 : Place) (c2 : ChildrenView) (n3 : List Notice) where
       abbrev before : List Event
       before = results at p.answers ++ begins at begun
 
@@ -183,9 +183,9 @@ module _ {D : Type 0} {look : D → View} {at : ℕ} {k0 k1 : D} {s0 s1 : State}
         }
 
       -- the row of refused starts failed
-      pub no_refusals : {f : DiskFault} → StartsRow look k2 k3 (scene s2 d2 p2 at) (scene s3 d3 p3 at) begun c1 c2 n1 n3 (Err f)
+      refusals_failed : (f : DiskFault) → StartsRow look k2 k3 (scene s2 d2 p2 at) (scene s3 d3 p3 at) begun c1 c2 n1 n3 (Err f)
           → Turns look k0 k3 (scene s0 d0 p0 at) s3 d3 from c2 n3 turn_end.Disk
-      no_refusals x = let row = x.recorded in record {
+      refusals_failed f x = let row = x.recorded in record {
         entries = entries x.answers x.each x.book;
         events = before;
         pending = refusals at x.answers;
@@ -230,9 +230,9 @@ module _ {D : Type 0} {look : D → View} {at : ℕ} {k0 k1 : D} {s0 s1 : State}
       not_disk turn_end.Disk h is = absurd h.0
 
       -- all of it went well
-      pub whole_turn : {z : Unit} → StartsRow look k2 k3 (scene s2 d2 p2 at) (scene s3 d3 p3 at) begun c1 c2 n1 n3 (Ok z)
+      all_recorded : (z : Unit) → StartsRow look k2 k3 (scene s2 d2 p2 at) (scene s3 d3 p3 at) begun c1 c2 n1 n3 (Ok z)
           → Turns look k0 k3 (scene s0 d0 p0 at) s3 d3 from c2 n3 end
-      whole_turn x =
+      all_recorded z x =
           let row = x.recorded in
           let due3 : d3 ≡ due_after_all s0 d0 (before ++ refusals at x.answers) = ap (λ (y : Scene). y.due) row.moves
           ∙ ap (λ (s : State). due_after_all s d2 (refusals at x.answers))
@@ -263,6 +263,49 @@ module _ {D : Type 0} {look : D → View} {at : ℕ} {k0 k1 : D} {s0 s1 : State}
             cause = λ is. absurd (not_disk end picked is);
             roomy = roomy13 row.roomy;
           }
+
+-- The same, by what the steps say.
+pub no_results : {D : Type 0} {look : D → View} {at : ℕ} {k0 k1 : D} {s0 s1 : State} {d0 d1 : Due} {p0 p1 : Place} {from c1 : ChildrenView}
+    {n1 : List Notice} {f : DiskFault} → PollsRow look k0 k1 (scene s0 d0 p0 at) (scene s1 d1 p1 at) from c1 n1 (Err f)
+    → Turns look k0 k1 (scene s0 d0 p0 at) s1 d1 from c1 n1 turn_end.Disk
+no_results polled = results_failed _ _ _ _ _ _ _ _ _ _ _ _ _ _ polled
+
+pub no_begins : {D : Type 0} {look : D → View} {at : ℕ} {k0 k1 k2 : D} {s0 s1 s2 : State} {d0 d1 d2 : Due} {p0 p1 p2 : Place} {from c1 : ChildrenView}
+    {n1 : List Notice} {begun : List Active} {f : DiskFault} {u : Unit}
+    → PollsRow look k0 k1 (scene s0 d0 p0 at) (scene s1 d1 p1 at) from c1 n1 (Ok u)
+    → BeginsRow look k1 k2 (scene s1 d1 p1 at) (scene s2 d2 p2 at) begun (Err f)
+    → Turns look k0 k2 (scene s0 d0 p0 at) s2 d2 from c1 n1 turn_end.Disk
+no_begins polled begins = begins_failed _ _ _ _ _ _ _ _ _ _ _ _ _ _ polled _ _ _ _ _ _ begins
+
+pub no_refusals : {D : Type 0} {look : D → View} {at : ℕ} {k0 k1 k2 k3 : D} {s0 s1 s2 s3 : State} {d0 d1 d2 d3 : Due} {p0 p1 p2 p3 : Place}
+    {from c1 c2 : ChildrenView} {n1 n3 : List Notice} {begun : List Active} {end : TurnEnd} {f : DiskFault} {u : Unit}
+    → ((look k2).honest → Lawful (look k2)) → PollsRow look k0 k1 (scene s0 d0 p0 at) (scene s1 d1 p1 at) from c1 n1 (Ok u)
+    → BeginsRow look k1 k2 (scene s1 d1 p1 at) (scene s2 d2 p2 at) begun (Ok end)
+    → StartsRow look k2 k3 (scene s2 d2 p2 at) (scene s3 d3 p3 at) begun c1 c2 n1 n3 (Err f)
+    → Turns look k0 k3 (scene s0 d0 p0 at) s3 d3 from c2 n3 turn_end.Disk
+no_refusals lawful polled begins starts =
+    refusals_failed _ _ _ _ _ _ _ _ _ _ _ _ _ _ polled _ _ _ _ _ _ begins lawful _ _ _ _ _ _ _ starts
+
+pub whole_turn : {D : Type 0} {look : D → View} {at : ℕ} {k0 k1 k2 k3 : D} {s0 s1 s2 s3 : State} {d0 d1 d2 d3 : Due} {p0 p1 p2 p3 : Place}
+    {from c1 c2 : ChildrenView} {n1 n3 : List Notice} {begun : List Active} {end : TurnEnd} {u z : Unit}
+    → ((look k2).honest → Lawful (look k2)) → PollsRow look k0 k1 (scene s0 d0 p0 at) (scene s1 d1 p1 at) from c1 n1 (Ok u)
+    → BeginsRow look k1 k2 (scene s1 d1 p1 at) (scene s2 d2 p2 at) begun (Ok end)
+    → StartsRow look k2 k3 (scene s2 d2 p2 at) (scene s3 d3 p3 at) begun c1 c2 n1 n3 (Ok z)
+    → Turns look k0 k3 (scene s0 d0 p0 at) s3 d3 from c2 n3 end
+whole_turn lawful polled begins starts =
+    all_recorded _ _ _ _ _ _ _ _ _ _ _ _ _ _ polled _ _ _ _ _ _ begins lawful _ _ _ _ _ _ _ starts
+
+-- the same with other notices
+pub polled_told : {D : Type 0} {look : D → View} {k l : D} {x y : Scene} {from to : ChildrenView} {n m : List Notice} {r : Result Unit DiskFault}
+    → m ≡ n → PollsRow look k l x y from to n r → PollsRow look k l x y from to m r
+polled_told {look = look} {k = k} {l = l} {x = x} {y = y} {from = from} {to = to} {r = r} same polled =
+    subst (λ (told : List Notice). PollsRow look k l x y from to told r) (sym same) polled
+
+-- a disk fault ends a turn as such
+pub failed_end : {D : Type 0} {look : D → View} {old new : D} {x : Scene} {t : State} {due : Due} {from to : ChildrenView} {told : List Notice}
+    (r : Result TurnEnd DiskFault) → IsErr r → Turns look old new x t due from to told turn_end.Disk → Turns look old new x t due from to told (end_of r)
+failed_end (Ok end) bad turns = let none : ⊥ = cc in absurd none
+failed_end (Err f) bad turns = turns
 
 -- what ends picks is no full book
 pub not_full : {D : Type 0} {look : D → View} {k l : D} {x y : Scene} {begun : List Active} {end : TurnEnd}

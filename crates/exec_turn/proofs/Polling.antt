@@ -1,6 +1,6 @@
 -- What polls enter into the book, and what their results do to a state.
 use Rattle.std.proofs.Common.{◌≡◌, ⊎_elim, inl, ℕ, ◌+◌, ◌*◌, ◌≤◌, nat_eq, Bool, true, false, cond, if◌then◌else◌, not, List, [], ◌∷◌, ◌++◌}
-use Rattle.std.proofs.Common.{map, length, Option, Some, None, option_to_list, Result, Ok, Err, Contains, IsSomeAnd, append_assoc}
+use Rattle.std.proofs.Common.{map, length, Option, Some, None, option_to_list, Result, Contains, IsSomeAnd, append_assoc}
 use Rattle.std.proofs.Common.{length-append, refl, sym, ◌∙◌, ap, subst, arith, append-nil}
 use Rattle.std.specs.List.{AllByRecursion, IsDistinct}
 use Rattle.std.specs.Map.{keys_of}

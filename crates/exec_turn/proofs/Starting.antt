@@ -328,12 +328,12 @@ pub starts_tend : (s : State) (at clock last : ℕ) (v : ChildrenView) (xs : Lis
 starts_tend s at clock last v [] distinct run rising agents_live = all_agents_live s v.live agents_live
 starts_tend s at clock last v (x ∷ xs) distinct run rising agents_live =
     by x.answer
-    (λ y. starts_tend s at clock x.what.running.run (after_start {X = Unit} v x.what.running.run clock (Ok y)) xs distinct run.1 rising.1
+    (λ y. starts_tend s at clock x.what.running.run (after_start v x.what.running.run clock (Ok y)) xs distinct run.1 rising.1
     (started_agents_live s v.live x.what (map (λ x. x.what) xs) agents_live))
     (λ fault.
     let end = NotStarted fault in
     let t = after s (result_of at x.what end) in
-    starts_tend t at clock x.what.running.run (after_start {X = Unit} v x.what.running.run clock (Err fault)) xs
+    starts_tend t at clock x.what.running.run (after_start v x.what.running.run clock (Err fault)) xs
     (subst (λ (ks : List (List ℕ)). IsDistinct bytes_eq ks)
     (sym (keys_kept x.what.id (stepped at (step.Result x.what.running.run end)) s.resources)) distinct)
     (run_on s at x.what end x.what.running.run (map (λ x. x.what) xs) run.0 (omega arith) rising.1 run.1)
@@ -342,10 +342,10 @@ starts_tend s at clock last v (x ∷ xs) distinct run rising agents_live =
   where
     by : (o : Result Unit StartFault)
         → ((y : Unit) → AgentsLive (after_all s (refusals at xs))
-        (after_starts clock (after_start {X = Unit} v x.what.running.run clock (Ok y)) xs).live)
+        (after_starts clock (after_start v x.what.running.run clock (Ok y)) xs).live)
         → ((fault : StartFault) → AgentsLive (after_all (after s (result_of at x.what (NotStarted fault))) (refusals at xs))
-        (after_starts clock (after_start {X = Unit} v x.what.running.run clock (Err fault)) xs).live)
+        (after_starts clock (after_start v x.what.running.run clock (Err fault)) xs).live)
         → AgentsLive (after_all s (map (result_of at x.what) (refused_end o) ++ refusals at xs))
-        (after_starts clock (after_start {X = Unit} v x.what.running.run clock o) xs).live
+        (after_starts clock (after_start v x.what.running.run clock o) xs).live
     by (Ok y) started refused = started y
     by (Err fault) started refused = refused fault
