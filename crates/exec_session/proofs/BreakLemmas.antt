@@ -85,7 +85,7 @@ module _ {D : Type 0} (look : D → View) (source : Source) (rules : Rules) (p :
       next_breaks most (position q.executor left q.heard) s come (in_own_turn now end (turns_serve rules.way way) is_open heard)
 
 -- an error of a step is that of a run that broke off
-module _ {D : Type 0} {look : D → View} {source : Source} {rules : Rules} {p q : Position D} where
+module _ {D : Type 0} (look : D → View) (source : Source) (rules : Rules) (p q : Position D) where
   pub takes_err : (r : Result Progress IoFault) → IsErr r → BreaksIn look source rules p (spot q.executor q.heard) → TakesOrBreaks look source rules p q r
   takes_err (Ok x) bad breaks = let none : ⊥ = cc in absurd none
   takes_err (Err e) bad breaks = breaks
@@ -94,18 +94,18 @@ module _ {D : Type 0} {look : D → View} {source : Source} {rules : Rules} {p q
   ends_err (Ok x) bad breaks = let none : ⊥ = cc in absurd none
   ends_err (Err e) bad breaks = breaks
 
-  pub comes_err : {most : ℕ} {commands : List Command} (r : Result Bool IoFault) → IsErr r
+  pub comes_err : (most : ℕ) (commands : List Command) (r : Result Bool IoFault) → IsErr r
       → BreaksOff look source rules p (spot q.executor q.heard) → Comes look source rules p most commands q r
-  comes_err (Ok x) bad breaks = let none : ⊥ = cc in absurd none
-  comes_err (Err e) bad breaks = breaks
+  comes_err most commands (Ok x) bad breaks = let none : ⊥ = cc in absurd none
+  comes_err most commands (Err e) bad breaks = breaks
 
-  pub mid_err : {most : ℕ} {commands : List Command} {kept : List ℕ} (r : Result Bool IoFault) → IsErr r
+  pub mid_err : (most : ℕ) (commands : List Command) (kept : List ℕ) (r : Result Bool IoFault) → IsErr r
       → BreaksOff look source rules p (spot q.executor q.heard) → ComesMid look source rules p most commands kept q r
-  mid_err (Ok x) bad breaks = let none : ⊥ = cc in absurd none
-  mid_err (Err e) bad breaks = breaks
+  mid_err most commands kept (Ok x) bad breaks = let none : ⊥ = cc in absurd none
+  mid_err most commands kept (Err e) bad breaks = breaks
 
   -- a line was taken, and the buffer is empty
-  pub comes_mid : {most : ℕ} {commands : List Command} {kept : List ℕ} (r : Result Bool IoFault) → kept ≡ []
+  pub comes_mid : (most : ℕ) (commands : List Command) (kept : List ℕ) (r : Result Bool IoFault) → kept ≡ []
       → Comes look source rules p most commands q r → ComesMid look source rules p most commands kept q r
-  comes_mid {most = most} {commands = commands} {kept = kept} (Ok ended) none come = mid_taken look source rules p most commands kept q ended none come
-  comes_mid (Err e) none breaks = breaks
+  comes_mid most commands kept (Ok ended) none come = mid_taken look source rules p most commands kept q ended none come
+  comes_mid most commands kept (Err e) none breaks = breaks

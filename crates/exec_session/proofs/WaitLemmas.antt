@@ -1,5 +1,5 @@
 -- A run whose commands wait to be answered together, line by line.
-use Rattle.std.proofs.Common.{◌≡◌, ◌≢◌, ◌⊎◌, ℕ, ◌+◌, ◌≤◌, Bool, true, false, true≢false, List, [], ◌∷◌, ◌++◌, length, Option}
+use Rattle.std.proofs.Common.{◌≡◌, ◌≢◌, ◌⊎◌, ℕ, ◌+◌, ◌≤◌, Bool, true, false, true≢false, List, [], ◌∷◌, ◌++◌, length, Option, Result, Ok, Err, IfOk}
 use Rattle.std.proofs.Common.{refl, sym, ap, subst, ◌∙◌, inl, inr, arith, length-append}
 use Rattle.ocf_types.specs.Kinds.{Command}
 use Rattle.disk_model.specs.View.{View}
@@ -31,6 +31,10 @@ may_run Serve most is = absurd cc
 pub may_serve : (way : Way) (most : ℕ) → way ≡ Serve → most + 1 ≤ 64 → MayTakeBehind way most
 may_serve Run most is le = absurd cc
 may_serve Serve most is le = λ n few. omega (arith, le, few)
+
+pub if_ok : {A E : Type 0} (P Q : A → Type 0) (r : Result A E) → ((x : A) → P x → Q x) → IfOk r P → IfOk r Q
+if_ok P Q (Ok x) to p = to x p
+if_ok P Q (Err e) to p = tt
 
 -- none waits
 pub none_waits : {D : Type 0} (x : Sight D) (commands : List Command) → commands ≡ [] → MayWait x commands

@@ -22,7 +22,7 @@ returns-in_err-answer_gathered-clause-takes g c = λ p most left now may read co
     let new = c.answer_gathered.new in
     let waits = one_waits look source rules p most (waiting c.args.gathered.now) (waiting c.push.new.self) c.args.command
     c.args.executor.now left now heard c.requires.open read c.push.ensures come in
-    comes_err c.from_residual.result c.from_residual.ensures.0
+    comes_err _ _ _ _ _ _ _ c.from_residual.result c.from_residual.ensures.0
     (row_breaks look source rules p (most + 1) (waiting c.push.new.self) c.args.executor.now now heard
     (spot new.executor (g.T.Client.heard new.client)) (λ _. c.requires.open) waits c.in_err-answer_gathered.ensures.breaks)
 

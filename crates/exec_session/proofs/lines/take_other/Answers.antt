@@ -13,19 +13,19 @@ pub returns-clause-takes : goal.returns-clause-takes
 returns-clause-takes g c = λ p most left now may read come.
     let look = g.D.Disk.view in
     let source = g.M.Metadata.gives c.args.context.now.metadata.now in
-    let rules = rules_of c.args.context.now in
+    let held = rules_of c.args.context.now in
     let gathered = c.answer_gathered.new.gathered in
     let middle = c.answer_gathered.new.executor in
     let written = g.T.Client.heard c.answer_gathered.new.client in
     let before = position middle left written in
     let after = position c.answer_found.new.executor now (g.T.Client.heard c.answer_found.new.client) in
-    let answered = all_answered look source rules p most (λ n few. may n (omega (arith, few))) (waiting c.args.gathered.now)
+    let answered = all_answered look source held p most (λ n few. may n (omega (arith, few))) (waiting c.args.gathered.now)
     c.args.executor.now middle left (g.T.Client.heard c.args.client.now) written
     (open_while c.args.executor.now (waiting c.args.gathered.now) c.requires.waits) come
     c.in_ok-answer_gathered.ensures.answers in
     let is : c.eq.result ≡ true → c.in_ok-progress.progress ≡ End = λ e. search (rules, c.eq.ensures, e) in
-    subst (λ cs. ComesOrEnds look source rules p (most + 1) cs after c.eq.result) (sym c.answer_gathered.ensures.none)
-    (one_taken look source rules p most may before after c.in_ok-progress.progress c.eq.result is answered
+    subst (λ cs. ComesOrEnds look source held p (most + 1) cs after c.eq.result) (sym c.answer_gathered.ensures.none)
+    (one_taken look source held p most may before after c.in_ok-progress.progress c.eq.result is answered
     (c.in_ok-progress.ensures.takes left now read))
 
 pub returns-in_err-answer_gathered-clause-takes : goal.returns-in_err-answer_gathered-clause-takes
@@ -33,7 +33,7 @@ returns-in_err-answer_gathered-clause-takes g c = λ p most left now may read co
     let old = c.args.executor.now in
     let new = c.answer_gathered.new in
     let commands = waiting c.args.gathered.now in
-    comes_err c.from_residual.result c.from_residual.ensures.0 (row_breaks g.D.Disk.view (g.M.Metadata.gives c.args.context.now.metadata.now) (rules_of c.args.context.now)
+    comes_err _ _ _ _ _ _ _ c.from_residual.result c.from_residual.ensures.0 (row_breaks g.D.Disk.view (g.M.Metadata.gives c.args.context.now.metadata.now) (rules_of c.args.context.now)
     p most commands old left (g.T.Client.heard c.args.client.now) (spot new.executor (g.T.Client.heard new.client))
     (open_while old commands c.requires.waits) come c.in_err-answer_gathered.ensures.breaks)
 
@@ -41,13 +41,13 @@ pub returns-in_err-progress-clause-takes : goal.returns-in_err-progress-clause-t
 returns-in_err-progress-clause-takes g c = λ p most left now may read come.
     let look = g.D.Disk.view in
     let source = g.M.Metadata.gives c.args.context.now.metadata.now in
-    let rules = rules_of c.args.context.now in
+    let held = rules_of c.args.context.now in
     let middle = c.answer_gathered.new.executor in
     let heard = g.T.Client.heard c.answer_gathered.new.client in
     let new = c.answer_found.new in
-    let answered = all_answered look source rules p most (λ n few. may n (omega (arith, few))) (waiting c.args.gathered.now)
+    let answered = all_answered look source held p most (λ n few. may n (omega (arith, few))) (waiting c.args.gathered.now)
     c.args.executor.now middle left (g.T.Client.heard c.args.client.now) heard
     (open_while c.args.executor.now (waiting c.args.gathered.now) c.requires.waits) come
     c.in_ok-answer_gathered.ensures.answers in
-    comes_err c.from_residual-in_err-progress.result c.from_residual-in_err-progress.ensures.0 (next_breaks look source rules p most (position middle left heard)
+    comes_err _ _ _ _ _ _ _ c.from_residual-in_err-progress.result c.from_residual-in_err-progress.ensures.0 (next_breaks look source held p most (position middle left heard)
     (spot new.executor (g.T.Client.heard new.client)) answered (c.in_err-progress.ensures.takes left now read))

@@ -1,4 +1,4 @@
-use Rattle.std.proofs.Common.{arith, subst}
+use Rattle.std.proofs.Common.{[], arith, subst}
 use Rattle.exec_lines.specs.Buffer.{line_bytes}
 use Rattle.exec_session.specs.Gathered.{waiting}
 use Rattle.exec_session.specs.Rules.{rules_of}
@@ -38,7 +38,7 @@ returns-clause-takes g c = λ p come.
     c.in_ok-answer_gathered.ensures.answers
 
 pub returns-in_err-take_waiting-clause-takes : goal.returns-in_err-take_waiting-clause-takes
-returns-in_err-take_waiting-clause-takes g c = λ p come. mid_err c.from_residual.result c.from_residual.ensures.0 (c.in_err-take_waiting.ensures.takes p come)
+returns-in_err-take_waiting-clause-takes g c = λ p come. mid_err _ _ _ _ _ _ [] (line_bytes c.take_waiting.new.buffer) c.from_residual.result c.from_residual.ensures.0 (c.in_err-take_waiting.ensures.takes p come)
 
 pub returns-in_err-answer_gathered-clause-takes : goal.returns-in_err-answer_gathered-clause-takes
 returns-in_err-answer_gathered-clause-takes g c = λ p come.
@@ -48,6 +48,6 @@ returns-in_err-answer_gathered-clause-takes g c = λ p come.
     let (left, mid, waits) = subst (ComesMidOrEnds g.D.Disk.view source (rules_of c.args.context.now) p 64 (waiting middle.gathered)
     (line_bytes middle.buffer) q) c.if-branch.false (c.in_ok-take_waiting.ensures.takes p come) in
     let new = c.answer_gathered.new in
-    mid_err c.from_residual-in_err-answer_gathered.result c.from_residual-in_err-answer_gathered.ensures.0 (row_breaks g.D.Disk.view source (rules_of c.args.context.now) p 64 (waiting middle.gathered)
+    mid_err _ _ _ _ _ _ [] (line_bytes c.take_waiting.new.buffer) c.from_residual-in_err-answer_gathered.result c.from_residual-in_err-answer_gathered.ensures.0 (row_breaks g.D.Disk.view source (rules_of c.args.context.now) p 64 (waiting middle.gathered)
     middle.executor left (g.T.Client.heard middle.client) (spot new.executor (g.T.Client.heard new.client))
     (open_while middle.executor (waiting middle.gathered) c.in_ok-take_waiting.ensures.waits) waits c.in_err-answer_gathered.ensures.breaks)

@@ -47,7 +47,7 @@ loop-preserved g c =
 pub returns-in_err-answer_waiting-clause-lines : goal.returns-in_err-answer_waiting-clause-lines
 returns-in_err-answer_waiting-clause-lines g c =
     let p = position c.args.executor.now (g.R.Read.remaining c.args.reader.now) (g.T.Client.heard c.args.client.now) in
-    ends_err c.from_residual.result c.from_residual.ensures.0 (c.in_err-answer_waiting.ensures.takes p c.loop.invariant.come)
+    ends_err _ _ _ _ _ c.from_residual.result c.from_residual.ensures.0 (c.in_err-answer_waiting.ensures.takes p c.loop.invariant.come)
 
 pub returns-in_err-make_own_turn-clause-lines : goal.returns-in_err-make_own_turn-clause-lines
 returns-in_err-make_own_turn-clause-lines g c =
@@ -61,7 +61,7 @@ returns-in_err-make_own_turn-clause-lines g c =
     (c.in_ok-answer_waiting.ensures.takes p c.loop.invariant.come) in
     let (is_open, now, end, heard) = c.in_err-make_own_turn.ensures.breaks in
     let new = c.make_own_turn.new in
-    ends_err c.from_residual-in_err-make_own_turn.result c.from_residual-in_err-make_own_turn.ensures.0 (turn_breaks look source rules p c.loop.invariant.way 64 (line_bytes middle.buffer) q
+    ends_err _ _ _ _ _ c.from_residual-in_err-make_own_turn.result c.from_residual-in_err-make_own_turn.ensures.0 (turn_breaks look source rules p c.loop.invariant.way 64 (line_bytes middle.buffer) q
     (spot new.executor (g.T.Client.heard new.client)) now end come is_open heard)
 
 pub returns-in_err-wait-clause-lines : goal.returns-in_err-wait-clause-lines
@@ -77,7 +77,7 @@ returns-in_err-wait-clause-lines g c =
     (c.in_ok-answer_waiting.ensures.takes p c.loop.invariant.come) in
     let new = c.make_own_turn.new in
     let last = position new.executor (g.R.Read.remaining middle.reader) (g.T.Client.heard new.client) in
-    ends_err c.from_residual-in_err-wait.result c.from_residual-in_err-wait.ensures.0 (between_reads look source rules p 0 [] kept last
+    ends_err _ _ _ _ _ c.from_residual-in_err-wait.result c.from_residual-in_err-wait.ensures.0 (between_reads look source rules p 0 [] kept last
     (one_turn look source rules p c.loop.invariant.way 64 kept q last refl come c.in_ok-make_own_turn.ensures.turns))
 
 pub returns-clause-lines : goal.returns-clause-lines

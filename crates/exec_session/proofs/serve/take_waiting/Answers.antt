@@ -67,7 +67,7 @@ returns-clause-takes g c = λ p come.
 pub returns-in_err-take_read-clause-takes : goal.returns-in_err-take_read-clause-takes
 returns-in_err-take_read-clause-takes g c = λ p come.
     let n = c.loop-reads._reads in
-    mid_err c.from_residual.result c.from_residual.ensures.0 (c.in_err-take_read.ensures.takes p n
+    mid_err _ _ _ _ _ _ _ _ c.from_residual.result c.from_residual.ensures.0 (c.in_err-take_read.ensures.takes p n
     (may_serve c.args.context.now.way n c.loop-reads.invariant.way (omega (arith, c.loop-reads-test.true)))
     (mid_same _ _ _ p n (waiting c.loop-reads.gathered) (line_bytes c.loop-reads.buffer) c.loop-reads.executor
     (g.T.Client.heard c.loop-reads.client) (g.R.Read.remaining c.loop-reads.reader) (g.R.Read.remaining c.is_ready.new.self)

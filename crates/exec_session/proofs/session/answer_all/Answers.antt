@@ -55,7 +55,7 @@ pub returns-in_err-take_next-clause-lines : goal.returns-in_err-take_next-clause
 returns-in_err-take_next-clause-lines g c =
     let p = position c.args.executor.now (g.R.Read.remaining c.args.reader.now) (g.T.Client.heard c.args.client.now) in
     let most = c.loop.invariant.come.0 in
-    ends_err c.from_residual.result c.from_residual.ensures.0 (c.in_err-take_next.ensures.takes p most (may_run c.args.context.now.way most c.loop.invariant.way) c.loop.invariant.come.1)
+    ends_err _ _ _ _ _ c.from_residual.result c.from_residual.ensures.0 (c.in_err-take_next.ensures.takes p most (may_run c.args.context.now.way most c.loop.invariant.way) c.loop.invariant.come.1)
 
 pub returns-clause-lines : goal.returns-clause-lines
 returns-clause-lines g c =

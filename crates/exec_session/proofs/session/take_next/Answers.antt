@@ -12,6 +12,6 @@ returns-clause-takes g c = λ p most may come.
 
 pub returns-in_err-next-clause-takes : goal.returns-in_err-next-clause-takes
 returns-in_err-next-clause-takes g c = λ p most may come.
-    comes_err c.from_residual.result c.from_residual.ensures.0 (between_lines g.D.Disk.view (g.M.Metadata.gives c.args.context.now.metadata.now)
+    comes_err _ _ _ _ _ _ _ c.from_residual.result c.from_residual.ensures.0 (between_lines g.D.Disk.view (g.M.Metadata.gives c.args.context.now.metadata.now)
     (rules_of c.args.context.now) p most (waiting c.args.gathered.now)
     (position c.args.executor.now (g.R.Read.remaining c.args.reader.now) (g.T.Client.heard c.args.client.now)) come)
