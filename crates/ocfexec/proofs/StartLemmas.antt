@@ -14,38 +14,38 @@ use Rattle.exec_output.specs.declared.fault.Fault.TheVariants as fault
 use Rattle.exec_client.specs.Heard.{Heard}
 use Rattle.exec_session.specs.declared.session.Run.{Run}
 use Rattle.exec_session.specs.Answers.{Source}
-use Rattle.exec_session.specs.Limits.{Limits}
+use Rattle.exec_session.specs.Rules.{Rules}
 use Rattle.exec_session.specs.Progress.{Position, position}
 use Rattle.exec_session.specs.Ends.{Ended, EndsAs}
 use Rattle.ocfexec.specs.Starts.{EndsFor, IsToldAs}
 
 -- a run does not end by its words
-ends : {D N T : Type 0} (look : D → View) (source : Source) (limits : Limits) (report : Report N)
+ends : {D N T : Type 0} (look : D → View) (source : Source) (rules : Rules) (report : Report N)
     (p q : Position D) (r : Result T Fault)
-    → EndsAs look source limits report p q r → IsRunEnd r
-ends look source limits report p q (Ok done) how = tt
-ends look source limits report p q (Err fault.Usage) how = absurd how
-ends look source limits report p q (Err fault.Choice) how = absurd how
-ends look source limits report p q (Err fault.TidyAt) how = absurd how
-ends look source limits report p q (Err fault.Root) how = absurd how
-ends look source limits report p q (Err fault.Orphans) how = absurd how
-ends look source limits report p q (Err fault.NotText) how = absurd how
-ends look source limits report p q (Err fault.Log) how = absurd how
-ends look source limits report p q (Err fault.NoResource) how = absurd how
-ends look source limits report p q (Err fault.NotOpened) how = absurd how
-ends look source limits report p q (Err (fault.Damaged damage)) how = tt
-ends look source limits report p q (Err fault.Memory) how = tt
-ends look source limits report p q (Err fault.Disk) how = tt
-ends look source limits report p q (Err fault.Full) how = tt
-ends look source limits report p q (Err fault.InputOrOutput) how = tt
-ends look source limits report p q (Err fault.ReplyMemory) how = tt
-ends look source limits report p q (Err fault.ChildrenIgnored) how = absurd how
+    → EndsAs look source rules report p q r → IsRunEnd r
+ends look source rules report p q (Ok done) how = tt
+ends look source rules report p q (Err fault.Usage) how = absurd how
+ends look source rules report p q (Err fault.Choice) how = absurd how
+ends look source rules report p q (Err fault.TidyAt) how = absurd how
+ends look source rules report p q (Err fault.Root) how = absurd how
+ends look source rules report p q (Err fault.Orphans) how = absurd how
+ends look source rules report p q (Err fault.NotText) how = absurd how
+ends look source rules report p q (Err fault.Log) how = absurd how
+ends look source rules report p q (Err fault.NoResource) how = absurd how
+ends look source rules report p q (Err fault.NotOpened) how = absurd how
+ends look source rules report p q (Err (fault.Damaged damage)) how = tt
+ends look source rules report p q (Err fault.Memory) how = tt
+ends look source rules report p q (Err fault.Disk) how = tt
+ends look source rules report p q (Err fault.Full) how = tt
+ends look source rules report p q (Err fault.InputOrOutput) how = tt
+ends look source rules report p q (Err fault.ReplyMemory) how = tt
+ends look source rules report p q (Err fault.ChildrenIgnored) how = absurd how
 
-pub run_ends : {D C N : Type 0} (look : D → View) (tend : C → ChildrenView) (source : Source) (limits : Limits) (report : Report N)
+pub run_ends : {D C N : Type 0} (look : D → View) (tend : C → ChildrenView) (source : Source) (rules : Rules) (report : Report N)
     (p : Position D) (left : Option (List ℕ)) (heard : Heard D) (run : Run D C)
-    → Ended look tend source limits report p left heard run → IsRunEnd run.ended
-run_ends look tend source limits report p left heard run ended =
-    ends look source limits report p (position ended.last left heard) run.ended ended.ends
+    → Ended look tend source rules report p left heard run → IsRunEnd run.ended
+run_ends look tend source rules report p left heard run ended =
+    ends look source rules report p (position ended.last left heard) run.ended ended.ends
 
 -- words that give no options
 pub refused_ends : {T : Type 0} (words : List (List ℕ)) (f : WordsFault) (r : Result T Fault) → IsFault words f → IsToldAs f r
