@@ -54,7 +54,8 @@ impl<P: OpenProcess + Drop, A: Allocator> Agents<P, A> {
     pub fn add(&mut self, run: RunId, child: Child<P>)
         requires few { length (runs_of self.old.agents.items) < LIVE_LIMIT }
         ensures added { runs_of self.new.agents.items ≡ runs_of self.old.agents.items ++ run ∷ [] }
-        ensures child { self.new.agents.items ≡ self.old.agents.items ++ record { run = run; child = child } ∷ [] }
+        ensures child { self.new.agents.items
+            ≡ self.old.agents.items ++ record { run = run; child = child } ∷ [] }
     {
         self.agents.push_reserved(Agent { run, child });
     }
@@ -91,7 +92,8 @@ impl<P: OpenProcess + Drop, A: Allocator> Agents<P, A> {
     /// The child of a run, which is no more among them.
     pub fn take(&mut self, run: RunId) -> Child<P>
         requires lives { Contains (runs_of self.old.agents.items) run }
-        ensures gone { runs_of self.new.agents.items ≡ without_run run (runs_of self.old.agents.items) }
+        ensures gone { runs_of self.new.agents.items
+            ≡ without_run run (runs_of self.old.agents.items) }
         ensures child { Contains self.old.agents.items (record { run = run; child = result }) }
         ensures others { self.new.agents.items ≡ others_of run self.old.agents.items }
     {
@@ -105,7 +107,8 @@ impl<P: OpenProcess + Drop, A: Allocator> Agents<P, A> {
     pub fn pop(&mut self) -> Option<Agent<P>>
         ensures fewer { OnSome result (vec_len self.new.agents + 1 ≡ vec_len self.old.agents) }
         ensures none { IfNone result (runs_of self.new.agents.items ≡ []) }
-        ensures last { IfSome result (λ agent. self.old.agents.items ≡ self.new.agents.items ++ agent ∷ []) }
+        ensures last { IfSome result
+            (λ agent. self.old.agents.items ≡ self.new.agents.items ++ agent ∷ []) }
     {
         self.agents.pop()
     }

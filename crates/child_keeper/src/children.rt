@@ -27,8 +27,11 @@ pub trait Children {
         requires room { 0 < (view self.old).room }
         requires few { length (view self.old).live < live_limit }
         requires rising { (view self.old).last_run < launch.now.run }
-        requires may_start { MayStart (view self.old).site journal.now (D.view (journal_disk journal.now)) launch.now }
-        ensures started { view self.new ≡ after_start (view self.old) launch.now.run (D.view (journal_disk journal.now)).clock result };
+        requires may_start { MayStart (view self.old).site journal.now
+            (D.view (journal_disk journal.now)) launch.now }
+        ensures started { view self.new
+            ≡ after_start (view self.old) launch.now.run
+            (D.view (journal_disk journal.now)).clock result };
 
     /// Asks a child whether it still runs. One that has ended, or that cannot be asked, lives no more.
     fn poll(&mut self, run: RunId) -> Poll

@@ -16,7 +16,8 @@ fn push_argument<A: Allocator + Copy>(
     argument: &str,
 ) -> Result<(), AllocError>
     ensures program { OnOk result (command_program command.new ≡ command_program command.old) }
-    ensures arguments { OnOk result (command_args command.new ≡ command_args command.old ++ argument.now ∷ []) }
+    ensures arguments { OnOk result (command_args command.new
+        ≡ command_args command.old ++ argument.now ∷ []) }
     ensures environment { OnOk result (SameEnv command.old command.new) }
     ensures folder { OnOk result (SameDir command.old command.new) }
 {
@@ -29,7 +30,8 @@ fn push_arguments<A: Allocator + Copy, L: Allocator>(
     arguments: &[Text<L>],
 ) -> Result<(), AllocError>
     ensures program { OnOk result (command_program command.new ≡ command_program command.old) }
-    ensures arguments { OnOk result (command_args command.new ≡ command_args command.old ++ arguments.now) }
+    ensures arguments { OnOk result (command_args command.new
+        ≡ command_args command.old ++ arguments.now) }
     ensures environment { OnOk result (SameEnv command.old command.new) }
     ensures folder { OnOk result (SameDir command.old command.new) }
 {
@@ -46,7 +48,8 @@ fn set_variable<A: Allocator + Copy>(
 ) -> Result<(), AllocError>
     ensures call { OnOk result (SameProgramAndArgs command.old command.new) }
     ensures variables { OnOk result ((k : List ℕ)
-        → command_var command.new k ≡ (if bytes_eq name.now k then Some (Some value.now) else command_var command.old k)) }
+        → command_var command.new k
+        ≡ (if bytes_eq name.now k then Some (Some value.now) else command_var command.old k)) }
     ensures cleared { OnOk result (clears_env command.new ≡ clears_env command.old) }
     ensures folder { OnOk result (SameDir command.old command.new) }
 {
@@ -60,7 +63,8 @@ fn push_variables<A: Allocator + Copy, L: Allocator>(
 ) -> Result<(), AllocError>
     ensures call { OnOk result (SameProgramAndArgs command.old command.new) }
     ensures variables { OnOk result ((name : List ℕ)
-        → command_var command.new name ≡ var_after Some Some name (command_var command.old name) variables.now) }
+        → command_var command.new name
+        ≡ var_after Some Some name (command_var command.old name) variables.now) }
     ensures cleared { OnOk result (clears_env command.new ≡ clears_env command.old) }
     ensures folder { OnOk result (SameDir command.old command.new) }
 {

@@ -16,11 +16,14 @@ ghost use Rattle.child_keeper.specs.declared.answer.Poll.TheVariants.{Running};
 /// The log of all answers ever stays where the book is emptied or the children are given up.
 pub fn one_entry()
     ensures start { (v : ChildrenView) (run at : ℕ) (answer : Result Unit StartFault)
-        → Adds v (after_start v run at answer) (record { run = run; at = at; answer = start_answer answer }) }
+        → Adds v (after_start v run at answer)
+        (record { run = run; at = at; answer = start_answer answer }) }
     ensures poll { (v : ChildrenView) (run : ℕ) (answer : Poll)
-        → Adds v (after_poll v run answer) (record { run = run; at = 0; answer = poll_answer answer }) }
+        → Adds v (after_poll v run answer)
+        (record { run = run; at = 0; answer = poll_answer answer }) }
     ensures kill { (v : ChildrenView) (run : ℕ) (answer : Result Unit KillFault)
-        → Adds v (after_kill v run answer) (record { run = run; at = 0; answer = kill_answer answer }) }
+        → Adds v (after_kill v run answer)
+        (record { run = run; at = 0; answer = kill_answer answer }) }
     ensures stays { (v : ChildrenView) → ((emptied v).log ≡ v.log) × ((given_up v).log ≡ v.log) }
 {}
 
@@ -34,12 +37,17 @@ pub fn answers_are_told()
 /// A book asked for the starts of its parts, and an empty one for none. A start's entry asks for its run at its count of
 /// device calls and for nothing else; those of polls and kills ask for nothing.
 pub fn starts_asked()
-    ensures joined { (b c : List Entry) (run at : ℕ) → Asked (b ++ c) run at ↔ (Asked b run at ⊎ Asked c run at) }
-    ensures none { (entries : List Entry) (run at : ℕ) → AsksNothing entries → Asked entries run at → ⊥ }
+    ensures joined { (b c : List Entry) (run at : ℕ) → Asked (b ++ c) run at
+        ↔ (Asked b run at ⊎ Asked c run at) }
+    ensures none { (entries : List Entry) (run at : ℕ) → AsksNothing entries → Asked entries run at
+        → ⊥ }
     ensures start { (v : ChildrenView) (run at r t : ℕ) (answer : Result Unit StartFault)
-        → Asked (after_start v run at answer).book r t ↔ (Asked v.book r t ⊎ ((r ≡ run) × (t ≡ at))) }
-    ensures poll { (v : ChildrenView) (run r t : ℕ) (answer : Poll) → Asked (after_poll v run answer).book r t ↔ Asked v.book r t }
-    ensures kill { (v : ChildrenView) (run r t : ℕ) (answer : Result Unit KillFault) → Asked (after_kill v run answer).book r t
+        → Asked (after_start v run at answer).book r t
+        ↔ (Asked v.book r t ⊎ ((r ≡ run) × (t ≡ at))) }
+    ensures poll { (v : ChildrenView) (run r t : ℕ) (answer : Poll)
+        → Asked (after_poll v run answer).book r t ↔ Asked v.book r t }
+    ensures kill { (v : ChildrenView) (run r t : ℕ) (answer : Result Unit KillFault)
+        → Asked (after_kill v run answer).book r t
         ↔ Asked v.book r t }
 {}
 
@@ -47,9 +55,11 @@ pub fn starts_asked()
 /// and not after a kill or after a poll that says anything but that it runs.
 pub fn who_lives()
     ensures start { (v : ChildrenView) (run at r : ℕ) (answer : Result Unit StartFault)
-        → Contains (after_start v run at answer).live r ↔ (Contains v.live r ⊎ (IsOk answer × (r ≡ run))) }
+        → Contains (after_start v run at answer).live r
+        ↔ (Contains v.live r ⊎ (IsOk answer × (r ≡ run))) }
     ensures poll { (v : ChildrenView) (run r : ℕ) (answer : Poll)
-        → Contains (after_poll v run answer).live r ↔ (Contains v.live r × ((answer ≡ Running) ⊎ (r ≢ run))) }
+        → Contains (after_poll v run answer).live r
+        ↔ (Contains v.live r × ((answer ≡ Running) ⊎ (r ≢ run))) }
     ensures kill { (v : ChildrenView) (run r : ℕ) (answer : Result Unit KillFault)
         → Contains (after_kill v run answer).live r ↔ (Contains v.live r × (r ≢ run)) }
 {}
@@ -59,9 +69,11 @@ pub fn who_lives()
 pub fn how_many_live()
     ensures start { (v : ChildrenView) (run at : ℕ) (answer : Result Unit StartFault)
         → length (after_start v run at answer).live ≡ length v.live + cond (is_ok answer) 1 0 }
-    ensures poll { (v : ChildrenView) (run : ℕ) (answer : Poll) → length (after_poll v run answer).live ≤ length v.live }
+    ensures poll { (v : ChildrenView) (run : ℕ) (answer : Poll)
+        → length (after_poll v run answer).live ≤ length v.live }
     ensures ended { (v : ChildrenView) (run : ℕ) (answer : Poll)
-        → Contains v.live run → answer ≢ Running → length (after_poll v run answer).live + 1 ≤ length v.live }
+        → Contains v.live run → answer ≢ Running
+        → length (after_poll v run answer).live + 1 ≤ length v.live }
     ensures kill { (v : ChildrenView) (run : ℕ) (answer : Result Unit KillFault)
         → Contains v.live run → length (after_kill v run answer).live + 1 ≤ length v.live }
 {}

@@ -36,7 +36,8 @@ enum Heard {
 fn keep<A: Allocator>(kept: &mut Vec<u8, A>, chunk: &[u8]) -> bool
     requires { vec_len kept.old ≤ metadata_limit }
     ensures limit { vec_len kept.new ≤ metadata_limit }
-    ensures kept { kept.new.items ≡ (if result then kept.old.items ++ chunk.now else kept.old.items) }
+    ensures kept { kept.new.items
+        ≡ (if result then kept.old.items ++ chunk.now else kept.old.items) }
 {
     chunk.len() <= METADATA_LIMIT - kept.len() && kept.extend_from_slice(chunk).is_ok()
 }
@@ -50,7 +51,8 @@ fn hear<S: Read + Waited, A: Allocator>(
 ) -> Heard
     requires { vec_len kept.old ≤ metadata_limit }
     ensures limit { vec_len kept.new ≤ metadata_limit }
-    ensures whole { result ≡ Heard.Whole → IfSome (S.remaining stream.old) (λ bytes. kept.new.items ≡ kept.old.items ++ bytes) }
+    ensures whole { result ≡ Heard.Whole
+        → IfSome (S.remaining stream.old) (λ bytes. kept.new.items ≡ kept.old.items ++ bytes) }
 {
     let mut heard = Heard::Whole;
     let mut chunk = [0u8; CHUNK];

@@ -59,7 +59,8 @@ impl Pauses {
 
     // The next one in microseconds, if there is any left.
     fn take(&mut self) -> Option<u64>
-        ensures taken { IfSome result (λ pause. (0 < pause) × (self.new.left + pause ≡ self.old.left)) }
+        ensures taken { IfSome result
+            (λ pause. (0 < pause) × (self.new.left + pause ≡ self.old.left)) }
         ensures none { IfNone result (self.old.left ≡ 0) }
     {
         if self.left == 0 {

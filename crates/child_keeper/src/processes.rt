@@ -47,7 +47,8 @@ impl<R: process::Processes + Clock + Eprint + Drop, A: Allocator + Copy> Process
     /// No children yet, which will write to the log, with a book of so many entries. The room for the book and for all that may
     /// live is made here. It fails only where memory is refused.
     pub fn new(rt: R, alloc: A, log: Log, book: usize) -> Result<Processes<R, A>, AllocError>
-        ensures children { IfOk result (λ p. processes_of p ≡ record { book = []; log = []; room = book; last_run = 0; live = []; site = None }) }
+        ensures children { IfOk result
+            (λ p. processes_of p ≡ record { book = []; log = []; room = book; last_run = 0; live = []; site = None }) }
     {
         Ok(Processes {
             rt,
@@ -63,7 +64,11 @@ impl<R: process::Processes + Clock + Eprint + Drop, A: Allocator + Copy> Process
     // Kills a child and gives it up, whatever the system answers. One that lives on is told.
     fn strike(&mut self, run: RunId) -> Result<(), KillFault>
         requires lives { Contains (processes_of self.old).live run }
-        ensures gone { processes_of self.new ≡ record (processes_of self.old) { live = without_run run (processes_of self.old).live } }
+        ensures gone { processes_of self.new
+            ≡ record (processes_of self.old) {
+              live = without_run run
+                  (processes_of self.old).live;
+            } }
     {
         let mut child = self.live.take(run);
         let (killed, pauses) = match child.kill() {

@@ -31,7 +31,8 @@ impl<A: Allocator + Copy> Scripted<A> {
 
     /// Children that play a script, with a book of so many entries. It fails only where memory is refused.
     pub fn new(alloc: A, script: Script<A>, book: usize) -> Result<Scripted<A>, AllocError>
-        ensures children { IfOk result (λ c. children_of c ≡ record { book = []; log = []; room = book; last_run = 0; live = []; site = None }) }
+        ensures children { IfOk result
+            (λ c. children_of c ≡ record { book = []; log = []; room = book; last_run = 0; live = []; site = None }) }
         ensures script { IfOk result (λ c. script_of c ≡ script_view script) }
     {
         Ok(Scripted {
@@ -84,9 +85,11 @@ impl<A: Allocator + Copy> Children for Scripted<A> {
         requires room { 0 < (children_of self.old).room }
         requires few { length (children_of self.old).live < live_limit }
         requires rising { (children_of self.old).last_run < launch.now.run }
-        requires may_start { MayStart (children_of self.old).site journal.now (D.view (journal_disk journal.now)) launch.now }
+        requires may_start { MayStart (children_of self.old).site journal.now
+            (D.view (journal_disk journal.now)) launch.now }
         ensures started { children_of self.new
-            ≡ after_start (children_of self.old) launch.now.run (D.view (journal_disk journal.now)).clock result }
+            ≡ after_start (children_of self.old) launch.now.run
+            (D.view (journal_disk journal.now)).clock result }
         ensures scripted { result ≡ next_start (script_of self.old) }
         ensures goes_on { script_of self.new ≡ started_on (script_of self.old) }
     {

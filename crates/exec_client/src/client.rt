@@ -26,8 +26,10 @@ pub trait Client<D: Disk + Drop, C: Children + Drop> {
     ) -> Result<(), IoFault>
         requires may_tell { MayTell D.view (heard self.old) executor.now what.now }
         ensures told { IsTold (heard self.old) (heard self.new) (said_in what.now) }
-        ensures hears { OnOk result (Hears form (heard self.old) (heard self.new) (said_in what.now)) }
-        ensures breaks { OnErr result (HearsPart form (heard self.old) (heard self.new) (said_in what.now)) };
+        ensures hears { OnOk result
+            (Hears form (heard self.old) (heard self.new) (said_in what.now)) }
+        ensures breaks { OnErr result
+            (HearsPart form (heard self.old) (heard self.new) (said_in what.now)) };
 
     /// Whether what is told may still reach somebody.
     fn is_heard(&self) -> bool;

@@ -16,9 +16,11 @@ use executor::laws::whole_life;
 /// what stands of it, and each acknowledgement and each notice that a client was told in any sitting has an event of its own
 /// in that, in the order in which they were told.
 pub fn told_stands<D: Disk>()
-    ensures stands { (start : State) (life : List (Sitting D)) (told : List Said) → IsLife D.view start life → ToldOver life told
+    ensures stands { (start : State) (life : List (Sitting D)) (told : List Said)
+        → IsLife D.view start life → ToldOver life told
         → (c : Image) → LifeLeaves D.view start life c
-        → (zs : List Event) × Lived start life zs × FoundAs (after_all start zs) c × Behind told zs }
+        → (zs : List Event) × Lived start life zs × FoundAs (after_all start zs) c
+        × Behind told zs }
 {
     whole_life::<D>();
 }

@@ -34,8 +34,12 @@ fn write_told<W: Output>(
     form: NoticeForm,
     what: &Told,
 ) -> Result<(), IoFault>
-    ensures sent { OnOk result (Appends (W.contents writer.old) (W.contents writer.new) (flat_map (line_of form) (said_in what.now))) }
-    ensures front { OnErr result (AppendsFront (W.contents writer.old) (W.contents writer.new) (flat_map (line_of form) (said_in what.now))) }
+    ensures sent { OnOk result
+        (Appends (W.contents writer.old) (W.contents writer.new)
+        (flat_map (line_of form) (said_in what.now))) }
+    ensures front { OnErr result
+        (AppendsFront (W.contents writer.old) (W.contents writer.new)
+        (flat_map (line_of form) (said_in what.now))) }
 {
     match what {
         Told::Reply(reply) => send_reply(alloc, writer, reply),

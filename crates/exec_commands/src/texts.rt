@@ -32,9 +32,11 @@ fn member_texts<'a>(
     alloc: Global,
     object: &'a Map<String, Value>,
 ) -> Result<Vec<(&'a str, &'a str)>, Refusal>
-    ensures ok { IfOk result (λ t. typed (member_texts (members_view object.now.entries)) ≡ Ok (texts_seen t.items)) }
+    ensures ok { IfOk result
+        (λ t. typed (member_texts (members_view object.now.entries)) ≡ Ok (texts_seen t.items)) }
     ensures sorted { IfOk result (λ t. IsTrue (are_ascending None (texts_seen t.items))) }
-    ensures err { IfErr result (λ e. e ≢ Memory → typed (member_texts (members_view object.now.entries)) ≡ Err e) }
+    ensures err { IfErr result
+        (λ e. e ≢ Memory → typed (member_texts (members_view object.now.entries)) ≡ Err e) }
 {
     let mut members = Vec::new(alloc);
     for (name, member) in object.iter() {

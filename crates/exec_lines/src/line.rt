@@ -110,7 +110,8 @@ fn is_end<A: Allocator>(buffer: &LineBuffer<A>, piece: Piece) -> bool
 }
 
 fn answer<A: Allocator>(buffer: &LineBuffer<A>, piece: Piece) -> Next
-    ensures { (line : List ℕ) → line_bytes buffer.now ≡ take line_room line → result ≡ answer_at piece line }
+    ensures { (line : List ℕ) → line_bytes buffer.now ≡ take line_room line
+        → result ≡ answer_at piece line }
 {
     if is_end(buffer, piece) {
         Next::End
@@ -129,8 +130,10 @@ pub fn gather_line<R: BufRead, A: Allocator>(
     buffer: &mut LineBuffer<A>,
 ) -> io::Result<Option<Next>>
     // Where it is known what the reader had left as the line began.
-    ensures gathers { (left : Option (List ℕ)) → IsMidLine left (line_bytes buffer.old) (R.remaining reader.old)
-        → IfOk result (λ next. MatchOption next (IsMidLine left (line_bytes buffer.new) (R.remaining reader.new))
+    ensures gathers { (left : Option (List ℕ))
+        → IsMidLine left (line_bytes buffer.old) (R.remaining reader.old)
+        → IfOk result (λ next. MatchOption next
+        (IsMidLine left (line_bytes buffer.new) (R.remaining reader.new))
         (λ n. IsNext left n (line_bytes buffer.new) (R.remaining reader.new))) }
     // At any reader.
     ensures fits { result ≡ Ok (Some Next.Line) → length (line_bytes buffer.new) ≤ line_limit }
@@ -150,7 +153,8 @@ pub fn next_line<R: BufRead, A: Allocator>(
     buffer: &mut LineBuffer<A>,
 ) -> io::Result<Next>
     // Where it is known what the reader has left.
-    ensures next { IfOk result (λ n. IsNext (R.remaining reader.old) n (line_bytes buffer.new) (R.remaining reader.new)) }
+    ensures next { IfOk result
+        (λ n. IsNext (R.remaining reader.old) n (line_bytes buffer.new) (R.remaining reader.new)) }
     ensures lost { OnErr result ((bs : List ℕ) × All (λ b. b ≢ 10) bs
         × Consumes (R.remaining reader.old) (R.remaining reader.new) bs) }
 

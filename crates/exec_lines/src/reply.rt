@@ -22,8 +22,10 @@ fn write_once<W: Write>(writer: &mut W, bytes: &[u8]) -> io::Result<usize>
 /// Writes the bytes. An interrupted write is made again. After an error a front of them is written. It gives up, with the kind
 /// `TimedOut`, after 9,007,199,254,740,991 writes.
 pub fn write_bytes<W: Write>(writer: &mut W, bytes: &[u8]) -> io::Result<()>
-    ensures written { OnOk result (Appends (W.contents writer.old) (W.contents writer.new) bytes.now) }
-    ensures front { OnErr result (AppendsFront (W.contents writer.old) (W.contents writer.new) bytes.now) }
+    ensures written { OnOk result
+        (Appends (W.contents writer.old) (W.contents writer.new) bytes.now) }
+    ensures front { OnErr result
+        (AppendsFront (W.contents writer.old) (W.contents writer.new) bytes.now) }
 {
     let mut done = 0;
     for _ in 0..NUM_MAX {
@@ -38,8 +40,10 @@ pub fn write_bytes<W: Write>(writer: &mut W, bytes: &[u8]) -> io::Result<()>
 /// Writes the bytes and flushes the writer, so that at `Ok` they are handed to the system. After an error a front of them is
 /// written.
 pub fn write_flushed<W: Write>(writer: &mut W, bytes: &[u8]) -> io::Result<()>
-    ensures written { OnOk result (Appends (W.contents writer.old) (W.contents writer.new) bytes.now) }
-    ensures front { OnErr result (AppendsFront (W.contents writer.old) (W.contents writer.new) bytes.now) }
+    ensures written { OnOk result
+        (Appends (W.contents writer.old) (W.contents writer.new) bytes.now) }
+    ensures front { OnErr result
+        (AppendsFront (W.contents writer.old) (W.contents writer.new) bytes.now) }
 {
     write_bytes(writer, bytes)?;
     writer.flush()

@@ -61,7 +61,8 @@ fn word<'a>(alloc: Global, id: &'a str, value: &'a str, help: &'a str) -> Arg<'a
 
 fn with_journal_options<'a>(alloc: Global, command: Command<'a>) -> Result<Command<'a>, AllocError>
     ensures app { IfOk result (λ r. app_of r ≡ with_journal_app (app_of command.entry)) }
-    ensures local { IfOk result (λ r. (out-Command r).has_globals ≡ (out-Command command.entry).has_globals) }
+    ensures local { IfOk result
+        (λ r. (out-Command r).has_globals ≡ (out-Command command.entry).has_globals) }
 {
     let command = command.arg(text_option(
         alloc,
@@ -85,7 +86,8 @@ fn with_journal_options<'a>(alloc: Global, command: Command<'a>) -> Result<Comma
 
 fn with_site_options<'a>(alloc: Global, command: Command<'a>) -> Result<Command<'a>, AllocError>
     ensures app { IfOk result (λ r. app_of r ≡ with_site_app (app_of command.entry)) }
-    ensures local { IfOk result (λ r. (out-Command r).has_globals ≡ (out-Command command.entry).has_globals) }
+    ensures local { IfOk result
+        (λ r. (out-Command r).has_globals ≡ (out-Command command.entry).has_globals) }
 {
     let command = command.arg(text_option_or(
         alloc,
@@ -111,7 +113,8 @@ fn with_site_options<'a>(alloc: Global, command: Command<'a>) -> Result<Command<
 
 fn with_agent_options<'a>(alloc: Global, command: Command<'a>) -> Result<Command<'a>, AllocError>
     ensures app { IfOk result (λ r. app_of r ≡ with_agent_app (app_of command.entry)) }
-    ensures local { IfOk result (λ r. (out-Command r).has_globals ≡ (out-Command command.entry).has_globals) }
+    ensures local { IfOk result
+        (λ r. (out-Command r).has_globals ≡ (out-Command command.entry).has_globals) }
 {
     let command = command.arg(flag(
         alloc,
@@ -135,7 +138,8 @@ fn with_agent_options<'a>(alloc: Global, command: Command<'a>) -> Result<Command
 
 fn with_options<'a>(alloc: Global, command: Command<'a>) -> Result<Command<'a>, AllocError>
     ensures app { IfOk result (λ r. app_of r ≡ with_options_app (app_of command.entry)) }
-    ensures local { IfOk result (λ r. (out-Command r).has_globals ≡ (out-Command command.entry).has_globals) }
+    ensures local { IfOk result
+        (λ r. (out-Command r).has_globals ≡ (out-Command command.entry).has_globals) }
 {
     let command = with_journal_options(alloc, command)?;
     let command = with_site_options(alloc, command)?;
@@ -144,7 +148,8 @@ fn with_options<'a>(alloc: Global, command: Command<'a>) -> Result<Command<'a>, 
 
 fn with_status_options<'a>(alloc: Global, command: Command<'a>) -> Result<Command<'a>, AllocError>
     ensures app { IfOk result (λ r. app_of r ≡ with_status_app (app_of command.entry)) }
-    ensures local { IfOk result (λ r. (out-Command r).has_globals ≡ (out-Command command.entry).has_globals) }
+    ensures local { IfOk result
+        (λ r. (out-Command r).has_globals ≡ (out-Command command.entry).has_globals) }
 {
     let command = command.arg(word(
         alloc,

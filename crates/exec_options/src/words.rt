@@ -30,9 +30,11 @@ fn is_set(matches: &ArgMatches<'_>, id: &str) -> bool
 }
 
 fn journal_place<'a>(matches: &ArgMatches<'a>) -> Option<JournalPlace<'a>>
-    ensures place { IfSome result (λ p. folder_of p ≡ first_of (codes "journal") (rows_of (found_of matches.now))) }
+    ensures place { IfSome result
+        (λ p. folder_of p ≡ first_of (codes "journal") (rows_of (found_of matches.now))) }
     ensures choice { IfSome result (λ _. IsChoice (rows_of (found_of matches.now))) }
-    ensures none { IfNone result (is_true_text (first_of (codes "memory") (rows_of (found_of matches.now)))
+    ensures none { IfNone result
+        (is_true_text (first_of (codes "memory") (rows_of (found_of matches.now)))
         ≡ is_some (first_of (codes "journal") (rows_of (found_of matches.now)))) }
 {
     match (text_of(matches, "journal"), is_set(matches, "memory")) {
@@ -54,8 +56,10 @@ fn number_to(limit: u64, text: &str) -> Option<u64>
 }
 
 fn tidy_at(matches: &ArgMatches<'_>) -> Result<u64, WordsFault>
-    ensures number { IfOk result (IsNumberTo part_limit (tidy_text (rows_of (found_of matches.now)))) }
-    ensures fault { IfErr result (λ f. (f ≡ WordsFault.TidyAt) × TidyAtFlaw (rows_of (found_of matches.now))) }
+    ensures number { IfOk result
+        (IsNumberTo part_limit (tidy_text (rows_of (found_of matches.now)))) }
+    ensures fault { IfErr result
+        (λ f. (f ≡ WordsFault.TidyAt) × TidyAtFlaw (rows_of (found_of matches.now))) }
 {
     match number_to(PART_LIMIT, text_of(matches, "tidy-at").unwrap_or(TIDY_AT)) {
         Some(bytes) => Ok(bytes),
@@ -64,8 +68,10 @@ fn tidy_at(matches: &ArgMatches<'_>) -> Result<u64, WordsFault>
 }
 
 fn orphans(matches: &ArgMatches<'_>) -> Result<u64, WordsFault>
-    ensures number { IfOk result (IsNumberTo longest_wait (orphans_text (rows_of (found_of matches.now)))) }
-    ensures fault { IfErr result (λ f. (f ≡ WordsFault.Orphans) × OrphansFlaw (rows_of (found_of matches.now))) }
+    ensures number { IfOk result
+        (IsNumberTo longest_wait (orphans_text (rows_of (found_of matches.now)))) }
+    ensures fault { IfErr result
+        (λ f. (f ≡ WordsFault.Orphans) × OrphansFlaw (rows_of (found_of matches.now))) }
 {
     match number_to(LONGEST_WAIT, text_of(matches, "orphans").unwrap_or(ORPHANS)) {
         Some(millis) => Ok(millis),
@@ -84,8 +90,10 @@ fn is_absolute(path: &str) -> bool
 }
 
 fn root<'a>(matches: &ArgMatches<'a>) -> Result<&'a str, WordsFault>
-    ensures path { IfOk result (λ p. (p.now ≡ root_text (rows_of (found_of matches.now))) × (is_absolute p.now ≡ true)) }
-    ensures fault { IfErr result (λ f. (f ≡ WordsFault.Root) × RootFlaw (rows_of (found_of matches.now))) }
+    ensures path { IfOk result
+        (λ p. (p.now ≡ root_text (rows_of (found_of matches.now))) × (is_absolute p.now ≡ true)) }
+    ensures fault { IfErr result
+        (λ f. (f ≡ WordsFault.Root) × RootFlaw (rows_of (found_of matches.now))) }
 {
     let path = text_of(matches, "root").unwrap_or(ROOT);
     if is_absolute(path) {
@@ -101,9 +109,11 @@ fn options_of<'a>(
     journal: JournalPlace<'a>,
     matches: &ArgMatches<'a>,
 ) -> Result<Options<'a>, WordsFault>
-    requires place { folder_of journal ≡ first_of (codes "journal") (rows_of (found_of matches.now)) }
+    requires place { folder_of journal
+        ≡ first_of (codes "journal") (rows_of (found_of matches.now)) }
     requires choice { IsChoice (rows_of (found_of matches.now)) }
-    ensures read { IfOk result (λ o. (o.subcommand ≡ subcommand) × IsReadFrom (rows_of (found_of matches.now)) o) }
+    ensures read { IfOk result
+        (λ o. (o.subcommand ≡ subcommand) × IsReadFrom (rows_of (found_of matches.now)) o) }
     ensures fault { IfErr result (HasFlaw (rows_of (found_of matches.now))) }
 {
     let tidy_at = tidy_at(matches)?;

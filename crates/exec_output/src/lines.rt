@@ -121,7 +121,9 @@ fn add_action(
     action: Action,
 ) -> Result<(), AllocError>
     requires { place < length state.now.state.resources }
-    ensures { OnOk result (text.new.items ≡ text.old.items ++ action_line look.now (at_place state.now.state place).history.ended action) }
+    ensures { OnOk result (text.new.items
+        ≡ text.old.items ++ action_line look.now
+        (at_place state.now.state place).history.ended action) }
 {
     match last_asked(state, place, action) {
         Some(ended) => {
@@ -140,7 +142,9 @@ fn add_actions(
     place: usize,
 ) -> Result<(), AllocError>
     requires { place < length state.now.state.resources }
-    ensures { OnOk result (text.new.items ≡ text.old.items ++ flat_map (action_line look.now (at_place state.now.state place).history.ended) told_actions) }
+    ensures { OnOk result (text.new.items
+        ≡ text.old.items ++ flat_map
+        (action_line look.now (at_place state.now.state place).history.ended) told_actions) }
 {
     add_action(text, look, state, place, Action::Monitor)?;
     add_action(text, look, state, place, Action::Start)?;
@@ -158,7 +162,8 @@ fn add_last(
     recur: &Recur,
     last: Option<Ended>,
 ) -> Result<(), AllocError>
-    ensures { OnOk result (text.new.items ≡ text.old.items ++ monitor_text look.now recur.now last) }
+    ensures { OnOk result (text.new.items
+        ≡ text.old.items ++ monitor_text look.now recur.now last) }
 {
     match last {
         Some(ended) => {
@@ -181,7 +186,9 @@ fn add_monitor(
     recur: &Recur,
 ) -> Result<(), AllocError>
     requires { place < length state.now.state.resources }
-    ensures { OnOk result (text.new.items ≡ text.old.items ++ monitor_line look.now (at_place state.now.state place).history.ended recur.now) }
+    ensures { OnOk result (text.new.items
+        ≡ text.old.items ++ monitor_line look.now
+        (at_place state.now.state place).history.ended recur.now) }
 {
     let mut name = Vec::from_slice(alloc, b"every ")?;
     add_exactly(&mut name, u64::from(recur.interval.get()))?;
@@ -197,7 +204,10 @@ fn add_monitors(
     place: usize,
 ) -> Result<(), AllocError>
     requires { place < length state.now.state.resources }
-    ensures { OnOk result (text.new.items ≡ text.old.items ++ flat_map (monitor_line look.now (at_place state.now.state place).history.ended) (at_place state.now.state place).recurring) }
+    ensures { OnOk result (text.new.items
+        ≡ text.old.items ++ flat_map
+        (monitor_line look.now (at_place state.now.state place).history.ended)
+        (at_place state.now.state place).recurring) }
 {
     for at in 0..state.recurring_len(place) {
         let recur = state.recurring_at(place, at);
@@ -241,7 +251,9 @@ fn add_results(
     place: usize,
 ) -> Result<(), AllocError>
     requires { place < length state.now.state.resources }
-    ensures { OnOk result (text.new.items ≡ text.old.items ++ flat_map (past_line look.now) (at_place state.now.state place).history.ended) }
+    ensures { OnOk result (text.new.items
+        ≡ text.old.items ++ flat_map (past_line look.now)
+        (at_place state.now.state place).history.ended) }
 {
     for at in 0..state.ended_len(place) {
         add_past(text, look, &state.ended_at(place, at))?;
@@ -257,7 +269,8 @@ fn add_history(
     place: usize,
 ) -> Result<(), AllocError>
     requires { place < length state.now.state.resources }
-    ensures { OnOk result (text.new.items ≡ text.old.items ++ history_text look.now (at_place state.now.state place).history.ended) }
+    ensures { OnOk result (text.new.items
+        ≡ text.old.items ++ history_text look.now (at_place state.now.state place).history.ended) }
 {
     match look.only {
         Some(_) => {
@@ -277,7 +290,8 @@ pub fn add_lines(
     place: usize,
 ) -> Result<(), AllocError>
     requires { place < length state.now.state.resources }
-    ensures { OnOk result (text.new.items ≡ text.old.items ++ lines_text look.now (at_place state.now.state place)) }
+    ensures { OnOk result (text.new.items
+        ≡ text.old.items ++ lines_text look.now (at_place state.now.state place)) }
 {
     add_actions(text, look, state, place)?;
     add_monitors(alloc, text, look, state, place)?;

@@ -45,8 +45,12 @@ impl From<AllocError> for IoFault {
 // Writes a line that was made, and flushes it. After an error of the writer a front of it is written. Where memory for it was
 // refused nothing is written.
 fn send_line<W: Write>(writer: &mut W, line: Result<Vec<u8>, AllocError>) -> Result<(), IoFault>
-    ensures sent { IfOk line (λ bytes. OnOk result (Appends (W.contents writer.old) (W.contents writer.new) bytes.items)) }
-    ensures front { IfOk line (λ bytes. OnErr result (AppendsFront (W.contents writer.old) (W.contents writer.new) bytes.items)) }
+    ensures sent { IfOk line
+        (λ bytes. OnOk result
+        (Appends (W.contents writer.old) (W.contents writer.new) bytes.items)) }
+    ensures front { IfOk line
+        (λ bytes. OnErr result
+        (AppendsFront (W.contents writer.old) (W.contents writer.new) bytes.items)) }
     ensures memory { IfErr line (λ _. result ≡ Err Memory) }
     ensures unwritten { IfErr line (λ _. W.contents writer.new ≡ W.contents writer.old) }
 {
@@ -56,16 +60,20 @@ fn send_line<W: Write>(writer: &mut W, line: Result<Vec<u8>, AllocError>) -> Res
 
 /// Writes a reply's line, and flushes it. After an error a front of it is written.
 pub fn send_reply<W: Write>(alloc: Global, writer: &mut W, reply: &LineReply) -> Result<(), IoFault>
-    ensures sent { OnOk result (Appends (W.contents writer.old) (W.contents writer.new) (reply_line reply.now)) }
-    ensures front { OnErr result (AppendsFront (W.contents writer.old) (W.contents writer.new) (reply_line reply.now)) }
+    ensures sent { OnOk result
+        (Appends (W.contents writer.old) (W.contents writer.new) (reply_line reply.now)) }
+    ensures front { OnErr result
+        (AppendsFront (W.contents writer.old) (W.contents writer.new) (reply_line reply.now)) }
 {
     send_line(writer, write_reply(alloc, reply))
 }
 
 // Writes the line of a reply to a request.
 fn put_reply<W: Write>(alloc: Global, writer: &mut W, reply: &Reply) -> Result<(), IoFault>
-    ensures sent { OnOk result (Appends (W.contents writer.old) (W.contents writer.new) (request_line reply.now)) }
-    ensures front { OnErr result (AppendsFront (W.contents writer.old) (W.contents writer.new) (request_line reply.now)) }
+    ensures sent { OnOk result
+        (Appends (W.contents writer.old) (W.contents writer.new) (request_line reply.now)) }
+    ensures front { OnErr result
+        (AppendsFront (W.contents writer.old) (W.contents writer.new) (request_line reply.now)) }
 {
     let line = write_request_reply(alloc, reply)?;
     write_bytes(writer, line.as_slice())?;
@@ -74,8 +82,12 @@ fn put_reply<W: Write>(alloc: Global, writer: &mut W, reply: &Reply) -> Result<(
 
 // Writes replies to requests, a line each.
 fn put_replies<W: Write>(alloc: Global, writer: &mut W, replies: &[Reply]) -> Result<(), IoFault>
-    ensures sent { OnOk result (Appends (W.contents writer.old) (W.contents writer.new) (flat_map request_line replies.now)) }
-    ensures front { OnErr result (AppendsFront (W.contents writer.old) (W.contents writer.new) (flat_map request_line replies.now)) }
+    ensures sent { OnOk result
+        (Appends (W.contents writer.old) (W.contents writer.new)
+        (flat_map request_line replies.now)) }
+    ensures front { OnErr result
+        (AppendsFront (W.contents writer.old) (W.contents writer.new)
+        (flat_map request_line replies.now)) }
 {
     for reply in replies {
         put_reply(alloc, writer, reply)?;
@@ -89,8 +101,12 @@ pub fn send_replies<W: Write>(
     writer: &mut W,
     replies: &[Reply],
 ) -> Result<(), IoFault>
-    ensures sent { OnOk result (Appends (W.contents writer.old) (W.contents writer.new) (flat_map request_line replies.now)) }
-    ensures front { OnErr result (AppendsFront (W.contents writer.old) (W.contents writer.new) (flat_map request_line replies.now)) }
+    ensures sent { OnOk result
+        (Appends (W.contents writer.old) (W.contents writer.new)
+        (flat_map request_line replies.now)) }
+    ensures front { OnErr result
+        (AppendsFront (W.contents writer.old) (W.contents writer.new)
+        (flat_map request_line replies.now)) }
 {
     put_replies(alloc, writer, replies)?;
     writer.flush()?;
@@ -103,8 +119,11 @@ fn send_notice<W: Write>(
     form: NoticeForm,
     notice: &Notice,
 ) -> Result<(), IoFault>
-    ensures sent { OnOk result (Appends (W.contents writer.old) (W.contents writer.new) (formed_line form notice.now)) }
-    ensures front { OnErr result (AppendsFront (W.contents writer.old) (W.contents writer.new) (formed_line form notice.now)) }
+    ensures sent { OnOk result
+        (Appends (W.contents writer.old) (W.contents writer.new) (formed_line form notice.now)) }
+    ensures front { OnErr result
+        (AppendsFront (W.contents writer.old) (W.contents writer.new)
+        (formed_line form notice.now)) }
 {
     send_line(writer, write_notice(alloc, form, notice))
 }
@@ -116,8 +135,12 @@ pub fn send_notices<W: Write>(
     form: NoticeForm,
     notices: &[Notice],
 ) -> Result<(), IoFault>
-    ensures sent { OnOk result (Appends (W.contents writer.old) (W.contents writer.new) (flat_map (formed_line form) notices.now)) }
-    ensures front { OnErr result (AppendsFront (W.contents writer.old) (W.contents writer.new) (flat_map (formed_line form) notices.now)) }
+    ensures sent { OnOk result
+        (Appends (W.contents writer.old) (W.contents writer.new)
+        (flat_map (formed_line form) notices.now)) }
+    ensures front { OnErr result
+        (AppendsFront (W.contents writer.old) (W.contents writer.new)
+        (flat_map (formed_line form) notices.now)) }
 {
     for notice in notices {
         send_notice(alloc, writer, form, notice)?;

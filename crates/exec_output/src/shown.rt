@@ -24,7 +24,9 @@ fn write_answer<W: Write>(
     state: &State,
     question: &Question,
 ) -> Result<(), IoFault>
-    ensures { OnOk result (Appends (W.contents writer.old) (W.contents writer.new) (answer_line state.now.state question.now)) }
+    ensures { OnOk result
+        (Appends (W.contents writer.old) (W.contents writer.new)
+        (answer_line state.now.state question.now)) }
 {
     match state.answer(alloc, question) {
         Reply::Refused(_) => Err(IoFault::Memory),
@@ -38,7 +40,9 @@ fn write_resource<W: Write>(
     state: &State,
     id: &RscId,
 ) -> Result<(), IoFault>
-    ensures { OnOk result (Appends (W.contents writer.old) (W.contents writer.new) (resource_lines state.now.state id.now)) }
+    ensures { OnOk result
+        (Appends (W.contents writer.old) (W.contents writer.new)
+        (resource_lines state.now.state id.now)) }
 {
     write_answer(alloc, writer, state, &Question::Info(id.copied()))?;
     write_answer(alloc, writer, state, &Question::History(id.copied()))
@@ -50,7 +54,9 @@ fn write_resources<W: Write>(
     state: &State,
     ids: &[RscId],
 ) -> Result<(), IoFault>
-    ensures { OnOk result (Appends (W.contents writer.old) (W.contents writer.new) (flat_map (resource_lines state.now.state) ids.now)) }
+    ensures { OnOk result
+        (Appends (W.contents writer.old) (W.contents writer.new)
+        (flat_map (resource_lines state.now.state) ids.now)) }
 {
     for id in ids {
         write_resource(alloc, writer, state, id)?;
@@ -60,7 +66,8 @@ fn write_resources<W: Write>(
 
 // The reply of `list`, and then of each resource those of `info` and `history`.
 fn write_state<W: Write>(alloc: Global, writer: &mut W, state: &State) -> Result<(), IoFault>
-    ensures { OnOk result (Appends (W.contents writer.old) (W.contents writer.new) (shown state.now.state)) }
+    ensures { OnOk result
+        (Appends (W.contents writer.old) (W.contents writer.new) (shown state.now.state)) }
 {
     let reply = LineReply::Request(state.answer(alloc, &Question::List));
     let LineReply::Request(Reply::List(ids)) = &reply else {
@@ -89,9 +96,11 @@ pub fn show<D: Disk + Drop, W: Write>(
     disk: D,
     writer: &mut W,
 ) -> (D, Result<(), Fault>)
-    ensures shown { (D.view result.0).honest → ShowsAs (D.view disk).reads (W.contents writer.old) (W.contents writer.new) result.1 }
+    ensures shown { (D.view result.0).honest
+        → ShowsAs (D.view disk).reads (W.contents writer.old) (W.contents writer.new) result.1 }
     ensures opens { Opens (D.view disk) (D.view result.0) }
-    ensures cause { IsErrOf result.1 Fault.Disk → Increased (D.view disk).failures (D.view result.0).failures }
+    ensures cause { IsErrOf result.1 Fault.Disk
+        → Increased (D.view disk).failures (D.view result.0).failures }
     ensures ends { IsRunEnd result.1 }
 {
     match Journal::open(alloc, disk) {

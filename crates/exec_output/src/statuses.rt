@@ -21,9 +21,14 @@ fn write_made<W: Write>(
     writer: &mut W,
     made: Result<Option<Vec<u8>>, AllocError>,
 ) -> Result<(), Fault>
-    ensures memory { IfErr made (λ _. NotWritten (W.contents writer.old) (W.contents writer.new) Fault.ReplyMemory result) }
-    ensures none { IfOk made (λ found. IfNone found (NotWritten (W.contents writer.old) (W.contents writer.new) Fault.NoResource result)) }
-    ensures table { IfOk made (λ found. IfSome found (λ text. IsWritten (W.contents writer.old) (W.contents writer.new) text.items result)) }
+    ensures memory { IfErr made
+        (λ _. NotWritten (W.contents writer.old) (W.contents writer.new) Fault.ReplyMemory result) }
+    ensures none { IfOk made
+        (λ found. IfNone found
+        (NotWritten (W.contents writer.old) (W.contents writer.new) Fault.NoResource result)) }
+    ensures table { IfOk made
+        (λ found. IfSome found
+        (λ text. IsWritten (W.contents writer.old) (W.contents writer.new) text.items result)) }
 {
     match made {
         Ok(Some(text)) => match write_flushed(writer, text.as_slice()) {
@@ -42,7 +47,8 @@ fn write_table<W: Write>(
     look: &Look,
     state: &State,
 ) -> Result<(), Fault>
-    ensures { IsToldAs look.now state.now.state (W.contents writer.old) (W.contents writer.new) result }
+    ensures { IsToldAs look.now state.now.state (W.contents writer.old)
+        (W.contents writer.new) result }
 {
     write_made(writer, table_of(alloc, look, state))
 }
@@ -58,9 +64,12 @@ pub fn status<D: Disk + Drop, W: Write>(
     writer: &mut W,
     look: &Look,
 ) -> (D, Result<(), Fault>)
-    ensures told { (D.view result.0).honest → TellsAs (D.view disk).reads look.now (W.contents writer.old) (W.contents writer.new) result.1 }
+    ensures told { (D.view result.0).honest
+        → TellsAs (D.view disk).reads look.now (W.contents writer.old)
+        (W.contents writer.new) result.1 }
     ensures opens { Opens (D.view disk) (D.view result.0) }
-    ensures cause { IsErrOf result.1 Fault.Disk → Increased (D.view disk).failures (D.view result.0).failures }
+    ensures cause { IsErrOf result.1 Fault.Disk
+        → Increased (D.view disk).failures (D.view result.0).failures }
     ensures ends { IsRunEnd result.1 }
 {
     match Journal::open(alloc, disk) {

@@ -65,7 +65,8 @@ fn add_gap(text: &mut Vec<u8>, taken: usize, column: usize) -> Result<(), AllocE
 
 // What runs, and since when.
 fn add_running(text: &mut Vec<u8>, look: &Look, running: Option<Running>) -> Result<(), AllocError>
-    ensures { OnOk result (text.new.items ≡ text.old.items ++ running_text look.now.moment running) }
+    ensures { OnOk result (text.new.items
+        ≡ text.old.items ++ running_text look.now.moment running) }
 {
     match running {
         Some(running) => {
@@ -98,7 +99,8 @@ fn add_told(
     place: usize,
 ) -> Result<(), AllocError>
     requires { place < length state.now.state.resources }
-    ensures { OnOk result (text.new.items ≡ text.old.items ++ told look.now (at_place state.now.state place)) }
+    ensures { OnOk result (text.new.items
+        ≡ text.old.items ++ told look.now (at_place state.now.state place)) }
 {
     add_running(text, look, state.running_at(place))?;
     add_queued(text, state.queue_len(place))?;
@@ -134,7 +136,8 @@ fn rows_of(
     state: &State,
     columns: Columns,
 ) -> Result<Vec<u8>, AllocError>
-    ensures { IfOk result (λ rows. AreRows look.now (asked_entries look.now state.now.state.resources) rows.items) }
+    ensures { IfOk result
+        (λ rows. AreRows look.now (asked_entries look.now state.now.state.resources) rows.items) }
 {
     let mut rows = Vec::new(alloc);
     for place in 0..state.len() {
@@ -161,8 +164,10 @@ fn head_of(alloc: Global, columns: Columns) -> Result<Vec<u8>, AllocError>
 /// The state as a table: a line of heads, and then a row of each resource that is asked for, in order of registration. There is
 /// none where one is asked for that is not registered. It fails only where memory is refused.
 pub fn table_of(alloc: Global, look: &Look, state: &State) -> Result<Option<Vec<u8>>, AllocError>
-    ensures table { IfOk result (λ found. IfSome found (λ text. IsTable look.now state.now.state text.items)) }
-    ensures none { IfOk result (λ found. IfNone found (asked_entries look.now state.now.state.resources ≡ [])) }
+    ensures table { IfOk result
+        (λ found. IfSome found (λ text. IsTable look.now state.now.state text.items)) }
+    ensures none { IfOk result
+        (λ found. IfNone found (asked_entries look.now state.now.state.resources ≡ [])) }
 {
     let columns = columns_of(alloc, look, state)?;
     let rows = rows_of(alloc, look, state, columns)?;

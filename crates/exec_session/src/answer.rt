@@ -112,7 +112,8 @@ fn request_reply<D: Disk + Drop, C: Children + Drop, K: Clock, M>(
     requires open { executor.old.is_open ≡ true }
     ensures stands { StandsBehind D.view executor.old executor.new (Answered result ∷ []) }
     ensures says { MayReply executor.new result }
-    ensures serves { ServesNow D.view (rules_of context.now) request executor.old executor.new result }
+    ensures serves { ServesNow D.view
+        (rules_of context.now) request executor.old executor.new result }
 {
     if !make_room(context, executor) {
         return refused(Refusal::Disk);
@@ -133,7 +134,8 @@ fn open_reply<D: Disk + Drop, C: Children + Drop, T: Client<D, C>, K: Clock, M: 
     ensures stands { IfErr result (λ _. AllStand D.view (T.heard client.new) executor.new) }
     ensures opened { (T.heard client.new).opened ≡ (T.heard client.old).opened }
     ensures may_tell { IfOk result (MayBeReplied D.view (T.heard client.new) executor.new) }
-    ensures reply { IfOk result (IsOpenReply D.view (M.gives context.now.metadata.now) (rules_of context.now)
+    ensures reply { IfOk result
+        (IsOpenReply D.view (M.gives context.now.metadata.now) (rules_of context.now)
         (spot executor.old (T.heard client.old)) (spot executor.new (T.heard client.new)) line) }
     ensures breaks { OnErr result (ReplyBreaks D.view (rules_of context.now)
         (spot executor.old (T.heard client.old)) (spot executor.new (T.heard client.new)) line) }
@@ -165,9 +167,11 @@ pub fn reply_to<D: Disk + Drop, C: Children + Drop, T: Client<D, C>, K: Clock, M
     ensures stands { IfErr result (λ _. AllStand D.view (T.heard client.new) executor.new) }
     ensures opened { (T.heard client.new).opened ≡ (T.heard client.old).opened }
     ensures may_tell { IfOk result (MayBeReplied D.view (T.heard client.new) executor.new) }
-    ensures reply { IfOk result (IsReply D.view (M.gives context.now.metadata.now) (rules_of context.now)
+    ensures reply { IfOk result
+        (IsReply D.view (M.gives context.now.metadata.now) (rules_of context.now)
         (spot executor.old (T.heard client.old)) (spot executor.new (T.heard client.new)) line) }
-    ensures breaks { OnErr result ((executor.old.is_open ≡ true) × ReplyBreaks D.view (rules_of context.now)
+    ensures breaks { OnErr result ((executor.old.is_open ≡ true)
+        × ReplyBreaks D.view (rules_of context.now)
         (spot executor.old (T.heard client.old)) (spot executor.new (T.heard client.new)) line) }
 {
     if executor.is_open() {

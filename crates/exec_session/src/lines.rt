@@ -47,7 +47,8 @@ enum Progress {
 
 /// What stands next in the input, whose line is in the buffer.
 pub fn found_in(alloc: Global, buffer: &LineBuffer, next: Next) -> Found
-    ensures found { (left now : Option (List ℕ)) → IsNext left next (line_bytes buffer.now) now → ReadsInput left now result }
+    ensures found { (left now : Option (List ℕ)) → IsNext left next (line_bytes buffer.now) now
+        → ReadsInput left now result }
 {
     match next {
         Next::End => Found::End,
@@ -71,8 +72,10 @@ fn answer_found<D: Disk + Drop, C: Children + Drop, T: Client<D, C>, K: Clock, M
     requires stands { AllStand D.view (T.heard client.old) executor.old }
     ensures stands { AllStand D.view (T.heard client.new) executor.new }
     ensures opened { (T.heard client.new).opened ≡ (T.heard client.old).opened }
-    ensures takes { (left now : Option (List ℕ)) → ReadsInput left now found → TakesOrBreaks D.view (M.gives context.now.metadata.now) (rules_of context.now)
-        (position executor.old left (T.heard client.old)) (position executor.new now (T.heard client.new)) result }
+    ensures takes { (left now : Option (List ℕ)) → ReadsInput left now found
+        → TakesOrBreaks D.view (M.gives context.now.metadata.now) (rules_of context.now)
+        (position executor.old left (T.heard client.old))
+        (position executor.new now (T.heard client.new)) result }
 {
     let line = match found {
         Found::End => return Ok(Progress::End),

@@ -23,7 +23,8 @@ pub fn tell_report<D: Disk + Drop, C: Children + Drop, T: Client<D, C>>(
     requires reported { IsReportOf D.view (T.heard client.old).opened report.now }
     ensures stands { AllStand D.view (T.heard client.new) executor.now }
     ensures opened { (T.heard client.new).opened ≡ (T.heard client.old).opened }
-    ensures told { OnOk result (Hears form (T.heard client.old) (T.heard client.new) (report_told report.now)) }
+    ensures told { OnOk result
+        (Hears form (T.heard client.old) (T.heard client.new) (report_told report.now)) }
     ensures breaks { OnErr result ((said rest : List Said) × (report_told report.now ≡ said ++ rest)
         × HearsPart form (T.heard client.old) (T.heard client.new) said) }
 {

@@ -50,10 +50,14 @@ fn take_read<R: Input, D: Disk + Drop, C: Children + Drop, T: Client<D, C>, K: C
     ensures stands { AllStand D.view (T.heard client.new) executor.new }
     ensures opened { (T.heard client.new).opened ≡ (T.heard client.old).opened }
     ensures takes { (p : Position D) (most : ℕ) → MayTakeBehind context.now.way most
-        → HasComeMid D.view (M.gives context.now.metadata.now) (rules_of context.now) p most (waiting gathered.old)
-        (line_bytes buffer.old) (position executor.old (R.remaining reader.old) (T.heard client.old))
-        → ComesMid D.view (M.gives context.now.metadata.now) (rules_of context.now) p (most + 1) (waiting gathered.new)
-        (line_bytes buffer.new) (position executor.new (R.remaining reader.new) (T.heard client.new)) result }
+        → HasComeMid D.view (M.gives context.now.metadata.now) (rules_of context.now) p most
+        (waiting gathered.old)
+        (line_bytes buffer.old)
+        (position executor.old (R.remaining reader.old) (T.heard client.old))
+        → ComesMid D.view (M.gives context.now.metadata.now) (rules_of context.now) p (most + 1)
+        (waiting gathered.new)
+        (line_bytes buffer.new)
+        (position executor.new (R.remaining reader.new) (T.heard client.new)) result }
 {
     let Some(next) = gather_line(reader, buffer)? else {
         return Ok(false);
@@ -88,9 +92,12 @@ fn take_waiting<
     ensures opened { (T.heard client.new).opened ≡ (T.heard client.old).opened }
     ensures takes { (p : Position D)
         → HasComeMid D.view (M.gives context.now.metadata.now) (rules_of context.now) p 0 []
-        (line_bytes buffer.old) (position executor.old (R.remaining reader.old) (T.heard client.old))
-        → ComesMid D.view (M.gives context.now.metadata.now) (rules_of context.now) p 64 (waiting gathered.new)
-        (line_bytes buffer.new) (position executor.new (R.remaining reader.new) (T.heard client.new)) result }
+        (line_bytes buffer.old)
+        (position executor.old (R.remaining reader.old) (T.heard client.old))
+        → ComesMid D.view (M.gives context.now.metadata.now) (rules_of context.now) p 64
+        (waiting gathered.new)
+        (line_bytes buffer.new)
+        (position executor.new (R.remaining reader.new) (T.heard client.new)) result }
 {
     for _reads in 0..READS_A_TURN {
         if !reader.is_ready(0) {
@@ -127,9 +134,11 @@ fn answer_waiting<
     ensures opened { (T.heard client.new).opened ≡ (T.heard client.old).opened }
     ensures takes { (p : Position D)
         → HasComeMid D.view (M.gives context.now.metadata.now) (rules_of context.now) p 0 []
-        (line_bytes buffer.old) (position executor.old (R.remaining reader.old) (T.heard client.old))
+        (line_bytes buffer.old)
+        (position executor.old (R.remaining reader.old) (T.heard client.old))
         → ComesMid D.view (M.gives context.now.metadata.now) (rules_of context.now) p 64 []
-        (line_bytes buffer.new) (position executor.new (R.remaining reader.new) (T.heard client.new)) result }
+        (line_bytes buffer.new)
+        (position executor.new (R.remaining reader.new) (T.heard client.new)) result }
 {
     if take_waiting(context, reader, client, executor, buffer, gathered)? {
         return Ok(true);

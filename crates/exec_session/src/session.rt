@@ -54,7 +54,8 @@ fn take_next<R: Input, D: Disk + Drop, C: Children + Drop, T: Client<D, C>, K: C
         → HasCome D.view (M.gives context.now.metadata.now) (rules_of context.now) p most
         (waiting gathered.old) (position executor.old (R.remaining reader.old) (T.heard client.old))
         → Comes D.view (M.gives context.now.metadata.now) (rules_of context.now) p (most + 1)
-        (waiting gathered.new) (position executor.new (R.remaining reader.new) (T.heard client.new)) result }
+        (waiting gathered.new)
+        (position executor.new (R.remaining reader.new) (T.heard client.new)) result }
 {
     let next = next_line(reader, buffer)?;
     let found = found_in(context.alloc, buffer, next);
@@ -143,11 +144,14 @@ fn report_and_answer<
     requires stands { AllStand D.view (T.heard client.old) executor.old }
     ensures stands { AllStand D.view (T.heard client.new) executor.new }
     ensures opened { (T.heard client.new).opened ≡ (T.heard client.old).opened }
-    ensures runs { OnOk result (Runs D.view (M.gives context.now.metadata.now) (rules_of context.now) report.now
+    ensures runs { OnOk result
+        (Runs D.view (M.gives context.now.metadata.now) (rules_of context.now) report.now
         (position executor.old (R.remaining reader.old) (T.heard client.old))
         (position executor.new (R.remaining reader.new) (T.heard client.new))) }
-    ensures breaks { OnErr result (RunBreaks D.view (M.gives context.now.metadata.now) (rules_of context.now) report.now
-        (position executor.old (R.remaining reader.old) (T.heard client.old)) (spot executor.new (T.heard client.new))) }
+    ensures breaks { OnErr result
+        (RunBreaks D.view (M.gives context.now.metadata.now) (rules_of context.now) report.now
+        (position executor.old (R.remaining reader.old) (T.heard client.old))
+        (spot executor.new (T.heard client.new))) }
 {
     tell_report(client, executor, context.form, report)?;
     answer_in_way(context, reader, client, executor, buffer, gathered)?;
@@ -173,7 +177,8 @@ fn answer_lines<
     requires stands { AllStand D.view (T.heard client.old) executor.old }
     ensures stands { AllStand D.view (T.heard client.new) executor.new }
     ensures opened { (T.heard client.new).opened ≡ (T.heard client.old).opened }
-    ensures ends { EndsAs D.view (M.gives context.now.metadata.now) (rules_of context.now) report.now
+    ensures ends { EndsAs D.view (M.gives context.now.metadata.now)
+        (rules_of context.now) report.now
         (position executor.old (R.remaining reader.old) (T.heard client.old))
         (position executor.new (R.remaining reader.new) (T.heard client.new)) result }
 {
@@ -221,10 +226,12 @@ pub fn run_lines<
 ) -> Run<D, C>
     requires fresh { IsNew (T.heard client.old) executor }
     requires reported { IsReportOf D.view executor report.now }
-    ensures ends { Ended D.view C.view (M.gives context.now.metadata.now) (rules_of context.now) report.now
+    ensures ends { Ended D.view C.view (M.gives context.now.metadata.now)
+        (rules_of context.now) report.now
         (position executor (R.remaining reader.old) (T.heard client.old))
         (R.remaining reader.new) (T.heard client.new) result }
-    ensures told { ClosesByCalls D.view executor (T.heard client.new) result.disk (C.view result.children) }
+    ensures told { ClosesByCalls D.view executor (T.heard client.new) result.disk
+        (C.view result.children) }
     ensures none_lives { (C.view result.children).live ≡ [] }
 {
     let ended = answer_lines(context, reader, client, &mut executor, report);

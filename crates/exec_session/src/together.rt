@@ -28,9 +28,11 @@ fn serve_gathered<D: Disk + Drop, C: Children + Drop, K: Clock, M>(
     gathered: &mut Gathered,
 )
     requires open { executor.old.is_open ≡ true }
-    ensures stands { StandsBehind D.view executor.old executor.new (map answered (replied gathered.new)) }
+    ensures stands { StandsBehind D.view executor.old executor.new
+        (map answered (replied gathered.new)) }
     ensures says { AllByRecursion (MayAnswer executor.new) (replied gathered.new) }
-    ensures serves { ServesTogether D.view (rules_of context.now) (waiting gathered.old) executor.old executor.new
+    ensures serves { ServesTogether D.view (rules_of context.now)
+        (waiting gathered.old) executor.old executor.new
         (replied gathered.new) }
     ensures none { waiting gathered.new ≡ [] }
 {

@@ -28,7 +28,8 @@ pub fn make_turn<D: Disk + Drop, C: Children + Drop, T: Client<D, C>, K, M>(
     ensures opened { (T.heard client.new).opened ≡ (T.heard client.old).opened }
     ensures made { IfOk result (λ end. MakesTurn D.view (rules_of context.now) now
         (spot executor.old (T.heard client.old)) (spot executor.new (T.heard client.new)) end) }
-    ensures breaks { OnErr result ((end : TurnEnd) × TurnHeard (HearsPart context.now.form) D.view (rules_of context.now) now
+    ensures breaks { OnErr result ((end : TurnEnd)
+        × TurnHeard (HearsPart context.now.form) D.view (rules_of context.now) now
         (spot executor.old (T.heard client.old)) (spot executor.new (T.heard client.new)) end) }
 {
     executor.clear_book();

@@ -13,7 +13,8 @@ use std::alloc::Allocator;
 
 /// The event, unless it is too large to be recorded.
 fn unless_too_large<A: Allocator>(event: Event<A>) -> Result<Event<A>, Refusal>
-    ensures { result ≡ (if nat_lt EVENT_LIMIT (length (spelled_event event)) then Err Refusal.TooLarge else Ok event) }
+    ensures { result ≡ (if nat_lt EVENT_LIMIT (length (spelled_event event))
+        then Err Refusal.TooLarge else Ok event) }
 {
     if event.spelled_len() > EVENT_LIMIT {
         return Err(Refusal::TooLarge);

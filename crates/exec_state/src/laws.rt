@@ -11,8 +11,10 @@ ghost use Rattle.exec_state.specs.Lawful.{IsLawfulStore};
 /// The due moments are a finite map from resource id and call: after each event the one that it makes of the map of
 /// before, and after an opening one moment for all monitors.
 pub fn due_moments()
-    ensures after { (s : Store) (e : Event) (id : List ℕ) (call : ℕ) → IsLawfulStore s → Applies s.state e
-        → due_of (monitors_after s.state e s.monitors) id call ≡ due_after s.state (due_of s.monitors) e id call }
+    ensures after { (s : Store) (e : Event) (id : List ℕ) (call : ℕ) → IsLawfulStore s
+        → Applies s.state e
+        → due_of (monitors_after s.state e s.monitors) id call
+        ≡ due_after s.state (due_of s.monitors) e id call }
     ensures restart { (s : State) (at : ℕ) (id : List ℕ) (call : ℕ)
         → due_of (monitors_due_at at s) id call ≡ due_at s at id call }
 {}

@@ -49,7 +49,8 @@ impl<A: Allocator + Copy> State<A> {
 impl<A: Allocator> Registered<A> {
     /// What it begins now, as it will run under that run number.
     fn pick(&self, run: RunId, at: Moment) -> Option<Running>
-        ensures { (call : Option ℕ) × IsPickOf self.now.ops.running self.now.ops.queue (pairs self.now.monitors) at call
+        ensures { (call : Option ℕ)
+            × IsPickOf self.now.ops.running self.now.ops.queue (pairs self.now.monitors) at call
             × (result ≡ run_of_pick at run (seen self.now) call) }
     {
         let call = self.choose(at)?;
@@ -58,7 +59,8 @@ impl<A: Allocator> Registered<A> {
 
     /// The call that it begins now, if any.
     fn choose(&self, now: Moment) -> Option<CallId>
-        ensures { IsPickOf self.now.ops.running self.now.ops.queue (pairs self.now.monitors) now result }
+        ensures { IsPickOf self.now.ops.running self.now.ops.queue
+            (pairs self.now.monitors) now result }
     {
         if self.ops.running().is_some() {
             return None;
@@ -71,7 +73,8 @@ impl<A: Allocator> Registered<A> {
 
     /// A moment before which it begins nothing, as long as it stays as it is.
     pub(crate) fn rests_until(&self) -> u64
-        ensures { (now : ℕ) → now < result → IsPickOf self.now.ops.running self.now.ops.queue (pairs self.now.monitors) now None }
+        ensures { (now : ℕ) → now < result
+            → IsPickOf self.now.ops.running self.now.ops.queue (pairs self.now.monitors) now None }
     {
         if self.ops.running().is_some() {
             return u64::MAX;

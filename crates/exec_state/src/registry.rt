@@ -81,7 +81,8 @@ impl<A: Allocator + Copy> Registry<A> {
         requires ids { IsDistinct bytes_eq (keys_of parts.items) }
         requires room { AllByRecursion (λ e. FitsRoom e.1) parts.items }
         ensures resources { IfOk result (λ r. r.resources ≡ parts.items) }
-        ensures monitors { IfOk result (λ r. r.monitors ≡ map (λ e. (e.0, all_due_at due e.1.recurring)) parts.items) }
+        ensures monitors { IfOk result
+            (λ r. r.monitors ≡ map (λ e. (e.0, all_due_at due e.1.recurring)) parts.items) }
     {
         let mut resources = IndexMap::new(alloc);
         for part in parts {
@@ -118,8 +119,10 @@ impl<A: Allocator + Copy> Registry<A> {
 
     /// The resource of that id.
     pub(crate) fn get(&self, id: &RscId) -> Option<&Registered<A>>
-        ensures resource { option_map (λ r. seen r.now) result ≡ lookup (bytes_eq id.now) self.now.resources }
-        ensures monitors { option_map (λ r. monitors_of r.now) result ≡ lookup (bytes_eq id.now) self.now.monitors }
+        ensures resource { option_map (λ r. seen r.now) result
+            ≡ lookup (bytes_eq id.now) self.now.resources }
+        ensures monitors { option_map (λ r. monitors_of r.now) result
+            ≡ lookup (bytes_eq id.now) self.now.monitors }
     {
         self.resources.get(id)
     }
@@ -135,9 +138,12 @@ impl<A: Allocator + Copy> Registry<A> {
     pub(crate) fn entry(&self, place: usize) -> (&RscId, &Registered<A>)
         requires { place < length self.now.resources }
         ensures id { result.0.now ≡ (slice_index_or self.now.resources place no_entry).0 }
-        ensures resource { seen result.1.now ≡ (slice_index_or self.now.resources place no_entry).1 }
-        ensures by_id { lookup (bytes_eq result.0.now) self.now.resources ≡ Some (seen result.1.now) }
-        ensures monitors { lookup (bytes_eq result.0.now) self.now.monitors ≡ Some (monitors_of result.1.now) }
+        ensures resource { seen result.1.now
+            ≡ (slice_index_or self.now.resources place no_entry).1 }
+        ensures by_id { lookup (bytes_eq result.0.now) self.now.resources
+            ≡ Some (seen result.1.now) }
+        ensures monitors { lookup (bytes_eq result.0.now) self.now.monitors
+            ≡ Some (monitors_of result.1.now) }
     {
         let _len = self.resources.len();
         match self.resources.get_index(place) {
@@ -182,7 +188,8 @@ impl<A: Allocator + Copy> Registry<A> {
     pub(crate) fn register(&mut self, registration: Registration<Params<A>>)
         requires absent { lookup (bytes_eq registration.id) self.old.resources ≡ None }
         requires ready { IsTrue self.old.ready }
-        ensures resources { self.new.resources ≡ self.old.resources ++ registered registration ∷ [] }
+        ensures resources { self.new.resources
+            ≡ self.old.resources ++ registered registration ∷ [] }
         ensures monitors { self.new.monitors ≡ self.old.monitors ++ (registration.id, []) ∷ [] }
     {
         let Some(ops) = self.next_ops.take() else {
@@ -199,7 +206,8 @@ impl<A: Allocator + Copy> Registry<A> {
     #[tactic(auto, using(crate::proofs::Resting::rest_before_0))]
     pub(crate) fn remove(&mut self, id: &RscId)
         ensures resources { self.new.resources ≡ others id.now self.old.resources }
-        ensures monitors { self.new.monitors ≡ filter (λ e. not (bytes_eq id.now e.0)) self.old.monitors }
+        ensures monitors { self.new.monitors ≡ filter
+            (λ e. not (bytes_eq id.now e.0)) self.old.monitors }
     {
         let _len = self.resources.len();
         self.rests_until = 0;
@@ -213,7 +221,8 @@ impl<A: Allocator + Copy> Registry<A> {
         ensures resources { self.new.resources ≡ at_id id.now (stepped at step) self.old.resources }
         ensures monitors { self.new.monitors
             ≡ at_id id.now (monitors_stepped at
-            (option_and_then (λ r. r.history.running) (lookup (bytes_eq id.now) self.old.resources)) step) self.old.monitors }
+            (option_and_then (λ r. r.history.running)
+            (lookup (bytes_eq id.now) self.old.resources)) step) self.old.monitors }
     {
         self.rests_until = 0;
         let Some(resource) = self.resources.get_mut(id) else {
@@ -225,7 +234,8 @@ impl<A: Allocator + Copy> Registry<A> {
     /// Boots every resource.
     #[tactic(auto, using(crate::proofs::Resting::rest_before_0))]
     pub(crate) fn boot(&mut self, at: Moment)
-        ensures resources { self.new.resources ≡ map (λ e. (e.0, on_history (booted at) e.1)) self.old.resources }
+        ensures resources { self.new.resources ≡ map
+            (λ e. (e.0, on_history (booted at) e.1)) self.old.resources }
         ensures monitors { self.new.monitors ≡ self.old.monitors }
     {
         self.rests_until = 0;
@@ -239,7 +249,8 @@ impl<A: Allocator + Copy> Registry<A> {
     /// Drops what a journal's first layout does not keep of each resource.
     #[tactic(auto, using(crate::proofs::Resting::rest_before_0))]
     pub(crate) fn in_first(&mut self)
-        ensures resources { self.new.resources ≡ map (λ e. (e.0, on_history (history_in First) e.1)) self.old.resources }
+        ensures resources { self.new.resources ≡ map
+            (λ e. (e.0, on_history (history_in First) e.1)) self.old.resources }
         ensures monitors { self.new.monitors ≡ self.old.monitors }
     {
         self.rests_until = 0;
@@ -254,7 +265,8 @@ impl<A: Allocator + Copy> Registry<A> {
     #[tactic(auto, using(crate::proofs::Resting::rest_before_0))]
     pub(crate) fn restart(&mut self, at: Moment)
         ensures resources { self.new.resources ≡ self.old.resources }
-        ensures monitors { self.new.monitors ≡ map (λ e. (e.0, all_due_at at e.1.recurring)) self.old.resources }
+        ensures monitors { self.new.monitors ≡ map
+            (λ e. (e.0, all_due_at at e.1.recurring)) self.old.resources }
     {
         self.rests_until = 0;
         let resources = &mut self.resources;
@@ -290,7 +302,8 @@ impl<A: Allocator + Copy> Registry<A> {
 
 /// The earlier of two moments that may be there.
 fn earlier(one: Option<u64>, other: Option<u64>) -> Option<u64>
-    ensures { (xs ys : List (ℕ × ℕ)) → IsFirstMoment xs one → IsFirstMoment ys other → IsFirstMoment (xs ++ ys) result }
+    ensures { (xs ys : List (ℕ × ℕ)) → IsFirstMoment xs one → IsFirstMoment ys other
+        → IsFirstMoment (xs ++ ys) result }
 {
     match (one, other) {
         (None, other) => other,
@@ -314,7 +327,8 @@ fn first_due<A: Allocator + Copy>(resources: &Resources<A>) -> Option<u64>
 
 /// A moment before which none of these has anything to begin.
 fn rests_until<A: Allocator + Copy>(resources: &Resources<A>) -> u64
-    ensures { RestBefore (seen_all resources.now.entries) (monitors_all resources.now.entries) result }
+    ensures { RestBefore (seen_all resources.now.entries)
+        (monitors_all resources.now.entries) result }
 {
     let mut until = u64::MAX;
     for place in 0..resources.len() {
@@ -339,9 +353,11 @@ fn insert<A: Allocator + Copy>(
     resource: Registered<A>,
 ) -> Result<(), AllocError>
     requires { lookup (bytes_eq id) (seen_all resources.old.entries) ≡ None }
-    ensures resources { OnOk result (seen_all resources.new.entries ≡ seen_all resources.old.entries ++ (id, seen resource) ∷ []) }
+    ensures resources { OnOk result (seen_all resources.new.entries
+        ≡ seen_all resources.old.entries ++ (id, seen resource) ∷ []) }
     ensures monitors { OnOk result
-        (monitors_all resources.new.entries ≡ monitors_all resources.old.entries ++ (id, resource.monitors) ∷ []) }
+        (monitors_all resources.new.entries
+        ≡ monitors_all resources.old.entries ++ (id, resource.monitors) ∷ []) }
     ensures succeeds { 0 < spare resources.old → IsOk result }
 {
     match resources.insert(id, resource) {

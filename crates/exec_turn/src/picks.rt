@@ -36,7 +36,8 @@ fn begin_at<A: Allocator + Copy>(
     at: Moment,
 ) -> Event<A>
     requires place { place < length state.now.state.resources }
-    ensures begin { result ≡ begin_of at (record { id = id_at state.now.state place; running = running.now }) }
+    ensures begin { result
+        ≡ begin_of at (record { id = id_at state.now.state place; running = running.now }) }
     ensures short { length (spelled_event result) ≤ longest_begin }
 {
     lengths();
@@ -61,7 +62,9 @@ fn start_of<A: Allocator + Copy, S: Allocator>(
 ) -> Result<Start<A>, AllocError>
     requires place { place < length state.now.state.resources }
     ensures start { IfOk result (IsStart site.now state.now.state) }
-    ensures what { IfOk result (λ start. what_starts start ≡ record { id = id_at state.now.state place; running = running }) }
+    ensures what { IfOk result
+        (λ start. what_starts start
+        ≡ record { id = id_at state.now.state place; running = running }) }
 {
     state.known();
     let instance = Instance {
@@ -89,7 +92,8 @@ pub(crate) fn pick_all<D: Disk + Drop, A: Allocator + Copy, S: Allocator>(
 ) -> TurnEnd
     requires row_room { length state.now.state.resources ≤ vec_capacity row.old }
     requires start_room { length state.now.state.resources ≤ vec_capacity starts.old }
-    ensures picked { Picked result state.now.state (dues state.now) (journal_place journal.now).tail at (all_starting starts.new.items) }
+    ensures picked { Picked result state.now.state (dues state.now)
+        (journal_place journal.now).tail at (all_starting starts.new.items) }
     ensures row { row.new.items ≡ begins at (all_starting starts.new.items) }
     ensures are_starts { AllByRecursion (IsStart site.now state.now.state) starts.new.items }
     ensures few { vec_len starts.new ≤ length state.now.state.resources }

@@ -31,7 +31,8 @@ fn ask<C: Children>(children: &mut C, running: &Running, at: Moment) -> Option<R
     requires room { 2 ≤ (C.view children.old).room }
     requires lives { Contains (C.view children.old).live running.now.run }
     ensures polled { (answer : Poll) × (kill : Result Unit KillFault) × IsPoll answer
-        × (C.view children.new ≡ polled_on at running.now answer kill (C.view children.old)) × (result ≡ ending at running.now answer) }
+        × (C.view children.new ≡ polled_on at running.now answer kill (C.view children.old))
+        × (result ≡ ending at running.now answer) }
 {
     match children.poll(running.run) {
         Poll::Exited(code) => Some(RunEnd::Done(code)),
@@ -60,12 +61,15 @@ fn poll_at<C: Children, A: Allocator + Copy>(
     requires place { place < length state.now.state.resources }
     requires lives { AllByRecursion (λ run. Contains (C.view children.old).live run)
         (runs_of (active_in (entry_at state.now.state place))) }
-    requires room { 2 * length (active_in (entry_at state.now.state place)) ≤ (C.view children.old).room }
+    requires room { 2 * length (active_in (entry_at state.now.state place))
+        ≤ (C.view children.old).room }
     requires row_room { vec_len row.old < vec_capacity row.old }
     requires notice_room { vec_len notices.old < vec_capacity notices.old }
     ensures polled { (more : List Event) × (told : List Notice)
-        × Polls at (active_in (entry_at state.now.state place)) (C.view children.old) (C.view children.new) more told
-        × (row.new.items ≡ row.old.items ++ more) × (notices.new.items ≡ notices.old.items ++ told) }
+        × Polls at (active_in (entry_at state.now.state place)) (C.view children.old)
+        (C.view children.new) more told
+        × (row.new.items ≡ row.old.items ++ more)
+        × (notices.new.items ≡ notices.old.items ++ told) }
     ensures row_few { vec_len row.new ≤ vec_len row.old + 1 }
     ensures notices_few { vec_len notices.new ≤ vec_len notices.old + 1 }
     ensures row_room { vec_capacity row.new ≡ vec_capacity row.old }
@@ -98,7 +102,8 @@ pub(crate) fn poll_all<C: Children, A: Allocator + Copy>(
     requires room { 2 * length (active state.now.state) ≤ (C.view children.old).room }
     requires row_room { length state.now.state.resources ≤ vec_capacity row.old }
     requires notice_room { length state.now.state.resources ≤ vec_capacity notices.old }
-    ensures polled { Polls at (active state.now.state) (C.view children.old) (C.view children.new) row.new.items notices.new.items }
+    ensures polled { Polls at (active state.now.state) (C.view children.old)
+        (C.view children.new) row.new.items notices.new.items }
     ensures few { vec_len notices.new ≤ length state.now.state.resources }
     ensures row_room { vec_capacity row.new ≡ vec_capacity row.old }
     ensures notice_room { vec_capacity notices.new ≡ vec_capacity notices.old }

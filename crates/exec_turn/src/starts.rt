@@ -39,9 +39,13 @@ fn start_one<D: Disk + Drop, C: Children, A: Allocator + Copy>(
     requires row_room { vec_len row.old < vec_capacity row.old }
     requires notice_room { vec_len notices.old < vec_capacity notices.old }
     ensures started { (answer : Result Unit StartFault)
-        × (C.view children.new ≡ after_start (C.view children.old) start.now.running.run (D.view (journal_disk journal.now)).clock answer)
-        × (row.new.items ≡ row.old.items ++ map (result_of at (what_starts start.now)) (refused_end answer))
-        × (notices.new.items ≡ notices.old.items ++ map (notice_of at (what_starts start.now)) (refused_end answer)) }
+        × (C.view children.new
+        ≡ after_start (C.view children.old) start.now.running.run
+        (D.view (journal_disk journal.now)).clock answer)
+        × (row.new.items ≡ row.old.items ++ map (result_of at (what_starts start.now))
+        (refused_end answer))
+        × (notices.new.items ≡ notices.old.items ++ map (notice_of at (what_starts start.now))
+        (refused_end answer)) }
     ensures row_len { vec_len row.new ≤ vec_len row.old + 1 }
     ensures notice_len { vec_len notices.new ≤ vec_len notices.old + 1 }
     ensures row_room { vec_capacity row.new ≡ vec_capacity row.old }
@@ -80,7 +84,8 @@ pub(crate) fn start_all<D: Disk + Drop, C: Children, A: Allocator + Copy>(
     requires row_room { length starts.now ≤ vec_capacity row.old }
     requires notice_room { vec_len notices.old + length starts.now ≤ vec_capacity notices.old }
     ensures started { (told : List Notice)
-        × Starts at (D.view (journal_disk journal.now)).clock (all_starting starts.now) (C.view children.old)
+        × Starts at (D.view (journal_disk journal.now)).clock (all_starting starts.now)
+        (C.view children.old)
         (C.view children.new) row.new.items told
         × (notices.new.items ≡ notices.old.items ++ told) }
     ensures row_room { vec_capacity row.new ≡ vec_capacity row.old }

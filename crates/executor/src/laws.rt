@@ -33,38 +33,53 @@ use exec_journal::laws::{found_once, what_stands};
 /// in. So it holds while none of its replies tells of a want that resources share, each turn ends done, and moments do not go
 /// back; what the others are told does not matter.
 pub fn each_alone<D: Disk>()
-    ensures alone { (x z : Sight D) (inputs : List Input) (replies : List Reply) (d : Effects) (id : List ℕ)
-        → DistinctKeys x.state → Session D.view x inputs replies z d → AllByRecursion (λ p. IsPlain p.1) (part id inputs replies)
+    ensures alone { (x z : Sight D) (inputs : List Input) (replies : List Reply) (d : Effects)
+        (id : List ℕ)
+        → DistinctKeys x.state → Session D.view x inputs replies z d
+        → AllByRecursion (λ p. IsPlain p.1) (part id inputs replies)
         → AreRising x.state.clock inputs
-        → Alone id (isolated_of x id) (part id inputs replies) (entries_of_runs (own_runs id x.state d.events) d.entries)
+        → Alone id (isolated_of x id) (part id inputs replies)
+        (entries_of_runs (own_runs id x.state d.events) d.entries)
         (events_of id d.events) }
     // it stands then where the session ends
-    ensures ends { (x z : Sight D) (inputs : List Input) (replies : List Reply) (d : Effects) (id : List ℕ)
-        → Session D.view x inputs replies z d → AllByRecursion (λ p. IsPlain p.1) (part id inputs replies) → AreRising x.state.clock inputs
-        → StandsAt (isolated_after_all (isolated_of x id) (events_of id d.events)) (isolated_of z id) }
+    ensures ends { (x z : Sight D) (inputs : List Input) (replies : List Reply) (d : Effects)
+        (id : List ℕ)
+        → Session D.view x inputs replies z d
+        → AllByRecursion (λ p. IsPlain p.1) (part id inputs replies)
+        → AreRising x.state.clock inputs
+        → StandsAt (isolated_after_all (isolated_of x id) (events_of id d.events))
+        (isolated_of z id) }
     // and so of commands in a row
-    ensures row { (now : ℕ) (x : Sight D) (commands : List Command) (replies : List Reply) (es : List Event) (id : List ℕ)
-        → Answered now x.state commands replies es → AllByRecursion (λ p. IsPlain p.1) (part id (inputs_at now commands) replies)
-        → x.state.clock ≤ cut now → Alone id (isolated_of x id) (part id (inputs_at now commands) replies) [] (events_of id es) }
+    ensures row { (now : ℕ) (x : Sight D) (commands : List Command) (replies : List Reply)
+        (es : List Event) (id : List ℕ)
+        → Answered now x.state commands replies es
+        → AllByRecursion (λ p. IsPlain p.1) (part id (inputs_at now commands) replies)
+        → x.state.clock ≤ cut now
+        → Alone id (isolated_of x id) (part id (inputs_at now commands) replies) []
+        (events_of id es) }
 {}
 
 /// A resource's part of one session and its part of another, which begins where the first one ends, are one run of the machine
 /// that has this resource alone.
 pub fn parts_join()
-    ensures { (id : List ℕ) (x y : Isolated) (is js : List (Input × Reply)) (es fs : List Entry) (vs us : List Event) → Alone id x is es vs
-        → StandsAt (isolated_after_all x vs) y → Alone id y js fs us → Alone id x (is ++ js) (es ++ fs) (vs ++ us) }
+    ensures { (id : List ℕ) (x y : Isolated) (is js : List (Input
+        × Reply)) (es fs : List Entry) (vs us : List Event) → Alone id x is es vs
+        → StandsAt (isolated_after_all x vs) y → Alone id y js fs us
+        → Alone id x (is ++ js) (es ++ fs) (vs ++ us) }
 {}
 
 /// A session is the calls of its inputs.
 pub fn session_is_calls<D: Disk>()
-    ensures { (x z : Sight D) (inputs : List Input) (replies : List Reply) (d : Effects) → Session D.view x inputs replies z d
+    ensures { (x z : Sight D) (inputs : List Input) (replies : List Reply) (d : Effects)
+        → Session D.view x inputs replies z d
         → Calls D.view x (as_calls inputs replies) z d }
 {}
 
 /// A state is apart that is lawful and whose running actions each have an agent of their own: so is each state of an open
 /// executor.
 pub fn distinct_keys()
-    ensures apart { (s : State) (live : List ℕ) → IsLawfulState s → AgentsLive s live → DistinctKeys s }
+    ensures apart { (s : State) (live : List ℕ) → IsLawfulState s → AgentsLive s live
+        → DistinctKeys s }
 {}
 
 /// Behind a whole life, of openings, calls and stops at any moment, every pair that may be left is found as the state after
@@ -81,21 +96,30 @@ pub fn distinct_keys()
 /// and a journal of the first layout, with what it leads to.
 pub fn whole_life<D: Disk>()
     ensures fresh { (c : Image) → IsFreshPair c → BeginsAs empty c }
-    ensures first { (start : State) (c : Image) → FoundAs start c → IsFirstPart c → BeginsAs start c }
-    ensures stands { (start : State) (life : List (Sitting D)) → IsLife D.view start life → (c : Image) → LifeLeaves D.view start life c
+    ensures first { (start : State) (c : Image) → FoundAs start c → IsFirstPart c
+        → BeginsAs start c }
+    ensures stands { (start : State) (life : List (Sitting D)) → IsLife D.view start life
+        → (c : Image) → LifeLeaves D.view start life c
         → (zs : List Event) × Lived start life zs × FoundAs (after_all start zs) c }
-    ensures roomy { (start : State) (life : List (Sitting D)) → IsLife D.view start life → (c : Image) → LifeLeaves D.view start life c
+    ensures roomy { (start : State) (life : List (Sitting D)) → IsLife D.view start life
+        → (c : Image) → LifeLeaves D.view start life c
         → Roomy c }
-    ensures opened { (start : State) (life : List (Sitting D)) (old : D) (from : ChildrenView) (now : ℕ) (x : Sight D) (ran queued : List Notice)
-        → IsLife D.view start life → GoesOnFrom D.view start life old → Opened D.view (D.view old) from now x ran queued
+    ensures opened { (start : State) (life : List (Sitting D)) (old : D) (from : ChildrenView)
+        (now : ℕ) (x : Sight D) (ran queued : List Notice)
+        → IsLife D.view start life → GoesOnFrom D.view start life old
+        → Opened D.view (D.view old) from now x ran queued
         → (D.view x.disk).honest → OpensBehind start life now x.state ran queued }
-    ensures not_refused { (start : State) (life : List (Sitting D)) (old new : D) (from to : ChildrenView) (now : ℕ) (fault : OpenError)
+    ensures not_refused { (start : State) (life : List (Sitting D)) (old new : D)
+        (from to : ChildrenView) (now : ℕ) (fault : OpenError)
         → IsLife D.view start life
-        → GoesOnFrom D.view start life old → NotOpened (D.view old) (D.view new) from to now fault → (D.view new).honest
+        → GoesOnFrom D.view start life old → NotOpened (D.view old) (D.view new) from to now fault
+        → (D.view new).honest
         → (fault ≢ why.Full) × ((d : Damage) → fault ≢ why.Damaged d) }
     ensures refused { (old new : D) (from to : ChildrenView) (now : ℕ) (fault : OpenError)
-        → NotOpened (D.view old) (D.view new) from to now fault → Sat D.view (InOpening old new now (Some fault)) }
-    ensures looked { (old new : D) (now : ℕ) (end : Option OpenError) → Opens (D.view old) (D.view new)
+        → NotOpened (D.view old) (D.view new) from to now fault
+        → Sat D.view (InOpening old new now (Some fault)) }
+    ensures looked { (old new : D) (now : ℕ) (end : Option OpenError)
+        → Opens (D.view old) (D.view new)
         → Sat D.view (InOpening old new now end) }
 {
     found_once();

@@ -16,20 +16,24 @@ use ocf_types::laws::{lawful_states, layouts};
 
 /// What stands of a run of the machine from a lawful state applies, each change behind those before it.
 pub fn runs_apply()
-    ensures { (start : State) (xs : List Seen) (zs : List Event) → IsLawfulState start → Runs start xs zs → Follow start zs }
+    ensures { (start : State) (xs : List Seen) (zs : List Event) → IsLawfulState start
+        → Runs start xs zs → Follow start zs }
 {}
 
 /// What openings report as interrupted is what boots tell, each at most once and in their order. What is left out is what boots
 /// tell of openings that were refused or stopped, which report nothing.
 pub fn reports_told()
-    ensures { (start : State) (xs : List Seen) (zs : List Event) → Runs start xs zs → IsWithin (reports xs) (interruptions start zs) }
+    ensures { (start : State) (xs : List Seen) (zs : List Event) → Runs start xs zs
+        → IsWithin (reports xs) (interruptions start zs) }
 {}
 
 /// Each life is a run of the machine: whatever its last stop leaves is found as the state after what stands of such a run, in
 /// which each call was answered as in the life, and each opening reported the same. What stands is what stands of the life.
 pub fn lives_are_runs<D: Disk>()
-    ensures { (start : State) (life : List (Sitting D)) (is : IsLife D.view start life) (c : Image) → LifeLeaves D.view start life c
-        → (zs : List Event) × Runs start (seen D.view start life is) zs × Lived start life zs × FoundAs (after_all start zs) c }
+    ensures { (start : State) (life : List (Sitting D)) (is : IsLife D.view start life) (c : Image)
+        → LifeLeaves D.view start life c
+        → (zs : List Event) × Runs start (seen D.view start life is) zs × Lived start life zs
+        × FoundAs (after_all start zs) c }
 {
     found_once();
     what_stands();
@@ -39,8 +43,10 @@ pub fn lives_are_runs<D: Disk>()
 /// two begins of a resource stands its result or a boot; a run that has no end before a boot is told as interrupted by that boot
 /// alone; and queued actions began in the order of their calls.
 pub fn lives_in_order<D: Disk>()
-    ensures { (start : State) (life : List (Sitting D)) (is : IsLife D.view start life) (c : Image) → LifeLeaves D.view start life c
-        → (zs : List Event) × Lived start life zs × FoundAs (after_all start zs) c × IsInOrder start zs }
+    ensures { (start : State) (life : List (Sitting D)) (is : IsLife D.view start life) (c : Image)
+        → LifeLeaves D.view start life c
+        → (zs : List Event) × Lived start life zs × FoundAs (after_all start zs) c
+        × IsInOrder start zs }
 {
     found_once();
     what_stands();

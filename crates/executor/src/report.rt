@@ -24,7 +24,8 @@ fn push_interrupted<A: Allocator + Copy>(
     at: Moment,
 ) -> Result<(), AllocError>
     requires place { place < length state.now.state.resources }
-    ensures pushed { OnOk result (notices.new.items ≡ notices.old.items ++ interrupted_in at (entry_at state.now.state place)) }
+    ensures pushed { OnOk result (notices.new.items
+        ≡ notices.old.items ++ interrupted_in at (entry_at state.now.state place)) }
 {
     if let Some(running) = state.running_at(place) {
         let result = ended_of(running, Outcome::Interrupted, at);
@@ -43,7 +44,8 @@ fn push_dropped<A: Allocator + Copy>(
     at: Moment,
 ) -> Result<(), AllocError>
     requires place { place < length state.now.state.resources }
-    ensures pushed { OnOk result (notices.new.items ≡ notices.old.items ++ dropped_in at (entry_at state.now.state place)) }
+    ensures pushed { OnOk result (notices.new.items
+        ≡ notices.old.items ++ dropped_in at (entry_at state.now.state place)) }
 {
     for i in 0..state.queue_len(place) {
         let result = dropped_of(state.queued_at(place, i), at);
@@ -57,7 +59,8 @@ impl<A: Allocator + Copy> Report<A> {
     /// What an opening at that moment says of the state that it found. The only error is want of memory.
     #[tactic(auto, using(crate::proofs::Openings::Reporting::told_more))]
     pub(crate) fn of(alloc: A, state: &State<A>, at: Moment) -> Result<Report<A>, AllocError>
-        ensures interrupted { IfOk result (λ r. r.interrupted.items ≡ interrupted state.now.state at) }
+        ensures interrupted { IfOk result
+            (λ r. r.interrupted.items ≡ interrupted state.now.state at) }
         ensures dropped { IfOk result (λ r. r.dropped.items ≡ dropped state.now.state at) }
     {
         let mut interrupted = Vec::new(alloc);

@@ -48,7 +48,8 @@ impl<D: Disk + Drop, C: Children + Drop, A: Allocator + Copy> Executor<D, C, A> 
             × Sits D.view inputs.items self.old self.new given) }
         // without memory for the replies nothing was done
         ensures refused { IfErr result
-            (λ back. (back ≡ inputs) × (self.new ≡ self.old) × (replies.new.items ≡ replies.old.items)) }
+            (λ back. (back ≡ inputs) × (self.new ≡ self.old)
+            × (replies.new.items ≡ replies.old.items)) }
     {
         what_stands();
         self.known();

@@ -129,14 +129,18 @@ impl<R: Files<File = File> + Copy, A: Allocator + Copy> Disk for FileDisk<R, A> 
     /// It stays honest where the length is right.
     fn len(&mut self, part: Part) -> Result<u64, DiskFault>
         ensures limit { IfOk result (λ n. n ≤ PART_LIMIT) }
-        ensures length { (view_of self.new).honest → IfOk result (λ n. n ≡ length (bytes_of part (view_of self.old).reads)) }
+        ensures length { (view_of self.new).honest
+            → IfOk result (λ n. n ≡ length (bytes_of part (view_of self.old).reads)) }
         ensures unwritten { Unwritten (view_of self.old) (view_of self.new) }
         ensures called { Called (view_of self.old) (view_of self.new) result }
         ensures noted { IfOk result (λ n. Notes (Call.Measured part n) [] self.old self.new) }
-        ensures failed { (IsStopped self.old → ⊥) → OnErr result (Notes Call.Failed [] self.old self.new) }
-        ensures stopped { IsStopped self.old → IsErr result × Notes Call.Refused [] self.old self.new }
+        ensures failed { (IsStopped self.old → ⊥)
+            → OnErr result (Notes Call.Failed [] self.old self.new) }
+        ensures stopped { IsStopped self.old → IsErr result
+            × Notes Call.Refused [] self.old self.new }
         ensures tells { Tells (λ p. is_some p ≡ true) self.old self.new result }
-        ensures stays { (view_of self.old).honest → IfOk result (λ n. n ≡ length (bytes_of part (view_of self.old).reads))
+        ensures stays { (view_of self.old).honest
+            → IfOk result (λ n. n ≡ length (bytes_of part (view_of self.old).reads))
             → (view_of self.new).honest }
     {
         if !self.log.goes_on() {
@@ -155,15 +159,19 @@ impl<R: Files<File = File> + Copy, A: Allocator + Copy> Disk for FileDisk<R, A> 
     fn read_at(&mut self, part: Part, at: u64, buf: &mut [u8]) -> Result<(), DiskFault>
         requires range { at + length buf.old ≤ PART_LIMIT }
         ensures read { (view_of self.new).honest
-            → OnOk result (buf.new ≡ take (length buf.old) (drop at (bytes_of part (view_of self.old).reads))) }
+            → OnOk result (buf.new
+            ≡ take (length buf.old) (drop at (bytes_of part (view_of self.old).reads))) }
         ensures unwritten { Unwritten (view_of self.old) (view_of self.new) }
         ensures called { Called (view_of self.old) (view_of self.new) result }
         ensures noted { OnOk result (Notes (Call.Read part at) buf.new self.old self.new) }
-        ensures failed { (IsStopped self.old → ⊥) → OnErr result (Notes Call.Failed [] self.old self.new) }
-        ensures stopped { IsStopped self.old → IsErr result × Notes Call.Refused [] self.old self.new }
+        ensures failed { (IsStopped self.old → ⊥)
+            → OnErr result (Notes Call.Failed [] self.old self.new) }
+        ensures stopped { IsStopped self.old → IsErr result
+            × Notes Call.Refused [] self.old self.new }
         ensures tells { Tells (λ p. p ≡ Some part) self.old self.new result }
         ensures stays { (view_of self.old).honest
-            → OnOk result (buf.new ≡ take (length buf.old) (drop at (bytes_of part (view_of self.old).reads)))
+            → OnOk result (buf.new
+            ≡ take (length buf.old) (drop at (bytes_of part (view_of self.old).reads)))
             → (view_of self.new).honest }
     {
         if !self.log.goes_on() {
@@ -181,13 +189,16 @@ impl<R: Files<File = File> + Copy, A: Allocator + Copy> Disk for FileDisk<R, A> 
     /// What reads changes only where the write succeeds. It stays honest.
     fn write_at(&mut self, part: Part, at: u64, bytes: &[u8]) -> Result<(), DiskFault>
         requires range { at + length bytes.now ≤ PART_LIMIT }
-        ensures written { OnOk result (Written part at bytes.now (view_of self.old).reads (view_of self.new).reads) }
+        ensures written { OnOk result
+            (Written part at bytes.now (view_of self.old).reads (view_of self.new).reads) }
         ensures same { OnErr result ((view_of self.new).reads ≡ (view_of self.old).reads) }
         ensures tears { Tears part at (length bytes.now) (view_of self.old) (view_of self.new) }
         ensures called { Called (view_of self.old) (view_of self.new) result }
         ensures noted { OnOk result (Notes (Call.Wrote part at) bytes.now self.old self.new) }
-        ensures tried { (IsStopped self.old → ⊥) → OnErr result (Notes (Call.Tried part at) bytes.now self.old self.new) }
-        ensures stopped { IsStopped self.old → IsErr result × Notes Call.Refused [] self.old self.new }
+        ensures tried { (IsStopped self.old → ⊥)
+            → OnErr result (Notes (Call.Tried part at) bytes.now self.old self.new) }
+        ensures stopped { IsStopped self.old → IsErr result
+            × Notes Call.Refused [] self.old self.new }
         ensures tells { Tells (λ p. p ≡ Some part) self.old self.new result }
         ensures stays { (view_of self.old).honest → (view_of self.new).honest }
     {
@@ -209,8 +220,10 @@ impl<R: Files<File = File> + Copy, A: Allocator + Copy> Disk for FileDisk<R, A> 
         ensures unwritten { Unwritten (view_of self.old) (view_of self.new) }
         ensures called { Called (view_of self.old) (view_of self.new) result }
         ensures noted { OnOk result (Notes (Call.Synced part) [] self.old self.new) }
-        ensures failed { (IsStopped self.old → ⊥) → OnErr result (Notes Call.Failed [] self.old self.new) }
-        ensures stopped { IsStopped self.old → IsErr result × Notes Call.Refused [] self.old self.new }
+        ensures failed { (IsStopped self.old → ⊥)
+            → OnErr result (Notes Call.Failed [] self.old self.new) }
+        ensures stopped { IsStopped self.old → IsErr result
+            × Notes Call.Refused [] self.old self.new }
         ensures tells { Tells (λ p. p ≡ Some part) self.old self.new result }
         ensures stays { (view_of self.old).honest → (view_of self.new).honest }
     {

@@ -47,7 +47,8 @@ impl Log {
 
     /// Whether another call is made: none failed so far, and one more can be counted.
     pub fn goes_on(&self) -> bool
-        ensures { IsTrue result ↔ ((log_view self.now).clock < LAST) × ((log_view self.now).failures ≡ 0) }
+        ensures { IsTrue result ↔ ((log_view self.now).clock < LAST)
+            × ((log_view self.now).failures ≡ 0) }
     {
         self.clock < u64::MAX && self.failures == 0
     }

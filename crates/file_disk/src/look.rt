@@ -111,7 +111,8 @@ fn look<R: Files<File = File>, A: Allocator + Copy>(
     alloc: A,
     dir: &str,
 ) -> Result<Option<RamDisk<A>>, OpenFault>
-    ensures { IfOk result (λ found. IfSome found (λ d. IsFresh (view_of d).reads d × (view_of d).honest)) }
+    ensures { IfOk result
+        (λ found. IfSome found (λ d. IsFresh (view_of d).reads d × (view_of d).honest)) }
 {
     let a = Sight::of(rt, alloc, dir, Part::A)?;
     let b = Sight::of(rt, alloc, dir, Part::B)?;

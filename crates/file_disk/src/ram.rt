@@ -42,7 +42,8 @@ impl<A: Allocator + Copy> RamDisk<A> {
 
     /// A disk with these bytes, all of them synced. Bytes past the limit of a part are no part of it. It takes no memory.
     pub fn from_parts(mut a: Vec<u8, A>, mut b: Vec<u8, A>) -> RamDisk<A>
-        ensures fresh { IsFresh (record { a = take PART_LIMIT a.items; b = take PART_LIMIT b.items }) result }
+        ensures fresh { IsFresh
+            (record { a = take PART_LIMIT a.items; b = take PART_LIMIT b.items }) result }
         ensures honest { (view_of result).honest }
     {
         a.truncate(PART_LIMIT as usize);
@@ -89,7 +90,8 @@ impl<A: Allocator + Copy> Disk for RamDisk<A> {
     fn read_at(&mut self, part: Part, at: u64, buf: &mut [u8]) -> Result<(), DiskFault>
         requires range { at + length buf.old ≤ PART_LIMIT }
         requires within { at + length buf.old ≤ length (bytes_of part (view_of self.old).reads) }
-        ensures read { OnOk result (buf.new ≡ take (length buf.old) (drop at (bytes_of part (view_of self.old).reads))) }
+        ensures read { OnOk result (buf.new
+            ≡ take (length buf.old) (drop at (bytes_of part (view_of self.old).reads))) }
         ensures unwritten { Unwritten (view_of self.old) (view_of self.new) }
         ensures called { Called (view_of self.old) (view_of self.new) result }
         ensures faults { IsErr result ↔ IsStopped self.old }
@@ -108,7 +110,8 @@ impl<A: Allocator + Copy> Disk for RamDisk<A> {
     fn write_at(&mut self, part: Part, at: u64, bytes: &[u8]) -> Result<(), DiskFault>
         requires range { at + length bytes.now ≤ PART_LIMIT }
         requires begins { at ≤ length (bytes_of part (view_of self.old).reads) }
-        ensures written { OnOk result (Written part at bytes.now (view_of self.old).reads (view_of self.new).reads) }
+        ensures written { OnOk result
+            (Written part at bytes.now (view_of self.old).reads (view_of self.new).reads) }
         ensures same { OnErr result ((view_of self.new).reads ≡ (view_of self.old).reads) }
         ensures tears { Tears part at (length bytes.now) (view_of self.old) (view_of self.new) }
         ensures called { Called (view_of self.old) (view_of self.new) result }

@@ -19,7 +19,8 @@ pub enum Call<'a> {
 
 fn agent_of(kind: Option<&str>) -> Option<Agent>
     ensures found { IfSome result (Types (option_map (λ s. s.now) kind.entry)) }
-    ensures none { IfNone result ((agent : Agent) → ¬ (Types (option_map (λ s. s.now) kind.entry) agent)) }
+    ensures none { IfNone result ((agent : Agent)
+        → ¬ (Types (option_map (λ s. s.now) kind.entry) agent)) }
 {
     match kind {
         Some(kind) => Agent::of(kind),

@@ -11,20 +11,26 @@ use ocf_types::Action;
 /// What a monitor says after another action: a start of what did not run leaves it running and unpromoted, a stop leaves it
 /// not running, and a promotion or a demotion of what runs leaves it in that role.
 pub fn monitor_follows(agent: Agent, held: Held)
-    ensures start { code_for agent Action.Monitor (held_by agent Action.Start Held.Absent) ≡ Code.Success }
-    ensures stop { code_for agent Action.Monitor (held_by agent Action.Stop held) ≡ Code.NotRunning }
+    ensures start { code_for agent Action.Monitor (held_by agent Action.Start Held.Absent)
+        ≡ Code.Success }
+    ensures stop { code_for agent Action.Monitor (held_by agent Action.Stop held)
+        ≡ Code.NotRunning }
     ensures promote { held ≢ Held.Absent
-        → code_for Agent.Stateful Action.Monitor (held_by Agent.Stateful Action.Promote held) ≡ Code.RunningPromoted }
+        → code_for Agent.Stateful Action.Monitor (held_by Agent.Stateful Action.Promote held)
+        ≡ Code.RunningPromoted }
     ensures demote { held ≢ Held.Absent
-        → code_for Agent.Stateful Action.Monitor (held_by Agent.Stateful Action.Demote held) ≡ Code.Success }
+        → code_for Agent.Stateful Action.Monitor (held_by Agent.Stateful Action.Demote held)
+        ≡ Code.Success }
 {}
 
 /// A start and a stop may come again: they succeed, and the second changes nothing.
 pub fn may_come_again(agent: Agent, held: Held)
     ensures started { code_for agent Action.Start held ≡ Code.Success }
     ensures stopped { code_for agent Action.Stop held ≡ Code.Success }
-    ensures start { held_by agent Action.Start (held_by agent Action.Start held) ≡ held_by agent Action.Start held }
-    ensures stop { held_by agent Action.Stop (held_by agent Action.Stop held) ≡ held_by agent Action.Stop held }
+    ensures start { held_by agent Action.Start (held_by agent Action.Start held)
+        ≡ held_by agent Action.Start held }
+    ensures stop { held_by agent Action.Stop (held_by agent Action.Stop held)
+        ≡ held_by agent Action.Stop held }
 {}
 
 /// A monitor, a validation and a reload change nothing, and neither does what the agent lacks.

@@ -18,7 +18,8 @@ pub fn rows_are_read()
 /// A monitor may end with the code that is expected of it, and no code is expected by two expectations.
 pub fn one_expectation()
     ensures own { (x : Expect) → is_expected Monitor x (expect_code x) ≡ true }
-    ensures one { (x y : Expect) (code : ℕ) → is_expected Monitor x code ≡ true → is_expected Monitor y code ≡ true → x ≡ y }
+    ensures one { (x y : Expect) (code : ℕ) → is_expected Monitor x code ≡ true
+        → is_expected Monitor y code ≡ true → x ≡ y }
 {}
 
 /// A run has failed just where the code that stands for its end is not expected: one that gave no code by itself, too.

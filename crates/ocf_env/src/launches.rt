@@ -44,7 +44,8 @@ fn action_variables<A: Allocator + Copy, S: Allocator, P: Allocator>(
 ) -> Result<Pairs<A>, AllocError>
     ensures sorted { IfOk result (λ e. IsTrue (are_ascending e.items)) }
     ensures variables { IfOk result
-        (λ e. (name value : List ℕ) → Contains e.items (name, value) ↔ IsVariable site.now (registered instance.now) task name value) }
+        (λ e. (name value : List ℕ) → Contains e.items (name, value)
+        ↔ IsVariable site.now (registered instance.now) task name value) }
 {
     let mut pairs = Vec::new(alloc);
     push_level(alloc, &mut pairs, task)?;
@@ -64,7 +65,8 @@ fn given_variables<A: Allocator + Copy, S: Allocator, P: Allocator>(
 ) -> Result<Pairs<A>, AllocError>
     ensures sorted { IfOk result (λ e. IsTrue (are_ascending e.items)) }
     ensures variables { IfOk result
-        (λ e. (name value : List ℕ) → Contains e.items (name, value) ↔ IsGiven site.now (registered instance.now) running name value) }
+        (λ e. (name value : List ℕ) → Contains e.items (name, value)
+        ↔ IsGiven site.now (registered instance.now) running name value) }
 {
     let mut pairs = action_variables(alloc, site, instance, running.task)?;
     if !site.meta() {
@@ -82,7 +84,8 @@ fn meta_variables<A: Allocator + Copy, S: Allocator>(
 ) -> Result<Pairs<A>, AllocError>
     ensures sorted { IfOk result (λ e. IsTrue (are_ascending e.items)) }
     ensures variables { IfOk result
-        (λ e. (name value : List ℕ) → Contains e.items (name, value) ↔ IsAgentVariable site.now provider.now agent.now name value) }
+        (λ e. (name value : List ℕ) → Contains e.items (name, value)
+        ↔ IsAgentVariable site.now provider.now agent.now name value) }
 {
     let mut pairs = Vec::new(alloc);
     push_version(alloc, &mut pairs)?;
@@ -101,7 +104,8 @@ pub fn launch<A: Allocator + Copy, S: Allocator, P: Allocator>(
     instance: &Instance<'_, Params<P>>,
     running: Running,
 ) -> Result<Launch<A>, AllocError>
-    ensures invocation { IfOk result (λ l. IsInvocation site.now (registered instance.now) running l.invocation) }
+    ensures invocation { IfOk result
+        (λ l. IsInvocation site.now (registered instance.now) running l.invocation) }
     ensures id { IfOk result (λ l. l.id ≡ instance.now.id.now) }
     ensures call { IfOk result (λ l. l.call ≡ running.call) }
     ensures run { IfOk result (λ l. l.run ≡ running.run) }
@@ -126,12 +130,16 @@ pub fn launch_meta<A: Allocator + Copy, S: Allocator>(
     provider: &Provider,
     agent: &AgentType,
 ) -> Result<Invocation<A>, AllocError>
-    ensures program { IfOk result (λ i. i.program ≡ program_at site.now.via (agent_path site.now.root provider.now agent.now)) }
+    ensures program { IfOk result
+        (λ i. i.program ≡ program_at site.now.via
+        (agent_path site.now.root provider.now agent.now)) }
     ensures arguments { IfOk result
-        (λ i. i.arguments ≡ arguments_at site.now.via (agent_path site.now.root provider.now agent.now) (codes "meta-data")) }
+        (λ i. i.arguments ≡ arguments_at site.now.via
+        (agent_path site.now.root provider.now agent.now) (codes "meta-data")) }
     ensures sorted { IfOk result (λ i. IsTrue (are_ascending i.environment)) }
     ensures variables { IfOk result
-        (λ i. (name value : List ℕ) → Contains i.environment (name, value) ↔ IsAgentVariable site.now provider.now agent.now name value) }
+        (λ i. (name value : List ℕ) → Contains i.environment (name, value)
+        ↔ IsAgentVariable site.now provider.now agent.now name value) }
 {
     let environment = meta_variables(alloc, site, provider, agent)?;
     let file = agent_file(alloc, site, provider, agent)?;

@@ -13,17 +13,21 @@ ghost use Rattle.ocf_env.specs.Variables.{IsVariable, reskey};
 pub fn no_shadow()
     ensures parameters { (site : SiteView) (r : Registration) (task : Task) (name value : List ℕ)
         → IsVariable site r task (reskey name) value → Contains r.params (name, value) }
-    ensures one_value { (site : SiteView) (r : Registration) (task : Task) (name v w : List ℕ) → AreParams r.params
+    ensures one_value { (site : SiteView) (r : Registration) (task : Task) (name v w : List ℕ)
+        → AreParams r.params
         → IsVariable site r task name v → IsVariable site r task name w → v ≡ w }
 {}
 
 /// Without Pacemaker's variables an action is given just its own; with them no name has two values, and a parameter of one
 /// of their names has the value that it was given.
 pub fn meta_beside()
-    ensures without { (site : SiteView) (r : Registration) (running : Running) (name value : List ℕ) → site.meta ≡ false
+    ensures without { (site : SiteView) (r : Registration) (running : Running) (name value : List ℕ)
+        → site.meta ≡ false
         → IsGiven site r running name value ↔ IsVariable site r running.task name value }
-    ensures one_value { (site : SiteView) (r : Registration) (running : Running) (name v w : List ℕ) → AreParams r.params
+    ensures one_value { (site : SiteView) (r : Registration) (running : Running) (name v w : List ℕ)
+        → AreParams r.params
         → IsGiven site r running name v → IsGiven site r running name w → v ≡ w }
-    ensures parameters { (site : SiteView) (r : Registration) (running : Running) (name own value : List ℕ) → AreParams r.params
+    ensures parameters { (site : SiteView) (r : Registration) (running : Running)
+        (name own value : List ℕ) → AreParams r.params
         → Contains r.params (name, own) → IsGiven site r running (reskey name) value → value ≡ own }
 {}

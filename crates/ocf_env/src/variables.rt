@@ -69,7 +69,8 @@ fn push_param<A: Allocator + Copy, P: Allocator>(
     pairs: &mut Pairs<A>,
     param: &(ParamName, ParamValue<P>),
 ) -> Result<(), AllocError>
-    ensures { OnOk result (pairs.new.items ≡ pairs.old.items ++ (reskey param.now.0, param.now.1) ∷ []) }
+    ensures { OnOk result (pairs.new.items
+        ≡ pairs.old.items ++ (reskey param.now.0, param.now.1) ∷ []) }
 {
     let name = joined(alloc, "OCF_RESKEY_", ascii(param.0.as_bytes()))?;
     let value = copied(alloc, param.1.as_str())?;
@@ -112,7 +113,8 @@ fn push_agent<A: Allocator + Copy>(
     provider: &Provider,
     agent: &AgentType,
 ) -> Result<(), AllocError>
-    ensures { OnOk result (pairs.new.items ≡ pairs.old.items ++ agent_pairs provider.now agent.now) }
+    ensures { OnOk result (pairs.new.items
+        ≡ pairs.old.items ++ agent_pairs provider.now agent.now) }
 {
     push_pair(
         alloc,
@@ -143,7 +145,8 @@ pub fn push_last<A: Allocator + Copy, S: Allocator>(
     provider: &Provider,
     agent: &AgentType,
 ) -> Result<(), AllocError>
-    ensures { OnOk result (pairs.new.items ≡ pairs.old.items ++ last_pairs site.now provider.now agent.now) }
+    ensures { OnOk result (pairs.new.items
+        ≡ pairs.old.items ++ last_pairs site.now provider.now agent.now) }
 {
     push_agent(alloc, pairs, provider, agent)?;
     push_site(alloc, pairs, site)

@@ -28,20 +28,24 @@ pub fn boot_is_once()
 /// What ran at a boot is the last of its resource's results: interrupted at the boot's moment, with its call, its run and
 /// the moment since which it ran.
 pub fn what_ran_is_interrupted()
-    ensures { (s : State) (at : ℕ) (id : List ℕ) (r : Resource) (x : Running) → resource_at s id ≡ Some r → r.history.running ≡ Some x
-        → IsSomeAnd (resource_at (after s (boot_at at)) id) (λ q. IsLast (ended_of Interrupted at x) q.history.ended) }
+    ensures { (s : State) (at : ℕ) (id : List ℕ) (r : Resource) (x : Running)
+        → resource_at s id ≡ Some r → r.history.running ≡ Some x
+        → IsSomeAnd (resource_at (after s (boot_at at)) id)
+        (λ q. IsLast (ended_of Interrupted at x) q.history.ended) }
 {}
 
 /// The empty state is lawful, and an event that applies in a lawful state leaves a lawful one: all that events lead to
 /// keeps the limits and conditions of a spelled state.
 pub fn lawful_states()
     ensures empty { IsLawfulState empty }
-    ensures after { (s : State) (e : Event) → IsLawfulState s → Applies s e → IsLawfulState (after s e) }
+    ensures after { (s : State) (e : Event) → IsLawfulState s → Applies s e
+        → IsLawfulState (after s e) }
 {}
 
 /// An event that names one resource does nothing to another: it stays as it was, and in its place among the others.
 pub fn others_stay()
-    ensures resource { (s : State) (e : Event) (id other : List ℕ) → named e.change ≡ Some id → id ≢ other
+    ensures resource { (s : State) (e : Event) (id other : List ℕ) → named e.change ≡ Some id
+        → id ≢ other
         → resource_at (after s e) other ≡ resource_at s other }
     ensures order { (s : State) (e : Event) (id : List ℕ) → named e.change ≡ Some id
         → others id (after s e).resources ≡ others id s.resources }
@@ -50,22 +54,27 @@ pub fn others_stay()
 /// The event that a lawful command is at a lawful state applies there, and so does a boot that is needed. Only a command
 /// to register is a registration.
 pub fn what_applies()
-    ensures command { (s : State) (now : ℕ) (c : Command) (e : Event) → IsLawfulState s → IsLawfulCommand c
+    ensures command { (s : State) (now : ℕ) (c : Command) (e : Event) → IsLawfulState s
+        → IsLawfulCommand c
         → event_of s now c ≡ Ok e → Applies s e }
     ensures boot { (s : State) (at : ℕ) → s.clock ≤ at → at ≤ num_max → IsTrue (any_busy s)
         → Applies s (boot_at at) }
-    ensures registers { (s : State) (now : ℕ) (c : Command) (e : Event) → event_of s now c ≡ Ok e → IsRegistration e.change → IsRegister c }
+    ensures registers { (s : State) (now : ℕ) (c : Command) (e : Event) → event_of s now c ≡ Ok e
+        → IsRegistration e.change → IsRegister c }
 {}
 
 /// How long spellings are at most, in bytes: so a begin and the results of all that runs fit the reserve, and a snapshot
 /// of any lawful state fits a part.
 pub fn lengths()
     ensures result { (at run : ℕ) (id : List ℕ) (end : RunEnd) → IsId id
-        → length (spelled_event (record { at = at; change = change.Step id (step.Result run end) })) ≤ longest_result }
+        → length (spelled_event (record { at = at; change = change.Step id (step.Result run end) }))
+        ≤ longest_result }
     ensures begin { (at call run : ℕ) (id : List ℕ) → IsId id
-        → length (spelled_event (record { at = at; change = change.Step id (step.Begin call run) })) ≤ longest_begin }
+        → length (spelled_event (record { at = at; change = change.Step id (step.Begin call run) }))
+        ≤ longest_begin }
     ensures boot { (at : ℕ) → length (spelled_event (boot_at at)) ≡ boot_len }
-    ensures small { (at : ℕ) (c : Change) → IsLawfulEvent (record { at = at; change = c }) → HasNoParams c
+    ensures small { (at : ℕ) (c : Change) → IsLawfulEvent (record { at = at; change = c })
+        → HasNoParams c
         → length (spelled_event (record { at = at; change = c })) ≤ longest_small }
     ensures state { (s : State) → IsLawfulState s → length (spelled_state s) ≤ longest_state }
 {}
@@ -77,8 +86,10 @@ pub fn layouts()
     ensures lawful { (s : State) → IsLawfulStateIn First s → IsLawfulState s }
     ensures whole { (s : State) → IsLawfulStateIn First s → in_first s ≡ s }
     ensures spelled { (e : Event) → HasSpellingIn First e → HasSpelling e }
-    ensures applies { (s : State) (e : Event) → HasSpellingIn First e → Applies s e ↔ AppliesIn First (in_first s) e }
-    ensures after { (s : State) (e : Event) → HasSpellingIn First e → in_first (after s e) ≡ after_in First (in_first s) e }
+    ensures applies { (s : State) (e : Event) → HasSpellingIn First e → Applies s e
+        ↔ AppliesIn First (in_first s) e }
+    ensures after { (s : State) (e : Event) → HasSpellingIn First e
+        → in_first (after s e) ≡ after_in First (in_first s) e }
     ensures after_all { (s : State) (es : List Event) → AllByRecursion (HasSpellingIn First) es
         → in_first (after_all s es) ≡ after_all_in First (in_first s) es }
     ensures stays { (s : State) (e : Event) → IsLawfulStateIn First s → AppliesIn First s e

@@ -100,7 +100,8 @@ impl<A: Allocator> Params<A> {
     /// `BadValue` just where it would be the 65th. One that is there takes no memory.
     pub fn insert(&mut self, name: ParamName, value: ParamValue<A>) -> Result<(), ValueError>
         ensures ok { OnOk result (self.new ≡ with_param name value self.old) }
-        ensures full { result ≡ Err ValueError.BadValue ↔ ((length self.old ≡ PARAMS_LIMIT) × (has_param name self.old ≡ false)) }
+        ensures full { result ≡ Err ValueError.BadValue
+            ↔ ((length self.old ≡ PARAMS_LIMIT) × (has_param name self.old ≡ false)) }
         ensures known { has_param name self.old ≡ true → IsOk result }
         ensures err { OnErr result (self.new ≡ self.old) }
     {

@@ -32,7 +32,9 @@ impl Interrupted {
 
     /// Whether a process with this command line and this environment is left of the action.
     pub fn is_left_in(&self, cmdline: &[u8], environ: &[u8]) -> bool
-        ensures { IsTrue result ↔ IsOrphan cmdline.now environ.now self.now.file (action_word self.now.action) self.now.id }
+        ensures { IsTrue result
+            ↔ IsOrphan cmdline.now environ.now self.now.file
+            (action_word self.now.action) self.now.id }
     {
         let file = self.file.as_str().as_bytes();
         let action = self.action.word().as_bytes();

@@ -58,7 +58,8 @@ impl<A: Allocator> Results<A> {
 
     /// Puts the result of what ran, if anything did, behind the others. Where there is no room the oldest goes.
     pub(crate) fn push_run(&mut self, running: Option<Running>, outcome: Outcome, at: Moment)
-        ensures { self.new ≡ last_ended (self.old ++ map (ended_of outcome at) (option_to_list running)) }
+        ensures { self.new ≡ last_ended
+            (self.old ++ map (ended_of outcome at) (option_to_list running)) }
     {
         let ring = &mut self.ring;
         if let Some(running) = running {

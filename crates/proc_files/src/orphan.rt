@@ -38,8 +38,10 @@ pub fn calls(cmdline: &[u8], agent_file: &[u8], action: &[u8]) -> bool
 
 // What stands behind the variable that names this instance, where a text begins with it.
 fn after_instance<'a>(text: &'a [u8], instance: &[u8]) -> Option<&'a [u8]>
-    ensures rest { IfSome result (λ rest. text.now ≡ codes "OCF_RESOURCE_INSTANCE=" ++ instance.now ++ 0 ∷ rest.now) }
-    ensures none { IfNone result ((rest : List ℕ) → text.now ≢ codes "OCF_RESOURCE_INSTANCE=" ++ instance.now ++ 0 ∷ rest) }
+    ensures rest { IfSome result
+        (λ rest. text.now ≡ codes "OCF_RESOURCE_INSTANCE=" ++ instance.now ++ 0 ∷ rest.now) }
+    ensures none { IfNone result ((rest : List ℕ)
+        → text.now ≢ codes "OCF_RESOURCE_INSTANCE=" ++ instance.now ++ 0 ∷ rest) }
 {
     after(after(after(text, INSTANCE)?, instance)?, b"\0")
 }
@@ -79,7 +81,8 @@ pub fn is_orphan(
     action: &[u8],
     instance: &[u8],
 ) -> bool
-    ensures { IsTrue result ↔ IsOrphan cmdline.now environ.now agent_file.now action.now instance.now }
+    ensures { IsTrue result
+        ↔ IsOrphan cmdline.now environ.now agent_file.now action.now instance.now }
 {
     calls(cmdline, agent_file, action) && has_instance(environ, instance)
 }

@@ -14,7 +14,8 @@ const DIGITS: usize = 16;
 
 // The number that hexadecimal digits write.
 fn number_of(digits: &[u8]) -> Option<u64>
-    ensures some { IfSome result (λ number. IsNumeral 16 digits.now × (digits_value 16 digits.now ≡ number)) }
+    ensures some { IfSome result
+        (λ number. IsNumeral 16 digits.now × (digits_value 16 digits.now ≡ number)) }
     ensures none { IfNone result (IsNumeral 16 digits.now → 2 ^ 64 ≤ digits_value 16 digits.now) }
 {
     if after(digits, b"+").is_some() {

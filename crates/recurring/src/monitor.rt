@@ -62,7 +62,8 @@ impl Monitor {
 
     /// The first that is due: this monitor, or the first of the others.
     pub(crate) fn first_due(self, others: Option<Monitor>, now: Moment) -> Option<Monitor>
-        ensures { (xs : List (ℕ × ℕ)) → IsFirstDue xs now others → IsFirstDue (xs ++ pair self ∷ []) now result }
+        ensures { (xs : List (ℕ × ℕ)) → IsFirstDue xs now others
+            → IsFirstDue (xs ++ pair self ∷ []) now result }
     {
         if !self.is_due(now) {
             return others;
@@ -75,7 +76,8 @@ impl Monitor {
 
     /// The least due moment: this monitor's, or the least of the others.
     pub(crate) fn first_moment(self, others: Option<u64>) -> Option<u64>
-        ensures { (xs : List (ℕ × ℕ)) → IsFirstMoment xs others → IsFirstMoment (xs ++ pair self ∷ []) result }
+        ensures { (xs : List (ℕ × ℕ)) → IsFirstMoment xs others
+            → IsFirstMoment (xs ++ pair self ∷ []) result }
     {
         match others {
             None => Some(self.due),
