@@ -7,6 +7,7 @@ ghost use Rattle.ocf_types.specs.Places.{entry_at};
 ghost use Rattle.ocf_types.specs.declared.reply.Notice.{Notice};
 ghost use Rattle.child_keeper.specs.declared.answer.KillFault.{KillFault};
 ghost use Rattle.child_keeper.specs.declared.answer.Poll.{Poll};
+ghost use Rattle.exec_turn.specs.Buffers.{GrowsInRoom};
 ghost use Rattle.exec_turn.specs.Actives.{active, active_in, runs_of};
 ghost use Rattle.exec_turn.specs.AgentsLive.{AgentsLive};
 ghost use Rattle.exec_turn.specs.Polls.{IsPoll, Polls, ending, is_late, polled_on};
@@ -70,10 +71,8 @@ fn poll_at<C: Children, A: Allocator + Copy>(
         (C.view children.new) more told
         × (row.new.items ≡ row.old.items ++ more)
         × (notices.new.items ≡ notices.old.items ++ told) }
-    ensures row_few { vec_len row.new ≤ vec_len row.old + 1 }
-    ensures notices_few { vec_len notices.new ≤ vec_len notices.old + 1 }
-    ensures row_room { vec_capacity row.new ≡ vec_capacity row.old }
-    ensures notice_room { vec_capacity notices.new ≡ vec_capacity notices.old }
+    ensures row { GrowsInRoom 1 row.old row.new }
+    ensures notices { GrowsInRoom 1 notices.old notices.new }
 {
     let Some(running) = state.running_at(place) else {
         return;

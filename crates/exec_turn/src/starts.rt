@@ -7,6 +7,7 @@ ghost use Rattle.ocf_types.specs.declared.reply.Notice.{Notice};
 ghost use Rattle.child_keeper.specs.Children.{after_start, live_limit};
 ghost use Rattle.child_keeper.specs.MayStart.{IsLaunch};
 ghost use Rattle.exec_journal.specs.Journal.{Settled, journal_disk};
+ghost use Rattle.exec_turn.specs.Buffers.{GrowsInRoom};
 ghost use Rattle.exec_turn.specs.Actives.{notice_of, result_of};
 ghost use Rattle.exec_turn.specs.Launches.{AllLaunch, IsOfOne, all_starting, what_starts};
 ghost use Rattle.exec_turn.specs.Starts.{Rising, Starts, refused_end};
@@ -46,10 +47,8 @@ fn start_one<D: Disk + Drop, C: Children, A: Allocator + Copy>(
         (refused_end answer))
         × (notices.new.items ≡ notices.old.items ++ map (notice_of at (what_starts start.now))
         (refused_end answer)) }
-    ensures row_len { vec_len row.new ≤ vec_len row.old + 1 }
-    ensures notice_len { vec_len notices.new ≤ vec_len notices.old + 1 }
-    ensures row_room { vec_capacity row.new ≡ vec_capacity row.old }
-    ensures notice_room { vec_capacity notices.new ≡ vec_capacity notices.old }
+    ensures row { GrowsInRoom 1 row.old row.new }
+    ensures notices { GrowsInRoom 1 notices.old notices.new }
 {
     let Err(fault) = children.start(journal, &start.launch) else {
         return;

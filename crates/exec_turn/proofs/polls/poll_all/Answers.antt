@@ -38,8 +38,8 @@ loop-place-preserved g c =
       lives = others_live c.args.at here later old new more.0 more.1 more.2 distinct lives;
       distinct = others_distinct here later distinct;
       room = omega (arith, inv.room, size, length-append here later, room_behind c.args.at here old new more.0 more.1 more.2);
-      row_few = omega (arith, inv.row_few, c.poll_at.ensures.row_few);
-      notices_few = omega (arith, inv.notices_few, c.poll_at.ensures.notices_few);
-      row_room = c.poll_at.ensures.row_room ∙ inv.row_room;
-      notice_room = c.poll_at.ensures.notice_room ∙ inv.notice_room;
+      row_few = omega (arith, inv.row_few, c.poll_at.ensures.row.few);
+      notices_few = omega (arith, inv.notices_few, c.poll_at.ensures.notices.few);
+      row_room = c.poll_at.ensures.row.room ∙ inv.row_room;
+      notice_room = c.poll_at.ensures.notices.room ∙ inv.notice_room;
     }

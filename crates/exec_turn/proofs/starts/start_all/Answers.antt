@@ -77,8 +77,8 @@ loop-start-preserved g c =
           omega (arith, inv.few, live, one_live x.running.run old.live answer);
       room = let left = ap (λ (v : ChildrenView). v.room) started.1 in omega (arith, inv.room, left);
       site = ap (λ (v : ChildrenView). v.site) started.1 ∙ inv.site;
-      row_len = omega (arith, inv.row_len, c.start_one.ensures.row_len);
-      notice_len = omega (arith, inv.notice_len, c.start_one.ensures.notice_len);
-      row_room = c.start_one.ensures.row_room ∙ inv.row_room;
-      notice_room = c.start_one.ensures.notice_room ∙ inv.notice_room;
+      row_len = omega (arith, inv.row_len, c.start_one.ensures.row.few);
+      notice_len = omega (arith, inv.notice_len, c.start_one.ensures.notices.few);
+      row_room = c.start_one.ensures.row.room ∙ inv.row_room;
+      notice_room = c.start_one.ensures.notices.room ∙ inv.notice_room;
     }
