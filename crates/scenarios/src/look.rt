@@ -1,8 +1,6 @@
 //! Looks at a world.
-use crate::fill::Filling;
 use crate::finding::found_on;
 use crate::print::{hex_text, print_launch, print_line, print_part, print_rows, push_reply};
-use crate::step::Look;
 use crate::tables::{print_codes, print_expected};
 use crate::world::World;
 use anyhow::{Context, Result};
@@ -13,6 +11,7 @@ use ocf_types::{
     CallId, EVENT_LIMIT, Event, Info, Layout, Millis, Moment, Part, Question, Reply, RscId, RunId,
     Running, Task,
 };
+use scenario_steps::{Filling, Look};
 use std::alloc::Global;
 use std::io::Write;
 

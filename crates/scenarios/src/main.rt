@@ -2,22 +2,14 @@
 //! memory, and prints what they answer.
 #![tactic(auto)]
 
-mod answers;
-mod children;
-mod disk;
-mod fill;
 mod finding;
 mod look;
-mod planned;
 mod print;
 mod script;
 mod session;
-mod site;
-mod step;
 mod sweep;
 mod tables;
 mod together;
-mod words;
 mod world;
 
 use crate::script::{Ending, play_lines};

@@ -1,8 +1,8 @@
 //! Scenarios, line by line.
-use crate::step::{Act, Line};
-use crate::words::BadLine;
+use crate::sweep::play_sweep;
 use crate::world::World;
 use anyhow::{Result, bail};
+use scenario_steps::{Act, BadLine, Line};
 use std::alloc::Global;
 use std::io::{BufRead, Write};
 
@@ -51,7 +51,7 @@ impl Script {
             Line::Scenario(name) => self.begin(name.as_str(), writer),
             Line::Act(act) => self.act(act, writer),
             Line::Look(look) => self.world.show(&look, writer),
-            Line::Sweep(sweep) => sweep.play(self.alloc, self.acts.as_slice(), writer),
+            Line::Sweep(sweep) => play_sweep(self.alloc, &sweep, self.acts.as_slice(), writer),
         }
     }
 

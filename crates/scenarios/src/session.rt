@@ -1,9 +1,6 @@
 //! An open executor.
 ghost use Rattle.std.specs.Prelude.{◌+◌, ◌≤◌, vec_len, vec_capacity};
 
-use crate::disk::SharedDisk;
-use crate::planned::PlannedChildren;
-use crate::site::SiteWords;
 use child_keeper::Entry;
 use exec_commands::{Line, LineReply, read_command};
 use executor::{Executor, OpenError, Report};
@@ -11,6 +8,8 @@ use ocf_env::Site;
 use ocf_types::{
     Command, Notice, Question, Refusal, Reply, ReplyOf, Request, RequestOf, TidyEnd, TurnEnd,
 };
+use scenario_devices::{PlannedChildren, SharedDisk};
+use scenario_steps::SiteWords;
 use std::alloc::{AllocError, Global};
 
 /// An executor on a shared disk with the world's children, and the site of its agents.

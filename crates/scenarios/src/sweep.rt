@@ -1,9 +1,8 @@
 //! Sweeps: a scenario played again and again, each time with another call planned to fail.
-use crate::fill::Filling;
 use crate::print::print_rows;
-use crate::step::{Act, Sweep};
 use crate::world::World;
 use anyhow::Result;
+use scenario_steps::{Act, Filling, Sweep};
 use std::alloc::Global;
 use std::fmt::Display;
 use std::io::{self, Write};
@@ -199,18 +198,21 @@ fn print_lives<W: Write>(
     Ok(())
 }
 
-impl Sweep {
-    /// Plays these acts as long as the planned call comes, and prints what is found.
-    pub fn play<W: Write>(&self, alloc: Global, acts: &[Act], writer: &mut W) -> Result<()> {
-        match self {
-            Sweep::DiskFaults => {
-                Played::Once(acts, Failing::DiskFault).print(alloc, &"faults disk", writer)
-            }
-            Sweep::ChildFaults => {
-                Played::Once(acts, Failing::ChildFault).print(alloc, &"faults children", writer)
-            }
-            Sweep::IoFault(fillings) => print_stopped(alloc, acts, fillings.as_slice(), writer),
-            Sweep::Lives(fillings) => print_lives(alloc, acts, fillings.as_slice(), writer),
+/// Plays these acts as long as the planned call of a sweep comes, and prints what is found.
+pub fn play_sweep<W: Write>(
+    alloc: Global,
+    sweep: &Sweep,
+    acts: &[Act],
+    writer: &mut W,
+) -> Result<()> {
+    match sweep {
+        Sweep::DiskFaults => {
+            Played::Once(acts, Failing::DiskFault).print(alloc, &"faults disk", writer)
         }
+        Sweep::ChildFaults => {
+            Played::Once(acts, Failing::ChildFault).print(alloc, &"faults children", writer)
+        }
+        Sweep::Stopped(fillings) => print_stopped(alloc, acts, fillings.as_slice(), writer),
+        Sweep::Lives(fillings) => print_lives(alloc, acts, fillings.as_slice(), writer),
     }
 }

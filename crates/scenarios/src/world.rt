@@ -1,20 +1,16 @@
 //! The world of a scenario.
-use crate::children::WorldChildren;
-use crate::disk::{Device, SharedDisk};
-use crate::fill::Filling;
 use crate::finding::finding_on;
-use crate::planned::PlannedChildren;
 use crate::print::{
     print_entries, print_line, print_open_error, print_opened, print_tidy, print_turn, push_reply,
 };
 use crate::session::Session;
-use crate::site::SiteWords;
-use crate::step::Act;
 use crate::together::answer_all;
 use anyhow::Result;
 use disk_model::MemDisk;
 use executor::{OpenError, Report};
 use ocf_types::Part;
+use scenario_devices::{Device, PlannedChildren, SharedDisk, WorldChildren};
+use scenario_steps::{Act, Filling, SiteWords};
 use std::alloc::{AllocError, Global};
 use std::cell::{Ref, RefCell};
 use std::io::Write;

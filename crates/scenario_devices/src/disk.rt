@@ -142,7 +142,7 @@ pub struct SharedDisk {
 }
 
 impl SharedDisk {
-    ghost use Rattle.scenarios.specs.SharedDisk.{shared_view};
+    ghost use Rattle.scenario_devices.specs.SharedDisk.{shared_view};
 
     /// Another hand on this device. Its clock goes on where the device stands.
     pub fn new(device: &Rc<RefCell<Device>>) -> Result<SharedDisk> {
@@ -216,7 +216,7 @@ fn sync(device: &Rc<RefCell<Device>>, part: Part) -> Result<(), DiskFault> {
 }
 
 impl Disk for SharedDisk {
-    ghost use Rattle.scenarios.specs.SharedDisk.{shared_view};
+    ghost use Rattle.scenario_devices.specs.SharedDisk.{shared_view};
 
     ghost view = { shared_view };
 

@@ -33,7 +33,7 @@ pub struct PlannedChildren {
 }
 
 impl PlannedChildren {
-    ghost use Rattle.scenarios.specs.PlannedChildren.{planned_view};
+    ghost use Rattle.scenario_devices.specs.PlannedChildren.{planned_view};
 
     /// These children, whose calls are counted here from now on.
     pub fn new(scripted: Scripted, calls: Rc<Cell<Calls>>) -> PlannedChildren {
@@ -54,7 +54,7 @@ impl PlannedChildren {
 }
 
 impl Children for PlannedChildren {
-    ghost use Rattle.scenarios.specs.PlannedChildren.{planned_view};
+    ghost use Rattle.scenario_devices.specs.PlannedChildren.{planned_view};
 
     ghost view = { planned_view };
 

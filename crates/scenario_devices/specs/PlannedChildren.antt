@@ -1,7 +1,7 @@
 -- What contracts see of children whose calls the world counts and plans.
 use Rattle.child_keeper.specs.Children.{ChildrenView}
 use Rattle.child_keeper.specs.Scripted.{children_of}
-use Rattle.scenarios.specs.declared.planned.PlannedChildren.{PlannedChildren}
+use Rattle.scenario_devices.specs.declared.planned.PlannedChildren.{PlannedChildren}
 
 -- the scripted ones
 abbrev pub planned_view : PlannedChildren → ChildrenView

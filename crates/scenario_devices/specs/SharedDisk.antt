@@ -1,7 +1,7 @@
 -- What contracts see of a disk that several hands reach.
 use Rattle.std.specs.Prelude.{[]}
 use Rattle.disk_model.specs.View.{View}
-use Rattle.scenarios.specs.declared.disk.SharedDisk.{SharedDisk}
+use Rattle.scenario_devices.specs.declared.disk.SharedDisk.{SharedDisk}
 
 -- a disk that is never honest, with the counts of this hand
 abbrev pub shared_view : SharedDisk → View

@@ -84,7 +84,7 @@ pub enum Sweep {
     /// Each call of the children faults.
     ChildFaults,
     /// Each call of the disk is the last one.
-    IoFault(Vec<Filling>),
+    Stopped(Vec<Filling>),
     /// Each call of the disk in a sitting is its last one, for each sitting in turn, which an image ends.
     Lives(Vec<Filling>),
 }
@@ -135,7 +135,7 @@ enum Verb {
     Codes,
     Expected,
     Faults,
-    IoFault,
+    Stopped,
     Lives,
 }
 
@@ -173,7 +173,7 @@ const VERBS: [(&str, Verb); 35] = [
     ("codes", Verb::Codes),
     ("expected", Verb::Expected),
     ("faults", Verb::Faults),
-    ("stopped", Verb::IoFault),
+    ("stopped", Verb::Stopped),
     ("lives", Verb::Lives),
 ];
 
@@ -211,7 +211,7 @@ fn read_line(alloc: Global, verb: Verb, words: &mut Words) -> Result<Line, BadLi
         | Verb::Fault
         | Verb::ChildFault => read_counted_act(verb, words).map(Line::Act),
         Verb::Faults => read_faults(words).map(Line::Sweep),
-        Verb::IoFault => read_fillings(alloc, words).map(|f| Line::Sweep(Sweep::IoFault(f))),
+        Verb::Stopped => read_fillings(alloc, words).map(|f| Line::Sweep(Sweep::Stopped(f))),
         Verb::Lives => read_fillings(alloc, words).map(|f| Line::Sweep(Sweep::Lives(f))),
         _ => read_look(alloc, verb, words).map(Line::Look),
     }
