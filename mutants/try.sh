@@ -49,4 +49,6 @@ else
     alone || status=$?
 fi
 grep -A 2 -e "^rt: must-fail $name/" -e ' passed, ' "$copy/said" | grep -v '^--$' || cat "$copy/said"
+# An edit that did not reach the prover shows nothing.
+if grep -c -e "^rt: must-fail $name/.*: BAD EDIT" "$copy/said" > /dev/null; then status=1; fi
 exit "$status"
