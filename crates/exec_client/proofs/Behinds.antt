@@ -13,14 +13,16 @@ use Rattle.ocf_types.specs.declared.reply.ReplyOf.TheVariants as reply
 use Rattle.ocf_types.specs.declared.reply.TurnEnd.{TurnEnd}
 use Rattle.ocf_types.specs.declared.reply.TurnEnd.TheVariants as turn_end
 use Rattle.child_keeper.specs.declared.answer.Entry.{Entry}
-use Rattle.exec_turn.specs.Actives.{Active, notice_of, result_of}
+use Rattle.exec_ledger.specs.Actives.{Active}
+use Rattle.exec_turn.specs.Actives.{notice_of, result_of}
 use Rattle.exec_turn.specs.Picks.{begins}
 use Rattle.exec_turn.specs.Polls.{Polled, ends_of, result_notices, results}
 use Rattle.exec_turn.specs.Starts.{Started, refusal_notices, refusals, refused_end}
-use Rattle.exec_turn.specs.Turn.{IsTurn, Scene, Whole}
-use Rattle.executor.specs.Replies.{IsReplyTo, KeepsRunning, recorded}
-use Rattle.executor.specs.RowCalls.{Adds, Answered as RowAnswered, disk_each, failed}
-use Rattle.executor.proofs.Keeping.{command_keeps}
+use Rattle.exec_turn.specs.Turn.{IsTurn, Whole}
+use Rattle.exec_ledger.specs.Scenes.{Scene}
+use Rattle.exec_ledger.specs.Replies.{IsReplyTo, KeepsRunning, recorded}
+use Rattle.exec_ledger.specs.Together.{Adds, Answered as RowAnswered, disk_each, failed}
+use Rattle.exec_ledger.proofs.Keeping.{command_keeps}
 use Rattle.exec_client.specs.Behind.{Behind, TellsOf, claims, nothing, says_else, tells, untold}
 use Rattle.exec_client.specs.Said.{Said, Noticed, answered}
 

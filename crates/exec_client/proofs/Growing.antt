@@ -12,16 +12,18 @@ use Rattle.ocf_types.specs.declared.reply.TidyEnd.{TidyEnd}
 use Rattle.ocf_types.specs.declared.reply.TurnEnd.{TurnEnd}
 use Rattle.disk_model.specs.View.{View}
 use Rattle.executor.specs.CallLaws.{followed_by_none, calls_behind}
-use Rattle.executor.specs.Commands.{Obeys, Serves, ServesWhile}
+use Rattle.exec_ledger.specs.Commands.{Obeys}
+use Rattle.executor.specs.Commands.{Serves, ServesWhile}
 use Rattle.executor.specs.Lives.{Abandoned, Calls, Cleared, Does, Exchange, Row, Tidied, Took}
-use Rattle.executor.specs.RowCalls.{TakesRow, row_effects, row_replies}
+use Rattle.executor.specs.RowCalls.{TakesRow, row_effects}
+use Rattle.exec_ledger.specs.Together.{row_replies}
 use Rattle.executor.specs.Rows.{IsAt, TakesCommands, replies_of}
 use Rattle.executor.specs.Sessions.{Effects, TakesWhile, followed_by, command_effects, no_effects}
-use Rattle.executor.specs.Sights.{Sight}
+use Rattle.executor.specs.Sights.{Sight, ledger_of}
 use Rattle.executor.specs.TidyCalls.{Tidies, TidiesWhile}
 use Rattle.executor.specs.TurnCalls.{TakesTurn, abandoned, with_empty_book}
 use Rattle.executor.specs.declared.session.InputOf.TheVariants as input
-use Rattle.executor.proofs.Keeping.{command_keeps}
+use Rattle.exec_ledger.proofs.Keeping.{command_keeps}
 use Rattle.exec_client.specs.Behind.{Behind, claims, nothing}
 use Rattle.exec_client.specs.Heard.{Heard}
 use Rattle.exec_client.specs.MayTell.{AllStand, MayBeReplied, MayReply, MaySay, MayTell, StandsBehind}
@@ -80,7 +82,7 @@ module _ {D : Type 0} (look : D → View) where
 
   -- a command
   obeys_behind : (now : ℕ) (c : Command) (x y : Sight D) (r : Reply) (found : Result Event Refusal) → event_of x.state now c ≡ found
-      → Obeys look found x y r → Behind (answered r ∷ []) (command_effects found r).events
+      → Obeys look found (ledger_of x) (ledger_of y) r → Behind (answered r ∷ []) (command_effects found r).events
   obeys_behind now c x y r (Err why) is (refused, same) = refused_behind r why refused
   obeys_behind now c x y r (Ok e) is records = reply_behind e r (command_keeps x.state now c e is) records.told
 
@@ -96,7 +98,7 @@ module _ {D : Type 0} (look : D → View) where
   while_taken true now (asked.Command c) x y r serves closes = (
     command_effects (event_of x.state now c) r,
     record { serves = serves; closes = closes refl; does = refl },
-    obeys_behind now c x y r (event_of x.state now c) refl serves,
+    obeys_behind now c x y r (event_of x.state now c) refl serves.0,
   )
   while_taken false now request x y r serves closes = (no_effects, (serves.0, serves.1, refl), refused_behind r _ serves.0)
 
@@ -111,23 +113,23 @@ module _ {D : Type 0} (look : D → View) where
       → Behind (map answered rs) d.events
   row_stands now cs x y rs d takes = by y.is_open refl
     where
-      told_so : (b : Bool) → y.is_open ≡ b → Behind (map answered (row_replies b takes.meant)) (row_effects b takes.events).events
+      told_so : (b : Bool) → y.is_open ≡ b → Behind (map answered (row_replies b takes.takes.meant)) (row_effects b takes.takes.events).events
           → Behind (map answered rs) d.events
       told_so b is behind =
-          events_are (map answered rs) d (row_effects b takes.events) (takes.does ∙ ap (λ (o : Bool). row_effects o takes.events) is)
-          (subst (λ (ts : List Reply). Behind (map answered ts) (row_effects b takes.events).events)
-          (sym (takes.told ∙ ap (λ (o : Bool). row_replies o takes.meant) is)) behind)
+          events_are (map answered rs) d (row_effects b takes.takes.events) (takes.does ∙ ap (λ (o : Bool). row_effects o takes.takes.events) is)
+          (subst (λ (ts : List Reply). Behind (map answered ts) (row_effects b takes.takes.events).events)
+          (sym (takes.takes.told ∙ ap (λ (o : Bool). row_replies o takes.takes.meant) is)) behind)
 
       by : (b : Bool) → y.is_open ≡ b → Behind (map answered rs) d.events
-      by true is = told_so true is (row_behind now x.state cs takes.meant takes.events takes.answered)
-      by false is = told_so false is (failed_behind takes.meant)
+      by true is = told_so true is (row_behind now x.state cs takes.takes.meant takes.takes.events takes.takes.answered)
+      by false is = told_so false is (failed_behind takes.takes.meant)
 
   -- one of the calls that commands are taken by
   taken_behind : (b : Bool) (at : ℕ) (c : Command) (x y : Sight D) (r : Reply) (d : Effects)
       → TakesWhile b look (input.Request at (asked.Command c)) x y r d → Behind (answered r ∷ []) d.events
   taken_behind true at c x y r d takes =
       events_are (answered r ∷ []) d (command_effects (event_of x.state at c) r) takes.does
-      (obeys_behind at c x y r (event_of x.state at c) refl takes.serves)
+      (obeys_behind at c x y r (event_of x.state at c) refl takes.serves.0)
   taken_behind false at c x y r d (refused, same, none) = events_are (answered r ∷ []) d no_effects none (refused_behind r _ refused)
 
   one_behind : (now : ℕ) (e : Exchange) (x y : Sight D) (d : Effects) → IsAt now e → Does look e x y d

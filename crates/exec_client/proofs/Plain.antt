@@ -12,13 +12,13 @@ use Rattle.ocf_types.specs.declared.refusal.Refusal.{Refusal}
 use Rattle.ocf_types.specs.declared.refusal.Refusal.TheVariants.{Disk}
 use Rattle.ocf_types.specs.declared.reply.ReplyOf.TheVariants as reply
 use Rattle.disk_model.specs.View.{View}
-use Rattle.executor.specs.Commands.{Obeys}
+use Rattle.exec_ledger.specs.Commands.{Obeys}
 use Rattle.executor.specs.Lives.{Abandoned, Calls, Cleared, Does, Exchange, Row, Tidied, Took}
-use Rattle.executor.specs.Replies.{IsReplyTo, acknowledged}
-use Rattle.executor.specs.RowCalls.{Adds, Answered, disk_each, failed, row_replies}
+use Rattle.exec_ledger.specs.Replies.{IsReplyTo, acknowledged}
+use Rattle.exec_ledger.specs.Together.{Adds, Answered, disk_each, failed, row_replies}
 use Rattle.executor.specs.Rows.{IsAt, TakesCommands, replies_of}
 use Rattle.executor.specs.Sessions.{Effects, TakesWhile}
-use Rattle.executor.specs.Sights.{Sight}
+use Rattle.executor.specs.Sights.{Sight, ledger_of}
 use Rattle.executor.specs.declared.session.InputOf.TheVariants as input
 use Rattle.exec_client.specs.MayTell.{MayAnswer}
 
@@ -53,7 +53,7 @@ module _ {D : Type 0} (z : Sight D) where
   reply_plain e r (inr (inr (inl is))) = is_plain r _ is tt
   reply_plain e r (inr (inr (inr is))) = is_plain r _ is tt
 
-  pub obeys_plain : (look : D → View) (x y : Sight D) (r : Reply) (found : Result Event Refusal) → Obeys look found x y r → Plain r
+  pub obeys_plain : (look : D → View) (x y : Sight D) (r : Reply) (found : Result Event Refusal) → Obeys look found (ledger_of x) (ledger_of y) r → Plain r
   obeys_plain look x y r (Err why) (refused, same) = is_plain r _ refused tt
   obeys_plain look x y r (Ok e) records = reply_plain e r records.told
 
@@ -97,7 +97,7 @@ module _ {D : Type 0} (z : Sight D) where
   module _ (look : D → View) where
     taken_plain : (b : Bool) (at : ℕ) (c : Command) (x y : Sight D) (r : Reply) (d : Effects)
         → TakesWhile b look (input.Request at (asked.Command c)) x y r d → Plain r
-    taken_plain true at c x y r d takes = obeys_plain look x y r (event_of x.state at c) takes.serves
+    taken_plain true at c x y r d takes = obeys_plain look x y r (event_of x.state at c) takes.serves.0
     taken_plain false at c x y r d (refused, same, none) = is_plain r _ refused tt
 
     one_plain : (now : ℕ) (e : Exchange) (x y : Sight D) (d : Effects) → IsAt now e → Does look e x y d → AllByRecursion Plain (replies_of e)
@@ -105,8 +105,8 @@ module _ {D : Type 0} (z : Sight D) where
     one_plain now (Took (input.Request at (asked.Question q)) r) x y d is does = absurd is
     one_plain now (Took (input.Turn at) r) x y d is does = absurd is
     one_plain now (Row at cs rs) x y d is does =
-        subst (λ (ts : List Reply). AllByRecursion Plain ts) (sym does.told)
-        (row_plain y.is_open at x.state cs does.meant does.events does.answered)
+        subst (λ (ts : List Reply). AllByRecursion Plain ts) (sym does.takes.told)
+        (row_plain y.is_open at x.state cs does.takes.meant does.takes.events does.takes.answered)
     one_plain now (Tidied end) x y d is does = absurd is
     one_plain now Cleared x y d is does = absurd is
     one_plain now Abandoned x y d is does = absurd is

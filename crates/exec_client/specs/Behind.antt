@@ -7,7 +7,7 @@ use Rattle.ocf_types.specs.declared.outcome.Outcome.TheVariants.{Run}
 use Rattle.ocf_types.specs.declared.outcome.RunEnd.{RunEnd}
 use Rattle.ocf_types.specs.declared.reply.Notice.{Notice}
 use Rattle.ocf_types.specs.declared.reply.ReplyOf.TheVariants.{Accepted, Done}
-use Rattle.executor.specs.Replies.{KeepsRunning, acknowledged}
+use Rattle.exec_ledger.specs.Replies.{KeepsRunning, acknowledged}
 use Rattle.exec_commands.specs.declared.reply.LineReply.TheVariants.{Request}
 use Rattle.exec_client.specs.Said.{Said, Answered, Noticed}
 

@@ -14,7 +14,8 @@ use Rattle.ocf_types.specs.declared.event.Step.TheVariants as step
 use Rattle.ocf_types.specs.declared.operation.Running.{Running}
 use Rattle.ocf_types.specs.declared.outcome.RunEnd.{RunEnd}
 use Rattle.exec_turn.specs.Starts.{RunsUnder}
-use Rattle.exec_turn.specs.Actives.{Active, active, active_in, result_of, runs_of}
+use Rattle.exec_ledger.specs.Actives.{Active, active, active_in, runs_of}
+use Rattle.exec_turn.specs.Actives.{result_of}
 
 -- no key is the id
 abbrev IsAbsent : List ℕ → Registry → Type 0

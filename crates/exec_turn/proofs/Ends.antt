@@ -16,13 +16,15 @@ use Rattle.child_keeper.specs.declared.answer.Entry.{Entry}
 use Rattle.exec_journal.specs.Found.{FoundAs}
 use Rattle.exec_journal.specs.Place.{Place}
 use Rattle.exec_journal.specs.Room.{Roomy}
-use Rattle.exec_turn.specs.Actives.{Active}
-use Rattle.exec_turn.specs.Laws.{asked_in, asked_none, asked_starts, due_after_all-append, has_later, joined, then_started}
+use Rattle.exec_ledger.specs.Actives.{Active}
+use Rattle.exec_ledger.specs.Laws.{asked_in, asked_none, due_after_all-append, has_later, joined}
+use Rattle.exec_turn.specs.Laws.{asked_starts, then_started}
 use Rattle.exec_turn.specs.Picks.{begins}
-use Rattle.exec_turn.specs.Pieces.{AskedOn, HasBegin, Leaves, Prefix}
+use Rattle.exec_ledger.specs.Pieces.{AskedOn, HasBegin, Leaves, Prefix}
 use Rattle.exec_turn.specs.Polls.{polls, results}
 use Rattle.exec_turn.specs.Starts.{Started, refusal_notices, refusals, starts}
-use Rattle.exec_turn.specs.Turn.{IsTurn, PickedAt, PicksBehind, Scene, Told, Whole, due_after_all, scene}
+use Rattle.exec_turn.specs.Turn.{IsTurn, PickedAt, PicksBehind, Told, Whole}
+use Rattle.exec_ledger.specs.Scenes.{Scene, due_after_all, scene}
 use Rattle.exec_turn.specs.Turns.{BeginsRow, PollsRow, StartsRow, Turns, end_of}
 use Rattle.exec_turn.proofs.Polling.{polls_ask_nothing}
 
@@ -307,8 +309,10 @@ pub failed_end : {D : Type 0} {look : D → View} {old new : D} {x : Scene} {t :
 failed_end (Ok end) bad turns = let none : ⊥ = cc in absurd none
 failed_end (Err f) bad turns = turns
 
--- what ends picks is no full book
-pub not_full : {D : Type 0} {look : D → View} {k l : D} {x y : Scene} {begun : List Active} {end : TurnEnd}
-    → BeginsRow look k l x y begun (Ok end) → end ≡ turn_end.BookFull → ⊥
-not_full {x = x} {begun = begun} b is =
-    let picked = subst (λ (e : TurnEnd). PickedAt e x begun) (sym b.ended ∙ is) b.picked in absurd picked.0
+-- what ends picks is neither a full book nor a disk fault
+pub picks_ended : {D : Type 0} {look : D → View} {k l : D} {x y : Scene} {begun : List Active} {end : TurnEnd}
+    → BeginsRow look k l x y begun (Ok end) → (end ≡ turn_end.BookFull → ⊥) × (end ≡ turn_end.Disk → ⊥)
+picks_ended {x = x} {begun = begun} {end = end} b = (λ is. (so is).0, λ is. (so is).0)
+  where
+    so : {told : TurnEnd} → end ≡ told → PickedAt told x begun
+    so is = subst (λ (e : TurnEnd). PickedAt e x begun) (sym b.ended ∙ is) b.picked

@@ -1,6 +1,5 @@
 -- What is started with what has begun, and the row of begins so far.
-use Rattle.std.proofs.Common.{◌≡◌, ◌⊎◌, inl, inr, ℕ, ◌+◌, ◌<◌, ◌≤◌, List, [], ◌∷◌, ◌++◌, length, take, Some, refl}
-use Rattle.std.proofs.Common.{sym, ap, subst, ◌∙◌, arith}
+use Rattle.std.proofs.Common.{◌≡◌, ◌⊎◌, inl, inr, ℕ, ◌+◌, ◌<◌, ◌≤◌, List, [], ◌∷◌, ◌++◌, length, take, Some, refl, sym, ap, subst, ◌∙◌, arith}
 use Rattle.std.specs.List.{AllByRecursion}
 use Rattle.std.proofs.lemmas.Bool.{cases_lt}
 use Rattle.std.proofs.lemmas.List.{length-append, map-append}
@@ -15,7 +14,7 @@ use Rattle.ocf_types.specs.declared.operation.Running.{Running}
 use Rattle.ocf_env.specs.Places.{Call, SiteView}
 use Rattle.exec_journal.specs.Front.{spelled_row}
 use Rattle.exec_journal.specs.Rows.{IsTooLong, kept_free}
-use Rattle.exec_turn.specs.Actives.{Active}
+use Rattle.exec_ledger.specs.Actives.{Active}
 use Rattle.ocf_env.specs.Instances.{registration_of}
 use Rattle.ocf_env.specs.Invocations.{IsInvocation}
 use Rattle.exec_turn.specs.Launches.{IsOfOne, IsStart, all_starting, what_starts}

@@ -1,7 +1,5 @@
 -- One poll after another: the rows that they make, who lives on, and the room of the book.
-use Rattle.std.proofs.Common.{◌≡◌, ⊎_elim, ℕ, zero, suc, ◌+◌, ◌*◌, ◌<◌, ◌≤◌, nat_eq, Bool, true, false, cond, if◌then◌else◌, not, List, []}
-use Rattle.std.proofs.Common.{◌∷◌, ◌++◌, map, length, Option, Some, None, option_to_list, Result, Contains, slice_index_or, refl, sym, ◌∙◌}
-use Rattle.std.proofs.Common.{ap, subst, arith, append-nil, take, drop}
+use Rattle.std.proofs.Common.{◌≡◌, ⊎_elim, ℕ, zero, suc, ◌+◌, ◌*◌, ◌<◌, ◌≤◌, nat_eq, Bool, true, false, cond, if◌then◌else◌, not, List, [], ◌∷◌, ◌++◌, map, length, Option, Some, None, option_to_list, Result, Contains, slice_index_or, refl, sym, ◌∙◌, ap, subst, arith, append-nil, take, drop}
 use Rattle.std.specs.List.{AllByRecursion, IsDistinct, flat_map}
 use Rattle.std.proofs.lemmas.Cmp.{nat_eq_equiv}
 use Rattle.std.proofs.lemmas.Grind.{flat_map-append}
@@ -20,7 +18,8 @@ use Rattle.child_keeper.specs.Children.{ChildrenView, after_kill, after_poll, wi
 use Rattle.child_keeper.specs.declared.answer.KillFault.{KillFault}
 use Rattle.child_keeper.specs.declared.answer.Poll.{Poll}
 use Rattle.child_keeper.specs.declared.answer.Poll.TheVariants as poll
-use Rattle.exec_turn.specs.Actives.{Active, active_in, active_of, notice_of, result_of, runs_of}
+use Rattle.exec_ledger.specs.Actives.{Active, active_in, active_of, runs_of}
+use Rattle.exec_turn.specs.Actives.{notice_of, result_of}
 use Rattle.exec_turn.specs.Polls.{IsPoll, Polled, Polls, after_polls, ending, is_late, polled_on, result_notices, results}
 use Rattle.exec_turn.proofs.Results.{distinct_second, each_second}
 

@@ -1,7 +1,5 @@
 -- What polls enter into the book, and what their results do to a state.
-use Rattle.std.proofs.Common.{◌≡◌, ⊎_elim, inl, ℕ, ◌+◌, ◌*◌, ◌≤◌, nat_eq, Bool, true, false, cond, if◌then◌else◌, not, List, [], ◌∷◌, ◌++◌}
-use Rattle.std.proofs.Common.{map, length, Option, Some, None, option_to_list, Result, Contains, IsSomeAnd, append_assoc}
-use Rattle.std.proofs.Common.{length-append, refl, sym, ◌∙◌, ap, subst, arith, append-nil}
+use Rattle.std.proofs.Common.{◌≡◌, ⊎_elim, inl, ℕ, ◌+◌, ◌*◌, ◌≤◌, nat_eq, Bool, true, false, cond, if◌then◌else◌, not, List, [], ◌∷◌, ◌++◌, map, length, Option, Some, None, option_to_list, Result, Contains, IsSomeAnd, append_assoc, length-append, refl, sym, ◌∙◌, ap, subst, arith, append-nil}
 use Rattle.std.specs.List.{AllByRecursion, IsDistinct}
 use Rattle.std.specs.Map.{keys_of}
 use Rattle.std.specs.Str.{bytes_eq}
@@ -31,12 +29,12 @@ use Rattle.child_keeper.specs.declared.answer.Poll.{Poll}
 use Rattle.child_keeper.specs.declared.answer.Poll.TheVariants as poll
 use Rattle.exec_journal.specs.Front.{AllApply, spelled_row}
 use Rattle.exec_journal.specs.Rows.{are_results}
-use Rattle.exec_turn.specs.Actives.{Active, active, result_of, runs_of}
+use Rattle.exec_ledger.specs.Actives.{Active, active, runs_of}
+use Rattle.exec_turn.specs.Actives.{result_of}
 use Rattle.exec_turn.specs.AgentsLive.{AgentsLive}
 use Rattle.exec_turn.specs.Polls.{IsPoll, Polled, after_polls, ending, entries_of, is_late, polled_on, polls, results, said}
-use Rattle.exec_turn.specs.Rows.{MayRecord}
-use Rattle.exec_turn.proofs.Results.{IsActive, RunsIn, distinct_other, each_active, each_middle, each_other, each_runs, length-all_in}
-use Rattle.exec_turn.proofs.Results.{middle_apart, others_run, same_keys}
+use Rattle.exec_ledger.specs.Rows.{MayRecord}
+use Rattle.exec_turn.proofs.Results.{IsActive, RunsIn, distinct_other, each_active, each_middle, each_other, each_runs, length-all_in, middle_apart, others_run, same_keys}
 use Rattle.exec_turn.proofs.PollSteps.{Live, all_live_after, contains_one, live_after, polled_live, room_after, whos}
 
 -- the entries of one poll

@@ -1,6 +1,5 @@
 -- What runs in a state, and what a result of it leaves.
-use Rattle.std.proofs.Common.{◌≡◌, ℕ, ◌≤◌, Bool, true, false, cond, not, List, [], ◌∷◌, ◌++◌, map, filter, length, Option, Some, None}
-use Rattle.std.proofs.Common.{IsSomeAnd, IsTrue, refl, sym, ◌∙◌, ap, subst, arith}
+use Rattle.std.proofs.Common.{◌≡◌, ℕ, ◌≤◌, Bool, true, false, cond, not, List, [], ◌∷◌, ◌++◌, map, filter, length, Option, Some, None, IsSomeAnd, IsTrue, refl, sym, ◌∙◌, ap, subst, arith}
 use Rattle.std.specs.Cmp.{IsEquivalence}
 use Rattle.std.specs.List.{AllByRecursion, IsDistinct}
 use Rattle.std.specs.Map.{keys_of, lookup}
@@ -18,7 +17,8 @@ use Rattle.ocf_types.specs.State.{Registry, State, after, at_id, stepped}
 use Rattle.ocf_types.specs.declared.event.Step.TheVariants as step
 use Rattle.ocf_types.specs.declared.operation.Running.{Running}
 use Rattle.ocf_types.specs.declared.outcome.RunEnd.{RunEnd}
-use Rattle.exec_turn.specs.Actives.{Active, active, active_in, active_of, all_in, result_of}
+use Rattle.exec_ledger.specs.Actives.{Active, active, active_in, active_of, all_in}
+use Rattle.exec_turn.specs.Actives.{result_of}
 
 abbrev pub ids_of : List Active → List (List ℕ)
 ids_of all = map (λ a. a.id) all

@@ -1,15 +1,12 @@
 -- One start after another.
-use Rattle.std.proofs.Common.{◌≡◌, inl, ⊎_elim, ℕ, ◌+◌, ◌-◌, ◌*◌, ◌≤◌, ◌<◌, nat_eq, Bool, true, false, List, [], ◌∷◌, ◌++◌, map, length}
-use Rattle.std.proofs.Common.{get_or, Option, Some, None, IsSomeAnd, IsTrue, refl, sym, ◌∙◌, ap, subst, arith, append_assoc, length-append}
-use Rattle.std.proofs.Common.{Result, Ok, Err}
+use Rattle.std.proofs.Common.{◌≡◌, inl, ⊎_elim, ℕ, ◌+◌, ◌-◌, ◌*◌, ◌≤◌, ◌<◌, nat_eq, Bool, true, false, List, [], ◌∷◌, ◌++◌, map, length, get_or, Option, Some, None, IsSomeAnd, IsTrue, refl, sym, ◌∙◌, ap, subst, arith, append_assoc, length-append, Result, Ok, Err}
 use Rattle.std.specs.List.{AllByRecursion, Contains, IsDistinct, flat_map}
 use Rattle.std.specs.Map.{keys_of, lookup}
 use Rattle.std.specs.Str.{bytes_eq}
 use Rattle.std.proofs.lemmas.Bool.Decides.{nat_tests}
 use Rattle.std.proofs.lemmas.List.{append-nil, length-map, map-append}
 use Rattle.std.proofs.lemmas.List.Concat.{flat_map-append}
-use Rattle.std.proofs.lemmas.List.Elements.{All-from_recursion, Contains-append_cases, Contains-append_left, Contains-append_right}
-use Rattle.std.proofs.lemmas.List.Elements.{Contains-push_cases}
+use Rattle.std.proofs.lemmas.List.Elements.{All-from_recursion, Contains-append_cases, Contains-append_left, Contains-append_right, Contains-push_cases}
 use Rattle.std.proofs.lemmas.List.Sums.{fold-append}
 use Rattle.std.proofs.lemmas.Map.Keys.{IsDistinct-cons, IsDistinct-head, IsDistinct-tail}
 use Rattle.std.proofs.lemmas.Slice.Eq.{bytes_eq-Decides}
@@ -32,9 +29,10 @@ use Rattle.ocf_types.specs.declared.reply.Notice.{Notice}
 use Rattle.child_keeper.specs.Children.{ChildrenView, after_start, live_started, start_answer}
 use Rattle.exec_journal.specs.Front.{AllApply, spelled_row}
 use Rattle.exec_journal.specs.Rows.{are_results}
-use Rattle.exec_turn.specs.Actives.{Active, active, notice_of, result_of, runs_of}
+use Rattle.exec_ledger.specs.Actives.{Active, active, runs_of}
+use Rattle.exec_turn.specs.Actives.{notice_of, result_of}
 use Rattle.exec_turn.specs.AgentsLive.{AgentsLive, AgentsLiveBut}
-use Rattle.exec_turn.specs.Rows.{MayRecord}
+use Rattle.exec_ledger.specs.Rows.{MayRecord}
 use Rattle.exec_turn.specs.Starts.{AllRun, Rising, RunsUnder, Started, Starts, after_starts, refusals, refused_end, starts}
 use Rattle.exec_turn.proofs.Ending.{OneLess, keys_kept, one_less, runs_on, runs_there, same_run}
 

@@ -2,7 +2,7 @@
 use Rattle.std.specs.Prelude.{ℕ, ◌+◌, ◌≤◌, nat_eq, List, ◌++◌, length, Contains}
 use Rattle.std.specs.List.{AllByRecursion, IsDistinct}
 use Rattle.ocf_types.specs.State.{State}
-use Rattle.exec_turn.specs.Actives.{Active, active, runs_of}
+use Rattle.exec_ledger.specs.Actives.{Active, active, runs_of}
 
 -- The agent of each action that runs lives, runs differ, and no more agents live than actions run.
 pub record AgentsLive (s : State) (live : List ℕ) : Type 0 where

@@ -10,7 +10,7 @@ use Rattle.ocf_types.specs.declared.event.Step.TheVariants as step
 use Rattle.ocf_types.specs.declared.reply.TurnEnd.{TurnEnd}
 use Rattle.ocf_types.specs.declared.reply.TurnEnd.TheVariants as turn_end
 use Rattle.exec_journal.specs.Rows.{IsTooLong}
-use Rattle.exec_turn.specs.Actives.{Active, active_in}
+use Rattle.exec_ledger.specs.Actives.{Active, active_in}
 
 -- what runs in a resource once it has begun this call, under this run
 abbrev pub begun_in : ℕ → ℕ → List ℕ × Resource → Option ℕ → List Active

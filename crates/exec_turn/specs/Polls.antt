@@ -1,7 +1,6 @@
 -- The first row of a turn: every action that runs is polled, and each end makes a result. Pacemaker Explained, resource
 -- operations, timeout.
-use Rattle.std.specs.Prelude.{◌≡◌, ℕ, ◌+◌, ◌<◌, nat_le, Bool, List, [], ◌∷◌, map, fold, Option, Some, None, option_to_list, Result}
-use Rattle.std.specs.Prelude.{if◌then◌else◌, ⊤}
+use Rattle.std.specs.Prelude.{◌≡◌, ℕ, ◌+◌, ◌<◌, nat_le, Bool, List, [], ◌∷◌, map, fold, Option, Some, None, option_to_list, Result, if◌then◌else◌, ⊤}
 use Rattle.std.specs.List.{flat_map, AllByRecursion}
 use Rattle.ocf_types.specs.Kinds.{Event}
 use Rattle.ocf_types.specs.declared.operation.Running.{Running}
@@ -14,7 +13,8 @@ use Rattle.child_keeper.specs.declared.answer.Entry.{Entry}
 use Rattle.child_keeper.specs.declared.answer.KillFault.{KillFault}
 use Rattle.child_keeper.specs.declared.answer.Poll.{Poll}
 use Rattle.child_keeper.specs.declared.answer.Poll.TheVariants as poll
-use Rattle.exec_turn.specs.Actives.{Active, notice_of, result_of}
+use Rattle.exec_ledger.specs.Actives.{Active}
+use Rattle.exec_turn.specs.Actives.{notice_of, result_of}
 
 -- one poll: of which action, what it answered, and what the kill answered where there was one
 pub record Polled : Type 0 where

@@ -10,7 +10,8 @@ use Rattle.ocf_types.specs.declared.outcome.StartFault.{StartFault}
 use Rattle.ocf_types.specs.declared.reply.Notice.{Notice}
 use Rattle.child_keeper.specs.Children.{ChildrenView, after_start, start_answer}
 use Rattle.child_keeper.specs.declared.answer.Entry.{Entry}
-use Rattle.exec_turn.specs.Actives.{Active, notice_of, result_of}
+use Rattle.exec_ledger.specs.Actives.{Active}
+use Rattle.exec_turn.specs.Actives.{notice_of, result_of}
 
 -- one start: of what, and what it answered
 pub record Started : Type 0 where

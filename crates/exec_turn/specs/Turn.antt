@@ -1,43 +1,17 @@
 -- A turn: from what the children answered, its entries in their book, its events, the row that a
 -- disk fault left pending, and what is told.
-use Rattle.std.specs.Prelude.{◌≡◌, ◌⊎◌, ℕ, List, [], ◌∷◌, ◌++◌, map}
+use Rattle.std.specs.Prelude.{◌≡◌, ◌⊎◌, ℕ, List, [], ◌++◌, map}
 use Rattle.std.specs.List.{AllByRecursion}
-use Rattle.ocf_types.specs.Due.{Due, due_after}
 use Rattle.ocf_types.specs.Kinds.{Event}
-use Rattle.ocf_types.specs.State.{State, after, after_all}
 use Rattle.ocf_types.specs.declared.reply.TurnEnd.{TurnEnd}
 use Rattle.ocf_types.specs.declared.reply.TurnEnd.TheVariants as turn_end
 use Rattle.ocf_types.specs.declared.reply.Notice.{Notice}
 use Rattle.child_keeper.specs.declared.answer.Entry.{Entry}
-use Rattle.exec_journal.specs.Place.{Place, place_after}
-use Rattle.exec_turn.specs.Actives.{Active, active}
+use Rattle.exec_ledger.specs.Scenes.{Scene, behind}
+use Rattle.exec_ledger.specs.Actives.{Active, active}
 use Rattle.exec_turn.specs.Picks.{Picked, begins}
 use Rattle.exec_turn.specs.Polls.{IsPoll, Polled, polls, result_notices, results}
 use Rattle.exec_turn.specs.Starts.{Started, refusal_notices, refusals, starts}
-
--- the due moments after these events
-abbrev pub due_after_all : State → Due → List Event → Due
-due_after_all s due [] = due
-due_after_all s due (e ∷ es) = due_after_all (after s e) (due_after s due e) es
-
--- the place behind a row that was recorded at this one; an empty row is none
-abbrev pub place_behind : Place → List Event → Place
-place_behind p [] = p
-place_behind p (e ∷ es) = place_after p (e ∷ es)
-
--- what the turn finds: the state, the due moments, the place in the journal, and the moment
-pub record Scene : Type 0 where
-  pub state : State
-  pub due : Due
-  pub place : Place
-  pub at : ℕ
-
-abbrev pub scene : State → Due → Place → ℕ → Scene
-scene s due p at = record { state = s; due = due; place = p; at = at }
-
--- the same behind a row that was recorded
-abbrev pub behind : Scene → List Event → Scene
-behind x es = scene (after_all x.state es) (due_after_all x.state x.due es) (place_behind x.place es) x.at
 
 -- one answer to a poll of each action that runs, in order of registration
 pub record EachPolled (x : Scene) (ps : List Polled) : Type 0 where

@@ -13,20 +13,16 @@ use Rattle.disk_model.specs.declared.disk.DiskFault.{DiskFault}
 use Rattle.ocf_env.specs.Places.{Call}
 use Rattle.child_keeper.specs.Children.{Asked, ChildrenView}
 use Rattle.child_keeper.specs.declared.answer.Entry.{Entry}
-use Rattle.exec_journal.specs.Journal.{journal_place}
-use Rattle.exec_journal.specs.Place.{Place}
-use Rattle.exec_journal.specs.Room.{HasRoom, Roomy}
-use Rattle.exec_journal.specs.Settled.{IsSettled}
-use Rattle.exec_journal.specs.declared.journal.Journal.{Journal}
-use Rattle.exec_state.specs.Store.{Store, dues}
-use Rattle.exec_turn.specs.Actives.{Active}
+use Rattle.exec_journal.specs.Room.{Roomy}
+use Rattle.exec_ledger.specs.Actives.{Active}
 use Rattle.exec_turn.specs.AgentsLive.{AgentsLive, AgentsLiveBut}
 use Rattle.exec_turn.specs.Launches.{AllLaunch, IsOfOne, all_starting}
 use Rattle.exec_turn.specs.Picks.{begins}
-use Rattle.exec_turn.specs.Pieces.{AskedOn, Leaves}
+use Rattle.exec_ledger.specs.Pieces.{AskedOn, Leaves}
 use Rattle.exec_turn.specs.Polls.{Polled, polls, result_notices, results}
 use Rattle.exec_turn.specs.Starts.{AllRun, Rising, Started, refusal_notices, refusals, starts}
-use Rattle.exec_turn.specs.Turn.{EachPolled, IsTurn, PickedAt, Scene, behind, due_after_all, scene}
+use Rattle.exec_turn.specs.Turn.{EachPolled, IsTurn, PickedAt}
+use Rattle.exec_ledger.specs.Scenes.{LeavesRow, Moves, RecordsRow, Scene, due_after_all}
 use Rattle.exec_turn.specs.declared.buffers.TurnBuffers.{TurnBuffers}
 use Rattle.exec_turn.specs.declared.picks.StartOf.{StartOf}
 
@@ -34,32 +30,6 @@ use Rattle.exec_turn.specs.declared.picks.StartOf.{StartOf}
 pub record ChildrenMatch (s : State) (v : ChildrenView) : Type 0 where
   pub agents_live : AgentsLive s v.live
   pub rising : v.last_run < s.next_run
-
--- the journal is settled at this state where its disk is honest, and has room for the results of what runs and for a boot
-pub record Holds {D : Type 0} (look : D → View) (k : D) (p : Place) (s : State) : Type 0 where
-  pub settled : (look k).honest → IsSettled p s (look k)
-  pub room : HasRoom p.tail s
-
--- what a turn finds in a journal and a state at this moment
-abbrev pub scene_of : {D M : Type 0} → Journal D M → Store → ℕ → Scene
-scene_of journal state at = scene state.state (dues state) (journal_place journal) at
-
--- A row that was recorded leads from one scene to another; one that was not leaves all but perhaps the disk as it was.
-abbrev pub Moves : {T : Type 0} → Scene → Scene → List Event → Result T DiskFault → Type 0
-Moves x y row (Ok done) = y ≡ behind x row
-Moves x y row (Err fault) = (y.state ≡ x.state) × (y.due ≡ x.due)
-
--- what a step leaves that makes these entries, and whose row was recorded or not
-abbrev pub LeavesRow : {T : Type 0} → View → View → Scene → Scene → List Entry → List Event → Result T DiskFault → Type 0
-LeavesRow old new x y entries row (Ok done) = Leaves old new x.state y.state entries row []
-LeavesRow old new x y entries row (Err fault) = Leaves old new x.state y.state entries [] row
-
--- A row was recorded, or a disk fault met it: what a stop leaves has room all the while, and the fault has a cause.
-pub record RecordsRow {D T : Type 0} (look : D → View) (k l : D) (x y : Scene) (row : List Event) (result : Result T DiskFault) : Type 0 where
-  pub moves : Moves x y row result
-  pub crash : LeavesRow (look k) (look l) x y [] row result
-  pub roomy : CrashesTo (look k) (look l) Roomy
-  pub cause : OnErr result (Increased (look k).failures (look l).failures)
 
 -- The first step: polls, and the row of their results.
 pub record PollsRow {D : Type 0} (look : D → View) (k l : D) (x y : Scene) (from to : ChildrenView) (told : List Notice)

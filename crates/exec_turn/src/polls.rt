@@ -8,7 +8,7 @@ ghost use Rattle.ocf_types.specs.declared.reply.Notice.{Notice};
 ghost use Rattle.child_keeper.specs.declared.answer.KillFault.{KillFault};
 ghost use Rattle.child_keeper.specs.declared.answer.Poll.{Poll};
 ghost use Rattle.exec_turn.specs.Buffers.{GrowsInRoom};
-ghost use Rattle.exec_turn.specs.Actives.{active, active_in, runs_of};
+ghost use Rattle.exec_ledger.specs.Actives.{active, active_in, runs_of};
 ghost use Rattle.exec_turn.specs.AgentsLive.{AgentsLive};
 ghost use Rattle.exec_turn.specs.Polls.{IsPoll, Polls, ending, is_late, polled_on};
 

@@ -1,140 +1,43 @@
 -- Commands leave what runs as it is.
-use Rattle.std.proofs.Common.{◌≡◌, ℕ, ◌<◌, ◌≤◌, Bool, true, false, ◌||◌, List, [], ◌∷◌, ◌++◌, Ok, Some, None, Option}
-use Rattle.std.proofs.Common.{is_some, not, cond, length, nat_eq, nat_lt, Contains, IsSomeAnd, refl, sym, ◌∙◌, ap}
-use Rattle.std.proofs.Common.{subst, arith, append-nil}
+use Rattle.std.proofs.Common.{◌≡◌, ◌<◌, ◌≤◌, Bool, true, false, ◌||◌, List, [], ◌∷◌, ◌++◌, Some, None, Option, is_some, length, nat_eq, nat_lt, Contains, refl, sym, ◌∙◌, ap, subst, arith}
 use Rattle.std.specs.List.{AllByRecursion, IsDistinct, list_any}
-use Rattle.std.specs.Map.{keys_of, lookup}
-use Rattle.std.specs.Str.{bytes_eq}
 use Rattle.std.proofs.lemmas.Bool.{or_parts}
-use Rattle.std.proofs.lemmas.Grind.{flat_map-append}
-use Rattle.std.proofs.lemmas.Slice.Eq.{bytes_eq-Decides}
-use Rattle.std.proofs.lemmas.Map.Keys.{IsDistinct-head, IsDistinct-tail}
-use Rattle.ocf_types.specs.Answer.{asked_event, event_of, tests}
-use Rattle.ocf_types.specs.Applies.{Applies, ChangeApplies}
-use Rattle.ocf_types.specs.Kinds.{Change, Command, Event, Registration, Step}
-use Rattle.ocf_types.specs.Resource.{Resource, is_busy}
-use Rattle.ocf_types.specs.State.{Registry, State, after, at_id, changed, others, registered, runs_drawn, stepped}
-use Rattle.ocf_types.specs.LawfulState.{IsLawfulState}
-use Rattle.ocf_types.specs.RegistryLaws.{passed}
-use Rattle.ocf_types.specs.declared.command.CommandOf.TheVariants as command
-use Rattle.ocf_types.specs.declared.event.Change.TheVariants as change
-use Rattle.ocf_types.specs.declared.event.Step.TheVariants as step
+use Rattle.ocf_types.specs.Resource.{is_busy}
+use Rattle.ocf_types.specs.State.{Registry, State}
 use Rattle.ocf_types.specs.declared.operation.Running.{Running}
 use Rattle.ocf_types.specs.Boot.{any_busy}
 use Rattle.child_keeper.specs.Children.{ChildrenView, given_up}
-use Rattle.exec_turn.specs.Actives.{Active, active, active_in, active_of, all_in, runs_of}
+use Rattle.exec_ledger.specs.Actives.{KeepsRuns, Active, active_of, all_in, runs_of}
+use Rattle.ocf_types.specs.declared.reply.Notice.{Notice}
+use Rattle.ocf_env.specs.Places.{SiteView}
+use Rattle.exec_ledger.specs.Held.{Held}
 use Rattle.exec_turn.specs.Turns.{ChildrenMatch}
-use Rattle.executor.specs.Replies.{KeepsRunning}
+use Rattle.executor.specs.Sights.{Tends, sight}
 
--- a command's event begins and ends nothing
-asked_keeps : (s : State) (now : ℕ) (c : Command) → KeepsRunning (asked_event s now c).change
-asked_keeps s now (command.Register r) = tt
-asked_keeps s now (command.Unregister id) = tt
-asked_keeps s now (command.SetParams id ps) = tt
-asked_keeps s now (command.Exec id t timeout) = tt
-asked_keeps s now (command.Recur id interval timeout level) = tt
-asked_keeps s now (command.Cancel id interval) = tt
-asked_keeps s now (command.Forget id) = tt
-asked_keeps s now (command.Withdraw id call) = tt
+-- where what runs is as it was, its agents still live
+pub kept_matched : (s t : State) (v : ChildrenView) → KeepsRuns s t → ChildrenMatch s v → ChildrenMatch t v
+kept_matched s t v keeps matched =
+    let next = keeps.next in
+    let low = matched.rising in record {
+      agents_live = record {
+        each_lives =
+            subst (λ (l : List Active). AllByRecursion (λ run. Contains v.live run) (runs_of l)) (sym keeps.runs) matched.agents_live.each_lives;
+        distinct = subst (λ (l : List Active). IsDistinct nat_eq (runs_of l)) (sym keeps.runs) matched.agents_live.distinct;
+        few = subst (λ (l : List Active). length v.live ≤ length l) (sym keeps.runs) matched.agents_live.few;
+      };
+      rising = omega (arith, next, low);
+    }
 
-pub command_keeps : (s : State) (now : ℕ) (c : Command) (e : Event) → event_of s now c ≡ Ok e → KeepsRunning e.change
-command_keeps s now c e is =
-    subst (λ (x : Event). KeepsRunning x.change) (passed (tests s c _) (asked_event s now c) e is).0 (asked_keeps s now c)
-
--- a step that begins and ends nothing
-step_keeps : (at : ℕ) (id : List ℕ) (what : Step) (r : Resource) → KeepsRunning (change.Step id what)
-    → (stepped at what r).history.running ≡ r.history.running
-step_keeps at id (step.SetParams ps) r keeps = refl
-step_keeps at id (step.Exec o) r keeps = refl
-step_keeps at id (step.Recur m) r keeps = refl
-step_keeps at id (step.Cancel interval) r keeps = refl
-step_keeps at id step.Forget r keeps = refl
-step_keeps at id (step.Begin call run) r keeps = absurd keeps
-step_keeps at id (step.Result run end) r keeps = absurd keeps
-step_keeps at id (step.Withdraw call) r keeps = refl
-
-steps_same : (at : ℕ) (id : List ℕ) (what : Step) → KeepsRunning (change.Step id what) → (rs : Registry)
-    → all_in (at_id id (stepped at what) rs) ≡ all_in rs
-steps_same at id what keeps [] = refl
-steps_same at id what keeps (e ∷ rs) = by (bytes_eq id e.0) (steps_same at id what keeps rs)
-  where
-    by : (b : Bool) → all_in (at_id id (stepped at what) rs) ≡ all_in rs
-        → active_of e.0 (cond b (stepped at what e.1) e.1).history.running ++ all_in (at_id id (stepped at what) rs)
-        ≡ active_of e.0 e.1.history.running ++ all_in rs
-    by true rest = λ i. active_of e.0 (step_keeps at id what e.1 keeps i) ++ rest i
-    by false rest = λ i. active_of e.0 e.1.history.running ++ rest i
+-- so what stands beside a ledger is kept with it
+pub kept_tends : {D : Type 0} (h k : Held D) (v : ChildrenView) (w : SiteView) (n m : List Notice) → KeepsRuns h.state k.state
+    → Tends (sight h v w n) → Tends (sight k v w m)
+kept_tends h k v w n m keeps tends = record { matched = kept_matched h.state k.state v keeps tends.matched; admits = tends.admits }
 
 -- what is not busy runs nothing
 quiet_runs : (q : Bool) (o : Option Running) → (q || is_some o) ≡ false → o ≡ None
 quiet_runs q None is = refl
 quiet_runs true (Some x) is = absurd (let bad : true ≡ false = is in cc)
 quiet_runs false (Some x) is = absurd (let bad : true ≡ false = is in cc)
-
-none_removed : (id : List ℕ) (rs : Registry) → AllByRecursion (λ k. bytes_eq id k ≡ false) (keys_of rs) → others id rs ≡ rs
-none_removed id [] apart = refl
-none_removed id (e ∷ rs) apart = by (bytes_eq id e.0) apart.0 (none_removed id rs apart.1)
-  where
-    by : (b : Bool) → b ≡ false → others id rs ≡ rs → cond (not b) (e ∷ others id rs) (others id rs) ≡ e ∷ rs
-    by true bad rest = absurd (let none : true ≡ false = bad in cc)
-    by false _ rest = ap (λ (l : Registry). e ∷ l) rest
-
-removed_same : (id : List ℕ) (rs : Registry) → IsDistinct bytes_eq (keys_of rs)
-    → IsSomeAnd (lookup (bytes_eq id) rs) (λ r. is_busy r.history ≡ false) → all_in (others id rs) ≡ all_in rs
-removed_same id [] distinct none = absurd none
-removed_same id (e ∷ rs) distinct quiet =
-    by (bytes_eq id e.0) refl quiet (removed_same id rs (IsDistinct-tail bytes_eq e.0 (keys_of rs) distinct))
-    (IsDistinct-head bytes_eq e.0 (keys_of rs) distinct)
-  where
-    by : (b : Bool) → bytes_eq id e.0 ≡ b → IsSomeAnd (cond b (Some e.1) (lookup (bytes_eq id) rs)) (λ r. is_busy r.history ≡ false)
-        → (IsSomeAnd (lookup (bytes_eq id) rs) (λ r. is_busy r.history ≡ false) → all_in (others id rs) ≡ all_in rs)
-        → AllByRecursion (λ k. bytes_eq e.0 k ≡ false) (keys_of rs)
-        → all_in (cond (not b) (e ∷ others id rs) (others id rs)) ≡ active_of e.0 e.1.history.running ++ all_in rs
-    by true same is rest apart =
-        let key : id ≡ e.0 = (bytes_eq-Decides id e.0).0 same in
-        let none : e.1.history.running ≡ None = quiet_runs (nat_lt 0 (length e.1.history.queue)) e.1.history.running is in
-        ap all_in (none_removed id rs (subst (λ (k : List ℕ). AllByRecursion (λ l. bytes_eq k l ≡ false) (keys_of rs)) (sym key) apart))
-        ∙ ap (λ (o : Option Running). active_of e.0 o ++ all_in rs) (sym none)
-    by false other is rest apart = ap (λ (l : List Active). active_of e.0 e.1.history.running ++ l) (rest is)
-
-added_same : (r : Registration) (rs : Registry) → all_in (rs ++ registered r ∷ []) ≡ all_in rs
-added_same r rs = flat_map-append active_in rs (registered r ∷ []) ∙ append-nil (all_in rs)
-
-change_same : (s : State) (at : ℕ) (c : Change) → IsDistinct bytes_eq (keys_of s.resources) → ChangeApplies s c → KeepsRunning c
-    → all_in (changed at c s.resources) ≡ all_in s.resources
-change_same s at (change.Register r) distinct applies keeps = added_same r s.resources
-change_same s at (change.Unregister id) distinct applies keeps = removed_same id s.resources distinct applies
-change_same s at (change.Step id what) distinct applies keeps = steps_same at id what keeps s.resources
-change_same s at change.Boot distinct applies keeps = absurd keeps
-
-draws_none : (c : Change) → KeepsRunning c → runs_drawn c ≡ 0
-draws_none (change.Register r) keeps = refl
-draws_none (change.Unregister id) keeps = refl
-draws_none (change.Step id (step.SetParams ps)) keeps = refl
-draws_none (change.Step id (step.Exec o)) keeps = refl
-draws_none (change.Step id (step.Recur m)) keeps = refl
-draws_none (change.Step id (step.Cancel interval)) keeps = refl
-draws_none (change.Step id step.Forget) keeps = refl
-draws_none (change.Step id (step.Begin call run)) keeps = absurd keeps
-draws_none (change.Step id (step.Result run end)) keeps = absurd keeps
-draws_none (change.Step id (step.Withdraw call)) keeps = refl
-draws_none change.Boot keeps = absurd keeps
-
--- so the agents of all that runs still live
-pub kept_matched : (s t : State) (e : Event) (v : ChildrenView) → IsLawfulState s → Applies s e → KeepsRunning e.change → t ≡ after s e
-    → ChildrenMatch s v → ChildrenMatch t v
-kept_matched s t e v lawful applies keeps state matched =
-    let same : active t ≡ active s = ap active state ∙ change_same s e.at e.change lawful.ids applies.change keeps in
-    let drawn = draws_none e.change keeps in
-    let next = ap (λ (u : State). u.next_run) state in
-    let low = matched.rising in record {
-      agents_live = record {
-        each_lives =
-            subst (λ (l : List Active). AllByRecursion (λ run. Contains v.live run) (runs_of l)) (sym same) matched.agents_live.each_lives;
-        distinct = subst (λ (l : List Active). IsDistinct nat_eq (runs_of l)) (sym same) matched.agents_live.distinct;
-        few = subst (λ (l : List Active). length v.live ≤ length l) (sym same) matched.agents_live.few;
-      };
-      rising = omega (arith, next, drawn, low);
-    }
 
 -- where nothing is queued or running no agent is wanted
 nothing_in : (rs : Registry) → list_any (λ e. is_busy e.1.history) rs ≡ false → all_in rs ≡ []

@@ -1,11 +1,8 @@
-pub mod Journaling
 pub mod Keeping
-pub mod Recording
-pub mod Tidying
 pub mod Openings
 pub mod Sessions
 pub mod Isolation
 pub mod Lives
-pub mod Rows
 pub mod History
 pub mod Machines
+pub mod Sharing

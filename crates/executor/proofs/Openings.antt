@@ -1,4 +1,3 @@
 -- An opening: its journal, its boot and its report.
 pub mod Reporting
-pub mod Booting
 pub mod Ends

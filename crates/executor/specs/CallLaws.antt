@@ -11,9 +11,14 @@ use Rattle.child_keeper.specs.declared.answer.Entry.{Entry}
 use Rattle.executor.specs.Commands.{ServesWhile}
 use Rattle.executor.specs.Lives.{Calls, Exchange}
 use Rattle.executor.specs.Sessions.{Effects, TakesWhile, followed_by, no_effects, request_effects}
-use Rattle.executor.specs.Sights.{Sight}
+use Rattle.executor.specs.Sights.{Beside, Sight, ledger_of, sight}
 use Rattle.executor.specs.TurnCalls.{TurnsWhile}
 use Rattle.executor.specs.declared.session.InputOf.TheVariants as input
+
+-- an executor whose ledger holds the same, and all that stands beside it, is the same
+pub same_sight : {D : Type 0} (x y : Sight D) → ledger_of y ≡ ledger_of x → Beside x y → y ≡ x
+same_sight x y same beside =
+    λ i. sight (same i) (beside.children i) (beside.site i) (beside.told i)
 
 -- a request that was served was taken
 pub request_taken : {D : Type 0} (b : Bool) (look : D → View) (now : ℕ) (request : Request) (x y : Sight D) (reply : Reply)

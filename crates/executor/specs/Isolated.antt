@@ -1,7 +1,6 @@
 -- One resource by itself: a machine that knows of no other. The numbers of its calls and runs are handed in, each above all
 -- that it knows.
-use Rattle.std.specs.Prelude.{◌≡◌, ◌⊎◌, ℕ, ◌+◌, ◌≤◌, Bool, false, List, [], ◌∷◌, ◌++◌, map, min, length, nat_lt, nat_le, is_some, is_none}
-use Rattle.std.specs.Prelude.{Option, Some, None, option_map, option_and_then, option_to_list, Result, Ok, Err, if◌then◌else◌}
+use Rattle.std.specs.Prelude.{◌≡◌, ◌⊎◌, ℕ, ◌+◌, ◌≤◌, Bool, false, List, [], ◌∷◌, ◌++◌, map, min, length, nat_lt, nat_le, is_some, is_none, Option, Some, None, option_map, option_and_then, option_to_list, Result, Ok, Err, if◌then◌else◌}
 use Rattle.std.specs.Option.{option_map_or}
 use Rattle.ocf_types.specs.Answer.{change_of, first_of, info_of}
 use Rattle.ocf_types.specs.Due.{IsPick, or_else, step_sets}
@@ -19,8 +18,7 @@ use Rattle.ocf_types.specs.declared.event.Step.TheVariants as step
 use Rattle.ocf_types.specs.declared.operation.Running.{Running}
 use Rattle.ocf_types.specs.declared.outcome.StartFault.{StartFault}
 use Rattle.ocf_types.specs.declared.refusal.Refusal.{Refusal}
-use Rattle.ocf_types.specs.declared.refusal.Refusal.TheVariants.{Busy, Exists, NoSuchRecurring, NotQueued, QueueFull, RecurringFull, TooLarge}
-use Rattle.ocf_types.specs.declared.refusal.Refusal.TheVariants.{UnknownResource}
+use Rattle.ocf_types.specs.declared.refusal.Refusal.TheVariants.{Busy, Exists, NoSuchRecurring, NotQueued, QueueFull, RecurringFull, TooLarge, UnknownResource}
 use Rattle.ocf_types.specs.declared.reply.ReplyOf.TheVariants as reply
 use Rattle.ocf_types.specs.declared.reply.TurnEnd.TheVariants.{Done}
 use Rattle.child_keeper.specs.Children.{start_answer}
@@ -30,7 +28,7 @@ use Rattle.child_keeper.specs.declared.answer.Poll.{Poll}
 use Rattle.exec_turn.specs.Actives.{result_of}
 use Rattle.exec_turn.specs.Polls.{IsPoll, ending, entries_of}
 use Rattle.exec_turn.specs.Starts.{refused_end}
-use Rattle.executor.specs.Replies.{acknowledged}
+use Rattle.exec_ledger.specs.Replies.{acknowledged}
 use Rattle.executor.specs.Sessions.{Input}
 use Rattle.executor.specs.Sights.{Sight, due_in}
 use Rattle.executor.specs.declared.session.InputOf.TheVariants as input

@@ -11,7 +11,6 @@ pub mod Isolated
 pub mod Parts
 pub mod Lives
 pub mod Rows
-pub mod RowSteps
 pub mod CallLaws
 pub mod Histories
 pub mod Joins

@@ -13,8 +13,9 @@ use Rattle.child_keeper.specs.Children.{Asked, ChildrenView}
 use Rattle.exec_journal.specs.Found.{FoundAs}
 use Rattle.exec_journal.specs.Opening.{OpensLike}
 use Rattle.exec_journal.specs.Room.{Roomy}
-use Rattle.exec_turn.specs.Pieces.{HasBegin}
-use Rattle.executor.specs.Openings.{Opened, OpensDisk, booted}
+use Rattle.exec_ledger.specs.Pieces.{HasBegin}
+use Rattle.executor.specs.Openings.{Opened, OpensDisk}
+use Rattle.exec_ledger.specs.Boots.{booted}
 use Rattle.executor.specs.declared.opening.OpenError.{OpenError}
 use Rattle.executor.specs.declared.opening.OpenError.TheVariants.{Disk}
 use Rattle.executor.specs.Reports.{dropped, interrupted}

@@ -14,13 +14,13 @@ use Rattle.ocf_types.specs.declared.reply.TidyEnd.TheVariants as tidy
 use Rattle.ocf_types.specs.declared.reply.TurnEnd.{TurnEnd}
 use Rattle.ocf_types.specs.declared.reply.TurnEnd.TheVariants as turn_end
 use Rattle.exec_state.specs.Answers.{IsReplyOrMemory}
-use Rattle.exec_turn.specs.Actives.{Active, active}
+use Rattle.exec_ledger.specs.Actives.{Active, active}
 use Rattle.exec_turn.specs.Picks.{ArePicks, begins}
 use Rattle.exec_turn.specs.Polls.{Polled, result_notices, results}
 use Rattle.exec_turn.specs.Starts.{Started, refusal_notices, refusals}
-use Rattle.exec_turn.specs.Turn.{due_after_all}
+use Rattle.exec_ledger.specs.Scenes.{due_after_all}
 use Rattle.executor.specs.Lives.{Abandoned, Cleared, Exchange, Row, Tidied, Took}
-use Rattle.executor.specs.RowCalls.{Answered, failed}
+use Rattle.exec_ledger.specs.Together.{Answered, failed}
 use Rattle.executor.specs.Sessions.{closed_reply}
 use Rattle.executor.specs.declared.session.InputOf.TheVariants as input
 

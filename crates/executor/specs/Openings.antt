@@ -1,12 +1,11 @@
 -- What an opening makes of what it finds, and what it leaves.
-use Rattle.std.specs.Prelude.{◌≡◌, ◌⊎◌, ◌↔◌, ℕ, ◌+◌, ◌<◌, true, false, List, Result, IsErrOf, OnOk, IsTrue, [], ◌≤◌}
+use Rattle.std.specs.Prelude.{◌≡◌, ◌⊎◌, ℕ, ◌<◌, true, false, List, [], ◌≤◌}
 use Rattle.ocf_types.specs.Answer.{moment}
-use Rattle.ocf_types.specs.Boot.{any_busy, boot}
+use Rattle.ocf_types.specs.Boot.{any_busy}
 use Rattle.ocf_types.specs.Due.{Due, due_at}
-use Rattle.ocf_types.specs.Limits.{boot_room}
 use Rattle.ocf_types.specs.State.{State}
 use Rattle.ocf_types.specs.declared.reply.Notice.{Notice}
-use Rattle.disk_model.specs.Image.{Image, part_limit}
+use Rattle.disk_model.specs.Image.{Image}
 use Rattle.disk_model.specs.Runs.{CrashesTo}
 use Rattle.disk_model.specs.View.{Increased, Unwritten, View}
 use Rattle.child_keeper.specs.Children.{ChildrenView, given_up}
@@ -15,43 +14,15 @@ use Rattle.gated_slots.specs.declared.append.SlotFault.TheVariants as slot
 use Rattle.exec_journal.specs.Found.{Damaged, FoundAs, IsFound, IsToWrite, StandsAt}
 use Rattle.exec_journal.specs.Opening.{OpensLike}
 use Rattle.exec_journal.specs.Place.{Place}
-use Rattle.exec_journal.specs.Room.{AllRoomy, HasRoom, Roomy}
+use Rattle.exec_journal.specs.Room.{AllRoomy, Roomy}
 use Rattle.two_parts.specs.declared.damage.Damage.{Damage}
 use Rattle.exec_journal.specs.declared.fault.JournalFault.{JournalFault}
 use Rattle.exec_journal.specs.declared.fault.JournalFault.TheVariants as journal
 use Rattle.executor.specs.declared.opening.OpenError.{OpenError}
 use Rattle.executor.specs.declared.opening.OpenError.TheVariants as why
 use Rattle.executor.specs.Reports.{dropped, interrupted}
-use Rattle.executor.specs.Sights.{IsOnJournal, IsSound, Sight, due_in}
-
--- the state after the boot that an opening at this moment needs: the state itself where nothing is queued or running
-abbrev pub booted : State → ℕ → State
-booted s now = boot s (moment s now)
-
--- a boot is needed, and does not fit behind this offset: its slot, and the gate behind it
-abbrev pub LacksBoot : ℕ → State → Type 0
-LacksBoot tail s = IsTrue (any_busy s) × (part_limit < tail + boot_room)
-
--- the pair is found as this state, or as its boot
-abbrev pub BootsFrom : State → ℕ → Image → Type 0
-BootsFrom s now c = FoundAs s c ⊎ FoundAs (booted s now) c
-
--- The boot that is needed, if one is, recorded or not: from one sight of an open executor to another.
-pub record Boots {D : Type 0} (look : D → View) (now : ℕ) (old new : Sight D) (result : Result Unit SlotFault) : Type 0 where
-  pub still_open : new.is_open ≡ true
-  pub children : new.children ≡ old.children
-  pub site : new.site ≡ old.site
-  pub told : new.told ≡ old.told
-  pub settled : OnOk result (IsOnJournal look new)
-  pub state : OnOk result (new.state ≡ booted old.state now)
-  pub crash : CrashesTo (look old.disk) (look new.disk) (BootsFrom old.state now)
-  pub roomy : HasRoom old.place.tail old.state → CrashesTo (look old.disk) (look new.disk) Roomy
-  -- where nothing is queued or running nothing is written
-  pub quiet : any_busy old.state ≡ false → new ≡ old
-  -- nor where it does not fit
-  pub full : IsErrOf result slot.Full ↔ LacksBoot old.place.tail old.state
-  pub unwritten : IsErrOf result slot.Full → new.disk ≡ old.disk
-  pub cause : IsErrOf result slot.Disk → Increased (look old.disk).failures (look new.disk).failures
+use Rattle.exec_ledger.specs.Boots.{BootsFrom, LacksBoot, booted}
+use Rattle.executor.specs.Sights.{IsSound, Sight, due_in}
 
 -- An opening at this moment of what is found on these parts: the state after its boot, all recurring monitors due at that
 -- moment, and the notices of what ran and of what was queued.

@@ -15,7 +15,7 @@ use Rattle.ocf_types.specs.declared.refusal.Refusal.TheVariants.{CallsSpent, Clo
 use Rattle.ocf_types.specs.declared.reply.ReplyOf.TheVariants as reply
 use Rattle.ocf_types.specs.declared.reply.TurnEnd.TheVariants.{Done}
 use Rattle.child_keeper.specs.declared.answer.Entry.{Entry}
-use Rattle.exec_turn.specs.Actives.{active, runs_of}
+use Rattle.exec_ledger.specs.Actives.{active, runs_of}
 use Rattle.executor.specs.Sessions.{Input}
 use Rattle.executor.specs.Isolated.{cut}
 use Rattle.executor.specs.declared.session.InputOf.TheVariants as input

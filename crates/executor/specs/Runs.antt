@@ -7,7 +7,7 @@ use Rattle.ocf_types.specs.State.{State, after_all}
 use Rattle.ocf_types.specs.declared.reply.Notice.{Notice}
 use Rattle.executor.specs.Lives.{Exchange, MayBoot, boots}
 use Rattle.executor.specs.Machine.{Left, Machine, MovesAll, and_then}
-use Rattle.executor.specs.Openings.{booted}
+use Rattle.exec_ledger.specs.Boots.{booted}
 use Rattle.executor.specs.Reports.{dropped, interrupted}
 use Rattle.executor.specs.declared.opening.OpenError.{OpenError}
 

@@ -14,10 +14,10 @@ use Rattle.disk_model.specs.Runs.{CrashesTo}
 use Rattle.disk_model.specs.View.{View}
 use Rattle.child_keeper.specs.declared.answer.Entry.{Entry}
 use Rattle.exec_journal.specs.Room.{Roomy}
-use Rattle.exec_turn.specs.Pieces.{Leaves}
-use Rattle.exec_turn.specs.Turn.{due_after_all}
+use Rattle.exec_ledger.specs.Pieces.{Leaves}
+use Rattle.exec_ledger.specs.Scenes.{due_after_all}
 use Rattle.executor.specs.Commands.{ServesOpen}
-use Rattle.executor.specs.Replies.{pending, recorded}
+use Rattle.exec_ledger.specs.Replies.{pending, recorded}
 use Rattle.executor.specs.Sights.{Sight, due_in}
 use Rattle.executor.specs.TurnCalls.{TakesTurn}
 use Rattle.executor.specs.declared.session.InputOf.{InputOf}

@@ -1,26 +1,33 @@
 //! The executor.
-use crate::desk::Desk;
 use child_keeper::Children;
 use disk_model::Disk;
+use exec_ledger::Ledger;
+use exec_turn::TurnBuffers;
+use ocf_env::Site;
 use std::alloc::{Allocator, Global};
 use std::marker::Model;
 
 /// A local executor of OCF resource agents over a journal and children. A disk fault closes it; it is opened again by its
 /// journal.
 ///
-/// While it is open its journal is settled at its state, and has room for the results of what runs and for a boot; and the
-/// agents of all that runs live.
+/// While it is open its journal is settled at its state, and has room for the results of what runs and for a boot: that is what
+/// its ledger keeps. Beside that the agents of all that runs live.
 #[derive(Drop)]
 pub struct Executor<D: Disk + Drop, C: Children + Drop, A: Allocator + Copy = Global> {
-    pub(crate) desk: Desk<D, C, A>,
+    pub(crate) ledger: Ledger<D, A>,
+    pub(crate) children: C,
+    pub(crate) site: Site<A>,
+    pub(crate) rows: TurnBuffers<A>,
+    pub(crate) alloc: A,
 }
 
 impl<D: Disk + Drop, C: Children + Drop, A: Allocator + Copy> Model for Executor<D, C, A> {
-    ghost use Rattle.executor.specs.Sights.{IsSound, Sight, sight_of};
+    ghost use Rattle.exec_turn.specs.Turns.{told_of};
+    ghost use Rattle.executor.specs.Sights.{IsTended, Sight, sight};
 
     ghost Value = { Sight D };
 
-    ghost view = { λ e. sight_of C.view e.desk };
+    ghost view = { λ e. sight e.ledger (C.view e.children) e.site (told_of e.rows) };
 
-    ghost invariant = { λ e. IsSound D.view (sight_of C.view e.desk) };
+    ghost invariant = { λ e. IsTended (sight e.ledger (C.view e.children) e.site (told_of e.rows)) };
 }

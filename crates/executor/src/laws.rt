@@ -17,7 +17,7 @@ ghost use Rattle.executor.specs.Joins.{StandsAt, as_calls};
 ghost use Rattle.executor.specs.Lives.{BeginsAs, Calls, GoesOnFrom, InOpening, IsLife, LifeLeaves, Lived, OpensBehind, Sat, Sitting};
 ghost use Rattle.executor.specs.Openings.{NotOpened, Opened};
 ghost use Rattle.executor.specs.Parts.{DistinctKeys, AreRising, IsPlain, entries_of_runs, events_of, inputs_at, own_runs, part};
-ghost use Rattle.executor.specs.RowCalls.{Answered};
+ghost use Rattle.exec_ledger.specs.Together.{Answered};
 ghost use Rattle.executor.specs.Sessions.{Effects, Input, Session};
 ghost use Rattle.executor.specs.Sights.{Sight};
 ghost use Rattle.executor.specs.Isolated.{Alone, Isolated, cut, isolated_after_all, isolated_of};

@@ -2,7 +2,6 @@
 #![tactic(auto)]
 
 mod commands;
-mod desk;
 mod executor;
 pub mod histories;
 pub mod laws;
@@ -11,7 +10,6 @@ mod opening;
 mod report;
 mod session;
 mod tidies;
-mod together;
 mod turns;
 
 pub use executor::Executor;

@@ -17,41 +17,37 @@ impl<D: Disk + Drop, C: Children + Drop, A: Allocator + Copy> Executor<D, C, A> 
     pub fn turn(&mut self, now: u64) -> TurnEnd
         ensures turns { TurnsWhile self.old.is_open D.view now self.old self.new result }
     {
-        if !self.desk.open {
+        if !self.ledger.is_open() {
             return TurnEnd::Closed;
         }
-        self.desk.state.look();
-        let end = take_turn(
-            &self.desk.site,
-            &mut self.desk.journal,
-            &mut self.desk.state,
-            &mut self.desk.children,
-            &mut self.desk.rows,
+        take_turn(
+            &self.site,
+            &mut self.ledger,
+            &mut self.children,
+            &mut self.rows,
             now,
-        );
-        self.desk.open = end != TurnEnd::Disk;
-        end
+        )
     }
 
     /// The results that the last turn recorded, in their order.
     pub fn notices(&self) -> &[Notice]
         ensures value { result.now ≡ self.now.told }
     {
-        self.desk.rows.notices()
+        self.rows.notices()
     }
 
     /// The children's book: what each of them answered since it was emptied.
     pub fn book(&self) -> &[Entry]
         ensures value { result.now ≡ self.now.children.book }
     {
-        self.desk.children.book()
+        self.children.book()
     }
 
     /// Empties the children's book.
     pub fn clear_book(&mut self)
         ensures cleared { self.new ≡ with_empty_book self.old }
     {
-        self.desk.children.clear_book();
+        self.children.clear_book();
     }
 
     /// Kills and gives up every child. The executor is closed then: what runs is found as interrupted when the journal is
@@ -59,7 +55,7 @@ impl<D: Disk + Drop, C: Children + Drop, A: Allocator + Copy> Executor<D, C, A> 
     pub fn abandon(&mut self)
         ensures abandoned { self.new ≡ abandoned self.old }
     {
-        self.desk.children.give_up_all();
-        self.desk.open = false;
+        self.children.give_up_all();
+        self.ledger.close();
     }
 }

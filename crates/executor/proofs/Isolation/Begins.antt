@@ -1,6 +1,5 @@
 -- What the machine of one resource begins in a turn.
-use Rattle.std.proofs.Common.{◌≡◌, ◌⊎◌, inl, inr, ℕ, ◌≤◌, true, List, [], ◌∷◌, ◌++◌, map, Option, Some, None, refl, sym, ap, subst, ◌∙◌}
-use Rattle.std.proofs.Common.{arith}
+use Rattle.std.proofs.Common.{◌≡◌, ◌⊎◌, inl, inr, ℕ, ◌≤◌, true, List, [], ◌∷◌, ◌++◌, map, Option, Some, None, refl, sym, ap, subst, ◌∙◌, arith}
 use Rattle.std.proofs.lemmas.List.{append-nil}
 use Rattle.ocf_types.specs.Due.{Due, IsPick}
 use Rattle.ocf_types.specs.Kinds.{Event}
@@ -11,7 +10,8 @@ use Rattle.ocf_types.specs.declared.operation.Running.{Running}
 use Rattle.ocf_types.specs.declared.outcome.RunEnd.{RunEnd}
 use Rattle.child_keeper.specs.Children.{start_answer}
 use Rattle.child_keeper.specs.declared.answer.Entry.{Entry}
-use Rattle.exec_turn.specs.Actives.{Active, result_of}
+use Rattle.exec_ledger.specs.Actives.{Active}
+use Rattle.exec_turn.specs.Actives.{result_of}
 use Rattle.exec_turn.specs.Picks.{begins}
 use Rattle.exec_turn.specs.Starts.{Started, refusals, refused_end, starts}
 use Rattle.executor.specs.Isolated.{Isolated, IsolatedBegin, IsolatedRest, has_monitor}

@@ -1,6 +1,5 @@
 -- A resource and its due moments after an event: as its own machine has them, whatever the other resources are.
-use Rattle.std.proofs.Common.{◌≡◌, ◌≢◌, ℕ, ◌+◌, ◌≤◌, ◌==◌, Bool, true, false, cond, not, is_some, List, [], ◌∷◌, ◌++◌, filter, find, Option}
-use Rattle.std.proofs.Common.{Some, None, option_map, refl, sym, ap, subst, ◌∙◌, arith}
+use Rattle.std.proofs.Common.{◌≡◌, ◌≢◌, ℕ, ◌+◌, ◌≤◌, ◌==◌, Bool, true, false, cond, not, is_some, List, [], ◌∷◌, ◌++◌, filter, find, Option, Some, None, option_map, refl, sym, ap, subst, ◌∙◌, arith}
 use Rattle.std.specs.Prelude.{⊤}
 use Rattle.std.specs.Map.{lookup}
 use Rattle.std.specs.Option.{option_map_or}
@@ -16,7 +15,7 @@ use Rattle.ocf_types.specs.State.{State, after, after_all, at_id, calls_drawn, c
 use Rattle.ocf_types.specs.declared.event.Change.TheVariants as change
 use Rattle.ocf_types.specs.declared.event.Step.TheVariants as step
 use Rattle.ocf_types.specs.RegistryLaws.{other_id, other_stays, same_id}
-use Rattle.exec_turn.specs.Turn.{due_after_all}
+use Rattle.exec_ledger.specs.Scenes.{due_after_all}
 use Rattle.executor.specs.Parts.{events_of}
 use Rattle.executor.specs.Isolated.{Isolated, above_call, above_run, has_monitor, isolated_after, isolated_after_all, isolated_changed, isolated_sets}
 

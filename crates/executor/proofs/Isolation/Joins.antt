@@ -9,8 +9,7 @@ use Rattle.ocf_types.specs.declared.event.Step.TheVariants as step
 use Rattle.child_keeper.specs.declared.answer.Entry.{Entry}
 use Rattle.executor.specs.Joins.{StandsAt}
 use Rattle.executor.specs.Sessions.{Input}
-use Rattle.executor.specs.Isolated.{Alone, Isolated, IsolatedBegin, IsolatedRest, IsolatedTakes, above_call, above_run, cut, has_monitor}
-use Rattle.executor.specs.Isolated.{isolated_after, isolated_after_all, isolated_answer, isolated_changed, isolated_sets}
+use Rattle.executor.specs.Isolated.{Alone, Isolated, IsolatedBegin, IsolatedRest, IsolatedTakes, above_call, above_run, cut, has_monitor, isolated_after, isolated_after_all, isolated_answer, isolated_changed, isolated_sets}
 use Rattle.executor.specs.declared.session.InputOf.TheVariants as input
 use Rattle.executor.proofs.Isolation.Changes.{monitor_before, or_else_alike, single-append}
 use Rattle.executor.proofs.Isolation.Picks.{pick_same}

@@ -1,6 +1,5 @@
 -- What a resource begins, and that of one id among what all begin.
-use Rattle.std.proofs.Common.{◌≡◌, ℕ, ◌+◌, ◌≤◌, ◌==◌, Bool, true, false, cond, filter, is_some, length, List, [], ◌∷◌, ◌++◌, Option, Some}
-use Rattle.std.proofs.Common.{None, option_map, refl, sym, ap, subst, ◌∙◌, le_refl, arith}
+use Rattle.std.proofs.Common.{◌≡◌, ℕ, ◌+◌, ◌≤◌, ◌==◌, Bool, true, false, cond, filter, is_some, length, List, [], ◌∷◌, ◌++◌, Option, Some, None, option_map, refl, sym, ap, subst, ◌∙◌, le_refl, arith}
 use Rattle.std.specs.List.{AllByRecursion, IsDistinct, cons_option}
 use Rattle.std.specs.Map.{keys_of, lookup}
 use Rattle.std.specs.Str.{bytes_eq}
@@ -18,7 +17,7 @@ use Rattle.ocf_types.specs.declared.operation.Op.{Op}
 use Rattle.ocf_types.specs.declared.operation.Recur.{Recur}
 use Rattle.ocf_types.specs.declared.operation.Running.{Running}
 use Rattle.ocf_types.specs.Laws.{each_weaken}
-use Rattle.exec_turn.specs.Actives.{Active, active_of}
+use Rattle.exec_ledger.specs.Actives.{Active, active_of}
 use Rattle.exec_turn.specs.Picks.{ArePicks, begin_of, begins, begun_in}
 use Rattle.executor.proofs.Isolation.Changes.{AreFresh}
 use Rattle.executor.proofs.Isolation.Lists.{filter_alike}

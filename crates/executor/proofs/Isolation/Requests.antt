@@ -1,6 +1,5 @@
 -- What a request does, and what it is answered.
-use Rattle.std.proofs.Common.{◌≡◌, ◌⊎◌, inl, inr, ℕ, ◌≤◌, true, false, List, [], ◌∷◌, length, Some, Result, Ok, Err, le_of_eq, refl, sym, ap}
-use Rattle.std.proofs.Common.{subst, ◌∙◌}
+use Rattle.std.proofs.Common.{◌≡◌, ◌⊎◌, inl, inr, ℕ, ◌≤◌, true, false, List, [], ◌∷◌, length, Some, Result, Ok, Err, le_of_eq, refl, sym, ap, subst, ◌∙◌}
 use Rattle.std.proofs.Math.Nat.{max-eq_right}
 use Rattle.std.specs.List.{AllByRecursion}
 use Rattle.ocf_types.specs.Answer.{asked_event, change_of, event_of, moment, tests}
@@ -17,13 +16,15 @@ use Rattle.ocf_types.specs.declared.refusal.Refusal.TheVariants as refusal
 use Rattle.ocf_types.specs.declared.reply.ReplyOf.TheVariants.{Refused}
 use Rattle.ocf_types.specs.RegistryLaws.{none_is, passed}
 use Rattle.disk_model.specs.View.{View}
-use Rattle.exec_turn.specs.Turn.{due_after_all}
-use Rattle.executor.specs.Commands.{Obeys, Records}
+use Rattle.exec_ledger.specs.Scenes.{due_after_all}
+use Rattle.exec_ledger.specs.Commands.{Obeys, Records}
 use Rattle.executor.specs.Parts.{IsPlain, commanded}
-use Rattle.executor.specs.Replies.{IsReplyTo, acknowledged, due_left, recorded}
-use Rattle.executor.specs.RowCalls.{Adds, row_effects}
+use Rattle.exec_ledger.specs.Replies.{IsReplyTo, acknowledged, due_left, recorded}
+use Rattle.exec_ledger.specs.Together.{Adds}
+use Rattle.executor.specs.RowCalls.{row_effects}
 use Rattle.executor.specs.Sessions.{Effects, TakesRequest, command_effects}
-use Rattle.executor.specs.Sights.{Sight, due_in}
+use Rattle.executor.specs.CallLaws.{same_sight}
+use Rattle.executor.specs.Sights.{Sight, due_in, ledger_of}
 use Rattle.executor.specs.Isolated.{Follows, cut}
 use Rattle.executor.proofs.Isolation.Changes.{AreFresh, IsFresh}
 
@@ -120,9 +121,9 @@ pub commands : {D : Type 0} (look : D → View) (now : ℕ) (c : Command) (old n
     → old.state.clock ≤ cut now
     → TakesRequest look now (asked.Command c) old new reply effects → Commands now c (seen old) (seen new) reply effects
 commands {D} look now c old new reply effects clock takes =
-    subst (λ (x : Effects). Commands now c (seen old) (seen new) reply x) (sym takes.does) (by (event_of old.state now c) refl takes.serves)
+    subst (λ (x : Effects). Commands now c (seen old) (seen new) reply x) (sym takes.does) (by (event_of old.state now c) refl takes.serves.0)
   where
-    by_reply : (e : Event) → event_of old.state now c ≡ Ok e → Records look e old new reply
+    by_reply : (e : Event) → event_of old.state now c ≡ Ok e → Records look e (ledger_of old) (ledger_of new) reply
         → (reply ≡ acknowledged e.change) ⊎ IsRefused reply → Commands now c (seen old) (seen new) reply (command_effects (Ok e) reply)
     by_reply e is serves (inl told) =
         let done = told_done old.state e e.change (due_in old) in
@@ -154,12 +155,12 @@ commands {D} look now c old new reply effects clock takes =
           follows = λ plain. absurd (shared (subst IsPlain refused plain));
         }
 
-    by : (v : Result Event Refusal) → event_of old.state now c ≡ v → Obeys look v old new reply
+    by : (v : Result Event Refusal) → event_of old.state now c ≡ v → Obeys look v (ledger_of old) (ledger_of new) reply
         → Commands now c (seen old) (seen new) reply (command_effects v reply)
     by (Err why) is serves = record {
       no_entries = refl;
       names = tt;
-      does = rested now (seen old) (seen new) clock (ap seen serves.1);
+      does = rested now (seen old) (seen new) clock (ap seen (same_sight old new serves.1 takes.serves.1));
       follows = λ plain. subst (λ (w : Result Event Refusal). Follows w reply []) (sym is) (serves.0, refl);
     }
     by (Ok e) is serves = by_reply e is serves (told_or_refused e reply serves.told)

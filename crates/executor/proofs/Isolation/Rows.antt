@@ -1,6 +1,5 @@
 -- What rows and entries of a turn keep of one resource.
-use Rattle.std.proofs.Common.{◌≡◌, ℕ, Bool, true, false, cond, List, [], ◌∷◌, map, filter, flat_map, Option, Some, None, option_and_then}
-use Rattle.std.proofs.Common.{option_to_list, Result, refl, sym, ap, subst, ◌∙◌, arith}
+use Rattle.std.proofs.Common.{◌≡◌, ℕ, Bool, true, false, cond, List, [], ◌∷◌, map, filter, flat_map, Option, Some, None, option_and_then, option_to_list, Result, refl, sym, ap, subst, ◌∙◌, arith}
 use Rattle.std.specs.List.{AllByRecursion, IsDistinct}
 use Rattle.std.specs.Map.{keys_of, lookup}
 use Rattle.std.specs.Option.{option_map_or}
@@ -17,7 +16,8 @@ use Rattle.child_keeper.specs.Children.{kill_answer, start_answer}
 use Rattle.child_keeper.specs.declared.answer.KillFault.{KillFault}
 use Rattle.child_keeper.specs.declared.answer.Poll.{Poll}
 use Rattle.child_keeper.specs.declared.answer.Poll.TheVariants as poll
-use Rattle.exec_turn.specs.Actives.{Active, active, active_in, result_of, active_of}
+use Rattle.exec_ledger.specs.Actives.{Active, active, active_in, active_of}
+use Rattle.exec_turn.specs.Actives.{result_of}
 use Rattle.exec_turn.specs.Picks.{begin_of, begins}
 use Rattle.exec_turn.specs.Polls.{IsPoll, Polled, ending, ends_of, entries_of, is_late, polls, results, said}
 use Rattle.exec_turn.specs.Starts.{Started, refusals, refused_end, starts}
@@ -25,8 +25,7 @@ use Rattle.ocf_types.specs.Laws.{each_weaken}
 use Rattle.executor.specs.Parts.{events_of}
 use Rattle.executor.specs.Isolated.{IsolatedPoll}
 use Rattle.executor.proofs.Isolation.Changes.{AreFresh, IsFresh}
-use Rattle.executor.proofs.Isolation.Lists.{each_flat_map, each_map, each_of_all, each_unmap, filter-flat_map, filter-map, filter_alike}
-use Rattle.executor.proofs.Isolation.Lists.{filter_same}
+use Rattle.executor.proofs.Isolation.Lists.{each_flat_map, each_map, each_of_all, each_unmap, filter-flat_map, filter-map, filter_alike, filter_same}
 
 -- an event that names this id
 abbrev pub names_it : List ℕ → Event → Bool

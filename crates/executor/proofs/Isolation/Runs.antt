@@ -1,6 +1,5 @@
 -- Which runs are one resource's: those of its actions that run, and those that it begins.
-use Rattle.std.proofs.Common.{◌≡◌, ℕ, ◌+◌, ◌≤◌, ◌<◌, Bool, true, false, cond, not, List, [], ◌∷◌, ◌++◌, map, filter, flat_map, nat_eq}
-use Rattle.std.proofs.Common.{Option, Some, None, refl, ap, ap₂, subst, ◌∙◌, add-zero, arith}
+use Rattle.std.proofs.Common.{◌≡◌, ℕ, ◌+◌, ◌≤◌, ◌<◌, Bool, true, false, cond, not, List, [], ◌∷◌, ◌++◌, map, filter, flat_map, nat_eq, Option, Some, None, refl, ap, ap₂, subst, ◌∙◌, add-zero, arith}
 use Rattle.std.specs.Prelude.{⊤}
 use Rattle.std.specs.List.{AllByRecursion, IsDistinct, list_any}
 use Rattle.std.specs.Str.{bytes_eq}
@@ -21,7 +20,7 @@ use Rattle.ocf_types.specs.declared.operation.Recur.{Recur}
 use Rattle.ocf_types.specs.declared.operation.Running.{Running}
 use Rattle.ocf_types.specs.RegistryLaws.{each_filter}
 use Rattle.ocf_types.specs.Laws.{distinct_none, each_append, each_weaken}
-use Rattle.exec_turn.specs.Actives.{Active, active, active_in, runs_of, active_of}
+use Rattle.exec_ledger.specs.Actives.{Active, active, active_in, runs_of, active_of}
 use Rattle.exec_turn.specs.AgentsLive.{AgentsLive}
 use Rattle.executor.specs.Parts.{DistinctKeys, own_runs, run_begun}
 use Rattle.executor.proofs.Isolation.Changes.{AreFresh, IsFresh}

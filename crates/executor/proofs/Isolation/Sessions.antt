@@ -1,6 +1,5 @@
 -- Each resource's part of a session is a run of its own machine.
-use Rattle.std.proofs.Common.{◌≡◌, ℕ, ◌≤◌, Bool, true, false, true≢false, cond, List, [], ◌∷◌, ◌++◌, filter, Some, refl, sym, ap, subst}
-use Rattle.std.proofs.Common.{◌∙◌, le_refl, le_trans}
+use Rattle.std.proofs.Common.{◌≡◌, ℕ, ◌≤◌, Bool, true, false, true≢false, cond, List, [], ◌∷◌, ◌++◌, filter, Some, refl, sym, ap, subst, ◌∙◌, le_refl, le_trans}
 use Rattle.std.specs.Option.{option_map_or}
 use Rattle.std.specs.List.{AllByRecursion}
 use Rattle.std.specs.Str.{bytes_eq}
@@ -17,12 +16,13 @@ use Rattle.ocf_types.specs.Laws.{after_all-append, each_weaken}
 use Rattle.disk_model.specs.View.{View}
 use Rattle.child_keeper.specs.declared.answer.Entry.{Entry}
 use Rattle.exec_state.specs.Answers.{IsReplyOrMemory}
-use Rattle.exec_turn.specs.Actives.{active}
-use Rattle.exec_turn.specs.Laws.{due_after_all-append}
-use Rattle.exec_turn.specs.Turn.{due_after_all}
+use Rattle.exec_ledger.specs.Actives.{active}
+use Rattle.exec_ledger.specs.Laws.{due_after_all-append}
+use Rattle.exec_ledger.specs.Scenes.{due_after_all}
 use Rattle.executor.specs.Joins.{StandsAt}
 use Rattle.executor.specs.Parts.{DistinctKeys, AreRising, IsPlain, commanded, concerns, entries_of_runs, events_of, inputs_at, is_about, own_runs, part}
-use Rattle.executor.specs.RowCalls.{Answered, row_effects}
+use Rattle.exec_ledger.specs.Together.{Answered}
+use Rattle.executor.specs.RowCalls.{row_effects}
 use Rattle.executor.specs.Sessions.{Effects, Input, Session, TakesWhile, closed_reply, no_effects}
 use Rattle.executor.specs.Sights.{Sight, due_in}
 use Rattle.executor.specs.Isolated.{Alone, Isolated, IsolatedCommand, IsolatedTakes, cut, isolated_after_all, isolated_of}

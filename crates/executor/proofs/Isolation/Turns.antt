@@ -1,6 +1,5 @@
 -- A turn that ended done, as the machine of one resource makes it.
-use Rattle.std.proofs.Common.{◌≡◌, ℕ, ◌≤◌, Bool, not, List, [], ◌∷◌, ◌++◌, map, filter, Option, option_and_then, refl, sym, ap, subst, ◌∙◌}
-use Rattle.std.proofs.Common.{arith, ap₂, append_assoc, le_refl}
+use Rattle.std.proofs.Common.{◌≡◌, ℕ, ◌≤◌, Bool, not, List, [], ◌∷◌, ◌++◌, map, filter, Option, option_and_then, refl, sym, ap, subst, ◌∙◌, arith, ap₂, append_assoc, le_refl}
 use Rattle.std.specs.List.{AllByRecursion, IsDistinct}
 use Rattle.std.specs.Prelude.{⊤}
 use Rattle.std.specs.Map.{keys_of}
@@ -23,11 +22,12 @@ use Rattle.ocf_types.specs.RegistryLaws.{absent_any, distinct_filter, each_filte
 use Rattle.ocf_types.specs.Laws.{each_append, each_weaken}
 use Rattle.disk_model.specs.View.{View}
 use Rattle.child_keeper.specs.declared.answer.Entry.{Entry}
-use Rattle.exec_turn.specs.Actives.{Active, active, active_of}
+use Rattle.exec_ledger.specs.Actives.{Active, active, active_of}
 use Rattle.exec_turn.specs.Picks.{ArePicks, begin_of, begins}
 use Rattle.exec_turn.specs.Polls.{IsPoll, Polled, polls, results}
 use Rattle.exec_turn.specs.Starts.{Started, refusals, starts}
-use Rattle.exec_turn.specs.Turn.{IsTurn, Told, Whole, due_after_all, scene}
+use Rattle.exec_turn.specs.Turn.{IsTurn, Told, Whole}
+use Rattle.exec_ledger.specs.Scenes.{due_after_all, scene}
 use Rattle.executor.specs.Parts.{IsPlain, events_of}
 use Rattle.executor.specs.Sessions.{Effects, TakesATurn}
 use Rattle.executor.specs.Sights.{Sight, due_in}
@@ -37,8 +37,7 @@ use Rattle.executor.proofs.Isolation.Lists.{each_first, each_last, each_map, eac
 use Rattle.executor.proofs.Isolation.Begins.{isolated_begins}
 use Rattle.executor.proofs.Isolation.Picks.{begins_fresh, chosen, own_of}
 use Rattle.executor.proofs.Isolation.Requests.{Does, moment_is, seen}
-use Rattle.executor.proofs.Isolation.Rows.{AreOwn, IsEnd, begins_kept, ends_fresh, names_it, own_active, polls_kept, refusals_end, refusals_kept}
-use Rattle.executor.proofs.Isolation.Rows.{results_end, results_kept, isolated_poll, starts_kept}
+use Rattle.executor.proofs.Isolation.Rows.{AreOwn, IsEnd, begins_kept, ends_fresh, names_it, own_active, polls_kept, refusals_end, refusals_kept, results_end, results_kept, isolated_poll, starts_kept}
 
 -- new events behind new events
 pub fresh-append : (s : State) (es fs : List Event) → AreFresh s es → AreFresh (after_all s es) fs → AreFresh s (es ++ fs)

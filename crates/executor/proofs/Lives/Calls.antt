@@ -6,13 +6,14 @@ use Rattle.ocf_types.specs.State.{after_all}
 use Rattle.disk_model.specs.Runs.{CrashesTo}
 use Rattle.disk_model.specs.View.{Lawful, View}
 use Rattle.exec_journal.specs.Room.{Roomy}
-use Rattle.exec_turn.specs.Pieces.{Leaves}
+use Rattle.exec_ledger.specs.Pieces.{Leaves}
 use Rattle.executor.specs.CallLaws.{followed_by_assoc, followed_by_none}
 use Rattle.executor.specs.Lives.{Abandoned, Calls, Cleared, Does, Exchange, Row, Took, Tidied}
 use Rattle.executor.specs.RowCalls.{TakesRow, row_effects}
 use Rattle.executor.specs.Sessions.{Effects, TakesWhile, followed_by, no_effects}
 use Rattle.executor.specs.Sights.{Sight}
-use Rattle.executor.specs.TidyCalls.{Tidies, TidiesWhile}
+use Rattle.exec_ledger.specs.Held.{Held}
+use Rattle.executor.specs.TidyCalls.{TidiesWhile}
 use Rattle.executor.proofs.Sessions.Growing.{Onward, leads_open, leads_still, onward, onward_at, onward_joined}
 
 module _ {D : Type 0} (look : D → View) where
@@ -33,7 +34,7 @@ module _ {D : Type 0} (look : D → View) where
   does_nothing (Took i reply) x y d closed does =
       let none = subst (λ (b : Bool). TakesWhile b look i x y reply d) closed does in
       stays_closed x y d closed none.1 none.2
-  does_nothing (Row now commands replies) x y d closed does = absurd (false≢true (sym closed ∙ does.was_open))
+  does_nothing (Row now commands replies) x y d closed does = absurd (false≢true (sym closed ∙ does.takes.was_open))
   does_nothing (Tidied end) x y d closed does =
       let none = subst (λ (b : Bool). TidiesWhile b look x y end) closed does.0 in
       stays_closed x y d closed none.1 does.1
@@ -75,9 +76,9 @@ module _ {D : Type 0} (look : D → View) where
   row_onward : (x y : Sight D) (now : ℕ) (commands : List Command) (replies : List Reply) (d : Effects)
       → TakesRow look now commands x y replies d → Onward look x y d
   row_onward x y now commands replies d takes =
-      let row = takes.records in
+      let row = takes.takes.records in
       subst (λ (e : Effects). Onward look x y e) (sym takes.does)
-      (row_going y.is_open x y takes.events refl row.crash (ap (λ (z : Sight D). z.state) row.went.same) row.roomy)
+      (row_going y.is_open x y takes.takes.events refl row.crash (ap (λ (h : Held D). h.state) row.went.same) row.roomy)
 
   module _ (lawful : (d : D) → (look d).honest → Lawful (look d)) where
     -- one call more, of an open executor
@@ -90,7 +91,7 @@ module _ {D : Type 0} (look : D → View) where
     taken_more true w x y (Row now commands replies) a d is_open does so_far =
         onward_joined look w x y a d is_open so_far (row_onward x y now commands replies d does)
     taken_more true w x y (Tidied end) a d is_open does so_far =
-        let tidies : Tidies look x y end = subst (λ (b : Bool). TidiesWhile b look x y end) is_open does.0 in
+        let tidies = (subst (λ (b : Bool). TidiesWhile b look x y end) is_open does.0).0 in
         subst (λ (b : Effects). Onward look w y (followed_by a b)) (sym does.1)
         (onward_joined look w x y a no_effects is_open so_far (onward_at look x y no_effects tidies.crash tidies.roomy (λ _. refl)))
     taken_more true w x y Cleared a d is_open does so_far =
@@ -105,7 +106,7 @@ module _ {D : Type 0} (look : D → View) where
         let none = subst (λ (b : Bool). TakesWhile b look i x y reply d) closed does in
         subst (λ (b : Effects). Onward look w y b) (sym (followed_by_none a) ∙ ap (followed_by a) (sym none.2))
         (subst (λ (z : Sight D). Onward look w z a) (sym none.1) so_far)
-    taken_more false w x y (Row now commands replies) a d closed does so_far = absurd (false≢true (sym closed ∙ does.was_open))
+    taken_more false w x y (Row now commands replies) a d closed does so_far = absurd (false≢true (sym closed ∙ does.takes.was_open))
     taken_more false w x y (Tidied end) a d closed does so_far =
         let none = subst (λ (b : Bool). TidiesWhile b look x y end) closed does.0 in
         subst (λ (b : Effects). Onward look w y b) (sym (followed_by_none a) ∙ ap (followed_by a) (sym does.1))

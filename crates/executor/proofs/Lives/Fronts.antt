@@ -1,6 +1,5 @@
 -- Front parts of a list of events as which a pair is found, and the longest of them.
-use Rattle.std.proofs.Common.{◌≡◌, ◌⊎◌, inl, inr, ⊎_elim, ◌≤◌, ◌<◌, ℕ, Bool, List, [], ◌∷◌, ◌++◌, length, refl, sym}
-use Rattle.std.proofs.Common.{ap, subst, ◌∙◌, append_assoc, arith}
+use Rattle.std.proofs.Common.{◌≡◌, ◌⊎◌, inl, inr, ⊎_elim, ◌≤◌, ◌<◌, ℕ, Bool, List, [], ◌∷◌, ◌++◌, length, refl, sym, ap, subst, ◌∙◌, append_assoc, arith}
 use Rattle.std.specs.List.{list_any}
 use Rattle.std.proofs.lemmas.Bool.{cases_lt, or_left}
 use Rattle.std.proofs.lemmas.List.{append-nil}
@@ -14,8 +13,8 @@ use Rattle.child_keeper.specs.declared.answer.Answer.{Answer}
 use Rattle.child_keeper.specs.declared.answer.Answer.TheVariants as asked
 use Rattle.child_keeper.specs.declared.answer.Entry.{Entry}
 use Rattle.exec_journal.specs.Found.{FoundAs}
-use Rattle.exec_turn.specs.Laws.{asked_in, asked_none, asked_one}
-use Rattle.exec_turn.specs.Pieces.{HasBegin, is_begin}
+use Rattle.exec_ledger.specs.Laws.{asked_in, asked_none, asked_one}
+use Rattle.exec_ledger.specs.Pieces.{HasBegin, is_begin}
 
 -- it goes on from another
 abbrev pub GoesOn : List Event → List Event → Type 0

@@ -15,7 +15,7 @@ use Rattle.exec_journal.specs.Found.{Damaged, Finds, FoundAs, Whole}
 use Rattle.exec_journal.specs.Front.{AllApplyIn}
 use Rattle.exec_journal.specs.Laws.{same_whole}
 use Rattle.executor.specs.Lives.{InOpening, InService, IsLife, LifeLeaves, Sitting}
-use Rattle.executor.proofs.Journaling.{WhatStands}
+use Rattle.exec_ledger.specs.Laws.{WhatStands}
 use Rattle.executor.proofs.Lives.Services.{whole_leads}
 
 -- the model's laws of lawful states

@@ -1,6 +1,5 @@
 -- What a service leaves, stopped at any moment behind the last return.
-use Rattle.std.proofs.Common.{◌≡◌, inl, inr, ◌≤◌, ℕ, Bool, true, false, List, [], ◌++◌, refl, sym, ap, subst, ◌∙◌, arith}
-use Rattle.std.proofs.Common.{append_assoc}
+use Rattle.std.proofs.Common.{◌≡◌, inl, inr, ◌≤◌, ℕ, Bool, true, false, List, [], ◌++◌, refl, sym, ap, subst, ◌∙◌, arith, append_assoc}
 use Rattle.std.proofs.lemmas.List.{append-nil}
 use Rattle.ocf_types.specs.Kinds.{Event}
 use Rattle.ocf_types.specs.Laws.{after_all-append}
@@ -12,7 +11,7 @@ use Rattle.exec_journal.specs.Room.{Roomy}
 use Rattle.exec_journal.specs.Rows.{EitherSide}
 use Rattle.executor.specs.Lives.{Serves, Service, Stands}
 use Rattle.executor.specs.Sessions.{Effects, followed_by, no_effects}
-use Rattle.executor.proofs.Journaling.{WhatStands}
+use Rattle.exec_ledger.specs.Laws.{WhatStands}
 use Rattle.executor.proofs.Lives.Calls.{calls_closed, calls_more}
 use Rattle.executor.proofs.Lives.Fronts.{EachBegun, FrontOf, GoesOn, all_begun, begin_among}
 use Rattle.executor.proofs.Sessions.Growing.{Onward, leads_start, leads_still, onward}

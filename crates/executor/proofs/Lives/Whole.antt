@@ -17,13 +17,14 @@ use Rattle.exec_journal.specs.Laws.{same_whole}
 use Rattle.exec_journal.specs.Opening.{Opens, OpensLike}
 use Rattle.exec_journal.specs.Room.{Roomy}
 use Rattle.executor.specs.Lives.{BeginsAs, EndsOpening, GoesOnFrom, MayBoot, InOpening, InService, IsLife, LifeLeaves, Lived, OpensBehind, Sat, Sitting, boots}
-use Rattle.executor.specs.Openings.{NotOpened, Opened, StartsLike, booted}
+use Rattle.executor.specs.Openings.{NotOpened, Opened, StartsLike}
+use Rattle.exec_ledger.specs.Boots.{booted}
 use Rattle.executor.specs.Reports.{dropped, interrupted}
 use Rattle.executor.specs.Sights.{Sight}
 use Rattle.executor.specs.declared.opening.OpenError.{OpenError}
 use Rattle.executor.specs.declared.opening.OpenError.TheVariants as why
 use Rattle.executor.proofs.Openings.Ends.{read_only}
-use Rattle.executor.proofs.Journaling.{WhatStands}
+use Rattle.exec_ledger.specs.Laws.{WhatStands}
 use Rattle.executor.proofs.Lives.Services.{service_roomy, service_stands, whole_leads}
 
 -- one thing is found on a pair of parts

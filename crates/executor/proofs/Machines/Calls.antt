@@ -18,18 +18,23 @@ use Rattle.ocf_types.specs.declared.reply.TurnEnd.{TurnEnd}
 use Rattle.ocf_types.specs.declared.reply.TurnEnd.TheVariants as turn_end
 use Rattle.disk_model.specs.View.{View}
 use Rattle.child_keeper.specs.declared.answer.Entry.{Entry}
-use Rattle.exec_turn.specs.Actives.{Active}
+use Rattle.exec_ledger.specs.Actives.{Active}
 use Rattle.exec_turn.specs.Picks.{ArePicks}
 use Rattle.exec_turn.specs.Polls.{results}
-use Rattle.exec_turn.specs.Turn.{IsTurn, PickedAt, behind, Scene, Whole, due_after_all, scene}
-use Rattle.executor.specs.Commands.{Obeys, Records}
+use Rattle.exec_turn.specs.Turn.{IsTurn, PickedAt, Whole}
+use Rattle.exec_ledger.specs.Scenes.{behind, Scene, due_after_all, scene}
+use Rattle.exec_ledger.specs.Commands.{Obeys, Records}
 use Rattle.executor.specs.Lives.{Abandoned, Calls, Cleared, Does, Exchange, Row, Tidied, Took}
 use Rattle.executor.specs.Machine.{AnswersClosed, Fails, GoesOn, Left, Machine, MovesAll, MovesOpen, MovesWhile, TakesAll, TakesOne, TurnEnds, TurnsWhole}
-use Rattle.executor.specs.Replies.{acknowledged, due_left, pending, recorded}
-use Rattle.executor.specs.RowCalls.{Adds, Answered, TakesRow, failed, row_effects, row_replies}
+use Rattle.exec_ledger.specs.Replies.{acknowledged, due_left, pending, recorded}
+use Rattle.exec_ledger.specs.Together.{Adds, Answered, failed, row_replies}
+use Rattle.executor.specs.RowCalls.{TakesRow, row_effects}
 use Rattle.executor.specs.Sessions.{Effects, TakesATurn, TakesRequest, TakesWhile, command_effects, no_effects}
-use Rattle.executor.specs.Sights.{Sight, due_in}
-use Rattle.executor.specs.TidyCalls.{Tidies, TidiesWhile}
+use Rattle.exec_ledger.specs.Held.{Held, due_in as held_due}
+use Rattle.executor.specs.CallLaws.{same_sight}
+use Rattle.executor.specs.Sights.{Beside, Sight, due_in, ledger_of}
+use Rattle.exec_ledger.specs.Tidying.{Tidies}
+use Rattle.executor.specs.TidyCalls.{TidiesWhile}
 use Rattle.executor.specs.declared.session.InputOf.TheVariants as input
 
 -- an executor as the machine, and what its calls left
@@ -88,10 +93,10 @@ module _ {D : Type 0} (look : D → View) where
   still x y d same none = (ap machine_of same, ap left_of none)
 
   -- a command
-  records : (now : ℕ) (c : Command) (x y : Sight D) (reply : Reply) (e : Event) → event_of x.state now c ≡ Ok e → Records look e x y reply
-      → x.is_open ≡ true → (y.is_open ≡ false → reply ≡ Refused Disk) → (reply ≡ Refused Disk → y.is_open ≡ false)
+  records : (now : ℕ) (c : Command) (x y : Sight D) (reply : Reply) (e : Event) → event_of x.state now c ≡ Ok e
+      → Records look e (ledger_of x) (ledger_of y) reply → Beside x y → x.is_open ≡ true → (y.is_open ≡ false → reply ≡ Refused Disk) → (reply ≡ Refused Disk → y.is_open ≡ false)
       → TakesOne now c reply (machine_of x) (machine_of y) (left_of (command_effects (Ok e) reply))
-  records now c x y reply e is r was closes closed = by r.told
+  records now c x y reply e is r beside was closes closed = by r.told
     where
       so : Acknowledged x.state (due_in x) e e.change
       so = is_acknowledged x.state (due_in x) e e.change
@@ -109,13 +114,13 @@ module _ {D : Type 0} (look : D → View) where
               refl,
               (
                 same_machine (machine_of y) _ (open_still ∙ sym was) (r.crash.state ∙ ap (after_all x.state) row)
-                    (r.due ∙ ap (λ (a : Reply). due_left x.state e a (due_in x)) told ∙ so.2) r.told_still,
+                    (r.due ∙ ap (λ (a : Reply). due_left x.state e a (due_in x)) told ∙ so.2) beside.told,
                 same_left _ _ row (ap (pending e) told ∙ so.1),
               ),
             ),
           )
       by (inr (inl full)) =
-          inr (e, is, full, (ap machine_of (r.unchanged (inl full)), same_left _ _ (ap (recorded e) full) (ap (pending e) full)))
+          inr (e, is, full, (ap machine_of (same_sight x y (r.unchanged (inl full)) beside), same_left _ _ (ap (recorded e) full) (ap (pending e) full)))
       by (inr (inr (inl memory))) =
           inl (
             reply ∷ [],
@@ -123,7 +128,7 @@ module _ {D : Type 0} (look : D → View) where
             answers x.state now c reply [] (Ok e) is (inr (memory, r.memory memory, refl)),
             inl (
               refl,
-              (ap machine_of (r.unchanged (inr memory)), same_left _ _ (ap (recorded e) memory) (ap (pending e) memory)),
+              (ap machine_of (same_sight x y (r.unchanged (inr memory)) beside), same_left _ _ (ap (recorded e) memory) (ap (pending e) memory)),
             ),
           )
       by (inr (inr (inr disk))) =
@@ -142,36 +147,36 @@ module _ {D : Type 0} (look : D → View) where
       → x.is_open ≡ true → TakesOne now c reply (machine_of x) (machine_of y) (left_of d)
   one_command now c x y reply d takes was =
       subst (λ (k : Effects). TakesOne now c reply (machine_of x) (machine_of y) (left_of k)) (sym takes.does)
-      (by (event_of x.state now c) refl takes.serves)
+      (by (event_of x.state now c) refl takes.serves.0)
     where
-      by : (v : Result Event Refusal) → event_of x.state now c ≡ v → Obeys look v x y reply
+      by : (v : Result Event Refusal) → event_of x.state now c ≡ v → Obeys look v (ledger_of x) (ledger_of y) reply
           → TakesOne now c reply (machine_of x) (machine_of y) (left_of (command_effects v reply))
       by (Err refusal) is serves =
-          inl (reply ∷ [], [], answers x.state now c reply [] (Err refusal) is (serves.0, refl), inl (refl, still x y no_effects serves.1 refl))
-      by (Ok e) is serves = records now c x y reply e is serves was takes.closes.0 takes.closes.1
+          inl (reply ∷ [], [], answers x.state now c reply [] (Err refusal) is (serves.0, refl), inl (refl, still x y no_effects (same_sight x y serves.1 takes.serves.1) refl))
+      by (Ok e) is serves = records now c x y reply e is serves takes.serves.1 was takes.closes.0 takes.closes.1
 
   -- commands in a row
   row_so : (o : Bool) (now : ℕ) (cs : List Command) (rs : List Reply) (x y : Sight D) (d : Effects) (t : TakesRow look now cs x y rs d)
-      → y.is_open ≡ o → TakesAll now cs (row_replies o t.meant) (machine_of x) (machine_of y) (left_of (row_effects o t.events))
+      → y.is_open ≡ o → TakesAll now cs (row_replies o t.takes.meant) (machine_of x) (machine_of y) (left_of (row_effects o t.takes.events))
   row_so true now cs rs x y d t is = (
-    t.meant,
-    t.events,
-    t.answered,
+    t.takes.meant,
+    t.takes.events,
+    t.takes.answered,
     inl (
       refl,
       (
-        same_machine (machine_of y) _ (is ∙ sym t.was_open) (ap (λ (z : Sight D). z.state) t.records.went.same) t.records.went.due
-            (ap (λ (z : Sight D). z.told) t.records.went.same),
+        same_machine (machine_of y) _ (is ∙ sym t.takes.was_open) (ap (λ (h : Held D). h.state) t.takes.records.went.same)
+            t.takes.records.went.due t.beside.told,
         refl,
       ),
     ),
   )
   row_so false now cs rs x y d t is = (
-    t.meant,
-    t.events,
-    t.answered,
+    t.takes.meant,
+    t.takes.events,
+    t.takes.answered,
     inr (
-      (λ none. false≢true (sym is ∙ ap (λ (z : Sight D). z.is_open) (t.records.unchanged none) ∙ t.was_open)),
+      (λ none. false≢true (sym is ∙ ap (λ (h : Held D). h.is_open) (t.takes.records.unchanged none) ∙ t.takes.was_open)),
       refl,
       (is, refl),
     ),
@@ -180,8 +185,8 @@ module _ {D : Type 0} (look : D → View) where
   one_row : (now : ℕ) (cs : List Command) (rs : List Reply) (x y : Sight D) (d : Effects) → TakesRow look now cs x y rs d
       → TakesAll now cs rs (machine_of x) (machine_of y) (left_of d)
   one_row now cs rs x y d t =
-      subst (λ (l : List Reply). TakesAll now cs l (machine_of x) (machine_of y) (left_of d)) (sym t.told)
-      (subst (λ (k : Effects). TakesAll now cs (row_replies y.is_open t.meant) (machine_of x) (machine_of y) (left_of k)) (sym t.does)
+      subst (λ (l : List Reply). TakesAll now cs l (machine_of x) (machine_of y) (left_of d)) (sym t.takes.told)
+      (subst (λ (k : Effects). TakesAll now cs (row_replies y.is_open t.takes.meant) (machine_of x) (machine_of y) (left_of k)) (sym t.does)
       (row_so y.is_open now cs rs x y d t refl))
 
   -- a turn
@@ -255,17 +260,17 @@ module _ {D : Type 0} (look : D → View) where
       )
 
   -- a tidy
-  one_tidy : (o : Bool) (end : TidyEnd) (x y : Sight D) (d : Effects) → y.is_open ≡ o → Tidies look x y end → d ≡ no_effects → x.is_open ≡ true
+  one_tidy : (o : Bool) (end : TidyEnd) (x y : Sight D) (d : Effects) → y.is_open ≡ o → Tidies look (ledger_of x) (ledger_of y) end
+      → Beside x y → d ≡ no_effects → x.is_open ≡ true
       → MovesOpen (Tidied end) (machine_of x) (machine_of y) (left_of d)
-  one_tidy true end x y d is t none was = inr (
+  one_tidy true end x y d is t beside none was = inr (
     λ disk. false≢true (sym (t.closes.1 disk) ∙ is),
     (
-      same_machine (machine_of y) _ (is ∙ sym was) (ap (λ (z : Sight D). z.state) t.same) (ap (λ (z : Sight D). due_in z) t.same)
-          (ap (λ (z : Sight D). z.told) t.same),
+      same_machine (machine_of y) _ (is ∙ sym was) (ap (λ (h : Held D). h.state) t.same) (ap held_due t.same) beside.told,
       ap left_of none,
     ),
   )
-  one_tidy false end x y d is t none was = inl (t.closes.0 is, (is, ap left_of none))
+  one_tidy false end x y d is t beside none was = inl (t.closes.0 is, (is, ap left_of none))
 
   -- an open executor
   moves_open : (e : Exchange) (x y : Sight D) (d : Effects) → x.is_open ≡ true → Does look e x y d
@@ -280,7 +285,8 @@ module _ {D : Type 0} (look : D → View) where
       one_turn now x y reply d (subst (λ (b : Bool). TakesWhile b look (input.Turn now) x y reply d) was does) was
   moves_open (Row now cs rs) x y d was does = one_row now cs rs x y d does
   moves_open (Tidied end) x y d was does =
-      one_tidy y.is_open end x y d refl (subst (λ (b : Bool). TidiesWhile b look x y end) was does.0) does.1 was
+      let t = subst (λ (b : Bool). TidiesWhile b look x y end) was does.0 in
+      one_tidy y.is_open end x y d refl t.0 t.1 does.1 was
   moves_open Cleared x y d was does = (ap machine_of does.0, ap left_of does.1)
   moves_open Abandoned x y d was does = (ap (λ (z : Sight D). z.is_open) does.0, ap left_of does.1)
 
@@ -292,7 +298,7 @@ module _ {D : Type 0} (look : D → View) where
       → AnswersClosed e × Fails [] (machine_of y) (left_of d)
   moves_closed (Took i reply) x y d was does =
       let t = subst (λ (b : Bool). TakesWhile b look i x y reply d) was does in (t.0, closed_still x y d was t.1 t.2)
-  moves_closed (Row now cs rs) x y d was does = absurd (false≢true (sym was ∙ does.was_open))
+  moves_closed (Row now cs rs) x y d was does = absurd (false≢true (sym was ∙ does.takes.was_open))
   moves_closed (Tidied end) x y d was does =
       let t = subst (λ (b : Bool). TidiesWhile b look x y end) was does.0 in (t.0, closed_still x y d was t.1 does.1)
   moves_closed Cleared x y d was does = (tt, (ap (λ (z : Sight D). z.is_open) does.0 ∙ was, ap left_of does.1))

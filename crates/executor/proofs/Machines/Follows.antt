@@ -1,7 +1,5 @@
 -- What the machine's calls leave applies, each change behind those before it.
-use Rattle.std.proofs.Common.{◌≡◌, ◌⊎◌, inl, inr, ℕ, ◌+◌, ◌≤◌, ◌<◌, Bool, true, false, List, [], ◌∷◌, ◌++◌, length, map, flat_map}
-use Rattle.std.proofs.Common.{Option, Some, None, Ok, option_map, is_none, is_some, leb, IsSome, IsSomeAnd}
-use Rattle.std.proofs.Common.{refl, sym, ap, subst, ◌∙◌, arith}
+use Rattle.std.proofs.Common.{◌≡◌, ◌⊎◌, inl, inr, ℕ, ◌+◌, ◌≤◌, ◌<◌, Bool, true, false, List, [], ◌∷◌, ◌++◌, length, map, flat_map, Option, Some, None, Ok, option_map, is_none, is_some, leb, IsSome, IsSomeAnd, refl, sym, ap, subst, ◌∙◌, arith}
 use Rattle.std.specs.List.{AllByRecursion, IsDistinct}
 use Rattle.std.specs.Map.{keys_of, lookup}
 use Rattle.std.specs.Option.{option_map_or}
@@ -25,7 +23,8 @@ use Rattle.ocf_types.specs.declared.event.Step.TheVariants as step
 use Rattle.ocf_types.specs.declared.operation.Op.{Op}
 use Rattle.ocf_types.specs.declared.operation.Running.{Running}
 use Rattle.ocf_types.specs.declared.outcome.RunEnd.{RunEnd}
-use Rattle.exec_turn.specs.Actives.{Active, active, active_in, active_of, all_in, result_of}
+use Rattle.exec_ledger.specs.Actives.{Active, active, active_in, active_of, all_in}
+use Rattle.exec_turn.specs.Actives.{result_of}
 use Rattle.exec_turn.specs.Picks.{ArePicks, begin_of, begins, begun_in}
 use Rattle.executor.specs.Histories.{Follow}
 use Rattle.executor.proofs.Isolation.Lists.{each_both, each_first, each_map, each_unmap}

@@ -13,13 +13,14 @@ use Rattle.exec_journal.specs.Opening.{OpensLike}
 use Rattle.executor.specs.Lives.{EndsOpening, InOpening, InService, IsLife, LifeLeaves, Lived, MayBoot, Serves, Service, Sitting, Stands, boots}
 use Rattle.executor.specs.Machine.{Machine, MovesAll}
 use Rattle.executor.specs.Runs.{Opening, Runs, Seen, StandsOf, opened_on}
-use Rattle.executor.specs.Openings.{StartsLike, booted}
+use Rattle.executor.specs.Openings.{StartsLike}
+use Rattle.exec_ledger.specs.Boots.{booted}
 use Rattle.executor.specs.Reports.{dropped, interrupted}
 use Rattle.executor.specs.SeenLives.{seen}
 use Rattle.executor.specs.Sights.{due_in}
 use Rattle.executor.specs.declared.opening.OpenError.{OpenError}
 use Rattle.executor.specs.declared.opening.OpenError.TheVariants as why
-use Rattle.executor.proofs.Journaling.{WhatStands}
+use Rattle.exec_ledger.specs.Laws.{WhatStands}
 use Rattle.executor.proofs.Lives.Services.{service_stands, whole_leads}
 use Rattle.executor.proofs.Lives.Whole.{OneFinding, behind_boots, one_state}
 use Rattle.executor.proofs.Machines.Calls.{left_of, machine_of, moves_all, same_machine}

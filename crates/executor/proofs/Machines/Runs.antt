@@ -1,6 +1,5 @@
 -- What stands of a run of the machine applies.
-use Rattle.std.proofs.Common.{◌≡◌, inl, inr, ℕ, ◌≤◌, Bool, true, false, List, [], ◌∷◌, ◌++◌, map, Option, Some, None}
-use Rattle.std.proofs.Common.{Result, Ok, Err, option_to_list, refl, sym, ap, subst, ◌∙◌, append_assoc}
+use Rattle.std.proofs.Common.{◌≡◌, inl, inr, ℕ, ◌≤◌, Bool, true, false, List, [], ◌∷◌, ◌++◌, map, Option, Some, None, Result, Ok, Err, option_to_list, refl, sym, ap, subst, ◌∙◌, append_assoc}
 use Rattle.std.specs.Prelude.{if◌then◌else◌}
 use Rattle.std.specs.List.{AllByRecursion, IsDistinct}
 use Rattle.std.specs.Map.{keys_of}
@@ -21,18 +20,16 @@ use Rattle.ocf_types.specs.declared.outcome.StartFault.{StartFault}
 use Rattle.ocf_types.specs.declared.refusal.Refusal.{Refusal}
 use Rattle.ocf_types.specs.declared.reply.TurnEnd.{TurnEnd}
 use Rattle.ocf_types.specs.declared.reply.TurnEnd.TheVariants as turn_end
-use Rattle.exec_turn.specs.Actives.{Active}
+use Rattle.exec_ledger.specs.Actives.{Active}
 use Rattle.exec_turn.specs.Picks.{begins}
 use Rattle.exec_turn.specs.Polls.{Polled, ending, ends_of, results}
 use Rattle.exec_turn.specs.Starts.{Started, refusals, refused_end}
 use Rattle.executor.specs.Histories.{Follow, IsInOrder}
 use Rattle.executor.specs.Lives.{Abandoned, Cleared, Exchange, Row, Tidied, Took, boots}
-use Rattle.executor.specs.Machine.{BeginsNext, GoesOn, Left, Machine, MovesAll, MovesOpen, MovesWhile, PollsAll}
-use Rattle.executor.specs.Runs.{Opening, Runs, Seen, Serving, Sits}
-use Rattle.executor.specs.Machine.{TakesAll, TurnEnds, TurnFails, TurnsWhole, and_then, behind}
-use Rattle.executor.specs.Runs.{opened_on}
-use Rattle.executor.specs.Openings.{booted}
-use Rattle.executor.specs.RowCalls.{Adds, Answered}
+use Rattle.executor.specs.Machine.{BeginsNext, GoesOn, Left, Machine, MovesAll, MovesOpen, MovesWhile, PollsAll, TakesAll, TurnEnds, TurnFails, TurnsWhole, and_then, behind}
+use Rattle.executor.specs.Runs.{Opening, Runs, Seen, Serving, Sits, opened_on}
+use Rattle.exec_ledger.specs.Boots.{booted}
+use Rattle.exec_ledger.specs.Together.{Adds, Answered}
 use Rattle.executor.specs.declared.session.InputOf.TheVariants as input
 use Rattle.executor.proofs.Isolation.Lists.{each_unmap}
 use Rattle.executor.proofs.History.Events.{runs_ascend}

@@ -1,6 +1,5 @@
 -- An opening of the journal, and then its boot.
-use Rattle.std.proofs.Common.{◌≡◌, ◌<◌, ◌≤◌, inl, inr, ℕ, Bool, true, false, true≢false, cond, List, Result, IsErrAnd, IfErr, Ok}
-use Rattle.std.proofs.Common.{Err, refl, sym, ◌∙◌, ap, subst, arith}
+use Rattle.std.proofs.Common.{◌≡◌, ◌<◌, ◌≤◌, inl, inr, ℕ, Bool, true, false, true≢false, cond, List, Result, IsErrAnd, IfErr, Ok, Err, refl, sym, ◌∙◌, ap, subst, arith}
 use Rattle.ocf_types.specs.Answer.{moment}
 use Rattle.ocf_types.specs.Boot.{any_busy, boot, boot_at}
 use Rattle.ocf_types.specs.Due.{due_at}
@@ -25,21 +24,15 @@ use Rattle.exec_journal.specs.declared.fault.JournalFault.{JournalFault}
 use Rattle.exec_journal.specs.declared.fault.JournalFault.TheVariants as journal
 use Rattle.executor.specs.declared.opening.OpenError.{OpenError}
 use Rattle.executor.specs.declared.opening.OpenError.TheVariants as why
-use Rattle.executor.specs.Openings.{Boots, BootsFrom, IsQuiet, LacksBoot, LacksRoom, NotOpened, Opened, OpensDisk, StartsLike, booted}
-use Rattle.executor.specs.Openings.{told_fault, told_slot, IsForeign, IsOver, IsUnready}
+use Rattle.exec_ledger.specs.Boots.{Boots, BootsFrom, LacksBoot, booted}
+use Rattle.executor.specs.Openings.{IsQuiet, LacksRoom, NotOpened, Opened, OpensDisk, StartsLike, told_fault, told_slot, IsForeign, IsOver, IsUnready}
 use Rattle.executor.specs.Reports.{dropped, interrupted}
-use Rattle.executor.specs.Sights.{Sight, due_in}
+use Rattle.exec_ledger.specs.Held.{Held}
+use Rattle.executor.specs.Sights.{Sight, due_in, ledger_of}
 use Rattle.exec_turn.specs.Turns.{ChildrenMatch}
+use Rattle.exec_ledger.proofs.Booting.{boot_quiet}
 use Rattle.executor.proofs.Keeping.{quiet_matched}
-use Rattle.executor.proofs.Journaling.{WhatStands}
-
--- after a boot nothing is queued or running
-boot_quiet : (s : State) (m : ℕ) → any_busy (boot s m) ≡ false
-boot_quiet s m = by (any_busy s) refl
-  where
-    by : (b : Bool) → any_busy s ≡ b → any_busy (cond b (after s (boot_at m)) s) ≡ false
-    by true e = quiet m s.resources
-    by false e = e
+use Rattle.exec_ledger.specs.Laws.{WhatStands}
 
 boot_next : (s : State) (m : ℕ) → (boot s m).next_run ≡ s.next_run
 boot_next s m = by (any_busy s)
@@ -164,12 +157,12 @@ module _ {D : Type 0} (look : D → View) (law : WhatStands) (once : (c : Image)
       (unready_memory old (look mid.disk) from to now opens.opens (kids ∙ over.children)
       (λ h. own_children once old.reads mid.state from (opens.found h) over.rising))
 
-  module _ (new : Sight D) where
+  module _ (new : Held D) where
     both_passed : Passed (look mid.disk) (look new.disk) → Passed old (look new.disk)
     both_passed passed = passed_on old (look mid.disk) (look new.disk) opens.opens.crash.passed passed
 
     did_both : (crash : CrashesTo (look mid.disk) (look new.disk) (BootsFrom mid.state now))
-        → (HasRoom mid.place.tail mid.state → CrashesTo (look mid.disk) (look new.disk) Roomy) → (any_busy mid.state ≡ false → new ≡ mid)
+        → (HasRoom mid.place.tail mid.state → CrashesTo (look mid.disk) (look new.disk) Roomy) → (any_busy mid.state ≡ false → new ≡ ledger_of mid)
         → OpensDisk old (look new.disk) now
     did_both crash roomy quiet = record {
       crash = joined old (look mid.disk) (look new.disk) (StartsLike old now)
@@ -184,7 +177,7 @@ module _ {D : Type 0} (look : D → View) (law : WhatStands) (once : (c : Image)
       where
         rests : (old.honest → IsQuiet old.reads) → (b : Bool) → any_busy mid.state ≡ b → Unwritten old (look new.disk)
         rests is_quiet false not =
-            subst (λ (x : Sight D). Unwritten old (look x.disk)) (sym (quiet not)) (opens.opens.unwritten (λ h. (is_quiet h).0))
+            subst (λ (x : Held D). Unwritten old (look x.disk)) (sym (quiet not)) (opens.opens.unwritten (λ h. (is_quiet h).0))
         rests is_quiet true busy =
             let never : (look new.disk).honest → ⊥ = λ h. let mid_h = crash.passed.honest h in
             true≢false (sym busy ∙ (is_quiet (opens.opens.crash.passed.honest mid_h)).1 mid.state (opens.found mid_h)) in
@@ -219,20 +212,20 @@ module _ {D : Type 0} (look : D → View) (law : WhatStands) (once : (c : Image)
         (stands_before h (law.stays lacks.place lacks.state old.reads lacks.stands))).0 in
         subst (λ p. LacksBoot p.tail mid.state) at here
 
-    pub opened : (x : Unit) (final : Sight D) (ran queued : List Notice) → Boots look now mid new (Ok x) → final.is_open ≡ true
+    pub opened : (x : Unit) (final : Sight D) (ran queued : List Notice) → Boots look now (ledger_of mid) new (Ok x) → final.is_open ≡ true
         → final.state ≡ new.state → final.disk ≡ new.disk → final.place ≡ new.place
-        → due_in final ≡ due_at final.state (moment mid.state now) → final.children ≡ new.children → final.told ≡ new.told
+        → due_in final ≡ due_at final.state (moment mid.state now) → final.children ≡ mid.children → final.told ≡ mid.told
         → ran ≡ interrupted mid.state (moment mid.state now) → queued ≡ dropped mid.state (moment mid.state now)
         → Admits from.site final.site → Opened look old from now final ran queued
     opened x final ran queued boots is_open state disk place due kids tells ran_is queued_is admits =
         let honest_new : (look final.disk).honest → (look new.disk).honest = λ h. subst (λ (d : D). (look d).honest) disk h in
         let done : final.state ≡ booted mid.state now = state ∙ boots.state in
         let quiet_now : any_busy final.state ≡ false = ap any_busy done ∙ boot_quiet mid.state (moment mid.state now) in
-        let given : final.children ≡ given_up from = kids ∙ boots.children ∙ over.children in
+        let given : final.children ≡ given_up from = kids ∙ over.children in
         let next = ap (λ (u : State). u.next_run) done ∙ boot_next mid.state (moment mid.state now) in
         let low = over.rising in
         let rising : from.last_run < final.state.next_run = omega (arith, next, low) in record {
-          over = record { is_open = is_open; children = given; told = tells ∙ boots.told ∙ over.told; rising = rising };
+          over = record { is_open = is_open; children = given; told = tells ∙ over.told; rising = rising };
           sound = λ _. record {
             journal =
                 λ h. subst (λ p. IsSettled p final.state (look final.disk)) (sym place)
@@ -256,11 +249,11 @@ module _ {D : Type 0} (look : D → View) (law : WhatStands) (once : (c : Image)
         }
 
     -- the boot failed
-    pub boot_refused : (fault : SlotFault) (d : D) (to : ChildrenView) → Boots look now mid new (Err fault) → d ≡ new.disk
-        → to ≡ new.children → NotOpened old (look d) from to now (told_slot fault)
+    pub boot_refused : (fault : SlotFault) (d : D) (to : ChildrenView) → Boots look now (ledger_of mid) new (Err fault) → d ≡ new.disk
+        → to ≡ mid.children → NotOpened old (look d) from to now (told_slot fault)
     boot_refused fault d to boots same kids = subst (λ (x : D). NotOpened old (look x) from to now (told_slot fault)) (sym same) (record {
       did = did_both boots.crash boots.roomy boots.quiet;
-      children = inr (kids ∙ boots.children ∙ over.children);
+      children = inr (kids ∙ over.children);
       untouched = λ x is. absurd (no_damage fault x is);
       foreign = λ is. absurd (no_foreign fault is);
       damaged = λ h x is. absurd (no_damage fault x is);

@@ -1,38 +1,34 @@
 -- Sessions grow by one input at their end, and what their calls leave joins.
-use Rattle.std.proofs.Common.{◌≡◌, ◌↔◌, ℕ, Bool, true, false, true≢false, Result, Ok, Err, List, [], ◌∷◌, ◌++◌, refl, sym, ◌∙◌, ap}
-use Rattle.std.proofs.Common.{subst, append_assoc, ⊎_elim}
+use Rattle.std.proofs.Common.{◌≡◌, ◌↔◌, ℕ, Bool, true, false, true≢false, Result, Ok, Err, List, [], ◌∷◌, ◌++◌, refl, sym, ◌∙◌, ap, subst, append_assoc, ⊎_elim}
 use Rattle.std.proofs.lemmas.List.{append-nil}
 use Rattle.ocf_types.specs.Kinds.{Event, Reply, Request}
 use Rattle.ocf_types.specs.Laws.{after_all-append}
 use Rattle.ocf_types.specs.State.{State, after_all}
 use Rattle.ocf_types.specs.Due.{Due}
 use Rattle.ocf_types.specs.declared.refusal.Refusal.TheVariants.{Disk}
-use Rattle.ocf_types.specs.declared.reply.ReplyOf.TheVariants.{Refused, Turn}
+use Rattle.ocf_types.specs.declared.reply.ReplyOf.TheVariants.{Refused, Turn, Accepted, Done, History, Info, List as ListOf}
 use Rattle.ocf_types.specs.declared.reply.TurnEnd.{TurnEnd}
-use Rattle.disk_model.specs.View.{View}
+use Rattle.disk_model.specs.View.{View, Lawful}
 use Rattle.child_keeper.specs.declared.answer.Entry.{Entry}
-use Rattle.exec_turn.specs.Turn.{due_after_all}
-use Rattle.executor.specs.Sessions.{Effects, Input, Session, Takes, TakesWhile, followed_by, no_effects, request_effects}
-use Rattle.executor.specs.Sights.{Sight, due_in}
+use Rattle.exec_ledger.specs.Scenes.{due_after_all}
+use Rattle.executor.specs.Sessions.{Effects, Input, Session, Takes, TakesWhile, followed_by, no_effects, request_effects, Leads, Sits, TakesOpen, command_effects}
+use Rattle.executor.specs.Sights.{Beside, Sight, due_in, ledger_of, IsSound, Keeps}
 use Rattle.ocf_types.specs.Answer.{event_of}
 use Rattle.ocf_types.specs.declared.command.RequestOf.TheVariants as asked
 use Rattle.ocf_types.specs.declared.refusal.Refusal.{Refusal}
-use Rattle.ocf_types.specs.declared.reply.ReplyOf.TheVariants.{Accepted, Done, History, Info, List as ListOf}
 use Rattle.disk_model.specs.Laws.{joined as runs_joined, left_now, started}
 use Rattle.disk_model.specs.Runs.{CrashesTo}
-use Rattle.disk_model.specs.View.{Lawful}
 use Rattle.child_keeper.specs.Children.{ChildrenView}
 use Rattle.exec_journal.specs.Room.{Roomy}
 use Rattle.exec_journal.specs.Rows.{EitherSide}
-use Rattle.exec_turn.specs.Laws.{asked_none, due_after_all-append, joined, told}
-use Rattle.exec_turn.specs.Pieces.{Leaves}
-use Rattle.executor.specs.Commands.{Obeys, ServesOpen}
-use Rattle.executor.specs.Replies.{due_left, pending, recorded}
-use Rattle.executor.specs.CallLaws.{followed_by_assoc, followed_by_none}
-use Rattle.executor.specs.Sessions.{Leads, Sits, TakesOpen, command_effects}
-use Rattle.executor.specs.Sights.{IsSound, Keeps}
+use Rattle.exec_ledger.specs.Laws.{asked_none, due_after_all-append, joined, told}
+use Rattle.exec_ledger.specs.Pieces.{Leaves}
+use Rattle.exec_ledger.specs.Commands.{Obeys}
+use Rattle.executor.specs.Commands.{ServesOpen}
+use Rattle.exec_ledger.specs.Replies.{due_left, pending, recorded}
+use Rattle.executor.specs.CallLaws.{followed_by_assoc, followed_by_none, same_sight}
 use Rattle.executor.specs.TurnCalls.{TakesTurn}
-use Rattle.executor.proofs.Journaling.{WhatStands, same_roomy, settled_found}
+use Rattle.exec_ledger.specs.Laws.{WhatStands, settled_found, settled_roomy}
 use Rattle.executor.specs.declared.session.InputOf.TheVariants as input
 
 -- one input more
@@ -64,12 +60,12 @@ session_more look x y z (j ∷ is) (q ∷ rs) i r a b (m, first, later, takes, r
 pub leads_start : {D : Type 0} (look : D → View) (law : WhatStands) (x : Sight D) → ((look x.disk).honest → Lawful (look x.disk))
     → Keeps look x → Leads look x x no_effects
 leads_start look law x lawful keeps = record {
-  crash = told (look x.disk) x.state [] lawful (settled_found law x.place x.state (look x.disk) keeps.journal) asked_none;
+  crash = told (look x.disk) x.state [] lawful (settled_found law.found x.place x.state (look x.disk) keeps.journal) asked_none;
   book = sym (append-nil x.children.book);
   log = sym (append-nil x.children.log);
   site = refl;
   due = refl;
-  roomy = same_roomy law x.place x.state (look x.disk) keeps.journal lawful keeps.room;
+  roomy = settled_roomy law.once x.place x.state (look x.disk) lawful keeps.journal keeps.room;
   whole = λ is_open. refl;
 }
 
@@ -125,14 +121,14 @@ no_pending e (Refused Disk) not_disk = absurd (not_disk refl)
 no_pending e reply not_disk = refl
 
 leads_command : {D : Type 0} (look : D → View) (x y : Sight D) (r : Result Event Refusal) (reply : Reply) → Leads look x x no_effects
-    → Obeys look r x y reply → ((y.is_open ≡ false) ↔ (reply ≡ Refused Disk)) → Leads look x y (command_effects r reply)
-leads_command look x y (Err refusal) reply still obeys closes =
-    subst (λ (z : Sight _). Leads look x z no_effects) (sym obeys.1) still
-leads_command look x y (Ok e) reply still records closes = record {
+    → Obeys look r (ledger_of x) (ledger_of y) reply → Beside x y → ((y.is_open ≡ false) ↔ (reply ≡ Refused Disk)) → Leads look x y (command_effects r reply)
+leads_command look x y (Err refusal) reply still obeys beside closes =
+    subst (λ (z : Sight _). Leads look x z no_effects) (sym (same_sight x y obeys.1 beside)) still
+leads_command look x y (Ok e) reply still records beside closes = record {
   crash = records.crash;
-  book = ap (λ (c : ChildrenView). c.book) records.children ∙ sym (append-nil x.children.book);
-  log = ap (λ (c : ChildrenView). c.log) records.children ∙ sym (append-nil x.children.log);
-  site = records.site;
+  book = ap (λ (c : ChildrenView). c.book) beside.children ∙ sym (append-nil x.children.book);
+  log = ap (λ (c : ChildrenView). c.log) beside.children ∙ sym (append-nil x.children.log);
+  site = beside.site;
   due = records.due ∙ due_of_reply x.state (due_in x) e reply;
   roomy = records.roomy;
   whole = λ is_open. no_pending e reply (λ disk. absurd (true≢false (sym is_open ∙ closes.1 disk)));
@@ -144,7 +140,7 @@ leads_request : {D : Type 0} (look : D → View) (now : ℕ) (request : Request)
 leads_request look now (asked.Question question) x y reply still serves closes =
     subst (λ (z : Sight _). Leads look x z no_effects) (sym serves.1) still
 leads_request look now (asked.Command command) x y reply still serves closes =
-    leads_command look x y (event_of x.state now command) reply still serves closes
+    leads_command look x y (event_of x.state now command) reply still serves.0 serves.1 closes
 
 leads_turn : {D : Type 0} (look : D → View) (now : ℕ) (x y : Sight D) (end : TurnEnd) (takes : TakesTurn look now x y end)
     → Leads look x y (record { entries = takes.turns.entries; events = takes.turns.events; pending = takes.turns.pending })

@@ -1,5 +1,4 @@
-use Rattle.std.proofs.Common.{rules, ◌≡◌, ◌<◌, ◌≤◌, ◌+◌, ◌++◌, [], ◌∷◌, List, ℕ, Some, None, true, false, length, take, refl, sym, ap, subst, ◌∙◌}
-use Rattle.std.proofs.Common.{arith}
+use Rattle.std.proofs.Common.{rules, ◌≡◌, ◌<◌, ◌≤◌, ◌+◌, ◌++◌, [], ◌∷◌, List, ℕ, Some, None, true, false, length, take, refl, sym, ap, subst, ◌∙◌, arith}
 use Rattle.std.proofs.lemmas.List.{append-nil, length-map}
 use Rattle.std.specs.List.{AllByRecursion}
 use Rattle.ocf_types.specs.Kinds.{Event}
@@ -9,12 +8,11 @@ use Rattle.ocf_types.specs.Spelling.{spelled_event}
 use Rattle.exec_journal.specs.Front.{spelled_row}
 use Rattle.exec_journal.specs.Rows.{IsTooLong}
 use Rattle.exec_state.specs.Store.{dues}
-use Rattle.exec_turn.specs.Actives.{Active}
+use Rattle.exec_ledger.specs.Actives.{Active}
 use Rattle.exec_turn.specs.Launches.{IsStart, all_starting, what_starts}
 use Rattle.exec_turn.specs.Picks.{ArePicks, MayBegin, begins}
 use Rattle.exec_turn.proofs.Choosing.{picks_more}
-use Rattle.exec_turn.proofs.PickSteps.{above, cut_at, each_push, longer, may_more, one_longer, row_more, spelled_more, starting_more}
-use Rattle.exec_turn.proofs.PickSteps.{too_long}
+use Rattle.exec_turn.proofs.PickSteps.{above, cut_at, each_push, longer, may_more, one_longer, row_more, spelled_more, starting_more, too_long}
 use Rattle.exec_turn.proofs.Resting.{rests_picked}
 use Rattle.exec_turn.proofs.picks.pick_all.Goals as goal
 

@@ -1,7 +1,7 @@
 use Rattle.std.proofs.Common.{◌≡◌, ◌≤◌, ◌*◌, nat_eq, Contains, length, take, drop, vec_len}
 use Rattle.std.specs.List.{AllByRecursion, IsDistinct, flat_map}
 use Rattle.std.specs.Vec.{vec_capacity}
-use Rattle.exec_turn.specs.Actives.{active_in, runs_of}
+use Rattle.exec_ledger.specs.Actives.{active_in, runs_of}
 use Rattle.exec_turn.specs.Polls.{Polls}
 use Rattle.exec_turn.proofs.polls.poll_all.Given as goal
 

@@ -2,7 +2,8 @@ use Rattle.std.proofs.Common.{◌≡◌, ◌∙◌, ℕ, List, [], ◌∷◌, �
 use Rattle.ocf_types.specs.Places.{entry_at}
 use Rattle.ocf_types.specs.declared.operation.Ended.{Ended}
 use Rattle.ocf_types.specs.declared.reply.Notice.{Notice}
-use Rattle.exec_turn.specs.Actives.{Active, notice_of, result_of}
+use Rattle.exec_ledger.specs.Actives.{Active}
+use Rattle.exec_turn.specs.Actives.{notice_of, result_of}
 use Rattle.exec_turn.proofs.PollSteps.{polled_none, polled_one}
 use Rattle.exec_turn.proofs.polls.poll_at.Goals as goal
 

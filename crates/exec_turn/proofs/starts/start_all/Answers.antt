@@ -5,7 +5,8 @@ use Rattle.child_keeper.specs.Children.{ChildrenView}
 use Rattle.exec_journal.specs.Journal.{journal_disk}
 use Rattle.ocf_env.specs.Places.{Call, SiteView}
 use Rattle.child_keeper.specs.MayStart.{IsLaunch}
-use Rattle.exec_turn.specs.Actives.{Active, notice_of}
+use Rattle.exec_ledger.specs.Actives.{Active}
+use Rattle.exec_turn.specs.Actives.{notice_of}
 use Rattle.exec_turn.specs.Launches.{IsOfOne, all_starting, what_starts}
 use Rattle.exec_turn.specs.Starts.{Rising, Starts, refused_end}
 use Rattle.exec_turn.specs.declared.picks.StartOf.{StartOf}

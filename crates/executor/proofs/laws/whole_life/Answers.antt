@@ -1,4 +1,4 @@
-use Rattle.executor.proofs.Journaling.{WhatStands}
+use Rattle.exec_ledger.specs.Laws.{WhatStands}
 use Rattle.executor.proofs.Lives.Whole.{OneFinding, first_begins, fresh_begins, life_leaves, opened_behind, opens_behind, looked_sits, refused_sits}
 use Rattle.executor.proofs.laws.whole_life.Goals as goal
 

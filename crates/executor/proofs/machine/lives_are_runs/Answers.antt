@@ -1,4 +1,4 @@
-use Rattle.executor.proofs.Journaling.{WhatStands}
+use Rattle.exec_ledger.specs.Laws.{WhatStands}
 use Rattle.executor.proofs.Lives.Whole.{OneFinding}
 use Rattle.executor.proofs.Machines.Lives.{life_runs}
 use Rattle.executor.proofs.machine.lives_are_runs.Goals as goal

@@ -1,6 +1,6 @@
 use Rattle.executor.specs.SeenLives.{seen}
 use Rattle.executor.proofs.Lives.Lawful.{LawfulLaws, start_lawful}
-use Rattle.executor.proofs.Journaling.{WhatStands}
+use Rattle.exec_ledger.specs.Laws.{WhatStands}
 use Rattle.executor.proofs.Lives.Whole.{OneFinding}
 use Rattle.executor.proofs.Machines.Lives.{life_runs}
 use Rattle.executor.proofs.Machines.Runs.{in_order}

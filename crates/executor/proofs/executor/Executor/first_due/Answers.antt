@@ -1,4 +1,4 @@
-use Rattle.std.proofs.Common.{subst}
+use Rattle.std.proofs.Common.{ap, subst, ◌∙◌}
 use Rattle.exec_state.specs.Store.{all_pairs}
 use Rattle.executor.specs.Sights.{Sight}
 use Rattle.recurring.specs.Monitors.{IsFirstMoment}
@@ -6,5 +6,6 @@ use Rattle.executor.proofs.executor.Executor.first_due.Goals as goal
 
 pub returns : goal.returns
 returns g c = record {
-  first = subst (λ (x : Sight _). IsFirstMoment (all_pairs x.monitors) c.first_due.result) c.self.view_is c.first_due.ensures;
+  first = subst (λ m. IsFirstMoment (all_pairs m) c.first_due.result)
+      (c.state.ensures.monitors ∙ ap (λ (x : Sight _). x.monitors) c.self.view_is) c.first_due.ensures;
 }

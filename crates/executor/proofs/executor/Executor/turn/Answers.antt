@@ -1,0 +1,48 @@
+use Rattle.std.proofs.Common.{◌≡◌, Bool, true, true≢false, refl, sym, subst, ◌∙◌}
+use Rattle.ocf_types.specs.declared.reply.TurnEnd.{TurnEnd}
+use Rattle.ocf_types.specs.Answer.{moment}
+use Rattle.child_keeper.specs.Children.{Admits}
+use Rattle.exec_ledger.specs.Scenes.{scene_of}
+use Rattle.exec_turn.specs.Turn.{IsTurn}
+use Rattle.exec_turn.specs.Turns.{told_of}
+use Rattle.executor.specs.Sights.{Sight, sight}
+use Rattle.executor.specs.TurnCalls.{TakesTurn, TurnsWhile}
+use Rattle.executor.proofs.executor.Executor.turn.Goals as goal
+
+pub take_turn-requires-clause-matched : goal.take_turn-requires-clause-matched
+take_turn-requires-clause-matched g c = (c.self.invariant (sym c.is_open.ensures.value ∙ c.if-not-is_open.false)).matched
+
+pub take_turn-requires-clause-site : goal.take_turn-requires-clause-site
+take_turn-requires-clause-site g c = (c.self.invariant (sym c.is_open.ensures.value ∙ c.if-not-is_open.false)).admits
+
+pub invariant_of-self : goal.invariant_of-self
+invariant_of-self g c is_open =
+    let tends = c.self.invariant (sym c.is_open.ensures.value ∙ c.if-not-is_open.false) in
+    let turn = c.take_turn.ensures in
+    record {
+      matched = turn.matched (λ disk. true≢false (sym is_open ∙ turn.closes.1 disk));
+      admits = subst (λ w. Admits w c.self.inside.site) (sym turn.turns.site) tends.admits;
+    }
+
+pub returns : goal.returns
+returns g c =
+    let e = c.self.inside in
+    let x = sight e.ledger (g.C.Children.view e.children) e.site (told_of e.rows) in
+    let y = sight c.take_turn.new.ledger (g.C.Children.view c.take_turn.new.children) e.site (told_of c.take_turn.new.rows) in
+    let was : x.is_open ≡ true = sym c.is_open.ensures.value ∙ c.if-not-is_open.false in
+    let turn = c.take_turn.ensures in
+    let takes : TakesTurn g.D.Disk.view c.args.now x y c.take_turn.result = record {
+      turns = turn.turns;
+      site = refl;
+      full = turn.full;
+      unchanged = λ is.
+          let same = turn.unchanged is in
+          let none = (subst (λ (end : TurnEnd). IsTurn end (scene_of e.ledger (moment e.ledger.state c.args.now)) turn.turns.entries
+          turn.turns.events turn.turns.pending y.told) is turn.turns.does).3 in
+          λ i. sight (same.0 i) (g.C.Children.view (same.1 i)) e.site (none i);
+      closes = turn.closes;
+    } in
+    record {
+      turns = subst (λ (z : Sight _). TurnsWhile z.is_open g.D.Disk.view c.args.now z y c.take_turn.result) c.self.view_is
+          (subst (λ (b : Bool). TurnsWhile b g.D.Disk.view c.args.now x y c.take_turn.result) (sym was) takes);
+    }
