@@ -2,15 +2,8 @@
 //! memory, and prints what they answer.
 #![tactic(auto)]
 
-mod finding;
-mod look;
-mod print;
 mod script;
-mod session;
 mod sweep;
-mod tables;
-mod together;
-mod world;
 
 use crate::script::{Ending, play_lines};
 use anyhow::Result;

@@ -1,8 +1,8 @@
 //! Scenarios, line by line.
 use crate::sweep::play_sweep;
-use crate::world::World;
 use anyhow::{Result, bail};
 use scenario_steps::{Act, BadLine, Line};
+use scenario_worlds::World;
 use std::alloc::Global;
 use std::io::{BufRead, Write};
 

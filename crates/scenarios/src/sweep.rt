@@ -1,8 +1,7 @@
 //! Sweeps: a scenario played again and again, each time with another call planned to fail.
-use crate::print::print_rows;
-use crate::world::World;
 use anyhow::Result;
 use scenario_steps::{Act, Filling, Sweep};
+use scenario_worlds::{World, print_rows};
 use std::alloc::Global;
 use std::fmt::Display;
 use std::io::{self, Write};
@@ -39,7 +38,7 @@ impl Failing {
         match self {
             Failing::DiskFault => world.plan_fault(call),
             Failing::ChildFault => {
-                world.children.plan_fault(call);
+                world.plan_child_fault(call);
                 Ok(())
             }
             Failing::Stop(_) => world.plan_stop(call),
@@ -49,7 +48,7 @@ impl Failing {
     // How many calls came of what fails.
     fn call_count(self, world: &World) -> Result<u64> {
         match self {
-            Failing::ChildFault => Ok(world.children.call_count()),
+            Failing::ChildFault => Ok(world.child_call_count()),
             _ => world.call_count(),
         }
     }

@@ -78,6 +78,16 @@ impl World {
         Ok(())
     }
 
+    /// How many calls of the children were counted.
+    pub fn child_call_count(&self) -> u64 {
+        self.children.call_count()
+    }
+
+    /// Plans a fault of the children at the call of this number.
+    pub fn plan_child_fault(&mut self, call: u64) {
+        self.children.plan_fault(call);
+    }
+
     // Closes an executor that is open, and keeps its children: whether one was.
     fn end_session(&mut self) -> bool {
         match self.session.take() {
