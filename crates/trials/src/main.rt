@@ -4,21 +4,12 @@
 //! in memory, scripted children and a clock that it moves itself, and prints what each of them says.
 #![tactic(auto)]
 
-mod agents;
-mod client;
-mod clock;
 mod commands;
-mod kept;
-mod life;
 mod pairs;
-mod plan;
 mod runs;
-mod sitting;
 mod spellings;
-mod watched;
 
 use crate::commands::{command, words};
-use crate::life::live;
 use crate::pairs::pair;
 use crate::runs::lines;
 use crate::spellings::{event, state};
@@ -27,6 +18,7 @@ use std::alloc::Global;
 use std::env;
 use std::io::{self, BufReader, BufWriter, Read, Write};
 use std::rt::Env;
+use trial_lives::live;
 
 const READ_SIZE: usize = 65_536;
 

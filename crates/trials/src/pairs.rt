@@ -1,10 +1,10 @@
 //! Pairs of parts: one that is damaged is not written, and what an opening leaves opens again, with nothing more to write.
-use crate::agents::{no_agents, nowhere};
 use anyhow::{Result, bail, ensure};
 use disk_model::MemDisk;
 use executor::{Executor, OpenError};
 use ocf_types::Part;
 use std::alloc::Global;
+use trial_lives::{no_agents, nowhere};
 
 fn disk_with(alloc: Global, a: &[u8], b: &[u8]) -> Result<MemDisk> {
     Ok(MemDisk::from_parts(alloc, a.to_vec(alloc)?, b.to_vec(alloc)?)?)

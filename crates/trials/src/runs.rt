@@ -1,8 +1,5 @@
 //! Whole runs: what one leaves opens, whatever its lines were.
-use crate::agents::{agents, nowhere};
-use crate::clock::MovedClock;
 use crate::pairs::open_pair;
-use crate::sitting::NoMetadata;
 use anyhow::{Result, bail, ensure};
 use disk_model::MemDisk;
 use exec_client::Teller;
@@ -11,6 +8,7 @@ use exec_session::{RunContext, Way, run_lines};
 use executor::Executor;
 use ocf_types::Part;
 use std::alloc::Global;
+use trial_lives::{MovedClock, NoMetadata, agents, nowhere};
 
 // How many turns a drain or a watch makes at most.
 const TURNS: u64 = 64;

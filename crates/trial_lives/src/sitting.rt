@@ -1,11 +1,11 @@
 //! One sitting.
 ghost use Rattle.std.specs.Prelude.{⊤};
 
-use crate::agents::{agents, nowhere};
 use crate::client::Client;
 use crate::clock::MovedClock;
 use crate::kept::Kept;
 use crate::plan::Plan;
+use crate::scripted::{agents, nowhere};
 use crate::watched::WatchedDisk;
 use anyhow::{Result, bail};
 use disk_model::{Disk, MemDisk};
