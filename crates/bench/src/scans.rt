@@ -13,7 +13,8 @@ use std::alloc::Global;
 const SCANS: usize = 2_000;
 
 fn add(state: &mut State<Global>, command: Command) -> Result<()> {
-    let event = state.check(0, command)?;
+    let checked = state.check(0, command);
+    let event = checked.ok().context("a command was refused")?;
     ensure!(record(state, event), "a command was not recorded");
     Ok(())
 }

@@ -18,7 +18,8 @@ pub fn triples(alloc: Global) -> Result<u64> {
         agent: AgentType::new("Dummy".as_bytes())?,
         params: Params::new(alloc),
     };
-    let event = state.check(0, CommandOf::Register(registration))?;
+    let checked = state.check(0, CommandOf::Register(registration));
+    let event = checked.ok().context("the registration was refused")?;
     ensure!(
         record(&mut state, event),
         "the registration was not recorded"

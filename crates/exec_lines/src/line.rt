@@ -15,7 +15,7 @@ use std::alloc::Allocator;
 use std::io::{self, BufRead, ErrorKind};
 
 /// What stands next in the input.
-#[derive(Clone, Copy, Debug, PartialEq, Eq)]
+#[derive(Clone, Copy, PartialEq, Eq)]
 pub enum Next {
     /// A line of at most 131,072 bytes.
     Line,
@@ -26,7 +26,7 @@ pub enum Next {
 }
 
 // What one read brought.
-#[derive(Clone, Copy, Debug, PartialEq, Eq)]
+#[derive(Clone, Copy, PartialEq, Eq)]
 enum Piece {
     // Bytes of the line, which goes on.
     Part,

@@ -2,13 +2,13 @@
 ghost use Rattle.std.specs.Prelude.{◌≡◌, min};
 ghost use Rattle.exec_lines.specs.Clock.{millis_of};
 
-use ocf_types::Moment;
+use ocf_types::{Moment, NUM_MAX};
 use std::rt::Clock;
 use std::time::{SystemTime, UNIX_EPOCH};
 
 /// The whole milliseconds from 1970 to this time, cut at the greatest moment.
 pub fn moment_of(time: SystemTime) -> Moment
-    ensures { result ≡ min (millis_of time) 9_007_199_254_740_991 }
+    ensures { result ≡ min (millis_of time) NUM_MAX }
 {
     match time.duration_since(UNIX_EPOCH) {
         Ok(passed) => Moment::cut(u64::try_from(passed.as_millis()).unwrap_or(u64::MAX)),

@@ -5,7 +5,7 @@ ghost use Rattle.exec_output.specs.Tables.{is_asked_for};
 use ocf_types::{Moment, RscId};
 
 /// How a status is looked at.
-#[derive(Clone, Copy, Debug, PartialEq, Eq)]
+#[derive(Clone, Copy, PartialEq, Eq)]
 pub struct Look<'a> {
     /// The moment from which ages are counted.
     pub moment: Moment,

@@ -14,7 +14,7 @@ use std::str::from_utf8;
 use unicode_width::UnicodeWidthStr;
 
 // How wide the columns of a table are, without the gap behind them.
-#[derive(Clone, Copy, Debug, PartialEq, Eq)]
+#[derive(Clone, Copy)]
 struct Columns {
     id: usize,
     agent: usize,

@@ -1,5 +1,4 @@
 pub mod Sights
-pub mod Replies
 pub mod Reports
 pub mod Commands
 pub mod Openings

@@ -2,7 +2,7 @@
 use ocf_types::Part;
 
 /// A device call, as it ended.
-#[derive(Clone, Copy, Debug, PartialEq, Eq)]
+#[derive(Clone, Copy)]
 pub enum Call {
     /// The length of a part was answered.
     Measured(Part, u64),

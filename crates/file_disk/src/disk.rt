@@ -6,7 +6,7 @@ ghost use Rattle.disk_model.specs.View.{Called, Unwritten, Synced, Tears};
 use crate::call::Call;
 use crate::entry::{entry_of, refuse_loss};
 use crate::error::{FileError, TellsError};
-use crate::fault::OpenFault;
+use crate::fault::{OpenFault, of_part};
 use crate::folder::open_folder;
 use crate::log::Log;
 use crate::part_file::PartFile;
@@ -16,6 +16,20 @@ use std::alloc::{Allocator, Global};
 use std::fs::File;
 use std::os::unix::fs::FileExt;
 use std::rt::Files;
+
+// Opens both files, and makes those that are missing.
+fn open_files<R: Files<File = File>, A: Allocator + Copy>(
+    rt: &R,
+    alloc: A,
+    dir: &str,
+) -> Result<(PartFile<A>, PartFile<A>), OpenFault> {
+    let a = entry_of(rt, alloc, dir, Part::A)?;
+    let b = entry_of(rt, alloc, dir, Part::B)?;
+    refuse_loss(a, b)?;
+    let a = PartFile::open(rt, alloc, dir, Part::A)?;
+    let b = PartFile::open(rt, alloc, dir, Part::B)?;
+    Ok((a, b))
+}
 
 /// The files `part-a` and `part-b` of one folder, into which only this value writes.
 ///
@@ -49,18 +63,10 @@ impl<R: Files<File = File> + Copy, A: Allocator + Copy> FileDisk<R, A> {
         ensures no_name { dir.now ≡ [] → IsErr result }
     {
         let folder = open_folder(rt, alloc, dir)?;
-        let a = entry_of(rt, alloc, dir, Part::A)?;
-        let b = entry_of(rt, alloc, dir, Part::B)?;
-        refuse_loss(a, b)?;
-        let a = PartFile::open(rt, alloc, dir, Part::A)?;
-        let b = PartFile::open(rt, alloc, dir, Part::B)?;
+        let (a, b) = open_files(rt, alloc, dir)?;
         folder.sync_all().map_err(OpenFault::folder)?;
-        let a_bytes = a
-            .contents(alloc)
-            .map_err(|error| OpenFault::file(Part::A, error))?;
-        let b_bytes = b
-            .contents(alloc)
-            .map_err(|error| OpenFault::file(Part::B, error))?;
+        let a_bytes = of_part(Part::A, a.contents(alloc))?;
+        let b_bytes = of_part(Part::B, b.contents(alloc))?;
         let log = Log::new(&a_bytes, &b_bytes);
         Ok(FileDisk {
             rt: *rt,

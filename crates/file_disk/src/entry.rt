@@ -11,7 +11,7 @@ use std::io::ErrorKind;
 use std::rt::Files;
 
 /// What has the name of a part's file.
-#[derive(Clone, Copy, Debug, PartialEq, Eq)]
+#[derive(Clone, Copy, PartialEq, Eq)]
 pub enum Entry {
     Missing,
     Empty,

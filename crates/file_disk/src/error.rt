@@ -4,7 +4,7 @@ use ocf_types::Part;
 use std::io;
 
 /// An error of the system, with the part of whose file it was.
-#[derive(Clone, Copy, Debug)]
+#[derive(Clone, Copy)]
 pub struct FileError {
     pub part: Part,
     pub error: io::Error,

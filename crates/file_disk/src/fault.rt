@@ -1,5 +1,6 @@
 //! Why the files of a journal were not opened.
-ghost use Rattle.std.specs.Prelude.{◌≡◌};
+ghost use Rattle.std.specs.Prelude.{◌≡◌, Ok, IfErr, IfOk};
+ghost use Rattle.file_disk.specs.Faults.{IsOfPart};
 ghost use Rattle.file_disk.specs.declared.fault.OpenFault.TheVariants.{Memory};
 
 use ocf_types::Part;
@@ -61,9 +62,18 @@ fn other_name(part: Part) -> &'static str {
     }
 }
 
-impl OpenFault {
-    ghost use Rattle.file_disk.specs.Faults.{IsOfPart};
+/// What a call of the system on the part's file gave.
+pub(crate) fn of_part<T>(part: Part, found: io::Result<T>) -> Result<T, OpenFault>
+    ensures value { IfOk result (λ x. found ≡ Ok x) }
+    ensures fault { IfErr result (IsOfPart part) }
+{
+    match found {
+        Ok(value) => Ok(value),
+        Err(error) => Err(OpenFault::file(part, error)),
+    }
+}
 
+impl OpenFault {
     // A fault of the folder.
     pub(crate) fn folder(error: io::Error) -> OpenFault {
         if error.kind() == io::ErrorKind::OutOfMemory {
@@ -107,7 +117,7 @@ impl OpenFault {
 }
 
 /// A fault with its path. It is displayed as `/var/lib/ocfexec/part-a: not a plain file`.
-#[derive(Clone, Copy, Debug)]
+#[derive(Clone, Copy)]
 pub struct Located<'a> {
     dir: &'a str,
     fault: OpenFault,

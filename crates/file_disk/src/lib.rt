@@ -23,4 +23,5 @@ pub use disk::FileDisk;
 pub use error::{FileError, TellsError};
 pub use fault::{Located, OpenFault};
 pub use look::read_parts;
+pub use part_file::OWNER_ONLY;
 pub use ram::RamDisk;

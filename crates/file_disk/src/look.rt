@@ -4,10 +4,10 @@ ghost use Rattle.file_disk.specs.Faults.{IsOfPart};
 ghost use Rattle.file_disk.specs.RamDisk.{IsFresh, view_of};
 
 use crate::entry::{Entry, entry_of, refuse_loss};
-use crate::fault::{OpenFault, file_name};
+use crate::fault::{OpenFault, file_name, of_part};
 use crate::folder::find_folder;
 use crate::ram::RamDisk;
-use ocf_types::{PART_LIMIT, Part};
+use ocf_types::{HEAD_LEN, PART_LIMIT, Part};
 use std::alloc::{Allocator, Global};
 use std::fs::File;
 use std::io::{self, ErrorKind};
@@ -20,8 +20,8 @@ const TRIES: usize = 100;
 // How many bytes are read at once.
 const PIECE: usize = 65_536;
 
-// As many bytes as begin a part: its gate, magic, version, epoch and the length of its snapshot.
-const HEAD: usize = 18;
+// How many bytes are compared: as many as begin a part.
+const HEAD: usize = HEAD_LEN as usize;
 
 // What was read of a part's file, from its first byte on up to its end.
 #[derive(Drop)]
@@ -79,8 +79,8 @@ impl<A: Allocator + Copy> Sight<A> {
             return Ok(Sight { file: None, bytes });
         }
         let path = format!(in alloc; "{dir}/{}", file_name(part))?;
-        let file = File::open(rt, path.as_str()).map_err(|error| OpenFault::file(part, error))?;
-        let bytes = read_whole(alloc, &file).map_err(|error| OpenFault::file(part, error))?;
+        let file = of_part(part, File::open(rt, path.as_str()))?;
+        let bytes = of_part(part, read_whole(alloc, &file))?;
         Ok(Sight {
             file: Some(file),
             bytes,
@@ -116,8 +116,8 @@ fn look<R: Files<File = File>, A: Allocator + Copy>(
 {
     let a = Sight::of(rt, alloc, dir, Part::A)?;
     let b = Sight::of(rt, alloc, dir, Part::B)?;
-    let a_stands = a.stands().map_err(|error| OpenFault::file(Part::A, error))?;
-    let b_stands = b.stands().map_err(|error| OpenFault::file(Part::B, error))?;
+    let a_stands = of_part(Part::A, a.stands())?;
+    let b_stands = of_part(Part::B, b.stands())?;
     if !(a_stands && b_stands) {
         return Ok(None);
     }

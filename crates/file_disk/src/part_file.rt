@@ -2,7 +2,7 @@
 ghost use Rattle.std.specs.Prelude.{◌≡◌, ◌≤◌, IfErr, IfOk, length};
 ghost use Rattle.file_disk.specs.Faults.{IsOfPart};
 
-use crate::fault::{OpenFault, file_name};
+use crate::fault::{OpenFault, file_name, of_part};
 use ocf_types::{PART_LIMIT, Part};
 use std::alloc::{Allocator, Global};
 use std::fs::{self, File, OpenOptions, TryLockError};
@@ -11,8 +11,8 @@ use std::os::fd::AsRawFd;
 use std::os::unix::fs::{FileExt, MetadataExt, OpenOptionsExt};
 use std::rt::Files;
 
-// The permissions of a new file: its owner alone reads and writes it.
-const OWNER_ONLY: u32 = 0o600;
+/// The permissions of a new file: its owner alone reads and writes it.
+pub const OWNER_ONLY: u32 = 0o600;
 
 /// The open file of a part, and its path.
 #[derive(Drop)]
@@ -65,9 +65,9 @@ impl<A: Allocator + Copy> PartFile<A> {
         ensures { IfErr result (IsOfPart part) }
     {
         let path = format!(in alloc; "{dir}/{}", file_name(part))?;
-        let opened = open_file(rt, path.as_str()).map_err(|error| OpenFault::file(part, error))?;
+        let opened = of_part(part, open_file(rt, path.as_str()))?;
         let file = opened.ok_or(OpenFault::NotPlain(part))?;
-        let file = above_streams(file).map_err(|error| OpenFault::file(part, error))?;
+        let file = of_part(part, above_streams(file))?;
         match file.try_lock() {
             Ok(()) => Ok(PartFile { file, path }),
             Err(TryLockError::WouldBlock) => Err(OpenFault::Locked(part)),

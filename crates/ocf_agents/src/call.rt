@@ -9,7 +9,7 @@ use ocf_codes::Code;
 use ocf_types::Action;
 
 /// What an agent is asked for.
-#[derive(Clone, Copy, Debug, PartialEq, Eq)]
+#[derive(Clone, Copy, PartialEq, Eq)]
 pub enum Call<'a> {
     /// What it is. OCF Resource Agent API 1.1, meta-data.
     Metadata(Agent),

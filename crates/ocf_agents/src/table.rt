@@ -7,7 +7,7 @@ use ocf_codes::Code;
 use ocf_types::Action;
 
 /// The role of a promotable agent that runs. Pacemaker Explained, promotable clones.
-#[derive(Clone, Copy, Debug, PartialEq, Eq)]
+#[derive(Clone, Copy, PartialEq, Eq)]
 pub enum Role {
     Unpromoted,
     Promoted,
@@ -26,7 +26,7 @@ impl Role {
 }
 
 /// What the state file holds.
-#[derive(Clone, Copy, Debug, PartialEq, Eq)]
+#[derive(Clone, Copy, PartialEq, Eq)]
 pub enum Held {
     /// It is not there.
     Absent,
@@ -50,7 +50,7 @@ impl Held {
 }
 
 /// What an action does with the state file.
-#[derive(Clone, Copy, Debug, PartialEq, Eq)]
+#[derive(Clone, Copy, PartialEq, Eq)]
 pub enum Deed {
     Leave,
     /// Makes it, empty.

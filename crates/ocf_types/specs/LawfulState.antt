@@ -116,6 +116,3 @@ IsLawfulState s = IsLawfulStateIn Second s
 pub record SpellsIn (layout : Layout) (bytes : List ℕ) (s : State) : Type 0 where
   pub lawful : IsLawfulStateIn layout s
   pub whole : bytes ≡ spelled_state_in layout s
-
-abbrev pub Spells : List ℕ → State → Type 0
-Spells bytes s = SpellsIn Second bytes s

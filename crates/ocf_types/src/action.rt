@@ -8,7 +8,7 @@ use crate::expect::Expect;
 
 /// What an agent is asked to do. OCF Resource Agent API 1.1, actions; `promote` and `demote` are of promotable
 /// agents.
-#[derive(Clone, Copy, Debug, PartialEq, Eq)]
+#[derive(Clone, Copy, PartialEq, Eq)]
 pub enum Action {
     Start,
     Stop,
@@ -62,7 +62,7 @@ impl Action {
 }
 
 /// How deep a monitor looks: 0, 10 or 20. OCF Resource Agent API 1.1, OCF_CHECK_LEVEL.
-#[derive(Clone, Copy, Debug, PartialEq, Eq)]
+#[derive(Clone, Copy, PartialEq, Eq)]
 pub enum Level {
     Zero,
     Ten,
@@ -95,7 +95,7 @@ impl Level {
 }
 
 /// What a monitor looks at, and what it is expected to find.
-#[derive(Clone, Copy, Debug, PartialEq, Eq)]
+#[derive(Clone, Copy, PartialEq, Eq)]
 pub struct Check {
     pub level: Level,
     pub expect: Expect,
@@ -114,7 +114,7 @@ impl Check {
 }
 
 /// An action, with its check where it is a monitor: no other action has one.
-#[derive(Clone, Copy, Debug, PartialEq, Eq)]
+#[derive(Clone, Copy, PartialEq, Eq)]
 pub enum Task {
     Start,
     Stop,

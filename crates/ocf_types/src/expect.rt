@@ -4,7 +4,7 @@ ghost use Rattle.ocf_types.specs.Expected.{expect_code, expect_of_code};
 ghost use Rattle.ocf_types.specs.declared.expect.Expect.{Expect};
 
 /// What a monitor is expected to find. OCF Resource Agent API 1.1, exit codes.
-#[derive(Clone, Copy, Debug, PartialEq, Eq)]
+#[derive(Clone, Copy, PartialEq, Eq)]
 pub enum Expect {
     /// 0, OCF_SUCCESS: it runs.
     Success,

@@ -7,7 +7,7 @@ use std::default::MadeWith;
 use std::marker::Model;
 
 /// A moment in whole milliseconds, from 0 to [`NUM_MAX`]. The program counts them since 1970.
-#[derive(Clone, Copy, Debug, PartialEq, Eq, PartialOrd)]
+#[derive(Clone, Copy, PartialEq, Eq, PartialOrd)]
 pub struct Moment {
     number: u64,
 }
@@ -57,7 +57,7 @@ impl Moment {
 
 /// A call id, from 1 to [`NUM_MAX`]: given when an operation is accepted. All runs of a recurring monitor carry its
 /// call id.
-#[derive(Clone, Copy, Debug, PartialEq, Eq, PartialOrd)]
+#[derive(Clone, Copy, PartialEq, Eq, PartialOrd)]
 pub struct CallId {
     number: u64,
 }
@@ -104,7 +104,7 @@ impl MadeWith<()> for CallId {
 }
 
 /// A run number, from 1 to [`NUM_MAX`]: given when an action begins.
-#[derive(Clone, Copy, Debug, PartialEq, Eq)]
+#[derive(Clone, Copy, PartialEq, Eq)]
 pub struct RunId {
     number: u64,
 }
@@ -144,7 +144,7 @@ impl RunId {
 }
 
 /// An interval or a timeout: at least one millisecond.
-#[derive(Clone, Copy, Debug, PartialEq, Eq)]
+#[derive(Clone, Copy, PartialEq, Eq)]
 pub struct Millis {
     number: u32,
 }

@@ -2,46 +2,44 @@
 ghost use Rattle.std.specs.Prelude.{◌≡◌};
 ghost use Rattle.ocf_types.specs.Refusals.{refusal_row};
 
-use thiserror::Error;
-
-/// Why a command or a question was refused. The text is for people; replies carry the word and the number.
-#[derive(Clone, Copy, Debug, PartialEq, Eq, Error)]
+/// Why a command or a question was refused. Replies carry the word and the number.
+#[derive(Clone, Copy, PartialEq, Eq)]
 pub enum Refusal {
-    #[error("the line is no JSON object with a text `op` and the keys that it needs")]
+    /// The line is no JSON object with a text `op` and the keys that it needs.
     Syntax,
-    #[error("there is no such `op`")]
+    /// There is no such `op`.
     UnknownOp,
-    #[error("a resource id, provider, type or parameter's name is not allowed")]
+    /// A resource id, provider, type or parameter's name is not allowed.
     BadName,
-    #[error("a value lies outside its range")]
+    /// A value lies outside its range.
     BadValue,
-    #[error("no resource of this id is registered")]
+    /// No resource of this id is registered.
     UnknownResource,
-    #[error("the resource, or a recurring monitor of this interval, is there already")]
+    /// The resource, or a recurring monitor of this interval, is there already.
     Exists,
-    #[error("an action of the resource is queued or running: wait for its result")]
+    /// An action of the resource is queued or running.
     Busy,
-    #[error("32 actions of the resource are queued already")]
+    /// [`QUEUE_LIMIT`](crate::QUEUE_LIMIT) actions of the resource are queued already.
     QueueFull,
-    #[error("the resource has 8 recurring monitors already")]
+    /// The resource has [`RECURRING_LIMIT`](crate::RECURRING_LIMIT) recurring monitors already.
     RecurringFull,
-    #[error("the resource has no recurring monitor of this interval")]
+    /// The resource has no recurring monitor of this interval.
     NoSuchRecurring,
-    #[error("no action of this call is queued")]
+    /// No action of this call is queued.
     NotQueued,
-    #[error("256 resources are registered already")]
+    /// [`RESOURCES_LIMIT`](crate::RESOURCES_LIMIT) resources are registered already.
     TooManyResources,
-    #[error("the parameters are too large to be recorded")]
+    /// The parameters are too large to be recorded.
     TooLarge,
-    #[error("all call ids are used up")]
+    /// All call ids are used up.
     CallsSpent,
-    #[error("the journal is full: tidy it")]
+    /// The journal is full: a tidy makes room.
     JournalFull,
-    #[error("out of memory")]
+    /// Out of memory.
     Memory,
-    #[error("the journal's device failed: open the journal again")]
+    /// The journal's device failed: the journal has to be opened again.
     Disk,
-    #[error("the executor is closed: open the journal again")]
+    /// The executor is closed: the journal has to be opened again.
     Closed,
 }
 

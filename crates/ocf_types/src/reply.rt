@@ -47,7 +47,7 @@ pub enum TurnEnd {
 }
 
 /// How a tidy of the journal ended.
-#[derive(Clone, Copy, Debug, PartialEq, Eq)]
+#[derive(Clone, Copy, PartialEq, Eq)]
 pub enum TidyEnd {
     /// The state is the snapshot of the other part now.
     Done,

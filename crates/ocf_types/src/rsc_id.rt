@@ -9,7 +9,7 @@ use std::marker::Model;
 
 /// The id of a resource: 1 to 64 bytes of ASCII letters, digits, `_`, `-`, `.` and `:`, but neither
 /// `.` nor `..`. OCF Resource Agent API 1.1, OCF_RESOURCE_INSTANCE; the `:` is for clone instances, as in `r1:0`.
-#[derive(Debug, Drop, PartialEq, Eq, Hash)]
+#[derive(Drop, PartialEq, Eq, Hash)]
 pub struct RscId {
     bytes: ArrayVec<u8, { NAME_LIMIT }>,
 }

@@ -53,14 +53,6 @@ impl<A: Allocator> StateParts<A> {
         }
     }
 
-    /// The resources in order of registration.
-    pub fn resources(&self) -> &[ResourceParts<A>]
-        ensures value { result.now ≡ self.now.resources }
-        ensures lawful { IsLawfulState self.now }
-    {
-        self.resources.as_slice()
-    }
-
     /// The resources in order of registration, handed over.
     pub fn into_resources(self) -> Vec<ResourceParts<A>, A>
         ensures value { result.items ≡ self.resources }

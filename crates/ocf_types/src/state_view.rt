@@ -31,7 +31,7 @@ pub trait StateView {
     fn clock(&self) -> Moment
         ensures { result ≡ (plain self.now).clock };
 
-    /// How many resources there are, at most 256.
+    /// How many resources there are, at most [`RESOURCES_LIMIT`].
     fn len(&self) -> usize
         ensures value { result ≡ length (plain self.now).resources }
         ensures limit { result ≤ RESOURCES_LIMIT };
@@ -52,7 +52,7 @@ pub trait StateView {
         requires { place < length (plain self.now).resources }
         ensures { result.now ≡ (at_place (plain self.now) place).params };
 
-    /// How many actions of a resource are queued, at most 32.
+    /// How many actions of a resource are queued, at most [`QUEUE_LIMIT`].
     fn queue_len(&self, place: usize) -> usize
         requires { place < length (plain self.now).resources }
         ensures value { result ≡ length (at_place (plain self.now) place).history.queue }
@@ -69,7 +69,7 @@ pub trait StateView {
         requires { place < length (plain self.now).resources }
         ensures { result ≡ (at_place (plain self.now) place).history.running };
 
-    /// How many recurring monitors a resource has, at most 8.
+    /// How many recurring monitors a resource has, at most [`RECURRING_LIMIT`].
     fn recurring_len(&self, place: usize) -> usize
         requires { place < length (plain self.now).resources }
         ensures value { result ≡ length (at_place (plain self.now) place).recurring }
@@ -81,7 +81,7 @@ pub trait StateView {
         requires item { at < length (at_place (plain self.now) place).recurring }
         ensures { slice_get (at_place (plain self.now) place).recurring at ≡ Some result };
 
-    /// How many results of a resource are kept, at most 16.
+    /// How many results of a resource are kept, at most [`ENDED_KEPT`].
     fn ended_len(&self, place: usize) -> usize
         requires { place < length (plain self.now).resources }
         ensures value { result ≡ length (at_place (plain self.now) place).history.ended }

@@ -21,8 +21,9 @@ use thiserror::Error;
 #[error("no action of this call is queued")]
 pub struct NotQueued;
 
-/// The operations of one resource: at most 32 queued actions, the one that runs, the last 64 results, and the one that
-/// failed last, kept or not. All its memory is taken as it is made.
+/// The operations of one resource: at most [`QUEUE_LIMIT`] queued actions, the one that runs, the last
+/// [`ENDED_KEPT`](ocf_types::ENDED_KEPT) results, and the one that failed last, kept or not. All its memory is taken as it
+/// is made.
 #[derive(Drop)]
 pub struct Ops<A: Allocator = Global> {
     queue: ArrayVec<Queued, { QUEUE_LIMIT }>,
@@ -69,7 +70,7 @@ impl<A: Allocator> Ops<A> {
         })
     }
 
-    /// How many actions are queued, at most 32.
+    /// How many actions are queued, at most [`QUEUE_LIMIT`].
     pub fn queue_len(&self) -> usize
         ensures value { result ≡ length self.now.queue }
         ensures limit { result ≤ QUEUE_LIMIT }
@@ -103,7 +104,7 @@ impl<A: Allocator> Ops<A> {
         self.running
     }
 
-    /// How many results there are, at most 64.
+    /// How many results there are, at most [`ENDED_KEPT`](ocf_types::ENDED_KEPT).
     pub fn ended_len(&self) -> usize
         ensures value { result ≡ length self.now.ended }
         ensures limit { result ≤ kept }

@@ -32,24 +32,10 @@ impl<T> Past<T> {
         Past { of: PhantomData }
     }
 
-    /// The same, and then these.
-    fn with_all(&self, items: &[T]) -> Past<T>
-        ensures { result.items ≡ self.now.items ++ items.now }
-    {
-        Past { of: PhantomData }
-    }
-
     /// This happened next.
     pub fn note(&mut self, item: &T)
         ensures { self.new.items ≡ self.old.items ++ item.now ∷ [] }
     {
         *self = self.with(item);
-    }
-
-    /// These happened next, one behind the other.
-    pub fn note_all(&mut self, items: &[T])
-        ensures { self.new.items ≡ self.old.items ++ items.now }
-    {
-        *self = self.with_all(items);
     }
 }

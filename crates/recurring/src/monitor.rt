@@ -7,7 +7,7 @@ use ocf_types::{CallId, Check, Millis, Moment, Recur};
 use std::default::MadeWith;
 
 /// A recurring monitor, and when it is due.
-#[derive(Clone, Copy, Debug, PartialEq, Eq)]
+#[derive(Clone, Copy, PartialEq, Eq)]
 pub struct Monitor {
     pub recur: Recur,
     /// In milliseconds. It may pass the greatest moment, by an interval at most: then no moment reaches it.

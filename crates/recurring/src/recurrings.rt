@@ -9,8 +9,8 @@ use arrayvec::ArrayVec;
 use ocf_types::{CallId, Millis, Moment, RECURRING_LIMIT, Recur};
 use std::marker::Model;
 
-/// The recurring monitors of one resource with their due moments, in order of acceptance: at most 8. No call takes
-/// memory.
+/// The recurring monitors of one resource with their due moments, in order of acceptance: at most
+/// [`RECURRING_LIMIT`]. No call takes memory.
 #[derive(Drop)]
 pub struct Recurrings {
     monitors: ArrayVec<Monitor, { RECURRING_LIMIT }>,
@@ -49,7 +49,7 @@ impl Recurrings {
         Recurrings { monitors }
     }
 
-    /// How many monitors there are, at most 8.
+    /// How many monitors there are, at most [`RECURRING_LIMIT`].
     pub fn len(&self) -> usize
         ensures value { result ≡ length self.now }
         ensures limit { result ≤ RECURRING_LIMIT }

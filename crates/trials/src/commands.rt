@@ -31,7 +31,8 @@ fn state_with_one(alloc: Global) -> Result<State<Global>> {
         agent: AgentType::new(b"Dummy")?,
         params: Params::new(alloc),
     };
-    let event = state.check(0, CommandOf::Register(registration))?;
+    let checked = state.check(0, CommandOf::Register(registration));
+    let event = checked.ok().context("the registration was refused")?;
     record(&mut state, event)?;
     Ok(state)
 }
