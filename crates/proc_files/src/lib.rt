@@ -1,11 +1,21 @@
 //! What the system tells of processes in the files of `/proc`. Linux, proc(5).
 #![tactic(auto)]
 
+mod descendants;
+mod files;
+mod job;
 mod orphan;
 mod pieces;
+mod process;
 mod read;
 mod signal;
+mod stat;
 
+pub use descendants::with_descendants;
+pub use files::{PidFile, ProcFiles};
+pub use job::{ActionMark, is_job};
 pub use orphan::{calls, is_orphan};
+pub use process::{Process, has};
 pub use read::{pids, read_head};
 pub use signal::is_ignored;
+pub use stat::read_stat;

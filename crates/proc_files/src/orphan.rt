@@ -57,7 +57,7 @@ fn begins_with_instance(text: &[u8], instance: &[u8]) -> bool
 }
 
 // Whether an environment has the variable that names this instance.
-fn has_instance(environ: &[u8], instance: &[u8]) -> bool
+pub(crate) fn has_instance(environ: &[u8], instance: &[u8]) -> bool
     ensures { IsTrue result ↔ HasInstance environ.now instance.now }
 {
     for at in 0..environ.len() {

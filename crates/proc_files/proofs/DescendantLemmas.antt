@@ -1,0 +1,141 @@
+-- Descendants, found by the children of one process after another.
+use Rattle.std.proofs.Common.{◌≡◌, ◌⊎◌, inl, inr, ⊎_elim, ℕ, ◌+◌, ◌-◌, ◌<◌, ◌≤◌, ◌==◌, Bool, true, false, cond, not, List, [], ◌∷◌, ◌++◌, length, take, get_or, Contains, refl, sym, ap, subst, ◌∙◌, arith, append-nil, append_assoc, length-append}
+use Rattle.std.specs.List.{filter}
+use Rattle.std.proofs.lemmas.Bool.{cases_eq, eqb-true, eq-eqb, ne_eqb}
+use Rattle.std.proofs.lemmas.List.{take_all, take_more, take-append-le}
+use Rattle.std.proofs.lemmas.List.Elements.{All-contains, All-contains_itself, All-filter, Contains-append_cases, Contains-append_left, Contains-append_right, Contains-push_cases, filter_passes}
+use Rattle.std.proofs.lemmas.List.Filters.{length-filter_both}
+use Rattle.proc_files.specs.Descendants.{Descends, IsTopDown, root, child, only_roots, then_child, children_of, without_children_of}
+use Rattle.proc_files.specs.declared.process.Process.{Process}
+
+module _ {X : Type 0} where
+  nothing_in : (x : X) → Contains [] x → ⊥
+  nothing_in x has = omega (arith, has.1)
+
+  same_alone : (y x : X) → Contains (y ∷ []) x → y ≡ x
+  same_alone y x has = ⊎_elim (λ none. absurd (nothing_in x none)) (λ same. same) (Contains-push_cases [] y x has)
+
+  -- a filter keeps what is in the list and passes the test
+  module _ (test : X → Bool) where
+    kept_is_of : (xs : List X) (x : X) → Contains (filter test xs) x → Contains xs x
+    kept_is_of xs x = All-contains (Contains xs) (filter test xs) x (All-filter test (Contains xs) xs (All-contains_itself xs))
+
+    kept_passes : (xs : List X) (x : X) → Contains (filter test xs) x → test x ≡ true
+    kept_passes xs x = All-contains (λ y. test y ≡ true) (filter test xs) x (filter_passes test xs)
+
+    passing_is_kept : (xs : List X) (x : X) → test x ≡ true → Contains xs x → Contains (filter test xs) x
+    passing_is_kept [] x passes has = has
+    passing_is_kept (y ∷ ys) x passes has = ⊎_elim
+        (λ here. rw (ap test (same_alone y x here) ∙ passes) (Contains-append_left (y ∷ []) (filter test ys) x here))
+        (λ there. by (test y) (passing_is_kept ys x passes there))
+        (Contains-append_cases (y ∷ []) ys x has)
+      where
+        by : (b : Bool) → Contains (filter test ys) x → Contains (cond b (y ∷ filter test ys) (filter test ys)) x
+        by true kept = Contains-append_right (y ∷ []) (filter test ys) x kept
+        by false kept = kept
+
+-- the rest are the children of a process and the others
+child_is_of : (pid : ℕ) (rest : List Process) (p : Process) → Contains (children_of pid rest) p
+    → Contains rest p × (p.parent ≡ pid)
+child_is_of pid rest p has =
+    let test : Process → Bool = λ q. q.parent == pid in
+    (kept_is_of test rest p has, eqb-true p.parent pid (kept_passes test rest p has))
+
+is_child : (pid : ℕ) (rest : List Process) (p : Process) → p.parent ≡ pid → Contains rest p → Contains (children_of pid rest) p
+is_child pid rest p is has = passing_is_kept (λ q. q.parent == pid) rest p (eq-eqb p.parent pid is) has
+
+child_or_other : (pid : ℕ) (rest : List Process) (p : Process) → Contains rest p
+    → Contains (children_of pid rest) p ⊎ Contains (without_children_of pid rest) p
+child_or_other pid rest p has = ⊎_elim
+    (λ is. inl (is_child pid rest p is has))
+    (λ other. inr (passing_is_kept (λ q. not (q.parent == pid)) rest p (ap not (ne_eqb p.parent pid other)) has))
+    (cases_eq p.parent pid)
+
+length-both : (pid : ℕ) (found rest : List Process)
+    → length (found ++ children_of pid rest) + length (without_children_of pid rest) ≡ length found + length rest
+length-both pid found rest = omega (
+  arith,
+  length-append found (children_of pid rest),
+  length-filter_both (λ p. p.parent == pid) (λ p. not (p.parent == pid)) (λ p. refl) rest,
+)
+
+-- a step comes nearer to the end of what is found, whatever it finds
+pub is_nearer : (at pid : ℕ) (found rest more left : List Process) → at < length found → more ≡ found ++ children_of pid rest
+    → left ≡ without_children_of pid rest → length left + (length more - (at + 1)) < length rest + (length found - at)
+is_nearer at pid found rest more left within is_more is_left =
+    omega (arith, ap length is_more, ap length is_left, length-append found (children_of pid rest), length-both pid found rest)
+
+module _ (table roots : List Process) where
+  has_roots : (found : List Process) (p : Process) → IsTopDown table roots found → Contains roots p → Contains found p
+  has_roots found p only_roots has = has
+  has_roots found p (then_child before q parent listed is among order) has =
+      Contains-append_left before (q ∷ []) p (has_roots before p order has)
+
+  -- what is listed from the top down descends from the roots
+  pub all_descend : (found : List Process) (p : Process) → IsTopDown table roots found → Contains found p → Descends table roots p
+  all_descend found p only_roots has = root p has
+  all_descend found p (then_child before q parent listed is among order) has = ⊎_elim
+      (λ earlier. all_descend before p order earlier)
+      (λ same. subst (Descends table roots) same (child q parent listed is (all_descend before parent order among)))
+      (Contains-push_cases before q p has)
+
+  -- children are listed after their parent
+  then_children : (found more : List Process) (parent : Process) → Contains found parent
+      → ((p : Process) → Contains more p → Contains table p × (p.parent ≡ parent.pid)) → IsTopDown table roots found
+      → IsTopDown table roots (found ++ more)
+  then_children found [] parent among each order = rw append-nil order
+  then_children found (p ∷ ps) parent among each order =
+      let first = each p (Contains-append_left (p ∷ []) ps p (0, omega arith, refl)) in
+      rw (sym (append_assoc found (p ∷ []) ps))
+      (then_children (found ++ p ∷ []) ps parent (Contains-append_left found (p ∷ []) parent among)
+      (λ q has. each q (Contains-append_right (p ∷ []) ps q has)) (then_child found p parent first.0 first.1 among order))
+
+  -- the search has come to `at`: what is found before it has all its children in what is found
+  pub record IsSearchedTo (at : ℕ) (found rest : List Process) : Type 0 where
+    pub order : IsTopDown table roots found
+    pub of_table : (p : Process) → Contains rest p → Contains table p
+    pub somewhere : (p : Process) → Contains table p → Contains found p ⊎ Contains rest p
+    pub children : (p parent : Process) → Contains table p → p.parent ≡ parent.pid → Contains (take at found) parent
+        → Contains found p
+    pub few : length found + length rest ≡ length roots + length table
+
+  pub search_begins : IsSearchedTo 0 roots table
+  search_begins = record {
+    order = only_roots;
+    of_table = λ p has. has;
+    somewhere = λ p listed. inr listed;
+    children = λ p parent listed is none. absurd (nothing_in parent none);
+    few = refl;
+  }
+
+  pub search_goes_on : (at : ℕ) (found rest : List Process) (here : Process) → at < length found → here ≡ get_or found at here
+      → IsSearchedTo at found rest → IsSearchedTo (at + 1) (found ++ children_of here.pid rest) (without_children_of here.pid rest)
+  search_goes_on at found rest here within is_here s =
+      let more = children_of here.pid rest in
+      let old : (p : Process) → Contains found p → Contains (found ++ more) p = λ p has. Contains-append_left found more p has in
+      let new : (p : Process) → Contains more p → Contains (found ++ more) p = λ p has. Contains-append_right found more p has in
+      let searched : take (at + 1) (found ++ more) ≡ take at found ++ here ∷ [] =
+      take-append-le (at + 1) found more (omega (arith, within)) ∙ take_more found at here within
+      ∙ ap (λ (p : Process). take at found ++ p ∷ []) (sym is_here) in
+      record {
+        order = then_children found more here (at, within, sym is_here)
+            (λ p has. let q = child_is_of here.pid rest p has in (s.of_table p q.0, q.1)) s.order;
+        of_table = λ p has. s.of_table p (kept_is_of _ rest p has);
+        somewhere = λ p listed. ⊎_elim (λ has. inl (old p has))
+            (λ left. ⊎_elim (λ has. inl (new p has)) (λ other. inr other) (child_or_other here.pid rest p left))
+            (s.somewhere p listed);
+        children = λ p parent listed is reached. ⊎_elim
+            (λ earlier. old p (s.children p parent listed is earlier))
+            (λ same. ⊎_elim (old p)
+            (λ left. new p (is_child here.pid rest p (is ∙ ap (λ (q : Process). q.pid) (sym same)) left))
+            (s.somewhere p listed))
+            (Contains-push_cases (take at found) here parent (subst (λ (l : List Process). Contains l parent) searched reached));
+        few = length-both here.pid found rest ∙ s.few;
+      }
+
+  -- at its end it has found all that descend from the roots
+  pub all_found : (at : ℕ) (found rest : List Process) → length found ≤ at → IsSearchedTo at found rest
+      → (p : Process) → Descends table roots p → Contains found p
+  all_found at found rest end s p (root _ has) = has_roots found p s.order has
+  all_found at found rest end s p (child _ parent listed is descends) =
+      s.children p parent listed is (rw (take_all at found end) (all_found at found rest end s parent descends))

@@ -1,0 +1,10 @@
+-- A step comes one further, and may move some of the rest to the end of what is found.
+use Rattle.std.proofs.Common.{◌+◌, ◌-◌, length}
+use Rattle.proc_files.proofs.DescendantLemmas.{IsSearchedTo}
+use Rattle.proc_files.proofs.descendants.with_descendants.Given as goal
+
+abbrev pub invariant-loop-at : goal.invariant-loop-at
+invariant-loop-at g l = IsSearchedTo l.table l.roots l.at l.found.items l.rest.items
+
+abbrev pub decreases-loop-at : goal.decreases-loop-at
+decreases-loop-at g l = length l.rest.items + (length l.found.items - l.at)

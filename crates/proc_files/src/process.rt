@@ -1,0 +1,36 @@
+//! Processes, as the system describes them.
+ghost use Rattle.std.specs.Prelude.{◌↔◌, IsTrue};
+ghost use Rattle.proc_files.specs.Processes.{Has, IsSame};
+
+/// A process, by `/proc/PID/stat`. Linux, proc(5).
+#[derive(Clone, Copy)]
+pub struct Process {
+    /// Its number.
+    pub pid: u32,
+    /// The number of its parent: where that has ended, of the process that reaps it.
+    pub parent: u32,
+    /// The number of its session. POSIX, getsid.
+    pub session: u32,
+    /// When it started, in clock ticks after the system's boot (field 22).
+    pub start: u64,
+    /// Whether it has ended and waits to be reaped (state Z) or is dead (X, x), with all of its threads: the state is that of
+    /// the first, which may end before the others.
+    pub has_ended: bool,
+}
+
+impl Process {
+    /// Whether this is the other process: it has the same number and the same start. The number alone does not say so, since
+    /// it is given again once a process was reaped.
+    pub fn is(&self, other: &Process) -> bool
+        ensures { IsTrue result ↔ IsSame self.now other.now }
+    {
+        self.pid == other.pid && self.start == other.start
+    }
+}
+
+/// Whether a process is among these, by number and start.
+pub fn has(processes: &[Process], process: &Process) -> bool
+    ensures { IsTrue result ↔ Has processes.now process.now }
+{
+    processes.iter().any(|other| other.is(process))
+}
