@@ -1,5 +1,6 @@
 """What the checks in Python share: the program, a folder for each check, its agents, the lines of commands, and runs that are asked
-and heard. A module is called as `tests/NAME.py PROGRAM`; each of its tests is a check, which is printed with its time."""
+and heard. A module is called as `tests/NAME.py PROGRAM`; each of its tests is a check, which is printed with its time. With ONLY in the
+environment, the one test of that sentence is tried."""
 import json
 import os
 import shutil
@@ -90,12 +91,6 @@ def shim(source, folder):
     return built
 
 
-def state(pid):
-    """What a process does: R where it runs or would, S where it waits."""
-    with open(f"/proc/{pid}/stat", encoding="ascii") as file:
-        return file.read().rpartition(")")[2].split()[0]
-
-
 def is_alive(pid):
     """Whether a process runs, and is no zombie."""
     try:
@@ -108,9 +103,9 @@ def is_alive(pid):
 class Heard:
     """A program that runs, whose lines are kept with the moments at which they came; its standard error goes to a file."""
 
-    def __init__(self, *words, err=os.devnull, **how):
+    def __init__(self, *words, err=os.devnull, program=None, **how):
         with open(err, "wb") as file:
-            self.run = subprocess.Popen([PROGRAM, *words], stdin=subprocess.PIPE, stdout=subprocess.PIPE, stderr=file, **how)
+            self.run = subprocess.Popen([program or PROGRAM, *words], stdin=subprocess.PIPE, stdout=subprocess.PIPE, stderr=file, **how)
         self.lines, self.came = [], threading.Condition()
         self.reader = threading.Thread(target=self.read, daemon=True)
         self.reader.start()
@@ -137,9 +132,9 @@ class Heard:
         """The notices that have come."""
         return [value for value in self.values() if is_notice(value)]
 
-    def awaits(self, holds, seconds=10):
-        """The moment and the value of the first line of which this holds; two None where none came."""
-        until, at = time.monotonic() + seconds, 0
+    def awaits(self, holds, seconds=10, after=0):
+        """The moment and the value of the first line of which this holds, after so many; two None where none came."""
+        until, at = time.monotonic() + seconds, after
         with self.came:
             while True:
                 while at < len(self.lines):
@@ -242,8 +237,18 @@ class Told(unittest.TestResult):
         super().stopTest(test)
 
 
+def chosen(tests, only):
+    """These tests, one by one; of a sentence that is given that test alone."""
+    for test in tests:
+        if isinstance(test, unittest.TestSuite):
+            yield from chosen(test, only)
+        elif only in ("", test.shortDescription()):
+            yield test
+
+
 def main(failfast=False):
-    suite = unittest.defaultTestLoader.loadTestsFromModule(sys.modules["__main__"])
+    found = unittest.defaultTestLoader.loadTestsFromModule(sys.modules["__main__"])
+    suite = unittest.TestSuite(chosen(found, os.environ.get("ONLY", "")))
     told = Told()
     told.failfast = failfast
     suite.run(told)

@@ -1,13 +1,16 @@
 #!/usr/bin/env python3
-"""Kills `PROGRAM run` with signal 9 while its agents run, and opens its journal again at once. Wanted: the report comes only when what
-is left of the interrupted actions is gone, also where the executor that waited for that was killed in its turn; `--orphans` says how
-long at most, what still lives then is named, and 0 does not wait; an agent that is started so that it dies with its executor is not
+"""Kills `PROGRAM run` with signal 9 while its agents run, and opens its journal again at once, from another session. Wanted: the
+interruption is recorded and reported only when what is left of the action is gone, or was ended at the action's own timeout, or at the
+limit that `--orphans` gives, with all that it started; so also where the executor that waited for that was killed in its turn. It is
+found where the agent replaced itself by another program, and where only a child of it is left; a daemon lives on. With `--leave-orphans`
+it lives on, is named, and in `serve` its number stands in the notice. An agent that is started so that it dies with its executor is not
 waited for. A client that stops what was interrupted, probes it and starts it again, through many kills at random moments, never finds
-it up behind a stop that succeeded, and never twice.
+it up after a stop that succeeded, and never twice.
 Use: orphans.py PROGRAM, with ROUNDS and SEED in the environment"""
 import os
 import random
 import shutil
+import signal
 import time
 import unittest
 
@@ -46,17 +49,19 @@ class Orphans(helper.Check):
     def register(self, seconds):
         return helper.register("r1", "Slow", begun=self.begun, log=self.log, time=str(seconds), up=self.up)
 
-    def opened(self, *words, via="sh"):
-        return self.heard("run", "--journal", self.folder, "--root", self.here, "--via", via, *words, err=self.err)
+    def opened(self, *words, via="sh", way="run", **how):
+        # each executor has a session of its own, as under systemd
+        words = [way, "--journal", self.folder, "--root", self.here, *(["--via", via] if via else []), *words]
+        return self.heard(*words, err=self.err, start_new_session=True, **how)
 
     def said(self):
         with open(self.err, encoding="utf-8") as err:
             return err.read()
 
-    def left(self, via="sh"):
+    def left(self, via="sh", timeout=10000):
         """Leaves a journal whose executor was killed amid a start of three seconds, and gives the moment of the kill."""
         running = self.opened(via=via)
-        running.tell(self.register(3), *does("start"))
+        running.tell(self.register(3), helper.action("r1", "start", timeout=timeout), {"op": "drain"})
         while not os.path.exists(self.begun):
             time.sleep(0.005)
         running.killed()
@@ -69,7 +74,7 @@ class Orphans(helper.Check):
         self.assertEqual(first.get("outcome"), "interrupted", first)
 
     def test_report_waits(self):
-        """a report comes behind the end of the old start"""
+        """a report comes after the end of the old start"""
         self.left()
         second = self.opened()
         self.reported(second)
@@ -77,54 +82,175 @@ class Orphans(helper.Check):
         self.assertEqual((second.ends(), self.said()), (0, ""))
 
     def test_waits_again(self):
-        """an executor that is killed as it waits, and a client that follows"""
+        """an executor that is killed as it waits has recorded nothing, and the next one reports all"""
         self.left()
+        before = helper.parts(self.folder)
         self.opened().killed()
         waiting = self.opened()
-        while "interrupted" not in [end["outcome"] for end in helper.results(self.folder)["r1"]]:
-            time.sleep(0.005)
+        time.sleep(0.7)
         self.assertFalse(os.path.exists(self.log), "the old start is under way")
         waiting.killed()
         self.assertEqual(waiting.values(), [], "no report before the old start has ended")
+        self.assertEqual(helper.parts(self.folder), before, "nothing is recorded before the old start has ended")
         third = self.opened()
         third.tell(*does("stop"))
-        _, first = third.awaits(lambda value: True)
-        self.assertEqual(first, {"call": 2, "key": "r1_stop_0", "ok": True})
-        self.assertTrue(os.path.exists(self.log), "no reply before the old start has ended")
+        self.reported(third)
+        self.assertTrue(os.path.exists(self.log), "no report before the old start has ended")
         third.tell(*does("monitor"))
         self.assertEqual(third.ends(), 0)
-        self.assertEqual(ended(third.values()), [("stop", "done", 0), ("monitor", "done", 7)], "down behind its stop")
+        self.assertEqual(ended(third.values())[1:], [("stop", "done", 0), ("monitor", "done", 7)], "down after its stop")
+
+    def within(self, since, least, most):
+        took = time.monotonic() - since
+        self.assertTrue(least <= took < most, f"a report in time, not after {took:.3f} s")
 
     def named(self, milliseconds):
-        # what lives on past the limit
+        # what lives on past the limit; a process that the agent has just forked looks as the agent does, and is named too
         since = self.left()
-        second = self.opened("--orphans", str(milliseconds))
+        second = self.opened("--leave-orphans", "--orphans", str(milliseconds))
         self.reported(second)
-        took = time.monotonic() - since
-        self.assertTrue(milliseconds / 1000 <= took < milliseconds / 1000 + 1.5, f"a report in time, not after {took:.3f} s")
+        self.within(since, milliseconds / 1000, milliseconds / 1000 + 1.5)
         self.assertEqual(second.ends(), 0)
         err = self.said()
-        self.assertRegex(err, r"\Aocfexec: pid \d+ of start of r1, which was interrupted, still lives\n\Z")
+        self.assertRegex(err, r"\A(ocfexec: pid \d+ of start of r1, which was interrupted, still lives\n)+\Z")
         with open(f"/proc/{err.split()[2]}/cmdline", encoding="utf-8") as words:
             self.assertEqual(words.read().split("\0")[1:3], [self.place("resource.d/test/Slow"), "start"], "the old start's pid")
 
     def test_named_at_once(self):
-        """what lives on is named, where it is not waited for"""
+        """what is left is named at once and lives on, where it is neither waited for nor ended"""
         self.named(0)
 
     def test_named_late(self):
-        """what lives on past the limit is named"""
+        """what is left past the limit is named and lives on, where it is not ended"""
         self.named(700)
+
+    def test_lives(self):
+        """in serve the notice has the number of what lives on"""
+        self.left()
+        second = self.opened("--leave-orphans", "--orphans", "0", way="serve")
+        _, first = second.awaits(lambda value: True)
+        self.assertEqual(first["outcome"], "interrupted")
+        self.assertTrue(helper.is_alive(first["lives"]))
+        self.assertIn(f"pid {first['lives']} of start of r1", self.said())
+
+    def test_ended_at_the_limit(self):
+        """what is left past the limit is ended, with what it waits for"""
+        since = self.left()
+        second = self.opened("--orphans", "700")
+        self.reported(second)
+        self.within(since, 0.7, 2.2)
+        second.tell(*does("stop"))
+        self.assertEqual(second.ends(), 0)
+        self.assertRegex(self.said(), r"\A(ocfexec: pid \d+ of start of r1, which was interrupted, is ended\n)+\Z")
+        time.sleep(2)
+        self.assertFalse(os.path.exists(self.log), "the old start never comes up")
+
+    def test_ended_at_its_timeout(self):
+        """what is left is ended when its own timeout comes, and a start stays down after the stop"""
+        since = self.left(timeout=1200)
+        second = self.opened()
+        self.reported(second)
+        self.within(since, 0, 2.5)
+        second.tell(*does("stop"), *does("monitor"))
+        self.assertEqual(second.ends(), 0)
+        self.assertEqual(ended(second.values())[1:], [("stop", "done", 0), ("monitor", "done", 7)])
+        time.sleep(2)
+        self.assertFalse(os.path.exists(self.log), "the old start never comes up")
+
+    def starts(self, text, name):
+        """Kills an executor amid a start by an agent with this text, which leaves its process's number in a file; gives that."""
+        self.agent("Other", text)
+        running = self.opened(via="")
+        file = self.place(name)
+        running.tell(helper.register("r1", "Other", file=file), helper.action("r1", "start", timeout=1500), {"op": "drain"})
+        until = time.monotonic() + 10
+        while not (os.path.exists(file) and os.path.getsize(file)):
+            self.assertLess(time.monotonic(), until, "the start is under way")
+            time.sleep(0.005)
+        with open(file, encoding="ascii") as number:
+            pid = int(number.read())
+        running.killed()
+        self.addCleanup(lambda: helper.is_alive(pid) and os.kill(pid, 9))
+        return pid
+
+    def test_replaced(self):
+        """an agent that replaced itself by another program is found, and ended at its timeout"""
+        pid = self.starts("exec sh -c 'echo $$ > $OCF_RESKEY_file; sleep 30; :'\n", "pid")
+        second = self.opened(via="")
+        self.reported(second)
+        self.assertFalse(helper.is_alive(pid), "it has ended before the report")
+
+    def test_child_alone(self):
+        """what an agent waited for is found where the agent itself has ended"""
+        agent = self.place("agent")
+        pid = self.starts(f"echo $$ > {agent}\nsh -c 'echo $$ > $OCF_RESKEY_file; sleep 30; :'\n:\n", "pid")
+        with open(agent, encoding="ascii") as number:
+            os.kill(int(number.read()), 9)
+        self.assertTrue(helper.is_alive(pid))
+        second = self.opened(via="")
+        self.reported(second)
+        self.assertFalse(helper.is_alive(pid), "it has ended before the report")
+
+    def slow(self, way, signal_sent):
+        # the agent that comes up after the stop where what it started is not ended
+        self.agent("Late", "case $1 in start) echo $$ > $OCF_RESKEY_file; sh -c 'sleep 2; : > $OCF_RESKEY_up/late'; : ;; esac\n")
+        running = self.opened(via="", way=way)
+        file = self.place("pid")
+        running.tell(helper.register("r1", "Late", file=file, up=self.up), helper.action("r1", "start", timeout=1000), {"op": "drain"})
+        while not os.path.exists(file):
+            time.sleep(0.005)
+        running.run.send_signal(signal_sent)
+        running.run.wait()
+        second = self.opened(via="", way=way)
+        self.reported(second)
+        second.tell(helper.action("r1", "stop"), {"op": "drain"})
+        self.assertEqual(second.ends(), 0)
+        self.assertIn(("stop", "done", 0), ended(second.values()))
+        time.sleep(2)
+        self.assertFalse(os.path.exists(os.path.join(self.up, "late")), "the service stays down")
+
+    def test_slow_killed(self):
+        """a start whose executor was killed does not come up after the stop, in run and in serve"""
+        for way in ("run", "serve"):
+            with self.subTest(way):
+                self.slow(way, signal.SIGKILL)
+                shutil.rmtree(self.folder)
+                os.mkdir(self.folder)
+                os.remove(self.place("pid"))
+
+    def test_slow_terminated(self):
+        """a start whose executor was ended by SIGTERM does not come up after the stop"""
+        self.slow("serve", signal.SIGTERM)
+
+    def test_own_environment(self):
+        """an executor whose own environment names the resource is not taken for what is left of it"""
+        self.left()
+        second = self.opened("--orphans", "300", env={**os.environ, "OCF_RESOURCE_INSTANCE": "r1"})
+        self.reported(second)
+        self.assertEqual(second.ends(), 0)
+        self.assertEqual(self.said().count("is ended"), 1)
+
+    def test_daemon(self):
+        """a daemon of an interrupted start lives on"""
+        daemon = self.place("daemon")
+        pid = self.starts(f"(setsid sh -c 'echo $$ > {daemon}; sleep 30' &)\nwhile ! [ -s {daemon} ]; do sleep 0.01; done\n"
+                          "echo $$ > $OCF_RESKEY_file\nsleep 30\n", "pid")
+        with open(daemon, encoding="ascii") as number:
+            other = int(number.read())
+        self.addCleanup(lambda: helper.is_alive(other) and os.kill(other, 9))
+        second = self.opened(via="")
+        self.reported(second)
+        self.assertFalse(helper.is_alive(pid), "the start has ended before the report")
+        self.assertTrue(helper.is_alive(other), "the daemon lives")
 
     @unittest.skipUnless(shutil.which("setpriv"), "install util-linux")
     def test_dies_along(self):
-        """an agent that dies with its executor is not waited for"""
+        """an agent that dies with its executor leaves nothing but its child to be waited for"""
         since = self.left(via=os.path.join(helper.TOP, "examples/with-executor.sh"))
         second = self.opened()
         self.reported(second)
-        self.assertLess(time.monotonic() - since, 1.5, "a report at once")
+        self.within(since, 2, 4.5)
         self.assertEqual((second.ends(), self.said()), (0, ""))
-        time.sleep(3)
         self.assertFalse(os.path.exists(self.log), "the agent ended with its executor")
 
     def round(self):
@@ -138,7 +264,7 @@ class Orphans(helper.Check):
         return len(codes)
 
     def test_never_twice(self):
-        """never up behind a stop, and never twice, through kills at random moments"""
+        """never up after a stop, and never twice, through kills at random moments"""
         random.seed(helper.number("SEED", 20261124))
         rounds, kills, probes, later = helper.number("ROUNDS", 100), 0, 0, time.monotonic() + 35
         first = self.opened()

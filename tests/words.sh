@@ -70,7 +70,8 @@ for command in register unregister params exec recur cancel withdraw forget list
 done
 ends 0 "" run --help
 holds "run --help" "--journal <DIR>" --memory "--root <DIR>" "--via <PROGRAM>" "--path <PATH>" "[default: /usr/lib/ocf]" \
-    "[default: /usr/sbin:/usr/bin:/sbin:/bin]" "--tidy-at <BYTES>" "[default: 6291456]" "just one of --journal and --memory" Examples: "ocfexec run --memory"
+    "[default: /usr/sbin:/usr/bin:/sbin:/bin]" "--tidy-at <BYTES>" "[default: 6291456]" "--orphans <MS>" "[default: 20000]" --leave-orphans \
+    "just one of --journal and --memory" Examples: "ocfexec run --memory"
 ends 0 "" show --help
 holds "show --help" Example: "ocfexec show --journal /var/lib/ocfexec"
 ends 0 "" show -h
@@ -85,8 +86,13 @@ wrote "run --memory" ""
 for bytes in 0 045 8388608; do
     ends 0 "" run --memory --tidy-at "$bytes"
 done
+for millis in 0 045 86400000; do
+    ends 0 "" run --memory --orphans "$millis" --leave-orphans
+done
 ends 0 "" show --memory
 wrote "show --memory" '{"ok":true,"resources":[]}'
+ends 0 "" show --memory --leave-orphans
+wrote "show --memory --leave-orphans" '{"ok":true,"resources":[]}'
 
 checked "texts that are asked for"
 
@@ -119,6 +125,7 @@ for bytes in "" no 1k 1.5 8388609 18446744073709551616; do
     ends 2 "ocfexec: give --tidy-at a number from 0 to 8388608" run --memory --tidy-at "$bytes"
 done
 ends 2 "ocfexec: give --tidy-at a number from 0 to 8388608" run --memory --tidy-at=-1
+ends 2 "ocfexec: give --orphans a number from 0 to 86400000" run --memory --leave-orphans --orphans 86400001
 ends 5 "ocfexec: disk
 $here/none: No such file or directory (os error 2)" run --journal "$here/none"
 ends 5 "ocfexec: disk
@@ -133,6 +140,8 @@ misused "^error: " --memory
 misused "^error: " run --memory more
 misused "^error: " run --fast --memory
 misused "^error: " run --memory=yes
+misused "^error: " run --memory --leave-orphans=yes
+misused "^error: " run --memory --leave-orphans yes
 misused "^error: " run --memory --via -x
 misused "cannot be used multiple times" run --memory --root /r --root /r
 misused "unexpected argument '--version'" run --version

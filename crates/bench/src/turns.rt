@@ -1,6 +1,7 @@
 //! Turns over as many resources as there may be, in one session over a disk in memory and scripted children.
 use anyhow::{Context, Result, bail, ensure};
-use child_keeper::{Poll, Script, Scripted};
+use child_keeper::{Script, Scripted};
+use child_model::Poll;
 use disk_model::MemDisk;
 use executor::{Executor, Input, InputOf};
 use ocf_env::{Site, Text};

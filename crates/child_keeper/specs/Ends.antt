@@ -7,8 +7,8 @@ use Rattle.std.specs.declared.io.ErrorKind.TheVariants.{NotFound, PermissionDeni
 use Rattle.std.specs.declared.process.ExitStatus.{ExitStatus}
 use Rattle.ocf_types.specs.declared.outcome.StartFault.{StartFault}
 use Rattle.ocf_types.specs.declared.outcome.StartFault.TheVariants.{Missing, Denied, Other}
-use Rattle.child_keeper.specs.declared.answer.Poll.{Poll}
-use Rattle.child_keeper.specs.declared.answer.Poll.TheVariants.{Running, Exited, Signaled, Fault}
+use Rattle.child_model.specs.declared.answer.Poll.{Poll}
+use Rattle.child_model.specs.declared.answer.Poll.TheVariants.{Running, Exited, Signaled, Fault}
 
 -- why an agent was not started, by the kind of the system's error
 abbrev pub start_fault : ErrorKind → StartFault

@@ -3,7 +3,7 @@ use Rattle.std.specs.Prelude.{None}
 use Rattle.std.specs.declared.io.Read.{Ghosts as ReadOf}
 use Rattle.std.specs.declared.io.Write.{Ghosts as WriteOf}
 use Rattle.child_keeper.specs.Agents.{runs_of}
-use Rattle.child_keeper.specs.Children.{ChildrenView}
+use Rattle.child_model.specs.Children.{ChildrenView}
 use Rattle.child_keeper.specs.declared.processes.Processes.{Processes}
 
 abbrev pub processes_of : {R A P I O E : Type 0} {i : WriteOf I} {o : ReadOf O} {e : ReadOf E} → Processes R A P I O E i o e → ChildrenView

@@ -1,7 +1,7 @@
 -- What contracts see of scripted children.
 use Rattle.std.specs.Prelude.{ℕ, None}
 use Rattle.std.specs.VecDeque.{deque_items}
-use Rattle.child_keeper.specs.Children.{ChildrenView}
+use Rattle.child_model.specs.Children.{ChildrenView}
 use Rattle.child_keeper.specs.Scripts.{ScriptView}
 use Rattle.child_keeper.specs.declared.script.Script.{Script}
 use Rattle.child_keeper.specs.declared.scripted.Scripted.{Scripted}

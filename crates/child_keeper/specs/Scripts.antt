@@ -2,9 +2,9 @@
 use Rattle.std.specs.Prelude.{ℕ, ◌-◌, ◌==◌, List, [], ◌∷◌, Result, Ok, Err, drop, if◌then◌else◌}
 use Rattle.ocf_types.specs.declared.outcome.StartFault.{StartFault}
 use Rattle.ocf_types.specs.declared.outcome.StartFault.TheVariants.{Other}
-use Rattle.child_keeper.specs.declared.answer.KillFault.{KillFault}
-use Rattle.child_keeper.specs.declared.answer.Poll.{Poll}
-use Rattle.child_keeper.specs.declared.answer.Poll.TheVariants as poll
+use Rattle.child_model.specs.declared.answer.KillFault.{KillFault}
+use Rattle.child_model.specs.declared.answer.Poll.{Poll}
+use Rattle.child_model.specs.declared.answer.Poll.TheVariants as poll
 
 -- the answers to come, and in how many calls of start, poll and kill the fault comes: 0 where none is planned
 pub record ScriptView : Type 0 where

@@ -4,20 +4,20 @@ ghost use Rattle.std.specs.Prelude.{Some, length, slice_get, vec_len};
 ghost use Rattle.std.specs.List.{position_from};
 ghost use Rattle.std.specs.Vec.{vec_capacity};
 ghost use Rattle.child_keeper.specs.Agents.{others_of, runs_of};
-ghost use Rattle.child_keeper.specs.Children.{live_limit, without_run};
+ghost use Rattle.child_model.specs.Children.{live_limit, without_run};
 
 use crate::live::LIVE_LIMIT;
-use crate::patience::{Pauses, still_runs};
-use ocf_types::RunId;
+use crate::patience::still_runs;
+use ocf_types::{RscId, RunId};
 use std::alloc::{AllocError, Allocator};
 use std::io;
 use std::process::{Child, ExitStatus, OpenProcess};
-use std::rt::Clock;
 
-/// A child and its run.
+/// A child, its run, and the resource whose action it does.
 #[derive(Drop)]
 pub struct Agent<P: OpenProcess + Drop> {
     pub run: RunId,
+    pub id: RscId,
     pub child: Child<P>,
 }
 
@@ -51,13 +51,13 @@ impl<P: OpenProcess + Drop, A: Allocator> Agents<P, A> {
     }
 
     /// One child more. It takes no memory.
-    pub fn add(&mut self, run: RunId, child: Child<P>)
+    pub fn add(&mut self, agent: Agent<P>)
         requires few { length (runs_of self.old.agents.items) < LIVE_LIMIT }
-        ensures added { runs_of self.new.agents.items ≡ runs_of self.old.agents.items ++ run ∷ [] }
-        ensures child { self.new.agents.items
-            ≡ self.old.agents.items ++ record { run = run; child = child } ∷ [] }
+        ensures added { runs_of self.new.agents.items
+            ≡ runs_of self.old.agents.items ++ agent.run ∷ [] }
+        ensures agent { self.new.agents.items ≡ self.old.agents.items ++ agent ∷ [] }
     {
-        self.agents.push_reserved(Agent { run, child });
+        self.agents.push_reserved(agent);
     }
 
     // Where the first child of a run stands.
@@ -90,17 +90,18 @@ impl<P: OpenProcess + Drop, A: Allocator> Agents<P, A> {
     }
 
     /// The child of a run, which is no more among them.
-    pub fn take(&mut self, run: RunId) -> Child<P>
+    pub fn take(&mut self, run: RunId) -> Agent<P>
         requires lives { Contains (runs_of self.old.agents.items) run }
         ensures gone { runs_of self.new.agents.items
             ≡ without_run run (runs_of self.old.agents.items) }
-        ensures child { Contains self.old.agents.items (record { run = run; child = result }) }
+        ensures agent { Contains self.old.agents.items result }
+        ensures run { result.run ≡ run }
         ensures others { self.new.agents.items ≡ others_of run self.old.agents.items }
     {
         let place = self.place(run);
         let agent = self.agents.remove(place);
         self.agents.retain(|other| other.run.get() != run.get());
-        agent.child
+        agent
     }
 
     /// The child that was started last, with its run; it is no more among them. None: there is none.
@@ -120,22 +121,11 @@ impl<P: OpenProcess + Drop, A: Allocator> Agents<P, A> {
         kill_each(self.agents.as_mut_slice());
     }
 
-    // Lets go of each child that has ended.
-    fn sweep(&mut self)
+    /// Lets go of each child that has ended.
+    pub fn sweep(&mut self)
         ensures fewer { vec_len self.new.agents ≤ vec_len self.old.agents }
     {
         self.agents.retain_mut(|agent| still_runs(&mut agent.child));
-    }
-
-    /// Waits for killed children together, and lets go of each that has ended.
-    pub fn await_ends(&mut self, clock: &impl Clock)
-        ensures fewer { vec_len self.new.agents ≤ vec_len self.old.agents }
-    {
-        let mut pauses = Pauses::after_kill();
-        self.sweep();
-        while !self.agents.is_empty() && pauses.pause(clock) {
-            self.sweep();
-        }
     }
 
     /// Whether the child of a run is among them.

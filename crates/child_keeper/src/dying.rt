@@ -1,56 +1,63 @@
-// Children that were killed or given up, up to the moment where the system is told that nobody waits for them.
+//! Agents that were killed and live on.
 ghost use Rattle.std.specs.Prelude.{◌≡◌, ◌<◌, ◌≤◌, ◌++◌, [], ◌∷◌, IfOk, List};
 ghost use Rattle.std.specs.VecDeque.{deque_capacity, deque_items, deque_len};
-ghost use Rattle.child_keeper.specs.Children.{live_limit};
+ghost use Rattle.child_model.specs.Children.{live_limit};
 
+use crate::agents::Agent;
 use crate::live::LIVE_LIMIT;
+use crate::patience::still_runs;
+use ocf_types::RscId;
 use std::alloc::{AllocError, Allocator};
 use std::collections::VecDeque;
-use std::process::{Child, OpenProcess};
+use std::process::OpenProcess;
 
-/// Children that were killed or given up and were not seen to end yet, the oldest first. One that has ended stays a zombie
-/// until it is asked for here.
+/// Agents that were killed and were not seen to end yet, the oldest first. One that has ended stays a zombie until it is asked
+/// for here.
 #[derive(Drop)]
 pub struct Dying<P: OpenProcess + Drop, A: Allocator> {
-    pub children: VecDeque<Child<P>, A>,
-    pub ghost room: { live_limit ≤ deque_capacity children },
-    pub ghost few: { deque_len children ≤ live_limit },
+    pub agents: VecDeque<Agent<P>, A>,
+    pub ghost room: { live_limit ≤ deque_capacity agents },
+    pub ghost few: { deque_len agents ≤ live_limit },
 }
 
 impl<P: OpenProcess + Drop, A: Allocator> Dying<P, A> {
     /// None, with room for as many as may live. It fails only where memory is refused.
     pub fn new(alloc: A) -> Result<Dying<P, A>, AllocError>
-        ensures none { IfOk result (λ d. deque_items d.children ≡ []) }
+        ensures none { IfOk result (λ d. deque_items d.agents ≡ []) }
     {
-        let children = VecDeque::with_capacity(alloc, LIVE_LIMIT)?;
-        Ok(Dying { children })
+        let agents = VecDeque::with_capacity(alloc, LIVE_LIMIT)?;
+        Ok(Dying { agents })
     }
 
-    /// Asks each child whether it has ended, and keeps those that have not. It never waits.
+    /// Asks each agent whether it has ended, and keeps those that have not. It never waits.
     pub fn sweep(&mut self)
-        ensures fewer { deque_len self.new.children ≤ deque_len self.old.children }
+        ensures fewer { deque_len self.new.agents ≤ deque_len self.old.agents }
     {
-        self.children
-            .retain_mut(|child| matches!(child.try_wait(), Ok(None)));
+        self.agents.retain_mut(|agent| still_runs(&mut agent.child));
     }
 
-    // Makes a place free where none is: where no child has ended the oldest is let go.
+    /// Whether an agent of this resource is among them.
+    pub fn has(&self, id: &RscId) -> bool {
+        self.agents.iter().any(|agent| agent.id == *id)
+    }
+
+    // Makes a place free where none is: where no agent has ended the oldest is let go.
     fn make_room(&mut self)
-        ensures room { deque_len self.new.children < LIVE_LIMIT }
+        ensures room { deque_len self.new.agents < LIVE_LIMIT }
     {
-        if self.children.len() >= LIVE_LIMIT {
+        if self.agents.len() >= LIVE_LIMIT {
             self.sweep();
         }
-        if self.children.len() >= LIVE_LIMIT {
-            drop(self.children.pop_front());
+        if self.agents.len() >= LIVE_LIMIT {
+            drop(self.agents.pop_front());
         }
     }
 
-    /// One child more, the last. It takes no memory.
-    pub fn add(&mut self, child: Child<P>)
-        ensures kept { (others : List _) × (deque_items self.new.children ≡ others ++ child ∷ []) }
+    /// One agent more, the last. It takes no memory.
+    pub fn add(&mut self, agent: Agent<P>)
+        ensures kept { (others : List _) × (deque_items self.new.agents ≡ others ++ agent ∷ []) }
     {
         self.make_room();
-        self.children.push_back_reserved(child);
+        self.agents.push_back_reserved(agent);
     }
 }

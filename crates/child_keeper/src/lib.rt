@@ -2,11 +2,11 @@
 #![tactic(auto)]
 
 mod agents;
-mod answer;
 mod book;
-mod children;
 mod command;
+mod descent;
 mod dying;
+mod ending;
 mod ends;
 pub mod laws;
 mod live;
@@ -16,13 +16,15 @@ mod patience;
 mod processes;
 mod script;
 mod scripted;
+mod search;
+mod signal;
 mod start_fault;
 mod tell;
 mod waited;
 
-pub use answer::{Answer, Entry, KillFault, Poll};
-pub use children::Children;
+pub use child_model::{Answer, Children, Entry, KillFault, Poll};
 pub use command::command_of;
+pub use ending::end_processes;
 pub use live::LIVE_LIMIT;
 pub use log::Log;
 pub use meta::run_meta;
@@ -30,5 +32,6 @@ pub use patience::Deadline;
 pub use processes::Processes;
 pub use script::Script;
 pub use scripted::Scripted;
+pub use search::{Environments, Sought, with_ancestors};
 pub use start_fault::advice;
 pub use waited::Waited;

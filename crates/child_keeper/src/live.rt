@@ -1,7 +1,7 @@
 // The runs whose children live.
 ghost use Rattle.std.specs.Prelude.{◌≡◌, ◌↔◌, ◌<◌, ◌≤◌, ◌++◌, [], ◌∷◌, Contains, IfOk, IsTrue, length};
 ghost use Rattle.std.specs.Vec.{vec_capacity};
-ghost use Rattle.child_keeper.specs.Children.{without_run, live_limit};
+ghost use Rattle.child_model.specs.Children.{without_run, live_limit};
 
 use ocf_types::{RESOURCES_LIMIT, RunId};
 use std::alloc::{AllocError, Allocator};

@@ -5,12 +5,14 @@ ghost use Rattle.ocf_types.specs.declared.outcome.MetaFault.TheVariants.{Failed}
 
 use crate::Poll;
 use crate::command::command_of;
+use crate::ending::end_child;
 use crate::ends::{end_of, start_fault};
 use crate::patience::{Deadline, Pauses, outlives};
 use crate::tell::tell_alive;
 use crate::waited::Waited;
 use ocf_env::{Site, launch_meta};
 use ocf_types::{AgentType, METADATA_LIMIT, MetaFault, Provider};
+use proc_files::ProcFiles;
 use std::alloc::{AllocError, Allocator};
 use std::io::{Eprint, ErrorKind, Read};
 use std::process::{Child, Command, OpenProcess, Processes, Stdio};
@@ -118,17 +120,21 @@ fn code_within<P: OpenProcess>(
     }
 }
 
-// Kills a child that is waited for no more. One that lives on is told.
-fn give_up<R: Clock + Eprint, P: OpenProcess>(rt: &R, child: &mut Child<P>) {
-    let _ = child.kill();
-    if outlives(rt, child, Pauses::after_kill()) {
+// Ends a child that is waited for no more, with all that descends from it. One that lives on is told.
+fn give_up<R: Processes + Clock + Eprint + ProcFiles, P: OpenProcess, A: Allocator + Copy>(
+    rt: &R,
+    alloc: A,
+    child: &mut Child<P>,
+) {
+    if end_child(rt, alloc, child) {
         tell_alive(rt, child, "meta-data", "was killed");
     }
 }
 
 // The exit code of a child that was heard so, or why it has none; then it was killed.
-fn code_of<R: Clock + Eprint, P: OpenProcess>(
+fn code_of<R: Processes + Clock + Eprint + ProcFiles, P: OpenProcess, A: Allocator + Copy>(
     rt: &R,
+    alloc: A,
     deadline: Deadline,
     child: &mut Child<P>,
     heard: Heard,
@@ -141,7 +147,7 @@ fn code_of<R: Clock + Eprint, P: OpenProcess>(
         Heard::Late => Err(MetaFault::Limit),
     };
     if code.is_err() {
-        give_up(rt, child);
+        give_up(rt, alloc, child);
     }
     code
 }
@@ -163,12 +169,12 @@ fn meta_command<A: Allocator + Copy, S: Allocator>(
 /// API 1.1, meta-data.
 ///
 /// The agent runs as one that is started, but that its output is read. The call returns when the agent has ended and
-/// nobody else holds its output, or after so many milliseconds. Errors come in this order: room for the metadata or the
+/// nobody else holds its output, or after n milliseconds: then it was ended with all that descends from it. Errors come in this order: room for the metadata or the
 /// command is refused; the agent is not started; its output or its end cannot be read, or is not there in time, and then
 /// it was killed; it did not end with 0; it wrote too much.
 pub fn run_meta<
     P: OpenProcess,
-    R: Processes<Started = P> + Clock + Eprint,
+    R: Processes<Started = P> + Clock + Eprint + ProcFiles,
     A: Allocator + Copy,
     S: Allocator,
 >(
@@ -196,7 +202,7 @@ where
         Err(error) => return Err(MetaFault::NotStarted(start_fault(&error))),
     };
     let heard = hear_child(rt, deadline, &mut child, &mut metadata);
-    let code = code_of(rt, deadline, &mut child, heard)?;
+    let code = code_of(rt, alloc, deadline, &mut child, heard)?;
     match (heard, code) {
         (_, 1..) => Err(MetaFault::Failed(code)),
         (Heard::Whole, 0) => Ok(metadata),

@@ -50,13 +50,6 @@ impl Pauses {
         Pauses::of(u64::from(millis) * 1_000)
     }
 
-    /// None.
-    pub fn none() -> Pauses
-        ensures left { result.left ≡ 0 }
-    {
-        Pauses::of(0)
-    }
-
     // The next one in microseconds, if there is any left.
     fn take(&mut self) -> Option<u64>
         ensures taken { IfSome result

@@ -1,35 +1,40 @@
 //! Children of the system.
 ghost use Rattle.std.specs.Prelude.{◌≡◌, ◌<◌, [], Contains, IfOk, None};
 ghost use Rattle.child_keeper.specs.Agents.{runs_of};
-ghost use Rattle.child_keeper.specs.Children.{without_run};
+ghost use Rattle.child_model.specs.Children.{without_run};
 
-use crate::agents::Agents;
+use crate::agents::{Agent, Agents};
 use crate::book::Book;
 use crate::command::{command_of, write_to};
 use crate::dying::Dying;
+use crate::ending::end_agents;
 use crate::ends::{poll_of, start_fault};
+use crate::live::LIVE_LIMIT;
 use crate::log::Log;
-use crate::patience::{Pauses, outlives};
 use crate::tell::tell_alive;
 use crate::{Answer, Children, Entry, KillFault, Poll};
 use disk_model::Disk;
 use exec_journal::Journal;
 use ocf_env::{Invocation, Launch};
 use ocf_types::{RunId, StartFault};
+use proc_files::ProcFiles;
 use std::alloc::{AllocError, Allocator, Global};
 use std::io::Eprint;
-use std::process;
 use std::process::{Child, OpenProcess};
 use std::rt::Clock;
+use std::{mem, process, str};
 
 /// Agents as processes of the system. Each runs in the root folder with just the variables of its launch, and reads
 /// nothing and writes where the log says; it has no descriptor but 0, 1 and 2, blocks no signal and is ended by SIGPIPE, and
 /// has the umask of this process. OCF Resource Agent API 1.1, actions.
 ///
-/// A killed child is the agent alone, not what it started. Its end is waited for, a tenth of a second at most: one that
-/// outlives that is named on standard error, and is asked for again whenever the book is emptied or another is started,
-/// without blocking. A start takes the memory of its command from the allocator, and is refused as [`StartFault::Other`]
-/// where there is none, or no descriptor more.
+/// What was killed ends in `end_killed`, all of it together: each agent with all its descendants and its background jobs in this
+/// session, which are stopped first, so that none of them starts others unseen. Its end is waited for, a tenth of a second at
+/// most: what outlives that is named on standard error. While an agent that was killed lives on, its resource's next actions but
+/// a stop are refused as [`StartFault::Other`].
+///
+/// A start takes the memory of its command from the allocator, and is refused as [`StartFault::Other`] where there is none, or
+/// no descriptor more.
 #[derive(Drop)]
 pub struct Processes<R: process::Processes + Drop, A: Allocator + Copy = Global> {
     rt: R,
@@ -37,11 +42,15 @@ pub struct Processes<R: process::Processes + Drop, A: Allocator + Copy = Global>
     log: Log,
     book: Book<A>,
     live: Agents<R::Started, A>,
+    killed: Agents<R::Started, A>,
     dying: Dying<R::Started, A>,
     last_run: u64,
 }
 
-impl<R: process::Processes + Clock + Eprint + Drop, A: Allocator + Copy> Processes<R, A> {
+impl<R: process::Processes + Clock + Eprint + ProcFiles + Drop, A: Allocator + Copy> Processes<
+    R,
+    A,
+> {
     ghost use Rattle.child_keeper.specs.Processes.{processes_of};
 
     /// No children yet, which will write to the log, with a book of so many entries. The room for the book and for all that may
@@ -56,13 +65,34 @@ impl<R: process::Processes + Clock + Eprint + Drop, A: Allocator + Copy> Process
             log,
             book: Book::new(alloc, book)?,
             live: Agents::new(alloc)?,
+            killed: Agents::new(alloc)?,
             dying: Dying::new(alloc)?,
             last_run: 0,
         })
     }
 
-    // Kills a child and gives it up, whatever the system answers. One that lives on is told.
-    fn strike(&mut self, run: RunId) -> Result<(), KillFault>
+    // Ends what was given up.
+    fn end_given_up(&mut self)
+        ensures same { processes_of self.new ≡ processes_of self.old }
+        ensures none { runs_of self.new.killed.agents.items ≡ [] }
+    {
+        end_all(&self.rt, self.alloc, &mut self.killed, &mut self.dying);
+    }
+
+    // Starts an agent, unless one of its resource that was killed lives on.
+    fn spawned<L: Allocator>(&mut self, launch: &Launch<L>) -> Result<Child<R::Started>, StartFault>
+        ensures same { processes_of self.new ≡ processes_of self.old }
+        ensures live { self.new.live ≡ self.old.live }
+    {
+        self.dying.sweep();
+        if self.dying.has(&launch.id) && !is_stop(launch) {
+            return Err(StartFault::Other);
+        }
+        spawn(&self.rt, self.alloc, &self.log, &launch.invocation)
+    }
+
+    // Gives a child up, to be ended.
+    fn give_up(&mut self, run: RunId)
         requires lives { Contains (processes_of self.old).live run }
         ensures gone { processes_of self.new
             ≡ record (processes_of self.old) {
@@ -70,31 +100,48 @@ impl<R: process::Processes + Clock + Eprint + Drop, A: Allocator + Copy> Process
                   (processes_of self.old).live;
             } }
     {
-        let mut child = self.live.take(run);
-        let (killed, pauses) = match child.kill() {
-            Ok(()) => (Ok(()), Pauses::after_kill()),
-            Err(_) => (Err(KillFault), Pauses::none()),
-        };
-        if outlives(&self.rt, &mut child, pauses) {
-            tell_killed(&self.rt, run, &child, killed);
-            self.dying.add(child);
+        let agent = self.live.take(run);
+        if self.killed.len() >= LIVE_LIMIT {
+            self.end_given_up();
         }
-        killed
+        self.killed.add(agent);
     }
 }
 
-// Says on standard error that a child lives on that should not.
-fn tell_killed<P: OpenProcess>(
-    out: &impl Eprint,
-    run: RunId,
-    child: &Child<P>,
-    killed: Result<(), KillFault>,
-) {
-    let done = match killed {
-        Ok(()) => "was killed",
-        Err(KillFault) => "could not be killed",
-    };
-    tell_alive(out, child, format_args!("run {}", run.get()), done);
+// Ends agents that were given up. What lives on is named, and asked for later.
+fn end_all<
+    R: process::Processes + Clock + Eprint + ProcFiles,
+    P: OpenProcess + Drop,
+    A: Allocator + Copy,
+>(rt: &R, alloc: A, killed: &mut Agents<P, A>, dying: &mut Dying<P, A>)
+    ensures none { runs_of killed.new.agents.items ≡ [] }
+{
+    if !killed.agents.is_empty() {
+        end_agents(rt, alloc, killed);
+    }
+    while let Some(agent) = killed.pop() {
+        tell_killed(rt, &agent);
+        dying.add(agent);
+    }
+}
+
+// Says on standard error that an agent lives on that was killed, and that it holds its resource up.
+fn tell_killed<P: OpenProcess + Drop>(out: &impl Eprint, agent: &Agent<P>) {
+    let run = agent.run.get();
+    tell_alive(out, &agent.child, format_args!("run {run}"), "was killed");
+    // names are ASCII
+    let id = str::from_utf8(agent.id.as_bytes()).unwrap_or_default();
+    let _ = out.eprintln(format_args!(
+        "ocfexec: until it ends this executor starts no action of {id} but a stop"
+    ));
+}
+
+// Whether a launch is that of a stop, which is started whatever lives of its resource. OCF Resource Agent API 1.1, stop.
+fn is_stop<L: Allocator>(launch: &Launch<L>) -> bool {
+    match launch.invocation.arguments().last() {
+        Some(action) => action.as_str() == "stop",
+        None => false,
+    }
 }
 
 // Starts the program of an invocation.
@@ -114,23 +161,7 @@ fn spawn<R: process::Processes, A: Allocator + Copy, L: Allocator>(
     command.spawn(rt).map_err(|error| start_fault(&error))
 }
 
-// Kills all children, waits for them together, and gives them up. Those that live on are told.
-fn strike_all<R: Clock + Eprint, P: OpenProcess + Drop, A: Allocator>(
-    rt: &R,
-    live: &mut Agents<P, A>,
-    dying: &mut Dying<P, A>,
-)
-    ensures none { runs_of live.new.agents.items ≡ [] }
-{
-    live.kill();
-    live.await_ends(rt);
-    while let Some(agent) = live.pop() {
-        tell_killed(rt, agent.run, &agent.child, Ok(()));
-        dying.add(agent.child);
-    }
-}
-
-impl<R: process::Processes + Clock + Eprint + Drop, A: Allocator + Copy> Children
+impl<R: process::Processes + Clock + Eprint + ProcFiles + Drop, A: Allocator + Copy> Children
     for Processes<R, A> {
     ghost use Rattle.child_keeper.specs.Processes.{processes_of};
 
@@ -141,11 +172,11 @@ impl<R: process::Processes + Clock + Eprint + Drop, A: Allocator + Copy> Childre
         journal: &Journal<D, B>,
         launch: &Launch<L>,
     ) -> Result<(), StartFault> {
-        self.dying.sweep();
         let run = launch.run;
-        let answer = match spawn(&self.rt, self.alloc, &self.log, &launch.invocation) {
+        let answer = match self.spawned(launch) {
             Ok(child) => {
-                self.live.add(run, child);
+                let id = launch.id.copied();
+                self.live.add(Agent { run, id, child });
                 Ok(())
             }
             Err(fault) => Err(fault),
@@ -169,25 +200,29 @@ impl<R: process::Processes + Clock + Eprint + Drop, A: Allocator + Copy> Childre
         match answer {
             Poll::Running => {}
             Poll::Exited(_) | Poll::Signaled => drop(self.live.take(run)),
-            Poll::Fault => {
-                let _ = self.strike(run);
-            }
+            Poll::Fault => self.give_up(run),
         }
         answer
     }
 
     fn kill(&mut self, run: RunId) -> Result<(), KillFault> {
-        let answer = self.strike(run);
+        self.give_up(run);
         self.book.note(Entry {
             run,
             at: 0,
-            answer: Answer::Kill(answer),
+            answer: Answer::Kill(Ok(())),
         });
-        answer
+        Ok(())
+    }
+
+    fn end_killed(&mut self) {
+        self.end_given_up();
     }
 
     fn give_up_all(&mut self) {
-        strike_all(&self.rt, &mut self.live, &mut self.dying);
+        self.end_given_up();
+        mem::swap(&mut self.live, &mut self.killed);
+        self.end_given_up();
         self.dying.sweep();
     }
 

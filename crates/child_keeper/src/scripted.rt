@@ -2,8 +2,8 @@
 ghost use Rattle.std.specs.Prelude.{◌≡◌, ◌-◌, ◌<◌, ◌==◌, [], Contains, IfOk, None, drop, length};
 ghost use Rattle.std.specs.VecDeque.{deque_items};
 ghost use Rattle.exec_journal.specs.Journal.{journal_disk};
-ghost use Rattle.child_keeper.specs.Children.{after_kill, after_poll, after_start, live_limit};
-ghost use Rattle.child_keeper.specs.MayStart.{MayStart};
+ghost use Rattle.child_model.specs.Children.{after_kill, after_poll, after_start, live_limit};
+ghost use Rattle.child_model.specs.MayStart.{MayStart};
 ghost use Rattle.child_keeper.specs.Scripts.{head_or, killed_on, next_kill, next_poll, next_start, polled_on, started_on};
 
 use crate::book::Book;
@@ -153,6 +153,8 @@ impl<A: Allocator + Copy> Children for Scripted<A> {
         self.live.remove(run);
         answer
     }
+
+    fn end_killed(&mut self) {}
 
     fn give_up_all(&mut self) {
         self.live.clear();

@@ -1,11 +1,13 @@
 // What children of the system ask of the system, over one that starts nothing and counts.
 use crate::runs::nowhere;
-use child_keeper::{Children, Log, Processes, Waited, run_meta};
+use child_keeper::{Log, Processes, Waited, run_meta};
+use child_model::Children;
 use disk_model::MemDisk;
 use exec_commands::{Line, read_command};
 use executor::{Executor, Input, InputOf};
 use ocf_types::{AgentType, MetaFault, Outcome, Provider, Request, RunEnd};
-use std::alloc::{Allocator, Global};
+use proc_files::{PidFile, ProcFiles, Process};
+use std::alloc::{AllocError, Allocator, Global};
 use std::cell::Cell;
 use std::fmt::Display;
 use std::io::{self, Eprint, ErrorKind, Read, Sink};
@@ -52,6 +54,8 @@ struct Counters {
     asks: Cell<u32>,
     kills: Cell<u32>,
     waits: Cell<u32>,
+    // the signals that were sent by the shell, a digit each: 1 SIGSTOP, 2 SIGKILL
+    signals: Cell<u32>,
 }
 
 // A system of processes, and a clock that goes on while it is waited for. Clones are the same system.
@@ -59,6 +63,8 @@ struct Counters {
 struct FakeSystem {
     course: Course,
     behind: Behind,
+    // whether each process has started another, in a session of its own
+    has_child: bool,
     counters: Rc<Counters>,
 }
 
@@ -71,13 +77,40 @@ impl FakeSystem {
             asks: Cell::new(0),
             kills: Cell::new(0),
             waits: Cell::new(0),
+            signals: Cell::new(0),
         };
         let counters = Rc::new(alloc, counters).ok()?;
         Some(FakeSystem {
             course,
             behind,
+            has_child: false,
             counters,
         })
+    }
+
+    // The process of this number as the system has it now: this program, a process that it started, and what that started.
+    fn found(&self, pid: u32) -> Option<Process> {
+        let (parent, session, is_there) = match pid {
+            AGENT => (OWN, OWN, !self.is_killed()),
+            CHILD => (AGENT, CHILD, self.has_child && !self.is_killed()),
+            _ => (0, OWN, pid == OWN),
+        };
+        is_there.then_some(Process {
+            pid,
+            parent,
+            session,
+            start: u64::from(pid),
+            has_ended: false,
+        })
+    }
+
+    fn is_killed(&self) -> bool {
+        let is_told = self.counters.kills.get() > 0 || self.signals() % 10 == 2;
+        matches!(self.course, Course::Mortal) && is_told
+    }
+
+    fn signals(&self) -> u32 {
+        self.counters.signals.get()
     }
 
     fn counts(&self) -> [u32; 4] {
@@ -95,6 +128,37 @@ impl FakeSystem {
 
     fn micros(&self) -> u64 {
         self.counters.clock.get()
+    }
+}
+
+// The numbers of this program, of each process that it starts, and of what that starts.
+const OWN: u32 = 7;
+
+const AGENT: u32 = 8;
+
+const CHILD: u32 = 9;
+
+impl ProcFiles for FakeSystem {
+    fn own(&self) -> io::Result<Process> {
+        self.found(OWN).ok_or(io::Error::from(ErrorKind::NotFound))
+    }
+
+    fn process_of(&self, pid: u32) -> io::Result<Option<Process>> {
+        Ok(self.found(pid))
+    }
+
+    fn processes<A: Allocator + Copy>(&self, alloc: A) -> io::Result<Vec<Process, A>> {
+        let mut table = Vec::new(alloc);
+        for pid in [OWN, AGENT, CHILD] {
+            if let Some(process) = self.found(pid) {
+                table.push(process).map_err(AllocError::from)?;
+            }
+        }
+        Ok(table)
+    }
+
+    fn read_of(&self, _pid: u32, _file: PidFile, _room: &mut [u8]) -> usize {
+        0
     }
 }
 
@@ -158,6 +222,8 @@ impl Waited for Output {
 struct FakeProcess {
     system: FakeSystem,
     asked_dying: bool,
+    // the shell, which sends a signal and ends
+    is_shell: bool,
 }
 
 impl OpenProcess for FakeProcess {
@@ -168,7 +234,7 @@ impl OpenProcess for FakeProcess {
     type Stderr = Output;
 
     fn id(&self) -> u32 {
-        1
+        AGENT
     }
 
     fn wait(&mut self) -> io::Result<ExitStatus> {
@@ -177,6 +243,9 @@ impl OpenProcess for FakeProcess {
     }
 
     fn try_wait(&mut self) -> io::Result<Option<ExitStatus>> {
+        if self.is_shell {
+            return Ok(Some(ExitStatus::from_raw(0)));
+        }
         count(&self.system.counters.asks);
         if let Course::Unasked = self.system.course {
             return Err(io::Error::from(ErrorKind::BrokenPipe));
@@ -203,7 +272,7 @@ impl process::Processes for FakeSystem {
 
     fn spawn<B: Allocator + Clone>(
         &self,
-        _command: &Command<B>,
+        command: &Command<B>,
         stdin: &Stdio,
         stdout: &Stdio,
         stderr: &Stdio,
@@ -211,12 +280,22 @@ impl process::Processes for FakeSystem {
         if stdin.makes_pipe() || stderr.makes_pipe() {
             return Err(io::Error::from(ErrorKind::InvalidInput));
         }
-        if !stdout.makes_pipe() {
+        let is_shell = command.get_program() == "/bin/sh";
+        if is_shell {
+            let signal = match command.get_args().nth(2) {
+                Some("STOP") => 1,
+                Some("KILL") => 2,
+                _ => 0,
+            };
+            let sent = self.signals().wrapping_mul(10).wrapping_add(signal);
+            self.counters.signals.set(sent);
+        } else if !stdout.makes_pipe() {
             count(&self.counters.starts);
         }
         let process = FakeProcess {
             system: self.clone()?,
             asked_dying: false,
+            is_shell,
         };
         let output = Output {
             system: self.clone()?,
@@ -299,7 +378,7 @@ fn a_killed_child_is_asked_for_until_it_has_ended(rt: HostRuntime) {
 #[test]
 fn a_child_that_outlives_its_kill_is_told_once_after_a_tenth_of_a_second(rt: HostRuntime) {
     let counts = [[1, 30, 1, 0], [1, 31, 1, 0], [1, 32, 1, 0], [1, 33, 1, 0]];
-    let wanted = Some((counts, 1, 100_000));
+    let wanted = Some((counts, 2, 100_000));
     assert_eq!(rt; asked(rt.alloc(), Course::Immortal), wanted);
 }
 
@@ -313,18 +392,36 @@ fn refused(alloc: Global, course: Course, turns: &[u64]) -> Option<(Outcome, [u3
 }
 
 #[test]
-fn a_child_that_cannot_be_asked_is_lost_and_killed(rt: HostRuntime) {
-    let wanted = (Outcome::Run(RunEnd::Lost), [1, 2, 1, 0], 0);
+fn a_child_that_cannot_be_asked_is_lost_and_killed_and_told(rt: HostRuntime) {
+    let wanted = (Outcome::Run(RunEnd::Lost), [1, 2, 1, 0], 1);
     assert_eq!(rt; refused(rt.alloc(), Course::Unasked, &[0, 1]), Some(wanted));
 }
 
 #[test]
 fn a_kill_that_is_refused_is_asked_and_told_and_its_run_has_timed_out(rt: HostRuntime) {
-    let wanted = (Outcome::Run(RunEnd::TimedOut), [1, 2, 1, 0], 1);
+    let wanted = (Outcome::Run(RunEnd::TimedOut), [1, 29, 1, 0], 2);
     assert_eq!(rt;
         refused(rt.alloc(), Course::Unkilled, &[0, 1_000]),
         Some(wanted)
     );
+}
+
+// Which signals the shell sends where an agent runs past its timeout that has started a process, and how many lines are told.
+fn family(alloc: Global, course: Course) -> Option<(u32, u32)> {
+    let mut system = FakeSystem::new(alloc, course, Behind::Fault)?;
+    system.has_child = true;
+    played(alloc, &system, 1, &[0, 1_000])?;
+    Some((system.signals(), system.told()))
+}
+
+#[test]
+fn what_an_agent_started_is_stopped_and_then_killed(rt: HostRuntime) {
+    assert_eq!(rt; family(rt.alloc(), Course::Mortal), Some((12, 0)));
+}
+
+#[test]
+fn what_an_agent_started_and_outlives_its_kill_is_told_beside_the_agent(rt: HostRuntime) {
+    assert_eq!(rt; family(rt.alloc(), Course::Immortal), Some((12, 3)));
 }
 
 // How many kills are asked of the system, and how many lines are told, when so many children are given up; how long it took.
@@ -337,7 +434,7 @@ fn given_up(alloc: Global, resources: u32) -> Option<(u32, u32, u64)> {
 
 #[test]
 fn children_that_are_given_up_are_waited_for_together(rt: HostRuntime) {
-    assert_eq!(rt; given_up(rt.alloc(), 3), Some((3, 3, 100_000)));
+    assert_eq!(rt; given_up(rt.alloc(), 3), Some((3, 6, 100_000)));
 }
 
 // How the metadata of an agent are read that is given a second; what is asked of the system, how many lines are told, and how

@@ -1,6 +1,6 @@
 // Runs and a show over disks, readers and writers that fail.
 use crate::runs::{DRAIN, ended, ended_in, writes};
-use child_keeper::Poll;
+use child_model::Poll;
 use disk_model::MemDisk;
 use exec_lines::{Output, Patient};
 use exec_output::{Fault, show};

@@ -1,7 +1,8 @@
 // Runs over whole inputs, over a disk in memory and scripted children, by a clock that stands still.
 ghost use Rattle.std.specs.Prelude.{⊤};
 
-use child_keeper::{Poll, Script, Scripted};
+use child_keeper::{Script, Scripted};
+use child_model::Poll;
 use disk_model::MemDisk;
 use exec_client::Teller;
 use exec_commands::NoticeForm;

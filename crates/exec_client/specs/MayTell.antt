@@ -7,7 +7,7 @@ use Rattle.ocf_types.specs.declared.command.Question.{Question}
 use Rattle.ocf_types.specs.declared.reply.Notice.{Notice}
 use Rattle.ocf_types.specs.declared.reply.ReplyOf.TheVariants as reply
 use Rattle.disk_model.specs.View.{View}
-use Rattle.child_keeper.specs.Children.{ChildrenView}
+use Rattle.child_model.specs.Children.{ChildrenView}
 use Rattle.executor.specs.Lives.{Calls, Exchange}
 use Rattle.executor.specs.Openings.{Opened}
 use Rattle.executor.specs.Sessions.{Effects}

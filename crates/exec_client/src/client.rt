@@ -5,7 +5,7 @@ ghost use Rattle.exec_client.specs.MayTell.{MayTell};
 ghost use Rattle.exec_client.specs.Said.{said_in};
 
 use crate::told::Told;
-use child_keeper::Children;
+use child_model::Children;
 use disk_model::Disk;
 use exec_commands::NoticeForm;
 use exec_output::IoFault;
@@ -27,9 +27,9 @@ pub trait Client<D: Disk + Drop, C: Children + Drop> {
         requires may_tell { MayTell D.view (heard self.old) executor.now what.now }
         ensures told { IsTold (heard self.old) (heard self.new) (said_in what.now) }
         ensures hears { OnOk result
-            (Hears form (heard self.old) (heard self.new) (said_in what.now)) }
+            (Hears form.entry (heard self.old) (heard self.new) (said_in what.now)) }
         ensures breaks { OnErr result
-            (HearsPart form (heard self.old) (heard self.new) (said_in what.now)) };
+            (HearsPart form.entry (heard self.old) (heard self.new) (said_in what.now)) };
 
     /// Whether what is told may still reach somebody.
     fn is_heard(&self) -> bool;

@@ -10,7 +10,7 @@ use crate::client::Client;
 use crate::seen::Seen;
 use crate::telling::Telling;
 use crate::told::Told;
-use child_keeper::Children;
+use child_model::Children;
 use disk_model::Disk;
 use exec_commands::NoticeForm;
 use exec_lines::Output;
@@ -36,10 +36,10 @@ fn write_told<W: Output>(
 ) -> Result<(), IoFault>
     ensures sent { OnOk result
         (Appends (W.contents writer.old) (W.contents writer.new)
-        (flat_map (line_of form) (said_in what.now))) }
+        (flat_map (line_of form.entry) (said_in what.now))) }
     ensures front { OnErr result
         (AppendsFront (W.contents writer.old) (W.contents writer.new)
-        (flat_map (line_of form) (said_in what.now))) }
+        (flat_map (line_of form.entry) (said_in what.now))) }
 {
     match what {
         Told::Reply(reply) => send_reply(alloc, writer, reply),

@@ -10,10 +10,12 @@ use Rattle.ocf_types.specs.declared.operation.Ended.{Ended}
 use Rattle.ocf_types.specs.declared.reply.Notice.{Notice}
 use Rattle.ocf_types.specs.declared.reply.ReplyOf.TheVariants as reply
 use Rattle.exec_commands.specs.Objects.{natural_data, param_members}
-use Rattle.exec_commands.specs.Replies.{recur_data, running_data, failed_data, info_data, ended_data, notice_data, timed_notice_data, request_data}
+use Rattle.exec_commands.specs.Replies.{recur_data, running_data, failed_data, info_data, ended_data, formed_data, lives_of, timed_notice_data, request_data}
 use Rattle.exec_commands.specs.Replies.{reply_data, fault_data}
 use Rattle.ocf_types.specs.declared.outcome.MetaFault.{MetaFault}
 use Rattle.ocf_types.specs.declared.outcome.MetaFault.TheVariants as fault
+use Rattle.exec_commands.specs.declared.notice.NoticeForm.{NoticeForm}
+use Rattle.exec_commands.specs.declared.notice.NoticeForm.TheVariants as notice_form
 use Rattle.exec_commands.specs.declared.reply.LineReply.{LineReply}
 use Rattle.exec_commands.specs.declared.reply.LineReply.TheVariants as line
 
@@ -69,8 +71,10 @@ reply_has_no_float (line.Tidy end) = refl
 reply_has_no_float (line.Meta (Ok metadata)) = refl
 reply_has_no_float (line.Meta (Err f)) = fault_no_float f
 
-pub notice_has_no_float : (n : Notice) → has_float (notice_data n) ≡ false
-notice_has_no_float n = refl
+timed_no_float : (lives : Option ℕ) (n : Notice) → has_float (timed_notice_data lives n) ≡ false
+timed_no_float None n = refl
+timed_no_float (Some pid) n = refl
 
-pub timed_has_no_float : (n : Notice) → has_float (timed_notice_data n) ≡ false
-timed_has_no_float n = refl
+pub notice_has_no_float : (form : NoticeForm) (n : Notice) → has_float (formed_data form n) ≡ false
+notice_has_no_float notice_form.Short n = refl
+notice_has_no_float (notice_form.Timed left) n = timed_no_float (lives_of left.now n.result.run) n

@@ -1,5 +1,6 @@
 -- The JSON values of replies and notices, and their lines.
-use Rattle.std.specs.Prelude.{ℕ, List, [], ◌∷◌, ◌++◌, length, true, Option, Some, None, Ok, Err, codes}
+use Rattle.std.specs.Prelude.{ℕ, List, [], ◌∷◌, ◌++◌, length, true, ◌==◌, Option, Some, None, option_map, Ok, Err, codes}
+use Rattle.std.specs.List.{find}
 use Rattle.serde_json.specs.Data.{Data, null, boolean, string, object}
 use Rattle.serde_json.specs.Written.{compact_text}
 use Rattle.ocf_types.specs.Actions.{action_word, action_of, level_number}
@@ -27,6 +28,7 @@ use Rattle.exec_commands.specs.declared.ends.DrainEnd.{DrainEnd}
 use Rattle.exec_commands.specs.declared.ends.DrainEnd.TheVariants as drain
 use Rattle.ocf_types.specs.declared.outcome.MetaFault.{MetaFault}
 use Rattle.ocf_types.specs.declared.outcome.MetaFault.TheVariants as fault
+use Rattle.exec_commands.specs.declared.left.Left.{Left}
 use Rattle.exec_commands.specs.declared.notice.NoticeForm.{NoticeForm}
 use Rattle.exec_commands.specs.declared.notice.NoticeForm.TheVariants as notice_form
 use Rattle.exec_commands.specs.declared.reply.LineReply.{LineReply}
@@ -134,19 +136,29 @@ notice_data n = object_from (
     ∷ (codes "interval", natural_data n.result.interval) ∷ (codes "name", string (name_read (outcome_code n.result.outcome)))
     ∷ (codes "outcome", string (outcome_word n.result.outcome)) ∷ (codes "run", natural_data n.result.run) ∷ [])
 
--- the same with when it began and ended
-abbrev pub timed_notice_data : Notice → Data
-timed_notice_data n = object_from (
+-- the process that is left of a run, where one is; the first of several
+abbrev pub lives_of : List Left → ℕ → Option ℕ
+lives_of left run = option_map (λ p. p.pid) (find (λ p. p.run == run) left)
+
+-- the key of a process that lives on, where one does
+abbrev pub lives_member : Option ℕ → List (List ℕ × Data)
+lives_member None = []
+lives_member (Some pid) = (codes "lives", natural_data pid) ∷ []
+
+-- the same with when it began and ended, and with the process of it that lives on, where one does
+abbrev pub timed_notice_data : Option ℕ → Notice → Data
+timed_notice_data lives n = object_from (
     (codes "action", string (action_word n.result.action)) ∷ (codes "at", natural_data n.result.at)
     ∷ (codes "call", natural_data n.result.call) ∷ (codes "code", natural_data (outcome_code n.result.outcome))
     ∷ (codes "id", string n.id) ∷ (codes "interval", natural_data n.result.interval)
-    ∷ (codes "name", string (name_read (outcome_code n.result.outcome))) ∷ (codes "outcome", string (outcome_word n.result.outcome))
-    ∷ (codes "run", natural_data n.result.run) ∷ (codes "since", natural_data n.result.since) ∷ [])
+    ∷ (lives_member lives ++ ((codes "name", string (name_read (outcome_code n.result.outcome)))
+    ∷ (codes "outcome", string (outcome_word n.result.outcome)) ∷ (codes "run", natural_data n.result.run)
+    ∷ (codes "since", natural_data n.result.since) ∷ [])))
 
 -- a notice in this form
 abbrev pub formed_data : NoticeForm → Notice → Data
 formed_data notice_form.Short n = notice_data n
-formed_data notice_form.Timed n = timed_notice_data n
+formed_data (notice_form.Timed left) n = timed_notice_data (lives_of left.now n.result.run) n
 
 -- the reply to a request, and to a line
 abbrev pub request_data : Reply → Data

@@ -5,6 +5,7 @@ mod commands;
 mod ends;
 mod info;
 mod keys;
+mod left;
 mod line;
 mod names;
 mod notice;
@@ -17,6 +18,7 @@ mod texts;
 mod values;
 
 pub use ends::{DrainEnd, tidy_word, turn_word};
+pub use left::Left;
 pub use line::Line;
 pub use notice::{NoticeForm, write_notice};
 pub use read::read_command;

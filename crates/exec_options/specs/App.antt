@@ -48,12 +48,14 @@ with_site_app a =
     let a₂ = with_rule a₁ (text_rule (codes "via")) in
     with_rule a₂ (text_rule_or (codes "path") default_path)
 
--- what agents get and where they write, and how long is waited for what a killed executor's agents still do
+-- what agents get and where they write; how long is waited at most for what a killed executor's agents still do, and whether it
+-- lives on then
 abbrev pub with_agent_app : App → App
 with_agent_app a =
     let a₁ = with_rule a (flag_rule (codes "meta-variables")) in
     let a₂ = with_rule a₁ (text_rule (codes "log")) in
-    with_rule a₂ (text_rule_or (codes "orphans") default_orphans)
+    let a₃ = with_rule a₂ (text_rule_or (codes "orphans") default_orphans) in
+    with_rule a₃ (flag_rule (codes "leave-orphans"))
 
 abbrev pub with_options_app : App → App
 with_options_app a = with_agent_app (with_site_app (with_journal_app a))

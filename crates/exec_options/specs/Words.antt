@@ -34,7 +34,7 @@ orphans_text rows = unwrap_or (first_of (codes "orphans") rows) default_orphans
 abbrev pub root_text : List Row → Text
 root_text rows = unwrap_or (first_of (codes "root") rows) default_root
 
--- how many milliseconds are waited for at most: a day
+-- the longest wait that `--orphans` may name, in milliseconds: a day
 abbrev pub longest_wait : ℕ
 longest_wait = 86400000
 
@@ -60,6 +60,7 @@ pub record IsReadFrom (rows : List Row) (o : Options) : Type 0 where
   pub meta_variables : o.meta_variables ≡ is_true_text (first_of (codes "meta-variables") rows)
   pub log : option_map (λ s. s.now) o.log ≡ first_of (codes "log") rows
   pub orphans : IsNumberTo longest_wait (orphans_text rows) o.orphans
+  pub leave_orphans : o.leave_orphans ≡ is_true_text (first_of (codes "leave-orphans") rows)
   pub resource : option_map (λ s. s.now) o.resource ≡ first_of (codes "resource") rows
   pub json : o.json ≡ is_true_text (first_of (codes "json") rows)
 

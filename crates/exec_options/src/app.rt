@@ -18,8 +18,8 @@ pub const PATH: &str = "/usr/sbin:/usr/bin:/sbin:/bin";
 /// How many bytes the journal holds at most before it is tidied, where nothing is named: three quarters of a part's limit.
 pub const TIDY_AT: &str = "6291456";
 
-/// How many milliseconds are waited for what a killed executor's agents still do, where nothing is named: an action's timeout
-/// where it names none.
+/// How many milliseconds an opening waits at most for what a killed executor's agents still do, where nothing is named: an
+/// action's timeout where it names none.
 pub const ORPHANS: &str = "20000";
 
 fn text_option<'a>(alloc: Global, id: &'a str, value: &'a str, help: &'a str) -> Arg<'a>
@@ -127,12 +127,17 @@ fn with_agent_options<'a>(alloc: Global, command: Command<'a>) -> Result<Command
         "FILE",
         "Append what agents write to FILE; -: to this program's standard error; left out, it is lost",
     ))?;
-    command.arg(text_option_or(
+    let command = command.arg(text_option_or(
         alloc,
         "orphans",
         "MS",
         ORPHANS,
-        "Wait so long for what a killed executor's agents still do, before it is reported; 0: do not wait",
+        "Wait at most this long, and not past its timeout, for what a killed executor's agents still do, then end and report it; 0: end it at once",
+    ))?;
+    command.arg(flag(
+        alloc,
+        "leave-orphans",
+        "Let what a killed executor's agents still do live after that wait, and name it on standard error",
     ))
 }
 

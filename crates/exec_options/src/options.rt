@@ -3,7 +3,7 @@ ghost use Rattle.std.specs.Prelude.{◌≡◌, ◌≢◌, IfSome, IfNone};
 ghost use Rattle.exec_options.specs.declared.options.Subcommand.{Subcommand};
 ghost use Rattle.exec_options.specs.Subcommands.{subcommand_word};
 
-/// How long an opening waits at most for what a killed executor's agents still do, in milliseconds: a day.
+/// The longest wait that `--orphans` may name, in milliseconds: a day.
 pub const LONGEST_WAIT: u64 = 86_400_000;
 
 /// What the program does.
@@ -65,9 +65,13 @@ pub struct Options<'a> {
     pub meta_variables: bool,
     /// The file that what agents write is appended to, `-` for the standard error of the program, or none: then it is lost.
     pub log: Option<&'a str>,
-    /// How long an opening waits for what a killed executor's agents still do, in milliseconds; 0: it does not. It is a
-    /// day at most.
+    /// How long an opening waits at most for what an interrupted action left, in milliseconds: as long as that action's own
+    /// timeout had still to run, and no longer than this, which is a day at most. What outlives the wait is then ended with
+    /// its descendants, as the timeout would have ended it; 0: at once.
     pub orphans: u64,
+    /// Whether what an interrupted action left lives on where it outlives that wait, in place of being ended with its
+    /// descendants.
+    pub leave_orphans: bool,
     /// The id of the one resource whose status is asked for, or none.
     pub resource: Option<&'a str>,
     /// Whether a status is given as the lines of a show.

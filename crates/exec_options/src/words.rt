@@ -129,6 +129,7 @@ fn options_of<'a>(
         meta_variables: is_set(matches, "meta-variables"),
         log: text_of(matches, "log"),
         orphans,
+        leave_orphans: is_set(matches, "leave-orphans"),
         resource: text_of(matches, "resource"),
         json: is_set(matches, "json"),
     })

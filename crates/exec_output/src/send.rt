@@ -120,10 +120,10 @@ fn send_notice<W: Write>(
     notice: &Notice,
 ) -> Result<(), IoFault>
     ensures sent { OnOk result
-        (Appends (W.contents writer.old) (W.contents writer.new) (formed_line form notice.now)) }
+        (Appends (W.contents writer.old) (W.contents writer.new) (formed_line form.entry notice.now)) }
     ensures front { OnErr result
         (AppendsFront (W.contents writer.old) (W.contents writer.new)
-        (formed_line form notice.now)) }
+        (formed_line form.entry notice.now)) }
 {
     send_line(writer, write_notice(alloc, form, notice))
 }
@@ -137,10 +137,10 @@ pub fn send_notices<W: Write>(
 ) -> Result<(), IoFault>
     ensures sent { OnOk result
         (Appends (W.contents writer.old) (W.contents writer.new)
-        (flat_map (formed_line form) notices.now)) }
+        (flat_map (formed_line form.entry) notices.now)) }
     ensures front { OnErr result
         (AppendsFront (W.contents writer.old) (W.contents writer.new)
-        (flat_map (formed_line form) notices.now)) }
+        (flat_map (formed_line form.entry) notices.now)) }
 {
     for notice in notices {
         send_notice(alloc, writer, form, notice)?;

@@ -1,7 +1,7 @@
 -- How a whole run ends.
 use Rattle.std.specs.Prelude.{◌≡◌, ℕ, List, Option, true, false, Result, Ok, Err}
 use Rattle.disk_model.specs.View.{View}
-use Rattle.child_keeper.specs.Children.{ChildrenView, given_up}
+use Rattle.child_model.specs.Children.{ChildrenView, given_up}
 use Rattle.executor.specs.Sights.{Sight}
 use Rattle.executor.specs.declared.report.Report.{Report}
 use Rattle.exec_client.specs.Heard.{Heard, Hears}

@@ -1,7 +1,7 @@
 -- Whole runs.
 use Rattle.std.specs.Prelude.{◌≡◌, ℕ, ◌+◌, ◌<◌, ⊤, List, [], ◌∷◌, ◌++◌, length, map, true, false}
 use Rattle.disk_model.specs.View.{View}
-use Rattle.child_keeper.specs.Children.{ChildrenView}
+use Rattle.child_model.specs.Children.{ChildrenView}
 use Rattle.executor.specs.Openings.{Opened}
 use Rattle.executor.specs.Sights.{Sight}
 use Rattle.executor.specs.declared.report.Report.{Report}

@@ -12,7 +12,7 @@ use crate::context::RunContext;
 use crate::drain::{Terms, drain};
 use crate::metadata::Metadata;
 use crate::room::make_room;
-use child_keeper::Children;
+use child_model::Children;
 use disk_model::Disk;
 use exec_client::Client;
 use exec_commands::{DrainEnd, Line, LineReply};

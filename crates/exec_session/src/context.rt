@@ -20,7 +20,7 @@ pub struct RunContext<'a, K, M> {
     pub metadata: &'a M,
     pub way: Way,
     /// What a notice tells.
-    pub form: NoticeForm,
+    pub form: NoticeForm<'a>,
     /// How many turns a drain makes at most. It makes one in any case.
     pub most_turns: u64,
     /// Past this offset of the journal's tail, in bytes, a run tidies by itself where that gains a quarter of a part; 0 for

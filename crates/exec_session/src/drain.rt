@@ -9,7 +9,7 @@ use crate::context::RunContext;
 use crate::metadata::Metadata;
 use crate::pause::{Pause, rest};
 use crate::turn::make_turn;
-use child_keeper::Children;
+use child_model::Children;
 use disk_model::Disk;
 use exec_client::Client;
 use exec_commands::DrainEnd;

@@ -4,7 +4,7 @@ ghost use Rattle.ocf_types.specs.declared.refusal.Refusal.TheVariants.{Disk};
 ghost use Rattle.ocf_types.specs.declared.reply.ReplyOf.TheVariants.{Refused};
 ghost use Rattle.executor.specs.Rows.{TakesCommands};
 
-use child_keeper::Children;
+use child_model::Children;
 use disk_model::Disk;
 use executor::Executor;
 use ocf_types::{Command, Refusal, Reply};

@@ -15,7 +15,7 @@ use crate::context::RunContext;
 use crate::gathered::Gathered;
 use crate::metadata::Metadata;
 use crate::together::answer_gathered;
-use child_keeper::Children;
+use child_model::Children;
 use disk_model::Disk;
 use exec_client::{Client, Told};
 use exec_commands::{Line, read_command};

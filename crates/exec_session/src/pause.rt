@@ -1,7 +1,7 @@
 //! The pause between two turns.
 ghost use Rattle.std.specs.Prelude.{◌≤◌};
 
-use child_keeper::{Answer, Children, Entry, Poll};
+use child_model::{Answer, Children, Entry, Poll};
 use disk_model::Disk;
 use executor::Executor;
 use std::rt::Clock;

@@ -5,7 +5,7 @@ ghost use Rattle.exec_client.specs.Said.{Said};
 ghost use Rattle.exec_client.specs.MayTell.{AllStand};
 ghost use Rattle.exec_session.specs.Runs.{IsReportOf, report_told};
 
-use child_keeper::Children;
+use child_model::Children;
 use disk_model::Disk;
 use exec_client::{Client, Told};
 use exec_commands::NoticeForm;
@@ -24,9 +24,9 @@ pub fn tell_report<D: Disk + Drop, C: Children + Drop, T: Client<D, C>>(
     ensures stands { AllStand D.view (T.heard client.new) executor.now }
     ensures opened { (T.heard client.new).opened ≡ (T.heard client.old).opened }
     ensures told { OnOk result
-        (Hears form (T.heard client.old) (T.heard client.new) (report_told report.now)) }
+        (Hears form.entry (T.heard client.old) (T.heard client.new) (report_told report.now)) }
     ensures breaks { OnErr result ((said rest : List Said) × (report_told report.now ≡ said ++ rest)
-        × HearsPart form (T.heard client.old) (T.heard client.new) said) }
+        × HearsPart form.entry (T.heard client.old) (T.heard client.new) said) }
 {
     client.tell(executor, form, &Told::Report(report.interrupted.as_slice()))?;
     client.tell(executor, form, &Told::Report(report.dropped.as_slice()))

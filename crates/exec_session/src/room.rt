@@ -4,7 +4,7 @@ ghost use Rattle.exec_client.specs.MayTell.{StandsBehind};
 ghost use Rattle.exec_session.specs.Rules.{MakesRoom, is_tidy_due, rules_of};
 
 use crate::context::RunContext;
-use child_keeper::Children;
+use child_model::Children;
 use disk_model::Disk;
 use executor::Executor;
 

@@ -19,7 +19,7 @@ use crate::metadata::Metadata;
 use crate::pause::{Pause, rest};
 use crate::together::answer_gathered;
 use crate::turn::make_turn;
-use child_keeper::Children;
+use child_model::Children;
 use disk_model::Disk;
 use exec_client::Client;
 use exec_lines::{Input, LineBuffer, gather_line, moment_now};

@@ -17,7 +17,7 @@ use crate::lines::{found_in, take_found};
 use crate::metadata::Metadata;
 use crate::report::tell_report;
 use crate::serve::serve_all;
-use child_keeper::Children;
+use child_model::Children;
 use disk_model::Disk;
 use exec_client::Client;
 use exec_lines::{Input, LineBuffer, next_line};

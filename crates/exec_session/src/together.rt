@@ -12,7 +12,7 @@ ghost use Rattle.exec_session.specs.Together.{AnswersAll, ServesTogether};
 use crate::context::RunContext;
 use crate::gathered::Gathered;
 use crate::room::make_room;
-use child_keeper::Children;
+use child_model::Children;
 use disk_model::Disk;
 use exec_client::{Client, Told};
 use exec_lines::moment_now;

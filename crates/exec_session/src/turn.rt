@@ -8,7 +8,7 @@ ghost use Rattle.exec_session.specs.Rules.{rules_of};
 
 use crate::context::RunContext;
 use crate::room::make_room;
-use child_keeper::Children;
+use child_model::Children;
 use disk_model::Disk;
 use exec_client::{Client, Told};
 use exec_output::IoFault;

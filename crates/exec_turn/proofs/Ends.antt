@@ -11,8 +11,8 @@ use Rattle.disk_model.specs.Laws.{joined as runs_joined}
 use Rattle.disk_model.specs.Runs.{CrashesTo}
 use Rattle.disk_model.specs.View.{Lawful, View}
 use Rattle.disk_model.specs.declared.disk.DiskFault.{DiskFault}
-use Rattle.child_keeper.specs.Children.{Asked, ChildrenView}
-use Rattle.child_keeper.specs.declared.answer.Entry.{Entry}
+use Rattle.child_model.specs.Children.{Asked, ChildrenView}
+use Rattle.child_model.specs.declared.answer.Entry.{Entry}
 use Rattle.exec_journal.specs.Found.{FoundAs}
 use Rattle.exec_journal.specs.Place.{Place}
 use Rattle.exec_journal.specs.Room.{Roomy}

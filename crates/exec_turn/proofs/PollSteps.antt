@@ -14,10 +14,10 @@ use Rattle.ocf_types.specs.declared.operation.Running.{Running}
 use Rattle.ocf_types.specs.declared.outcome.RunEnd.{RunEnd}
 use Rattle.ocf_types.specs.declared.outcome.RunEnd.TheVariants as run_end
 use Rattle.ocf_types.specs.declared.reply.Notice.{Notice}
-use Rattle.child_keeper.specs.Children.{ChildrenView, after_kill, after_poll, without_run}
-use Rattle.child_keeper.specs.declared.answer.KillFault.{KillFault}
-use Rattle.child_keeper.specs.declared.answer.Poll.{Poll}
-use Rattle.child_keeper.specs.declared.answer.Poll.TheVariants as poll
+use Rattle.child_model.specs.Children.{ChildrenView, after_kill, after_poll, without_run}
+use Rattle.child_model.specs.declared.answer.KillFault.{KillFault}
+use Rattle.child_model.specs.declared.answer.Poll.{Poll}
+use Rattle.child_model.specs.declared.answer.Poll.TheVariants as poll
 use Rattle.exec_ledger.specs.Actives.{Active, active_in, active_of, runs_of}
 use Rattle.exec_turn.specs.Actives.{notice_of, result_of}
 use Rattle.exec_turn.specs.Polls.{IsPoll, Polled, Polls, after_polls, ending, is_late, polled_on, result_notices, results}

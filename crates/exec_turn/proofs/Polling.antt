@@ -21,12 +21,12 @@ use Rattle.ocf_types.specs.declared.event.Step.TheVariants as step
 use Rattle.ocf_types.specs.declared.operation.Running.{Running}
 use Rattle.ocf_types.specs.declared.outcome.RunEnd.{RunEnd}
 use Rattle.ocf_types.specs.declared.outcome.RunEnd.TheVariants as run_end
-use Rattle.child_keeper.specs.Children.{Asked, ChildrenView, IsOfStart, after_kill, after_poll, kill_answer, poll_answer, without_run}
-use Rattle.child_keeper.specs.Laws.{asked_polls}
-use Rattle.child_keeper.specs.declared.answer.Entry.{Entry}
-use Rattle.child_keeper.specs.declared.answer.KillFault.{KillFault}
-use Rattle.child_keeper.specs.declared.answer.Poll.{Poll}
-use Rattle.child_keeper.specs.declared.answer.Poll.TheVariants as poll
+use Rattle.child_model.specs.Children.{Asked, ChildrenView, IsOfStart, after_kill, after_poll, kill_answer, poll_answer, without_run}
+use Rattle.child_model.specs.Laws.{asked_polls}
+use Rattle.child_model.specs.declared.answer.Entry.{Entry}
+use Rattle.child_model.specs.declared.answer.KillFault.{KillFault}
+use Rattle.child_model.specs.declared.answer.Poll.{Poll}
+use Rattle.child_model.specs.declared.answer.Poll.TheVariants as poll
 use Rattle.exec_journal.specs.Front.{AllApply, spelled_row}
 use Rattle.exec_journal.specs.Rows.{are_results}
 use Rattle.exec_ledger.specs.Actives.{Active, active, runs_of}

@@ -26,7 +26,7 @@ use Rattle.ocf_types.specs.declared.outcome.RunEnd.{RunEnd}
 use Rattle.ocf_types.specs.declared.outcome.RunEnd.TheVariants.{NotStarted}
 use Rattle.ocf_types.specs.declared.outcome.StartFault.{StartFault}
 use Rattle.ocf_types.specs.declared.reply.Notice.{Notice}
-use Rattle.child_keeper.specs.Children.{ChildrenView, after_start, live_started, start_answer}
+use Rattle.child_model.specs.Children.{ChildrenView, after_start, live_started, start_answer}
 use Rattle.exec_journal.specs.Front.{AllApply, spelled_row}
 use Rattle.exec_journal.specs.Rows.{are_results}
 use Rattle.exec_ledger.specs.Actives.{Active, active, runs_of}

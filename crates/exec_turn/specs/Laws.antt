@@ -6,8 +6,8 @@ use Rattle.std.proofs.lemmas.Bool.{or_left, or_right}
 use Rattle.ocf_types.specs.Laws.{same_number}
 use Rattle.ocf_types.specs.State.{State}
 use Rattle.disk_model.specs.View.{Lawful, View}
-use Rattle.child_keeper.specs.Children.{Asked}
-use Rattle.child_keeper.specs.declared.answer.Entry.{Entry}
+use Rattle.child_model.specs.Children.{Asked}
+use Rattle.child_model.specs.declared.answer.Entry.{Entry}
 use Rattle.exec_journal.specs.Found.{FoundAs}
 use Rattle.exec_ledger.specs.Actives.{Active}
 use Rattle.exec_turn.specs.Picks.{begins}

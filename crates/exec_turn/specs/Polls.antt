@@ -7,12 +7,12 @@ use Rattle.ocf_types.specs.declared.operation.Running.{Running}
 use Rattle.ocf_types.specs.declared.outcome.RunEnd.{RunEnd}
 use Rattle.ocf_types.specs.declared.outcome.RunEnd.TheVariants as run_end
 use Rattle.ocf_types.specs.declared.reply.Notice.{Notice}
-use Rattle.child_keeper.specs.Children.{ChildrenView, after_kill, after_poll, kill_answer, poll_answer}
-use Rattle.child_keeper.specs.declared.answer.Answer.{Answer}
-use Rattle.child_keeper.specs.declared.answer.Entry.{Entry}
-use Rattle.child_keeper.specs.declared.answer.KillFault.{KillFault}
-use Rattle.child_keeper.specs.declared.answer.Poll.{Poll}
-use Rattle.child_keeper.specs.declared.answer.Poll.TheVariants as poll
+use Rattle.child_model.specs.Children.{ChildrenView, after_kill, after_poll, kill_answer, poll_answer}
+use Rattle.child_model.specs.declared.answer.Answer.{Answer}
+use Rattle.child_model.specs.declared.answer.Entry.{Entry}
+use Rattle.child_model.specs.declared.answer.KillFault.{KillFault}
+use Rattle.child_model.specs.declared.answer.Poll.{Poll}
+use Rattle.child_model.specs.declared.answer.Poll.TheVariants as poll
 use Rattle.exec_ledger.specs.Actives.{Active}
 use Rattle.exec_turn.specs.Actives.{notice_of, result_of}
 

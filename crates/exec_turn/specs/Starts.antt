@@ -8,8 +8,8 @@ use Rattle.ocf_types.specs.declared.outcome.RunEnd.{RunEnd}
 use Rattle.ocf_types.specs.declared.outcome.RunEnd.TheVariants.{NotStarted}
 use Rattle.ocf_types.specs.declared.outcome.StartFault.{StartFault}
 use Rattle.ocf_types.specs.declared.reply.Notice.{Notice}
-use Rattle.child_keeper.specs.Children.{ChildrenView, after_start, start_answer}
-use Rattle.child_keeper.specs.declared.answer.Entry.{Entry}
+use Rattle.child_model.specs.Children.{ChildrenView, after_start, start_answer}
+use Rattle.child_model.specs.declared.answer.Entry.{Entry}
 use Rattle.exec_ledger.specs.Actives.{Active}
 use Rattle.exec_turn.specs.Actives.{notice_of, result_of}
 

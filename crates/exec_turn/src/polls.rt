@@ -5,14 +5,14 @@ ghost use Rattle.std.specs.Vec.{vec_capacity};
 ghost use Rattle.ocf_types.specs.Kinds.{Event};
 ghost use Rattle.ocf_types.specs.Places.{entry_at};
 ghost use Rattle.ocf_types.specs.declared.reply.Notice.{Notice};
-ghost use Rattle.child_keeper.specs.declared.answer.KillFault.{KillFault};
-ghost use Rattle.child_keeper.specs.declared.answer.Poll.{Poll};
+ghost use Rattle.child_model.specs.declared.answer.KillFault.{KillFault};
+ghost use Rattle.child_model.specs.declared.answer.Poll.{Poll};
 ghost use Rattle.exec_turn.specs.Buffers.{GrowsInRoom};
 ghost use Rattle.exec_ledger.specs.Actives.{active, active_in, runs_of};
 ghost use Rattle.exec_turn.specs.AgentsLive.{AgentsLive};
 ghost use Rattle.exec_turn.specs.Polls.{IsPoll, Polls, ending, is_late, polled_on};
 
-use child_keeper::{Children, Poll};
+use child_model::{Children, Poll};
 use exec_state::State;
 use ocf_types::{
     Change, Event, EventOf, Moment, Notice, Outcome, RunEnd, Running, StateView, Step,
@@ -89,7 +89,8 @@ fn poll_at<C: Children, A: Allocator + Copy>(
     notices.push_reserved(Notice { id, result });
 }
 
-/// Polls every action that runs, in order of registration: the row of their results, and what is told of them.
+/// Polls every action that runs, in order of registration: the row of their results, and what is told of them. What was
+/// killed has ended when it returns.
 pub(crate) fn poll_all<C: Children, A: Allocator + Copy>(
     state: &State<A>,
     children: &mut C,
@@ -112,4 +113,5 @@ pub(crate) fn poll_all<C: Children, A: Allocator + Copy>(
     for place in 0..state.len() {
         poll_at(state, place, children, at, row, notices);
     }
+    children.end_killed();
 }

@@ -4,8 +4,8 @@ ghost use Rattle.std.specs.List.{AllByRecursion};
 ghost use Rattle.std.specs.Vec.{vec_capacity};
 ghost use Rattle.ocf_types.specs.declared.outcome.StartFault.{StartFault};
 ghost use Rattle.ocf_types.specs.declared.reply.Notice.{Notice};
-ghost use Rattle.child_keeper.specs.Children.{after_start, live_limit};
-ghost use Rattle.child_keeper.specs.MayStart.{IsLaunch};
+ghost use Rattle.child_model.specs.Children.{after_start, live_limit};
+ghost use Rattle.child_model.specs.MayStart.{IsLaunch};
 ghost use Rattle.exec_journal.specs.Journal.{Settled, journal_disk};
 ghost use Rattle.exec_turn.specs.Buffers.{GrowsInRoom};
 ghost use Rattle.exec_turn.specs.Actives.{notice_of, result_of};
@@ -13,7 +13,7 @@ ghost use Rattle.exec_turn.specs.Launches.{AllLaunch, IsOfOne, all_starting, wha
 ghost use Rattle.exec_turn.specs.Starts.{Rising, Starts, refused_end};
 
 use crate::picks::Start;
-use child_keeper::Children;
+use child_model::Children;
 use disk_model::Disk;
 use exec_journal::Journal;
 use exec_state::State;

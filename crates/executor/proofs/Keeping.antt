@@ -6,7 +6,7 @@ use Rattle.ocf_types.specs.Resource.{is_busy}
 use Rattle.ocf_types.specs.State.{Registry, State}
 use Rattle.ocf_types.specs.declared.operation.Running.{Running}
 use Rattle.ocf_types.specs.Boot.{any_busy}
-use Rattle.child_keeper.specs.Children.{ChildrenView, given_up}
+use Rattle.child_model.specs.Children.{ChildrenView, given_up}
 use Rattle.exec_ledger.specs.Actives.{KeepsRuns, Active, active_of, all_in, runs_of}
 use Rattle.ocf_types.specs.declared.reply.Notice.{Notice}
 use Rattle.ocf_env.specs.Places.{SiteView}

@@ -7,7 +7,7 @@ use Rattle.ocf_types.specs.declared.refusal.Refusal.TheVariants.{Disk}
 use Rattle.ocf_types.specs.declared.reply.ReplyOf.TheVariants.{Refused, Turn}
 use Rattle.ocf_types.specs.declared.reply.TurnEnd.{TurnEnd}
 use Rattle.disk_model.specs.View.{View}
-use Rattle.child_keeper.specs.declared.answer.Entry.{Entry}
+use Rattle.child_model.specs.declared.answer.Entry.{Entry}
 use Rattle.executor.specs.Commands.{ServesWhile}
 use Rattle.executor.specs.Lives.{Calls, Exchange}
 use Rattle.executor.specs.Sessions.{Effects, TakesWhile, followed_by, no_effects, request_effects}

@@ -21,10 +21,10 @@ use Rattle.ocf_types.specs.declared.refusal.Refusal.{Refusal}
 use Rattle.ocf_types.specs.declared.refusal.Refusal.TheVariants.{Busy, Exists, NoSuchRecurring, NotQueued, QueueFull, RecurringFull, TooLarge, UnknownResource}
 use Rattle.ocf_types.specs.declared.reply.ReplyOf.TheVariants as reply
 use Rattle.ocf_types.specs.declared.reply.TurnEnd.TheVariants.{Done}
-use Rattle.child_keeper.specs.Children.{start_answer}
-use Rattle.child_keeper.specs.declared.answer.Entry.{Entry}
-use Rattle.child_keeper.specs.declared.answer.KillFault.{KillFault}
-use Rattle.child_keeper.specs.declared.answer.Poll.{Poll}
+use Rattle.child_model.specs.Children.{start_answer}
+use Rattle.child_model.specs.declared.answer.Entry.{Entry}
+use Rattle.child_model.specs.declared.answer.KillFault.{KillFault}
+use Rattle.child_model.specs.declared.answer.Poll.{Poll}
 use Rattle.exec_turn.specs.Actives.{result_of}
 use Rattle.exec_turn.specs.Polls.{IsPoll, ending, entries_of}
 use Rattle.exec_turn.specs.Starts.{refused_end}

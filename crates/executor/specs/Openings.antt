@@ -8,7 +8,7 @@ use Rattle.ocf_types.specs.declared.reply.Notice.{Notice}
 use Rattle.disk_model.specs.Image.{Image}
 use Rattle.disk_model.specs.Runs.{CrashesTo}
 use Rattle.disk_model.specs.View.{Increased, Unwritten, View}
-use Rattle.child_keeper.specs.Children.{ChildrenView, given_up}
+use Rattle.child_model.specs.Children.{ChildrenView, given_up}
 use Rattle.gated_slots.specs.declared.append.SlotFault.{SlotFault}
 use Rattle.gated_slots.specs.declared.append.SlotFault.TheVariants as slot
 use Rattle.exec_journal.specs.Found.{Damaged, FoundAs, IsFound, IsToWrite, StandsAt}

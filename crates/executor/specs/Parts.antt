@@ -14,7 +14,7 @@ use Rattle.ocf_types.specs.declared.event.Step.TheVariants as step
 use Rattle.ocf_types.specs.declared.refusal.Refusal.TheVariants.{CallsSpent, Closed, Disk, JournalFull, Memory, TooManyResources}
 use Rattle.ocf_types.specs.declared.reply.ReplyOf.TheVariants as reply
 use Rattle.ocf_types.specs.declared.reply.TurnEnd.TheVariants.{Done}
-use Rattle.child_keeper.specs.declared.answer.Entry.{Entry}
+use Rattle.child_model.specs.declared.answer.Entry.{Entry}
 use Rattle.exec_ledger.specs.Actives.{active, runs_of}
 use Rattle.executor.specs.Sessions.{Input}
 use Rattle.executor.specs.Isolated.{cut}

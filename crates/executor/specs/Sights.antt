@@ -5,7 +5,7 @@ use Rattle.ocf_types.specs.State.{State}
 use Rattle.ocf_types.specs.declared.reply.Notice.{Notice}
 use Rattle.disk_model.specs.View.{View}
 use Rattle.ocf_env.specs.Places.{SiteView}
-use Rattle.child_keeper.specs.Children.{Admits, ChildrenView}
+use Rattle.child_model.specs.Children.{Admits, ChildrenView}
 use Rattle.exec_journal.specs.Place.{Place}
 use Rattle.exec_journal.specs.Room.{HasRoom}
 use Rattle.exec_journal.specs.Settled.{IsSettled}

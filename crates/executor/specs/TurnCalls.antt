@@ -4,7 +4,7 @@ use Rattle.ocf_types.specs.Answer.{moment}
 use Rattle.ocf_types.specs.declared.reply.TurnEnd.{TurnEnd}
 use Rattle.ocf_types.specs.declared.reply.TurnEnd.TheVariants.{BookFull, Closed, Disk}
 use Rattle.disk_model.specs.View.{View}
-use Rattle.child_keeper.specs.Children.{emptied, given_up}
+use Rattle.child_model.specs.Children.{emptied, given_up}
 use Rattle.exec_ledger.specs.Scenes.{scene}
 use Rattle.exec_turn.specs.Turns.{Turns}
 use Rattle.executor.specs.Sights.{Sight, due_in}

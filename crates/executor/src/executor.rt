@@ -1,5 +1,5 @@
 //! The executor.
-use child_keeper::Children;
+use child_model::Children;
 use disk_model::Disk;
 use exec_ledger::Ledger;
 use exec_turn::TurnBuffers;

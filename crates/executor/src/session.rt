@@ -4,7 +4,7 @@ ghost use Rattle.ocf_types.specs.Kinds.{Reply};
 ghost use Rattle.executor.specs.Sessions.{Effects, Sits, Takes};
 
 use crate::Executor;
-use child_keeper::Children;
+use child_model::Children;
 use disk_model::Disk;
 use exec_journal::laws::what_stands;
 use ocf_types::{Params, Reply, ReplyOf, RequestOf};

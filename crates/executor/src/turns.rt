@@ -3,7 +3,7 @@ ghost use Rattle.std.specs.Prelude.{◌≡◌};
 ghost use Rattle.executor.specs.TurnCalls.{TurnsWhile, abandoned, with_empty_book};
 
 use crate::Executor;
-use child_keeper::{Children, Entry};
+use child_model::{Children, Entry};
 use disk_model::Disk;
 use exec_turn::take_turn;
 use ocf_types::{Notice, TurnEnd};

@@ -2,7 +2,8 @@
 use crate::executors::{disk_with, nowhere, refusal};
 use crate::heaps::{Ended, done, grows};
 use crate::parts::FIRST;
-use child_keeper::{Children, Poll, Script, Scripted};
+use child_keeper::{Script, Scripted};
+use child_model::{Children, Poll};
 use executor::Executor;
 use linked_list_allocator::LocalHeap;
 use ocf_types::{CommandOf, Millis, Request, RequestOf, RscId, Task, TurnEnd};

@@ -1,10 +1,10 @@
 -- Why a program ends as it does.
-use Rattle.std.proofs.Common.{inl, inr, ℕ, List, Result, Ok, Err, Option, subst, sym, ◌≡◌, is_some, true}
+use Rattle.std.proofs.Common.{inl, inr, ap, ⊎_elim, ◌⊎◌, ℕ, List, Result, Ok, Err, Option, subst, sym, ◌≡◌, is_some, true}
 use Rattle.disk_model.specs.View.{View}
-use Rattle.child_keeper.specs.Children.{ChildrenView}
+use Rattle.child_model.specs.Children.{ChildrenView}
 use Rattle.executor.specs.declared.report.Report.{Report}
 use Rattle.exec_options.specs.Faults.{IsFault}
-use Rattle.exec_options.specs.Words.{Gives}
+use Rattle.exec_options.specs.Words.{Gives, folder_of}
 use Rattle.exec_options.specs.declared.fault.WordsFault.{WordsFault}
 use Rattle.exec_options.specs.declared.fault.WordsFault.TheVariants as words_fault
 use Rattle.exec_options.specs.declared.options.Options.{Options}
@@ -17,7 +17,7 @@ use Rattle.exec_session.specs.Answers.{Source}
 use Rattle.exec_session.specs.Rules.{Rules}
 use Rattle.exec_session.specs.Progress.{Position, position}
 use Rattle.exec_session.specs.Ends.{Ended, EndsAs}
-use Rattle.ocfexec.specs.Starts.{EndsFor, IsToldAs}
+use Rattle.ocfexec.specs.Starts.{EndsFor, IsFolderEnd, IsToldAs}
 
 -- a run does not end by its words
 ends : {D N T : Type 0} (look : D → View) (source : Source) (rules : Rules) (report : Report N)
@@ -78,6 +78,19 @@ journal_ends words o (Err fault.Full) gives ends = (o, gives)
 journal_ends words o (Err fault.InputOrOutput) gives ends = inr (o, gives)
 journal_ends words o (Err fault.ReplyMemory) gives ends = (o, gives)
 journal_ends words o (Err fault.ChildrenIgnored) gives ends = (o, gives)
+
+-- a journal in files that was opened, and one that was not
+pub opened_ends : {T : Type 0} (r : Result T Fault) → IsRunEnd r → IsFolderEnd r
+opened_ends r ends = inl ends
+
+pub not_opened_ends : {T : Type 0} (f : Fault) → (f ≡ fault.Memory) ⊎ (f ≡ fault.NotOpened) → IsFolderEnd {T = T} (Err f)
+not_opened_ends {T} f = ⊎_elim (λ is. inl (subst (λ x. IsRunEnd {T = T} (Err x)) (sym is) tt)) (λ is. inr (ap Err is))
+
+-- words that ask for a journal in the files of a folder
+pub folder_ends : {T : Type 0} (words : List (List ℕ)) (o : Options) (r : Result T Fault) → Gives words o
+    → is_some (folder_of o.journal) ≡ true → IsFolderEnd r → EndsFor words r
+folder_ends words o r gives is_in = ⊎_elim (journal_ends words o r gives)
+    (λ is. subst (λ x. EndsFor words x) (sym is) (o, gives, is_in))
 
 -- words that ask for a log that is not opened
 pub log_ends : (words : List (List ℕ)) (o : Options) (f : Fault) → Gives words o → f ≡ fault.Log → is_some o.log ≡ true

@@ -6,7 +6,7 @@ use Rattle.exec_options.specs.Words.{Gives, folder_of}
 use Rattle.exec_options.specs.declared.fault.WordsFault.{WordsFault}
 use Rattle.exec_options.specs.declared.fault.WordsFault.TheVariants as words_fault
 use Rattle.exec_options.specs.declared.options.Options.{Options}
-use Rattle.exec_output.specs.Faults.{status_of}
+use Rattle.exec_output.specs.Faults.{IsRunEnd, status_of}
 use Rattle.exec_output.specs.declared.fault.Fault.{Fault}
 use Rattle.exec_output.specs.declared.fault.Fault.TheVariants as fault
 use Rattle.executor.specs.declared.opening.OpenError.{OpenError}
@@ -55,6 +55,10 @@ AsksForLog words = (o : Options) × Gives words o × (is_some o.log ≡ true)
 -- why the files of a journal are not opened
 abbrev pub IsNotOpened : {T : Type 0} → Result T Fault → Type 0
 IsNotOpened ended = IfErr ended (λ f. f ≡ fault.Memory ⊎ f ≡ fault.NotOpened)
+
+-- how a run or a show of a journal in files may end: as on any disk, or since the files are not opened
+abbrev pub IsFolderEnd : {T : Type 0} → Result T Fault → Type 0
+IsFolderEnd ended = IsRunEnd ended ⊎ (ended ≡ Err fault.NotOpened)
 
 -- why a program that is given these words ends so
 abbrev pub EndsFor : {T : Type 0} → List (List ℕ) → Result T Fault → Type 0

@@ -1,14 +1,14 @@
 //! Actions that were interrupted.
-ghost use Rattle.std.specs.Prelude.{◌↔◌, IsTrue};
+ghost use Rattle.std.specs.Prelude.{◌<◌, ◌↔◌, IsTrue, length};
 ghost use Rattle.ocf_types.specs.Actions.{action_word};
 ghost use Rattle.proc_files.specs.Orphans.{Calls, IsOrphan};
 
-use child_keeper::Children;
-use disk_model::Disk;
-use executor::Executor;
+use crate::times::Times;
+use child_keeper::Deadline;
+use exec_state::State;
 use ocf_env::{Site, Text, agent_file};
-use ocf_types::{Action, Outcome, Question, ReplyOf, RscId};
-use proc_files::{calls, is_orphan};
+use ocf_types::{Action, RscId, RunId, Running, StateView};
+use proc_files::{ActionMark, calls, is_orphan};
 use std::alloc::{AllocError, Global};
 use std::fmt::{self, Display, Formatter};
 use std::str;
@@ -19,9 +19,25 @@ pub struct Interrupted {
     id: RscId,
     file: Text,
     action: Action,
+    /// Its run.
+    pub run: RunId,
+    /// When it began, in clock ticks after the system's boot; no process of it started before.
+    since: u64,
+    /// How long it may still go on.
+    pub deadline: Deadline,
 }
 
 impl Interrupted {
+    /// What its background jobs are known by, in these sessions.
+    pub fn mark<'a>(&'a self, sessions: &'a [u32]) -> ActionMark<'a> {
+        ActionMark {
+            instance: self.id.as_bytes(),
+            since: self.since,
+            agent: 0,
+            sessions,
+        }
+    }
+
     /// Whether a command line is that of the action.
     pub fn is_called_by(&self, cmdline: &[u8]) -> bool
         ensures { IsTrue result ↔ Calls cmdline.now self.now.file (action_word self.now.action) }
@@ -30,8 +46,8 @@ impl Interrupted {
         calls(cmdline, file, self.action.word().as_bytes())
     }
 
-    /// Whether a process with this command line and this environment is left of the action.
-    pub fn is_left_in(&self, cmdline: &[u8], environ: &[u8]) -> bool
+    /// Whether a process with this command line and this environment is the action's agent.
+    pub fn is_agent(&self, cmdline: &[u8], environ: &[u8]) -> bool
         ensures { IsTrue result
             ↔ IsOrphan cmdline.now environ.now self.now.file
             (action_word self.now.action) self.now.id }
@@ -50,45 +66,39 @@ impl Display for Interrupted {
     }
 }
 
-// Appends the interrupted actions of a resource.
-fn push_interrupted<D: Disk + Drop, C: Children + Drop>(
+// What runs in the resource at a place of a state, as an action that was interrupted.
+fn interrupted_at(
     alloc: Global,
     site: &Site,
-    executor: &Executor<D, C>,
-    id: &RscId,
-    found: &mut Vec<Interrupted>,
-) -> Result<(), AllocError> {
-    let (ReplyOf::Info(info), ReplyOf::History(results)) = (
-        executor.answer(&Question::Info(id.copied())),
-        executor.answer(&Question::History(id.copied())),
-    ) else {
-        return Err(AllocError);
-    };
-    for result in results.as_slice() {
-        if result.outcome == Outcome::Interrupted {
-            let file = agent_file(alloc, site, &info.provider, &info.agent)?;
-            found.push(Interrupted {
-                id: id.copied(),
-                file,
-                action: result.action,
-            })?;
-        }
-    }
-    Ok(())
+    state: &State,
+    place: usize,
+    running: Running,
+    times: &Times<'_>,
+) -> Result<Interrupted, AllocError>
+    requires { place < length state.now.state.resources }
+{
+    Ok(Interrupted {
+        id: state.id_at(place).copied(),
+        file: agent_file(alloc, site, state.provider_at(place), state.agent_at(place))?,
+        action: running.task.action(),
+        run: running.run,
+        since: times.ticks_at(running.since),
+        deadline: times.deadline_of(running),
+    })
 }
 
-/// The interrupted actions that the histories of all resources hold.
-pub fn all_interrupted<D: Disk + Drop, C: Children + Drop>(
+/// The actions that run at a state, which its executor left.
+pub fn all_interrupted(
     alloc: Global,
     site: &Site,
-    executor: &Executor<D, C>,
+    state: &State,
+    times: &Times<'_>,
 ) -> Result<Vec<Interrupted>, AllocError> {
-    let ReplyOf::List(ids) = executor.answer(&Question::List) else {
-        return Err(AllocError);
-    };
     let mut found = Vec::new(alloc);
-    for id in ids.as_slice() {
-        push_interrupted(alloc, site, executor, id, &mut found)?;
+    for place in 0..state.len() {
+        if let Some(running) = state.running_at(place) {
+            found.push(interrupted_at(alloc, site, state, place, running, times)?)?;
+        }
     }
     Ok(found)
 }

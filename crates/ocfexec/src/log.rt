@@ -4,12 +4,10 @@ ghost use Rattle.std.specs.Prelude.{◌≡◌, true, IfErr, is_some};
 use child_keeper::Log;
 use exec_options::{Options, Subcommand};
 use exec_output::Fault;
+use file_disk::OWNER_ONLY;
 use std::fs::OpenOptions;
 use std::io;
 use std::os::unix::fs::OpenOptionsExt;
-
-// The permissions of a new file: its owner alone reads and writes it.
-const OWNER_ONLY: u32 = 0o600;
 
 // The log of this name: a file that is appended to, and made where nothing is there, or the standard error.
 fn opened(rt: &HostRuntime, name: &str) -> io::Result<Log> {

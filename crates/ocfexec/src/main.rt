@@ -6,11 +6,13 @@ ghost use Rattle.std.specs.Process.{exit_status};
 ghost use Rattle.ocfexec.specs.Starts.{status_of_end};
 
 mod agents;
+mod holder;
 mod interrupted;
 mod log;
 mod orphans;
 mod signals;
 mod start;
+mod times;
 
 use exec_output::Fault;
 use std::process::ExitCode;

@@ -1,136 +1,237 @@
-//! What is left of actions whose executor was killed.
+//! What is left of actions whose executor is gone.
+use crate::holder::read_holder;
 use crate::interrupted::{Interrupted, all_interrupted};
-use child_keeper::{Children, Deadline};
-use disk_model::Disk;
-use executor::Executor;
+use crate::times::Times;
+use child_keeper::{Environments, Sought, end_processes, with_ancestors};
+use exec_commands::Left;
+use exec_state::State;
 use ocf_env::Site;
-use proc_files::{pids, read_head};
-use std::alloc::{AllocError, Global};
+use proc_files::{PidFile, ProcFiles, Process, has};
+use std::alloc::{AllocError, Allocator, Global};
 use std::io;
 use std::thread::sleep;
 use std::time::Duration;
 
-// How much is read of a command line: an agent's has three words, of which two are paths of at most 4,096 bytes.
+// How many bytes are read of a command line: an agent's has three arguments, of which two are paths of at most 4,096 bytes.
 const CMDLINE_LIMIT: usize = 16_384;
 
-// How much is read of an environment: an agent's has at most 64 parameters of at most 1,024 bytes, and some more.
+// How many bytes are read of an environment: an agent's has at most 64 parameters of at most 1,024 bytes, and some more.
 const ENVIRON_LIMIT: usize = 131_072;
 
 // How long it is from one look to the next, in milliseconds.
 const PAUSE: u64 = 10;
 
-// A process that is left of an interrupted action.
+/// What an opening does about processes that are left of interrupted actions.
+#[derive(Clone, Copy)]
+pub struct Orphans<'a> {
+    /// The directory of the journal.
+    pub folder: &'a str,
+    /// How long they may go on at most, in milliseconds.
+    pub limit: u64,
+    /// Whether they live on after that.
+    pub leave: bool,
+}
+
+// A process of an interrupted action.
 #[derive(Clone, Copy)]
 struct Orphan<'a> {
-    pid: u32,
+    process: Process,
     of: &'a Interrupted,
 }
 
-// Room for what is read of a process.
+// Interrupted actions whose processes are looked for: each agent, and its background jobs in these sessions.
 #[derive(Drop)]
-struct Room {
+struct ActionsSought<'a> {
+    rt: &'a HostRuntime,
+    actions: &'a [&'a Interrupted],
+    sessions: &'a [u32],
     cmdline: Vec<u8>,
     environ: Vec<u8>,
+    environments: Environments<Global>,
 }
 
-impl Room {
-    fn new(alloc: Global) -> io::Result<Room> {
-        Ok(Room {
+impl<'a> ActionsSought<'a> {
+    fn new(
+        rt: &'a HostRuntime,
+        actions: &'a [&'a Interrupted],
+        sessions: &'a [u32],
+    ) -> Result<ActionsSought<'a>, AllocError> {
+        let alloc = rt.alloc();
+        Ok(ActionsSought {
+            rt,
+            actions,
+            sessions,
             cmdline: vec![in alloc; 0; CMDLINE_LIMIT]?,
             environ: vec![in alloc; 0; ENVIRON_LIMIT]?,
+            environments: Environments::new(alloc)?,
         })
     }
 
-    // The action that a process is left of. A process that is gone, and one of another user, is of none.
-    fn action_of<'a>(
-        &mut self,
-        rt: &HostRuntime,
-        pid: u32,
-        actions: &'a [Interrupted],
-    ) -> io::Result<Option<&'a Interrupted>> {
-        let alloc = rt.alloc();
-        let path = format!(in alloc; "/proc/{pid}/cmdline")?;
-        let cmdline = head_of(rt, path.as_str(), &mut self.cmdline);
+    // The action whose agent a process is, by its command line and its environment.
+    fn agent_of(&mut self, process: &Process) -> Option<&'a Interrupted> {
+        let (rt, actions) = (self.rt, self.actions);
+        let length = rt.read_of(process.pid, PidFile::CommandLine, &mut self.cmdline);
+        let cmdline = &self.cmdline[..length];
         if !actions.iter().any(|action| action.is_called_by(cmdline)) {
-            return Ok(None);
+            return None;
         }
-        let path = format!(in alloc; "/proc/{pid}/environ")?;
-        let environ = head_of(rt, path.as_str(), &mut self.environ);
-        Ok(
-            actions
-                .iter()
-                .find(|action| action.is_left_in(cmdline, environ)),
-        )
+        let length = rt.read_of(process.pid, PidFile::Environment, &mut self.environ);
+        let environ = &self.environ[..length];
+        actions
+            .iter()
+            .find(|action| action.is_agent(cmdline, environ))
+            .copied()
     }
-}
 
-// The first bytes of a file; none where it cannot be read.
-fn head_of<'a>(rt: &HostRuntime, path: &str, room: &'a mut [u8]) -> &'a [u8] {
-    match read_head(rt, path, room) {
-        Ok(length) => &room[..length],
-        Err(_) => &[],
+    // The action whose background job a process is.
+    fn job_of(&mut self, process: &Process) -> Option<&'a Interrupted> {
+        for action in self.actions {
+            let mark = action.mark(self.sessions);
+            if self.environments.is_job_of_any(self.rt, process, &[mark]) {
+                return Some(*action);
+            }
+        }
+        None
     }
-}
 
-// The processes that are left of these actions now.
-fn look<'a>(rt: &HostRuntime, actions: &'a [Interrupted]) -> io::Result<Vec<Orphan<'a>>> {
-    let mut room = Room::new(rt.alloc())?;
-    let mut found = Vec::new(rt.alloc());
-    for pid in pids(rt, "/proc")? {
-        if let Some(of) = room.action_of(rt, pid, actions)? {
-            found.push(Orphan { pid, of }).map_err(AllocError::from)?;
+    // The action that a process is left of.
+    fn action_of(&mut self, process: &Process) -> Option<&'a Interrupted> {
+        if process.has_ended {
+            return None;
+        }
+        match self.agent_of(process) {
+            Some(action) => Some(action),
+            None => self.job_of(process),
         }
     }
-    Ok(found)
+
+    // What is left of the actions now. This process, and those that it descends from, are left of none.
+    fn look(&mut self) -> io::Result<Vec<Orphan<'a>>> {
+        let alloc = self.rt.alloc();
+        let table = self.rt.processes(alloc)?;
+        let own = with_ancestors(alloc, table.as_slice(), self.rt.own()?)?;
+        let mut found = Vec::new(alloc);
+        for process in table {
+            if has(own.as_slice(), &process) {
+                continue;
+            }
+            if let Some(of) = self.action_of(&process) {
+                found
+                    .push(Orphan { process, of })
+                    .map_err(AllocError::from)?;
+            }
+        }
+        Ok(found)
+    }
 }
 
-// Looks for what is left of these actions until nothing is, or the deadline is past; what still is then.
-fn await_gone<'a>(
+impl Sought for ActionsSought<'_> {
+    fn among<A: Allocator + Copy>(
+        &mut self,
+        alloc: A,
+        table: &[Process],
+    ) -> Result<Vec<Process, A>, AllocError> {
+        let mut found = Vec::new(alloc);
+        for process in table {
+            if self.action_of(process).is_some() {
+                found.push(*process)?;
+            }
+        }
+        Ok(found)
+    }
+}
+
+// Names a process whose action may go on no more.
+fn tell_late(rt: &HostRuntime, orphan: &Orphan<'_>, leave: bool) {
+    let done = if leave { "still lives" } else { "is ended" };
+    let _ = rt.eprintln(format_args!(
+        "ocfexec: pid {} of {}, which was interrupted, {done}",
+        orphan.process.pid, orphan.of
+    ));
+}
+
+// Deals with the processes whose actions may go on no more, but for those that were dealt with before.
+fn deal_with(
     rt: &HostRuntime,
-    actions: &'a [Interrupted],
-    deadline: Deadline,
-) -> io::Result<Vec<Orphan<'a>>> {
-    let mut left = look(rt, actions)?;
+    how: Orphans<'_>,
+    sessions: &[u32],
+    found: &[Orphan<'_>],
+    dealt: &mut Vec<Left>,
+) -> Result<(), AllocError> {
+    let mut late = Vec::new(rt.alloc());
+    for orphan in found {
+        let pid = orphan.process.pid;
+        let is_new = !dealt.iter().any(|left| left.pid == pid);
+        if is_new && orphan.of.deadline.left(rt) == 0 {
+            tell_late(rt, orphan, how.leave);
+            late.push(orphan.of)?;
+            dealt.push(Left {
+                run: orphan.of.run,
+                pid,
+            })?;
+        }
+    }
+    if !how.leave && !late.is_empty() {
+        let mut sought = ActionsSought::new(rt, late.as_slice(), sessions)?;
+        end_processes(rt, rt.alloc(), &mut sought);
+    }
+    Ok(())
+}
+
+// Looks for what is left of these actions until nothing is that may go on, and deals with what may not: what was dealt with.
+fn await_all(
+    rt: &HostRuntime,
+    how: Orphans<'_>,
+    sessions: &[u32],
+    actions: &[&Interrupted],
+) -> io::Result<Vec<Left>> {
+    let mut dealt = Vec::new(rt.alloc());
     for _ in 0..u64::MAX {
-        if left.is_empty() || deadline.left(rt) == 0 {
+        let found = ActionsSought::new(rt, actions, sessions)?.look()?;
+        deal_with(rt, how, sessions, found.as_slice(), &mut dealt)?;
+        if found.iter().all(|orphan| orphan.of.deadline.left(rt) == 0) {
             break;
         }
         sleep(rt, Duration::from_millis(PAUSE));
-        left = look(rt, actions)?;
     }
-    Ok(left)
+    Ok(dealt)
 }
 
-/// Waits until nothing is left of the actions that were interrupted, as the histories say, for so many milliseconds at most.
-/// What is left then is named on standard error, and so is why it could not be looked for.
-pub fn wait_for_orphans<D: Disk + Drop, C: Children + Drop>(
+// Waits for what is left of the actions that run at a state, and ends it or leaves it: what is left.
+fn await_left(
     rt: &HostRuntime,
+    how: Orphans<'_>,
     site: &Site,
-    executor: &Executor<D, C>,
-    limit: u64,
-) {
-    let deadline = Deadline::after(rt, u32::try_from(limit).unwrap_or(u32::MAX));
-    let ended = match all_interrupted(rt.alloc(), site, executor) {
-        Ok(actions) => tell_left(rt, actions.as_slice(), deadline),
-        Err(error) => Err(error.into()),
-    };
-    if let Err(error) = ended {
-        let _ = rt.eprintln(format_args!(
-            "ocfexec: what is left of interrupted actions cannot be looked for in /proc: {error}"
-        ));
+    state: &State,
+) -> io::Result<Vec<Left>> {
+    let alloc = rt.alloc();
+    let holder = read_holder(rt, how.folder);
+    let times = Times::new(rt, holder, how.limit);
+    let actions = all_interrupted(alloc, site, state, &times)?;
+    if actions.is_empty() {
+        return Ok(Vec::new(alloc));
     }
+    let own = rt.own()?.session;
+    let sessions = [own, holder.map_or(own, |holder| holder.session)];
+    let mut all = Vec::new(alloc);
+    for action in &actions {
+        all.push(action).map_err(AllocError::from)?;
+    }
+    let dealt = await_all(rt, how, &sessions, all.as_slice())?;
+    Ok(if how.leave { dealt } else { Vec::new(alloc) })
 }
 
-// Waits, and names what is left.
-fn tell_left(rt: &HostRuntime, actions: &[Interrupted], deadline: Deadline) -> io::Result<()> {
-    if actions.is_empty() {
-        return Ok(());
+/// Waits for what is left of the actions that run at a state, whose executor is gone: each up to its own timeout, and all of them
+/// up to a limit. What is left then is ended with all that descends from it, or lives on, and is named on standard error. So is
+/// why it could not be looked for. What lives on is given, with its run.
+pub fn await_orphans(rt: &HostRuntime, how: Orphans<'_>, site: &Site, state: &State) -> Vec<Left> {
+    match await_left(rt, how, site, state) {
+        Ok(left) => left,
+        Err(error) => {
+            let _ = rt.eprintln(format_args!(
+                "ocfexec: what is left of interrupted actions cannot be looked for in /proc: {error}"
+            ));
+            Vec::new(rt.alloc())
+        }
     }
-    for orphan in await_gone(rt, actions, deadline)? {
-        let _ = rt.eprintln(format_args!(
-            "ocfexec: pid {} of {}, which was interrupted, still lives",
-            orphan.pid, orphan.of
-        ));
-    }
-    Ok(())
 }

@@ -1,22 +1,25 @@
 //! From the words to a run.
-ghost use Rattle.std.specs.Prelude.{◌≡◌, IfOk, map, string_bytes};
+ghost use Rattle.std.specs.Prelude.{◌≡◌, map, string_bytes};
 ghost use Rattle.exec_output.specs.Faults.{IsRunEnd};
-ghost use Rattle.ocfexec.specs.Starts.{EndsFor, IsNotOpened, IsToldAs, opening_fault};
+ghost use Rattle.ocfexec.specs.Starts.{EndsFor, IsFolderEnd, IsNotOpened, IsToldAs, opening_fault};
 
 use crate::agents::{BOOK_ROOM, SiteMetadata, site_of};
+use crate::holder::leave_word;
 use crate::log::log_of;
-use crate::orphans::wait_for_orphans;
+use crate::orphans::{Orphans, await_orphans};
 use crate::signals::children_ignored;
 use child_keeper::{Log, Processes};
 use disk_model::Disk;
 use exec_client::Teller;
-use exec_commands::NoticeForm;
+use exec_commands::{Left, NoticeForm};
+use exec_journal::Journal;
 use exec_lines::{Patient, RunClock, moment_now};
 use exec_options::{JournalPlace, Options, Subcommand, WordsFault, read_words};
 use exec_output::{Fault, Look, show, status};
 use exec_session::{RunContext, Way, run_lines};
 use executor::{Executor, OpenError};
 use file_disk::{FileDisk, OpenFault, RamDisk, TellsError, read_parts};
+use ocf_env::Site;
 use std::env;
 use std::io::{self, BufReader, ErrorKind};
 use std::path::Path;
@@ -121,7 +124,7 @@ fn told<D: TellsError>(
 }
 
 // Does what these words ask for, the program's name first.
-#[tactic(auto, using(crate::proofs::StartLemmas::journal_ends, crate::proofs::StartLemmas::log_ends))]
+#[tactic(auto, using(crate::proofs::StartLemmas::journal_ends, crate::proofs::StartLemmas::folder_ends, crate::proofs::StartLemmas::log_ends))]
 fn run(rt: &HostRuntime, words: &[String]) -> Result<(), Fault>
     ensures { EndsFor (map string_bytes words.now) result }
 {
@@ -137,50 +140,41 @@ fn run(rt: &HostRuntime, words: &[String]) -> Result<(), Fault>
         Ok(log) => log,
         Err(fault) => return Err(fault),
     };
-    let ended = match options.journal {
+    match options.journal {
         JournalPlace::Folder(folder) => run_in(rt, options, log, folder),
-        JournalPlace::Memory => Ok(run_on(rt, options, log, RamDisk::new(rt.alloc()))),
-    };
-    match ended {
-        Ok(ended) => ended,
-        Err(fault) => Err(fault),
+        JournalPlace::Memory => run_on(rt, options, log, RamDisk::new(rt.alloc())),
     }
 }
 
 // Does what the options ask for with the journal in this folder, or says why there is none.
-fn run_in(
-    rt: &HostRuntime,
-    options: Options,
-    log: Log,
-    folder: &str,
-) -> Result<Result<(), Fault>, Fault>
-    ensures ends { IfOk result IsRunEnd }
-    ensures not_opened { IsNotOpened result }
+#[tactic(auto, using(crate::proofs::StartLemmas::opened_ends, crate::proofs::StartLemmas::not_opened_ends))]
+fn run_in(rt: &HostRuntime, options: Options, log: Log, folder: &str) -> Result<(), Fault>
+    ensures { IsFolderEnd result }
 {
     match options.subcommand {
         Subcommand::Show | Subcommand::Status => show_files(rt, options, folder),
         Subcommand::Run | Subcommand::Serve => {
             let disk = found(rt, folder, open_files(rt, folder))?;
-            Ok(run_on(rt, options, log, disk))
+            run_on(rt, options, log, disk)
         }
     }
 }
 
 // Shows the journal in this folder, which another program may be writing. Damage is told where it is found each time that
 // the files are read.
-fn show_files(rt: &HostRuntime, options: Options, folder: &str) -> Result<Result<(), Fault>, Fault>
-    ensures ends { IfOk result IsRunEnd }
-    ensures not_opened { IsNotOpened result }
+#[tactic(auto, using(crate::proofs::StartLemmas::opened_ends, crate::proofs::StartLemmas::not_opened_ends))]
+fn show_files(rt: &HostRuntime, options: Options, folder: &str) -> Result<(), Fault>
+    ensures { IsFolderEnd result }
 {
     for _ in 1..LOOKS {
         let disk = found(rt, folder, read_parts(rt, rt.alloc(), folder))?;
         let ended = show_on(rt, options, disk);
         if !matches!(ended, Err(Fault::Damaged(_))) {
-            return Ok(ended);
+            return ended;
         }
     }
     let disk = found(rt, folder, read_parts(rt, rt.alloc(), folder))?;
-    Ok(show_on(rt, options, disk))
+    show_on(rt, options, disk)
 }
 
 // How a status is looked at: now, and in colour on a terminal alone.
@@ -250,11 +244,37 @@ fn opening_fault(why: OpenError) -> Fault
     }
 }
 
-// What a notice tells: a client that is served need not ask when an action began and ended.
-fn form_of(way: Way) -> NoticeForm {
+// What a notice tells: a client that is served need not ask when an action began and ended, and which process lives on of it.
+fn form_of(way: Way, left: &[Left]) -> NoticeForm<'_> {
     match way {
         Way::Run => NoticeForm::Short,
-        Way::Serve => NoticeForm::Timed,
+        Way::Serve => NoticeForm::Timed(left),
+    }
+}
+
+// Waits for what is left of the actions that a journal finds interrupted, before their interruption is recorded; what lives on.
+// Why a journal cannot be read is found once more when it is opened.
+fn await_interrupted<D: Disk + Drop>(
+    rt: &HostRuntime,
+    options: Options,
+    site: &Site,
+    disk: D,
+) -> (D, Vec<Left>) {
+    let none = Vec::new(rt.alloc());
+    let JournalPlace::Folder(folder) = options.journal else {
+        return (disk, none);
+    };
+    let how = Orphans {
+        folder,
+        limit: options.orphans,
+        leave: options.leave_orphans,
+    };
+    match Journal::open(rt.alloc(), disk) {
+        Ok((journal, state)) => {
+            let left = await_orphans(rt, how, site, &state);
+            (journal.into_disk(), left)
+        }
+        Err((_, disk)) => (disk, none),
     }
 }
 
@@ -280,16 +300,20 @@ fn run_agents<D: Disk + TellsError + Drop>(
     let (Ok(site), Ok(asked)) = (site_of(alloc, options), site_of(alloc, options)) else {
         return Err(Fault::Memory);
     };
+    let (disk, left) = await_interrupted(rt, options, &asked, disk);
     match Executor::open(alloc, disk, children, site, moment_now(rt).get()) {
         Ok((executor, report)) => {
-            wait_for_orphans(rt, &asked, &executor, options.orphans);
             let clock = RunClock::new(rt, executor.clock());
+            if let JournalPlace::Folder(folder) = options.journal {
+                leave_word(rt, folder, moment_now(&clock).get());
+            }
+            let form = form_of(way, left.as_slice());
             let context = RunContext {
                 alloc,
                 clock: &clock,
                 metadata: &SiteMetadata { rt, site: asked },
                 way,
-                form: form_of(way),
+                form,
                 most_turns: MOST_TURNS,
                 tidy_at: options.tidy_at,
             };

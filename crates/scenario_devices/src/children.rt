@@ -1,7 +1,8 @@
 //! The children of a world.
 use crate::planned::{Calls, PlannedChildren};
 use anyhow::{Context, Result};
-use child_keeper::{KillFault, Poll, Script, Scripted};
+use child_keeper::{Script, Scripted};
+use child_model::{KillFault, Poll};
 use ocf_types::StartFault;
 use std::alloc::Global;
 use std::cell::Cell;

@@ -1,7 +1,8 @@
 //! Children whose calls the world counts and plans.
 ghost use Rattle.std.specs.Prelude.{◌≡◌};
 
-use child_keeper::{Children, Entry, KillFault, Poll, Scripted};
+use child_keeper::Scripted;
+use child_model::{Children, Entry, KillFault, Poll};
 use disk_model::Disk;
 use exec_journal::Journal;
 use ocf_env::Launch;
@@ -75,6 +76,10 @@ impl Children for PlannedChildren {
     fn kill(&mut self, run: RunId) -> Result<(), KillFault> {
         self.count();
         self.scripted.kill(run)
+    }
+
+    fn end_killed(&mut self) {
+        self.scripted.end_killed();
     }
 
     fn give_up_all(&mut self) {

@@ -1,6 +1,6 @@
 //! The answers of children, as words.
 use crate::words::{BadLine, Words, named, number_of, text_of};
-use child_keeper::{KillFault, Poll};
+use child_model::{KillFault, Poll};
 use ocf_types::StartFault;
 use std::alloc::{AllocError, Global};
 use std::collections::VecDeque;

@@ -3,7 +3,7 @@ use crate::answers::{KILLS, STARTS, read_list, read_polls};
 use crate::fill::Filling;
 use crate::site::SiteWords;
 use crate::words::{BadLine, Words, named, text_of};
-use child_keeper::{KillFault, Poll};
+use child_model::{KillFault, Poll};
 use ocf_types::{Action, Check, Expect, Layout, Level, Part, RscId, StartFault, Task};
 use std::alloc::{AllocError, Global};
 use std::collections::VecDeque;

@@ -1,7 +1,7 @@
 //! An open executor.
 ghost use Rattle.std.specs.Prelude.{◌+◌, ◌≤◌, vec_len, vec_capacity};
 
-use child_keeper::Entry;
+use child_model::Entry;
 use exec_commands::{Line, LineReply, read_command};
 use executor::{Executor, OpenError, Report};
 use ocf_env::Site;

@@ -1,6 +1,7 @@
 //! Agents that are scripted.
 use anyhow::Result;
-use child_keeper::{Poll, Script, Scripted};
+use child_keeper::{Script, Scripted};
+use child_model::Poll;
 use ocf_env::{Site, Text};
 use ocf_types::StartFault;
 use std::alloc::Global;

@@ -55,7 +55,7 @@ pub fn sit(alloc: Global, disk: MemDisk, plan: Plan, output: &mut Vec<u8>) -> Re
                 clock: &shown,
                 metadata: &NoMetadata,
                 way: plan.way(),
-                form: NoticeForm::Timed,
+                form: NoticeForm::Timed(&[]),
                 most_turns: u64::MAX,
                 tidy_at: plan.tidy_at,
             };

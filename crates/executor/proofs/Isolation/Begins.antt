@@ -8,8 +8,8 @@ use Rattle.ocf_types.specs.declared.event.Change.TheVariants as change
 use Rattle.ocf_types.specs.declared.event.Step.TheVariants as step
 use Rattle.ocf_types.specs.declared.operation.Running.{Running}
 use Rattle.ocf_types.specs.declared.outcome.RunEnd.{RunEnd}
-use Rattle.child_keeper.specs.Children.{start_answer}
-use Rattle.child_keeper.specs.declared.answer.Entry.{Entry}
+use Rattle.child_model.specs.Children.{start_answer}
+use Rattle.child_model.specs.declared.answer.Entry.{Entry}
 use Rattle.exec_ledger.specs.Actives.{Active}
 use Rattle.exec_turn.specs.Actives.{result_of}
 use Rattle.exec_turn.specs.Picks.{begins}

@@ -6,7 +6,7 @@ use Rattle.ocf_types.specs.Resource.{Resource}
 use Rattle.ocf_types.specs.declared.command.RequestOf.TheVariants as asked
 use Rattle.ocf_types.specs.declared.event.Change.TheVariants as change
 use Rattle.ocf_types.specs.declared.event.Step.TheVariants as step
-use Rattle.child_keeper.specs.declared.answer.Entry.{Entry}
+use Rattle.child_model.specs.declared.answer.Entry.{Entry}
 use Rattle.executor.specs.Joins.{StandsAt}
 use Rattle.executor.specs.Sessions.{Input}
 use Rattle.executor.specs.Isolated.{Alone, Isolated, IsolatedBegin, IsolatedRest, IsolatedTakes, above_call, above_run, cut, has_monitor, isolated_after, isolated_after_all, isolated_answer, isolated_changed, isolated_sets}

@@ -12,10 +12,10 @@ use Rattle.ocf_types.specs.Resource.{Resource}
 use Rattle.ocf_types.specs.State.{State, after, after_all, named, resource_at, runs_drawn}
 use Rattle.ocf_types.specs.declared.operation.Running.{Running}
 use Rattle.ocf_types.specs.declared.outcome.RunEnd.{RunEnd}
-use Rattle.child_keeper.specs.Children.{kill_answer, start_answer}
-use Rattle.child_keeper.specs.declared.answer.KillFault.{KillFault}
-use Rattle.child_keeper.specs.declared.answer.Poll.{Poll}
-use Rattle.child_keeper.specs.declared.answer.Poll.TheVariants as poll
+use Rattle.child_model.specs.Children.{kill_answer, start_answer}
+use Rattle.child_model.specs.declared.answer.KillFault.{KillFault}
+use Rattle.child_model.specs.declared.answer.Poll.{Poll}
+use Rattle.child_model.specs.declared.answer.Poll.TheVariants as poll
 use Rattle.exec_ledger.specs.Actives.{Active, active, active_in, active_of}
 use Rattle.exec_turn.specs.Actives.{result_of}
 use Rattle.exec_turn.specs.Picks.{begin_of, begins}

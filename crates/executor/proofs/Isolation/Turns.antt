@@ -21,7 +21,7 @@ use Rattle.ocf_types.specs.declared.reply.TurnEnd.TheVariants.{Done}
 use Rattle.ocf_types.specs.RegistryLaws.{absent_any, distinct_filter, each_filter, keys-at_id}
 use Rattle.ocf_types.specs.Laws.{each_append, each_weaken}
 use Rattle.disk_model.specs.View.{View}
-use Rattle.child_keeper.specs.declared.answer.Entry.{Entry}
+use Rattle.child_model.specs.declared.answer.Entry.{Entry}
 use Rattle.exec_ledger.specs.Actives.{Active, active, active_of}
 use Rattle.exec_turn.specs.Picks.{ArePicks, begin_of, begins}
 use Rattle.exec_turn.specs.Polls.{IsPoll, Polled, polls, results}

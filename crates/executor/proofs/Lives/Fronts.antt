@@ -8,10 +8,10 @@ use Rattle.std.proofs.lemmas.List.Elements.{Contains-append_left, Contains-appen
 use Rattle.ocf_types.specs.Kinds.{Event}
 use Rattle.ocf_types.specs.State.{State, after_all}
 use Rattle.disk_model.specs.Image.{Image}
-use Rattle.child_keeper.specs.Children.{Asked, IsOfStart}
-use Rattle.child_keeper.specs.declared.answer.Answer.{Answer}
-use Rattle.child_keeper.specs.declared.answer.Answer.TheVariants as asked
-use Rattle.child_keeper.specs.declared.answer.Entry.{Entry}
+use Rattle.child_model.specs.Children.{Asked, IsOfStart}
+use Rattle.child_model.specs.declared.answer.Answer.{Answer}
+use Rattle.child_model.specs.declared.answer.Answer.TheVariants as asked
+use Rattle.child_model.specs.declared.answer.Entry.{Entry}
 use Rattle.exec_journal.specs.Found.{FoundAs}
 use Rattle.exec_ledger.specs.Laws.{asked_in, asked_none, asked_one}
 use Rattle.exec_ledger.specs.Pieces.{HasBegin, is_begin}

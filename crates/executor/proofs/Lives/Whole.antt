@@ -9,7 +9,7 @@ use Rattle.ocf_types.specs.State.{State, after, after_all, empty}
 use Rattle.ocf_types.specs.declared.reply.Notice.{Notice}
 use Rattle.disk_model.specs.Image.{Image}
 use Rattle.disk_model.specs.View.{Lawful, View}
-use Rattle.child_keeper.specs.Children.{ChildrenView}
+use Rattle.child_model.specs.Children.{ChildrenView}
 use Rattle.two_parts.specs.declared.choice.Choice.{Choice}
 use Rattle.two_parts.specs.declared.damage.Damage.{Damage}
 use Rattle.exec_journal.specs.Found.{Damaged, Finding, Finds, FoundAs, IsFirstPart, IsFound, IsFreshPair, IsToWrite, Whole}

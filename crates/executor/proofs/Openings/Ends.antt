@@ -6,7 +6,7 @@ use Rattle.ocf_types.specs.Due.{due_at}
 use Rattle.ocf_types.specs.Laws.{quiet}
 use Rattle.ocf_types.specs.State.{State, after}
 use Rattle.ocf_types.specs.declared.reply.Notice.{Notice}
-use Rattle.child_keeper.specs.Children.{Admits, ChildrenView, given_up}
+use Rattle.child_model.specs.Children.{Admits, ChildrenView, given_up}
 use Rattle.disk_model.specs.Image.{Image}
 use Rattle.disk_model.specs.Laws.{joined, passed_on, supposed, weakened}
 use Rattle.disk_model.specs.Runs.{CrashesTo}

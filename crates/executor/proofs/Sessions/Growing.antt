@@ -9,7 +9,7 @@ use Rattle.ocf_types.specs.declared.refusal.Refusal.TheVariants.{Disk}
 use Rattle.ocf_types.specs.declared.reply.ReplyOf.TheVariants.{Refused, Turn, Accepted, Done, History, Info, List as ListOf}
 use Rattle.ocf_types.specs.declared.reply.TurnEnd.{TurnEnd}
 use Rattle.disk_model.specs.View.{View, Lawful}
-use Rattle.child_keeper.specs.declared.answer.Entry.{Entry}
+use Rattle.child_model.specs.declared.answer.Entry.{Entry}
 use Rattle.exec_ledger.specs.Scenes.{due_after_all}
 use Rattle.executor.specs.Sessions.{Effects, Input, Session, Takes, TakesWhile, followed_by, no_effects, request_effects, Leads, Sits, TakesOpen, command_effects}
 use Rattle.executor.specs.Sights.{Beside, Sight, due_in, ledger_of, IsSound, Keeps}
@@ -18,7 +18,7 @@ use Rattle.ocf_types.specs.declared.command.RequestOf.TheVariants as asked
 use Rattle.ocf_types.specs.declared.refusal.Refusal.{Refusal}
 use Rattle.disk_model.specs.Laws.{joined as runs_joined, left_now, started}
 use Rattle.disk_model.specs.Runs.{CrashesTo}
-use Rattle.child_keeper.specs.Children.{ChildrenView}
+use Rattle.child_model.specs.Children.{ChildrenView}
 use Rattle.exec_journal.specs.Room.{Roomy}
 use Rattle.exec_journal.specs.Rows.{EitherSide}
 use Rattle.exec_ledger.specs.Laws.{asked_none, due_after_all-append, joined, told}

@@ -10,13 +10,15 @@ returns-clause-app c =
     (flag_rule (codes "meta-variables")) _ c.in_ok-command.ensures c.flag.ensures.local c.flag.ensures.rule refl in
     let two = app-arg _ _ c.in_ok-command-2.command
     (text_rule (codes "log")) _ c.in_ok-command-2.ensures c.text_option.ensures.local c.text_option.ensures.rule one in
-    IfOk-weaker c.arg-3.result _ _
-    (λ r h. app-arg _ _ r
+    let three = app-arg _ _ c.in_ok-command-3.command
     (text_rule_or (codes "orphans")
-    (codes "20000")) _ h c.text_option_or.ensures.local c.text_option_or.ensures.rule two) c.arg-3.ensures
+    (codes "20000")) _ c.in_ok-command-3.ensures c.text_option_or.ensures.local c.text_option_or.ensures.rule two in
+    IfOk-weaker c.arg-4.result _ _
+    (λ r h. app-arg _ _ r (flag_rule (codes "leave-orphans")) _ h c.flag-2.ensures.local c.flag-2.ensures.rule three) c.arg-4.ensures
 
 pub returns-clause-local : goal.returns-clause-local
 returns-clause-local c =
     let one = local-arg _ _ c.in_ok-command.command _ c.in_ok-command.ensures c.flag.ensures.local refl in
     let two = local-arg _ _ c.in_ok-command-2.command _ c.in_ok-command-2.ensures c.text_option.ensures.local one in
-    IfOk-weaker c.arg-3.result _ _ (λ r h. local-arg _ _ r _ h c.text_option_or.ensures.local two) c.arg-3.ensures
+    let three = local-arg _ _ c.in_ok-command-3.command _ c.in_ok-command-3.ensures c.text_option_or.ensures.local two in
+    IfOk-weaker c.arg-4.result _ _ (λ r h. local-arg _ _ r _ h c.flag-2.ensures.local three) c.arg-4.ensures

@@ -1,5 +1,5 @@
 use Rattle.std.proofs.Common.{sym, ◌∙◌}
-use Rattle.child_keeper.specs.declared.answer.Poll.TheVariants as poll
+use Rattle.child_model.specs.declared.answer.Poll.TheVariants as poll
 use Rattle.exec_turn.proofs.PollSteps.{polled_late}
 use Rattle.exec_turn.proofs.polls.ask.Goals as goal
 

@@ -1,10 +1,10 @@
 use Rattle.std.proofs.Common.{◌≡◌, ◌+◌, ◌++◌, ◌∙◌, List, [], ◌∷◌, Option, take, drop, length, map, refl, sym, ap, subst, arith, append_assoc}
 use Rattle.std.proofs.lemmas.List.{append-nil, drop_more, map-append, take_more}
 use Rattle.ocf_types.specs.declared.reply.Notice.{Notice}
-use Rattle.child_keeper.specs.Children.{ChildrenView}
+use Rattle.child_model.specs.Children.{ChildrenView}
 use Rattle.exec_journal.specs.Journal.{journal_disk}
 use Rattle.ocf_env.specs.Places.{Call, SiteView}
-use Rattle.child_keeper.specs.MayStart.{IsLaunch}
+use Rattle.child_model.specs.MayStart.{IsLaunch}
 use Rattle.exec_ledger.specs.Actives.{Active}
 use Rattle.exec_turn.specs.Actives.{notice_of}
 use Rattle.exec_turn.specs.Launches.{IsOfOne, all_starting, what_starts}

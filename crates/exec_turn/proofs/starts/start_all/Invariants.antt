@@ -1,7 +1,7 @@
 use Rattle.std.proofs.Common.{◌≡◌, ◌≤◌, ◌+◌, ◌++◌, List, take, drop, length, vec_len}
 use Rattle.std.specs.Vec.{vec_capacity}
 use Rattle.ocf_types.specs.declared.reply.Notice.{Notice}
-use Rattle.child_keeper.specs.Children.{live_limit}
+use Rattle.child_model.specs.Children.{live_limit}
 use Rattle.exec_journal.specs.Journal.{journal_disk}
 use Rattle.exec_turn.specs.Launches.{all_starting}
 use Rattle.exec_turn.specs.Starts.{Rising, Starts}

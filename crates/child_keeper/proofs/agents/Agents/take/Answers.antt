@@ -1,5 +1,5 @@
-use Rattle.std.proofs.Common.{◌≡◌, ap, arith, length, not, rules, subst, sym, vec_len, ◌∙◌}
-use Rattle.std.specs.Prelude.{◌==◌, slice_index_or}
+use Rattle.std.proofs.Common.{◌≡◌, ap, arith, length, not, rules, sym, vec_len, ◌∙◌}
+use Rattle.std.specs.Prelude.{◌==◌}
 use Rattle.std.proofs.lemmas.Fn.{filter_same}
 use Rattle.child_keeper.specs.Agents.{others_of, runs_of}
 use Rattle.child_keeper.proofs.AgentLemmas.{run_at, runs-others, taken}
@@ -18,11 +18,7 @@ returns g c =
     let run_is = ap (λ a. a.run) c.remove-agent.ensures.value ∙ run_at (λ a. a.run) c.args.run place children agent at in
     record {
       gone = ap runs_of others ∙ runs-others (λ a. a.run) c.args.run children;
-      child = (
-        place,
-        omega (arith, size, c.place-place.ensures.within),
-        subst (λ r. let a = record agent { run = r } in slice_index_or children place a ≡ a) run_is
-            (sym c.remove-agent.ensures.value),
-      );
+      agent = (place, omega (arith, size, c.place-place.ensures.within), sym c.remove-agent.ensures.value);
+      run = run_is;
       others = others;
     }

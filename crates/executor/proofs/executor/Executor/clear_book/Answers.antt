@@ -1,5 +1,5 @@
 use Rattle.std.proofs.Common.{subst, sym}
-use Rattle.child_keeper.specs.Children.{ChildrenView}
+use Rattle.child_model.specs.Children.{ChildrenView}
 use Rattle.exec_turn.specs.Turns.{told_of}
 use Rattle.executor.specs.Sights.{Tends, sight}
 use Rattle.executor.proofs.executor.Executor.clear_book.Goals as goal

@@ -1,7 +1,7 @@
 use Rattle.std.proofs.Common.{◌≡◌, Bool, true, true≢false, refl, sym, subst, ◌∙◌}
 use Rattle.ocf_types.specs.declared.reply.TurnEnd.{TurnEnd}
 use Rattle.ocf_types.specs.Answer.{moment}
-use Rattle.child_keeper.specs.Children.{Admits}
+use Rattle.child_model.specs.Children.{Admits}
 use Rattle.exec_ledger.specs.Scenes.{scene_of}
 use Rattle.exec_turn.specs.Turn.{IsTurn}
 use Rattle.exec_turn.specs.Turns.{told_of}

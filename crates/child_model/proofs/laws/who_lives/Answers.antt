@@ -1,9 +1,9 @@
 use Rattle.std.proofs.Common.{◌≡◌, ◌≢◌, ◌↔◌, ◌⊎◌, inl, inr, ℕ, List, Contains, refl}
-use Rattle.child_keeper.specs.Children.{live_polled, without_run}
-use Rattle.child_keeper.specs.Laws.{kept, lived}
-use Rattle.child_keeper.specs.declared.answer.Poll.{Poll}
-use Rattle.child_keeper.specs.declared.answer.Poll.TheVariants as poll
-use Rattle.child_keeper.proofs.laws.who_lives.Goals as goal
+use Rattle.child_model.specs.Children.{live_polled, without_run}
+use Rattle.child_model.specs.Laws.{kept, lived}
+use Rattle.child_model.specs.declared.answer.Poll.{Poll}
+use Rattle.child_model.specs.declared.answer.Poll.TheVariants as poll
+use Rattle.child_model.proofs.laws.who_lives.Goals as goal
 
 -- after an answer that the child does not run
 ended : (run r : ℕ) (live : List ℕ) (answer : Poll) → (answer ≡ poll.Running → ⊥) → Contains (without_run run live) r

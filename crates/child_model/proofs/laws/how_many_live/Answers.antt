@@ -1,9 +1,9 @@
 use Rattle.std.proofs.Common.{◌≢◌, ℕ, ◌+◌, ◌≤◌, List, Contains, length, arith, refl}
-use Rattle.child_keeper.specs.Children.{live_polled}
-use Rattle.child_keeper.specs.Laws.{fewer, no_more}
-use Rattle.child_keeper.specs.declared.answer.Poll.{Poll}
-use Rattle.child_keeper.specs.declared.answer.Poll.TheVariants as poll
-use Rattle.child_keeper.proofs.laws.how_many_live.Goals as goal
+use Rattle.child_model.specs.Children.{live_polled}
+use Rattle.child_model.specs.Laws.{fewer, no_more}
+use Rattle.child_model.specs.declared.answer.Poll.{Poll}
+use Rattle.child_model.specs.declared.answer.Poll.TheVariants as poll
+use Rattle.child_model.proofs.laws.how_many_live.Goals as goal
 
 polled : (answer : Poll) (run : ℕ) (live : List ℕ) → length (live_polled answer run live) ≤ length live
 polled poll.Running run live = omega arith

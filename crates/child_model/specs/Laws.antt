@@ -3,8 +3,8 @@ use Rattle.std.specs.Prelude.{◌≡◌, ◌≢◌, ◌↔◌, ◌⊎◌, ℕ, z
 use Rattle.std.proofs.Common.{inl, inr, arith, sym, ◌∙◌}
 use Rattle.std.proofs.lemmas.Bool.{cond_both, eqb-false, not-true, not-false, eqb-true}
 use Rattle.std.proofs.lemmas.List.Elements.{All-contains, Contains-append_left, Contains-append_right, Contains-append_cases}
-use Rattle.child_keeper.specs.declared.answer.Entry.{Entry}
-use Rattle.child_keeper.specs.Children.{Asked, AsksNothing, IsOfStart, without_run}
+use Rattle.child_model.specs.declared.answer.Entry.{Entry}
+use Rattle.child_model.specs.Children.{Asked, AsksNothing, IsOfStart, without_run}
 
 -- a book asked for what its two parts asked for
 pub asked_append : (b c : List Entry) (run at : ℕ) → Asked (b ++ c) run at ↔ (Asked b run at ⊎ Asked c run at)

@@ -10,7 +10,7 @@ use Rattle.ocf_env.specs.Instances.{registration_of}
 use Rattle.ocf_env.specs.Invocations.{IsInvocation}
 use Rattle.ocf_env.specs.Places.{Call, SiteView}
 use Rattle.ocf_env.specs.declared.launches.LaunchOf.{LaunchOf}
-use Rattle.child_keeper.specs.Children.{Admits}
+use Rattle.child_model.specs.Children.{Admits}
 
 -- At this state an action runs under the launch's call and run in the resource of its id; the launch calls the agent that
 -- is registered there, for that action, with the parameters that are registered, at the site that is insisted on, if any.

@@ -1,8 +1,8 @@
 //! Children as the executor sees them.
 ghost use Rattle.std.specs.Prelude.{◌≡◌, ◌↔◌, ◌<◌, Contains, IsTrue, length};
 ghost use Rattle.exec_journal.specs.Journal.{journal_disk};
-ghost use Rattle.child_keeper.specs.Children.{ChildrenView, after_kill, after_poll, after_start, emptied, given_up, live_limit};
-ghost use Rattle.child_keeper.specs.MayStart.{MayStart};
+ghost use Rattle.child_model.specs.Children.{ChildrenView, after_kill, after_poll, after_start, emptied, given_up, live_limit};
+ghost use Rattle.child_model.specs.MayStart.{MayStart};
 
 use crate::{Entry, KillFault, Poll};
 use disk_model::Disk;
@@ -39,13 +39,18 @@ pub trait Children {
         requires lives { Contains (view self.old).live run }
         ensures polled { view self.new ≡ after_poll (view self.old) run result };
 
-    /// Kills a child. It lives no more, whatever the system answers.
+    /// Gives a child up to be killed. It lives no more, whatever the system answers. Its process may end as late as in the next
+    /// `end_killed`, together with all others that were killed.
     fn kill(&mut self, run: RunId) -> Result<(), KillFault>
         requires room { 0 < (view self.old).room }
         requires lives { Contains (view self.old).live run }
         ensures killed { view self.new ≡ after_kill (view self.old) run result };
 
-    /// Kills every child that lives, and adds no entry.
+    /// Ends all processes that were killed or given up since, with what each of them started, and waits for them together.
+    fn end_killed(&mut self)
+        ensures same { view self.new ≡ view self.old };
+
+    /// Kills every child that lives and ends its processes. It adds no entry.
     fn give_up_all(&mut self)
         ensures given_up { view self.new ≡ given_up (view self.old) };
 

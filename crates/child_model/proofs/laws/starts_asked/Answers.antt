@@ -1,9 +1,9 @@
 use Rattle.std.proofs.Common.{◌≡◌, inl, inr, ℕ, zero, suc, [], ◌∷◌, Ok, Err, Result, ap, arith, sym}
 use Rattle.ocf_types.specs.declared.outcome.StartFault.{StartFault}
-use Rattle.child_keeper.specs.Children.{Asked, IsOfStart, start_answer}
-use Rattle.child_keeper.specs.Laws.{asked_append}
-use Rattle.child_keeper.specs.declared.answer.Entry.{Entry}
-use Rattle.child_keeper.proofs.laws.starts_asked.Goals as goal
+use Rattle.child_model.specs.Children.{Asked, IsOfStart, start_answer}
+use Rattle.child_model.specs.Laws.{asked_append}
+use Rattle.child_model.specs.declared.answer.Entry.{Entry}
+use Rattle.child_model.proofs.laws.starts_asked.Goals as goal
 
 of_start : (answer : Result Unit StartFault) → IsOfStart (start_answer answer)
 of_start answer = tt

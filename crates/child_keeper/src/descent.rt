@@ -1,0 +1,109 @@
+//! What belongs to agents that are to end.
+use crate::agents::Agent;
+use crate::search::{Environments, Sought};
+use proc_files::{ActionMark, ProcFiles, Process};
+use std::alloc::{AllocError, Allocator};
+use std::process::OpenProcess;
+use std::{io, slice};
+
+/// Agents that are to end, and their background jobs in the session of this process.
+#[derive(Drop)]
+pub struct AgentsSought<'a, R, P: OpenProcess + Drop, A: Allocator> {
+    rt: &'a R,
+    agents: &'a [Agent<P>],
+    own: Process,
+    environments: Environments<A>,
+}
+
+// The agent whose process this is: a child of this process, under the agent's number.
+fn agent_of<'a, P: OpenProcess + Drop>(
+    process: &Process,
+    own: &Process,
+    agents: &'a [Agent<P>],
+) -> Option<&'a Agent<P>> {
+    if process.parent != own.pid {
+        return None;
+    }
+    agents.iter().find(|agent| agent.child.id() == process.pid)
+}
+
+// The actions of the agents that the table has, by which their background jobs are known.
+fn marks<'a, P: OpenProcess + Drop, A: Allocator + Copy>(
+    alloc: A,
+    table: &[Process],
+    own: &'a Process,
+    agents: &'a [Agent<P>],
+) -> Result<Vec<ActionMark<'a>, A>, AllocError> {
+    let mut marks = Vec::new(alloc);
+    for process in table {
+        if let Some(agent) = agent_of(process, own, agents) {
+            let sessions = slice::from_ref(&own.session);
+            marks.push(ActionMark::of(agent.id.as_bytes(), process, sessions))?;
+        }
+    }
+    Ok(marks)
+}
+
+impl<'a, R: ProcFiles, P: OpenProcess + Drop, A: Allocator + Copy> AgentsSought<'a, R, P, A> {
+    /// It fails where `/proc` does not show this process, or memory is refused.
+    pub fn new(
+        rt: &'a R,
+        alloc: A,
+        agents: &'a [Agent<P>],
+    ) -> io::Result<AgentsSought<'a, R, P, A>> {
+        Ok(AgentsSought {
+            rt,
+            agents,
+            own: rt.own()?,
+            environments: Environments::new(alloc)?,
+        })
+    }
+}
+
+impl<R: ProcFiles, P: OpenProcess + Drop, M: Allocator + Copy> Sought
+    for AgentsSought<'_, R, P, M> {
+    fn among<A: Allocator + Copy>(
+        &mut self,
+        alloc: A,
+        table: &[Process],
+    ) -> Result<Vec<Process, A>, AllocError> {
+        let marks = marks(alloc, table, &self.own, self.agents)?;
+        let mut found = Vec::new(alloc);
+        for process in table {
+            let is_agent = agent_of(process, &self.own, self.agents).is_some();
+            if is_agent
+                || self
+                    .environments
+                    .is_job_of_any(self.rt, process, marks.as_slice())
+            {
+                found.push(*process)?;
+            }
+        }
+        Ok(found)
+    }
+}
+
+/// A child of this process, under its number.
+#[derive(Drop)]
+pub struct ChildSought<'a, R> {
+    pub rt: &'a R,
+    pub pid: u32,
+}
+
+impl<R: ProcFiles> Sought for ChildSought<'_, R> {
+    fn among<A: Allocator + Copy>(
+        &mut self,
+        alloc: A,
+        table: &[Process],
+    ) -> Result<Vec<Process, A>, AllocError> {
+        let mut found = Vec::new(alloc);
+        if let Ok(own) = self.rt.own() {
+            let child = table.iter().find(|process| process.pid == self.pid
+                && process.parent == own.pid);
+            if let Some(child) = child {
+                found.push(*child)?;
+            }
+        }
+        Ok(found)
+    }
+}

@@ -1,0 +1,3 @@
+pub mod Children
+pub mod Laws
+pub mod MayStart

@@ -1,0 +1,76 @@
+//! Laws of children and of their book, each the contract of a function that does nothing.
+ghost use Rattle.std.specs.Prelude.{◌≡◌, ◌≢◌, ◌↔◌, ◌⊎◌, ℕ, ◌+◌, ◌≤◌, List, ◌++◌, Contains, IsOk, Result};
+ghost use Rattle.std.specs.Prelude.{cond, is_ok, length};
+ghost use Rattle.ocf_types.specs.declared.outcome.StartFault.{StartFault};
+ghost use Rattle.child_model.specs.Children.{Adds, Asked, AsksNothing, ChildrenView, after_kill, after_poll, after_start, emptied};
+ghost use Rattle.child_model.specs.Children.{given_up, kill_answer, poll_answer, start_answer};
+ghost use Rattle.child_model.specs.declared.answer.Entry.{Entry};
+ghost use Rattle.child_model.specs.declared.answer.KillFault.{KillFault};
+ghost use Rattle.child_model.specs.declared.answer.Poll.{Poll};
+ghost use Rattle.child_model.specs.declared.answer.Poll.TheVariants.{Running};
+
+/// A call adds one entry at the end of the book and of the log, of the run that it names, with the answer that it returned.
+/// The log of all answers ever stays where the book is emptied or the children are given up.
+pub fn one_entry()
+    ensures start { (v : ChildrenView) (run at : ℕ) (answer : Result Unit StartFault)
+        → Adds v (after_start v run at answer)
+        (record { run = run; at = at; answer = start_answer answer }) }
+    ensures poll { (v : ChildrenView) (run : ℕ) (answer : Poll)
+        → Adds v (after_poll v run answer)
+        (record { run = run; at = 0; answer = poll_answer answer }) }
+    ensures kill { (v : ChildrenView) (run : ℕ) (answer : Result Unit KillFault)
+        → Adds v (after_kill v run answer)
+        (record { run = run; at = 0; answer = kill_answer answer }) }
+    ensures stays { (v : ChildrenView) → ((emptied v).log ≡ v.log) × ((given_up v).log ≡ v.log) }
+{}
+
+/// An entry tells what its call answered: no two answers to a start are told alike, and so for a poll and a kill.
+pub fn answers_are_told()
+    ensures start { (a b : Result Unit StartFault) → start_answer a ≡ start_answer b → a ≡ b }
+    ensures poll { (a b : Poll) → poll_answer a ≡ poll_answer b → a ≡ b }
+    ensures kill { (a b : Result Unit KillFault) → kill_answer a ≡ kill_answer b → a ≡ b }
+{}
+
+/// A book asked for the starts of its parts, and an empty one for none. A start's entry asks for its run at its count of
+/// device calls and for nothing else; those of polls and kills ask for nothing.
+pub fn starts_asked()
+    ensures joined { (b c : List Entry) (run at : ℕ) → Asked (b ++ c) run at
+        ↔ (Asked b run at ⊎ Asked c run at) }
+    ensures none { (entries : List Entry) (run at : ℕ) → AsksNothing entries → Asked entries run at
+        → ⊥ }
+    ensures start { (v : ChildrenView) (run at r t : ℕ) (answer : Result Unit StartFault)
+        → Asked (after_start v run at answer).book r t
+        ↔ (Asked v.book r t ⊎ ((r ≡ run) × (t ≡ at))) }
+    ensures poll { (v : ChildrenView) (run r t : ℕ) (answer : Poll)
+        → Asked (after_poll v run answer).book r t ↔ Asked v.book r t }
+    ensures kill { (v : ChildrenView) (run r t : ℕ) (answer : Result Unit KillFault)
+        → Asked (after_kill v run answer).book r t
+        ↔ Asked v.book r t }
+{}
+
+/// After a call a run lives just where it lived before, but the one that is named: it lives after a start that was done,
+/// and not after a kill or after a poll that says anything but that it runs.
+pub fn who_lives()
+    ensures start { (v : ChildrenView) (run at r : ℕ) (answer : Result Unit StartFault)
+        → Contains (after_start v run at answer).live r
+        ↔ (Contains v.live r ⊎ (IsOk answer × (r ≡ run))) }
+    ensures poll { (v : ChildrenView) (run r : ℕ) (answer : Poll)
+        → Contains (after_poll v run answer).live r
+        ↔ (Contains v.live r × ((answer ≡ Running) ⊎ (r ≢ run))) }
+    ensures kill { (v : ChildrenView) (run r : ℕ) (answer : Result Unit KillFault)
+        → Contains (after_kill v run answer).live r ↔ (Contains v.live r × (r ≢ run)) }
+{}
+
+/// A start that is done is one more live run, one that is refused none. A poll is none more, and at least one fewer where
+/// the run lived and the answer is not that it runs; so is a kill where the run lived.
+pub fn how_many_live()
+    ensures start { (v : ChildrenView) (run at : ℕ) (answer : Result Unit StartFault)
+        → length (after_start v run at answer).live ≡ length v.live + cond (is_ok answer) 1 0 }
+    ensures poll { (v : ChildrenView) (run : ℕ) (answer : Poll)
+        → length (after_poll v run answer).live ≤ length v.live }
+    ensures ended { (v : ChildrenView) (run : ℕ) (answer : Poll)
+        → Contains v.live run → answer ≢ Running
+        → length (after_poll v run answer).live + 1 ≤ length v.live }
+    ensures kill { (v : ChildrenView) (run : ℕ) (answer : Result Unit KillFault)
+        → Contains v.live run → length (after_kill v run answer).live + 1 ≤ length v.live }
+{}
