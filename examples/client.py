@@ -54,6 +54,9 @@ class Executor:
     def hears(self, seconds=None):
         """The next reply, waited for so long at most; a result is printed and kept, and gives None, as nothing does."""
         line = self.line(seconds)
+        if line is not None and "end" in line:  # of a turn that the executor made by itself, and makes again unless its disk failed
+            print(f"the executor's turn ended: {line['end']}", file=sys.stderr)
+            return None
         if line is None or "outcome" not in line:
             return line
         print(json.dumps(line, separators=(",", ":")), flush=True)

@@ -29,7 +29,7 @@ class Executor:
         return json.loads(line)
 
     def hears(self, seconds):
-        """The next line, of a reply or of a result; a result is recorded first."""
+        """The next line, of a reply, of a result, or of how a turn ended that was made by itself; a result is recorded first."""
         line = self.line(seconds)
         if line is not None and "outcome" in line:
             self.record.add(line.pop("id"), line)
@@ -42,7 +42,7 @@ class Executor:
             self.process.stdin.flush()
         except OSError:  # it has ended: what it still told is read first
             pass
-        while (reply := self.hears(0.1)) is None or "outcome" in reply:
+        while (reply := self.hears(0.1)) is None or "outcome" in reply or "end" in reply:
             self.idle()
         if reply.get("error") not in (None, *allowed):
             self.close()

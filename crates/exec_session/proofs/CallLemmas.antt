@@ -11,12 +11,13 @@ use Rattle.disk_model.specs.View.{View}
 use Rattle.executor.specs.Sights.{Sight}
 use Rattle.executor.specs.TurnCalls.{with_empty_book}
 use Rattle.exec_commands.specs.declared.ends.DrainEnd.{DrainEnd}
+use Rattle.exec_commands.specs.declared.ends.DrainEnd.TheVariants.{Turn}
 use Rattle.exec_commands.specs.declared.line.Line.{Line}
 use Rattle.exec_commands.specs.declared.line.Line.TheVariants as line
 use Rattle.exec_commands.specs.declared.reply.LineReply.{LineReply}
 use Rattle.exec_commands.specs.declared.reply.LineReply.TheVariants as answer
 use Rattle.exec_client.specs.Behind.{nothing}
-use Rattle.exec_client.specs.Heard.{Heard, IsTold}
+use Rattle.exec_client.specs.Heard.{Heard, Hears, IsTold}
 use Rattle.exec_client.specs.MayTell.{StandsBehind}
 use Rattle.exec_client.specs.Said.{Answered, Noticed, Said, answered}
 use Rattle.exec_client.proofs.Behinds.{says_none}
@@ -25,7 +26,7 @@ use Rattle.exec_session.specs.Answers.{IsOpenReply, IsReply, ServesNow, Source}
 use Rattle.exec_session.specs.Drains.{Drains, GoesOn, MakesTurn, Spot, at_start, further, spot}
 use Rattle.exec_session.specs.Rules.{Rules, MakesRoom, is_tidy_due}
 use Rattle.exec_session.specs.Progress.{Position, Takes}
-use Rattle.exec_session.specs.Runs.{GoesByCalls, Reaches, closed_line, here, line as one_line, row, turn as one_turn}
+use Rattle.exec_session.specs.Runs.{GoesByCalls, MakesOwnTurn, NewsHeard, Reaches, closed_line, here, line as one_line, news, no_news, row, turn as one_turn}
 use Rattle.exec_session.specs.Together.{AnswersTogether}
 use Rattle.exec_session.specs.declared.drain.Terms.{Terms}
 use Rattle.exec_session.specs.declared.lines.Progress.{Progress}
@@ -207,15 +208,28 @@ module _ {D : Type 0} (look : D → View) where
     next_goes source p q progress.PassedOver takes = unmoved p q takes.1.0 takes.1.1
     next_goes source p q progress.End takes = unmoved p q takes.1.0 takes.1.1
 
+    -- how an own turn ended, which is told where it is news
+    news_go : (before end : TurnEnd) (x : Sight D) (h h' : Heard D) → NewsHeard (Hears rules.form) before end h h'
+        → Goes (spot x h) (spot x h')
+    news_go before end x h h' (news is hears) = plain_go (spot x h) h' (answer.Drain (Turn end)) (refl, tt) hears.told
+    news_go before end x h h' (no_news none same) = stays (spot x h) (spot x h') (ap (λ (g : Heard D). spot x g) same)
+
+    own_turn_goes : (now : ℕ) (before : TurnEnd) (p q : Spot D) (end : TurnEnd) → p.executor.is_open ≡ true
+        → MakesOwnTurn look rules now before p q end → Goes p q
+    own_turn_goes now before p q end is_open own =
+        both_go p (spot q.executor own.noticed) q (turn_goes now p (spot q.executor own.noticed) end is_open own.made)
+        (news_go before end q.executor own.noticed q.heard own.told)
+
     -- line after line, and turns between them
-    pub lines_go : (source : Source) (p : Position D) (n : ℕ) (q : Position D) → Reaches look source rules p n q → Moves p q
-    lines_go source p _ _ here = here_still (spot p.executor p.heard)
-    lines_go source p _ _ (one_line n m q s reaches may takes) =
-        both_go _ (spot m.executor m.heard) _ (lines_go source p n m reaches) (next_goes source m q s takes)
-    lines_go source p _ _ (row n m q first others reaches is_open may answers) =
-        both_go _ (spot m.executor m.heard) _ (lines_go source p n m reaches)
+    pub lines_go : (source : Source) (p : Position D) (own : TurnEnd) (n : ℕ) (q : Position D) → Reaches look source rules p own n q
+        → Moves p q
+    lines_go source p _ _ _ here = here_still (spot p.executor p.heard)
+    lines_go source p _ _ _ (one_line own n m q s reaches is_open may takes) =
+        both_go _ (spot m.executor m.heard) _ (lines_go source p own n m reaches) (next_goes source m q s takes)
+    lines_go source p _ _ _ (row own n m q first others reaches is_open may answers) =
+        both_go _ (spot m.executor m.heard) _ (lines_go source p own n m reaches)
         (together_goes (first ∷ others) _ _ is_open answers.answered)
-    lines_go source p _ _ (closed_line n m q s reaches closed takes) =
-        both_go _ (spot m.executor m.heard) _ (lines_go source p n m reaches) (next_goes source m q s takes)
-    lines_go source p _ _ (one_turn n now m q end reaches may is_open made left) =
-        both_go _ (spot m.executor m.heard) _ (lines_go source p n m reaches) (turn_goes now _ _ end is_open made)
+    lines_go source p _ _ _ (closed_line own n m q s reaches closed goes_on takes) =
+        both_go _ (spot m.executor m.heard) _ (lines_go source p own n m reaches) (next_goes source m q s takes)
+    lines_go source p _ _ _ (one_turn own n now m q end reaches may is_open made left) =
+        both_go _ (spot m.executor m.heard) _ (lines_go source p own n m reaches) (own_turn_goes now own _ _ end is_open made)

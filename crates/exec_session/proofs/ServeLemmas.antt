@@ -1,9 +1,11 @@
 -- A run that serves, read by read and turn by turn.
-use Rattle.std.proofs.Common.{◌≡◌, ◌≢◌, ℕ, ◌+◌, ◌≤◌, Bool, true, false, List, [], Option, Some, None, MatchOption}
-use Rattle.std.proofs.Common.{refl, sym, ap, subst, ◌∙◌, inl, inr, arith, take_all}
+use Rattle.std.proofs.Common.{◌≡◌, ◌≢◌, ℕ, ◌+◌, ◌≤◌, true, false, List, [], Option, Some, None, MatchOption}
+use Rattle.std.proofs.Common.{refl, sym, subst, ◌∙◌, inl, arith, take_all}
 use Rattle.std.proofs.lemmas.List.Elements.{All-nil}
 use Rattle.std.proofs.KnownBytes.{Consumes-nil}
 use Rattle.ocf_types.specs.Kinds.{Command}
+use Rattle.ocf_types.specs.declared.reply.TurnEnd.{TurnEnd}
+use Rattle.ocf_types.specs.declared.reply.TurnEnd.TheVariants.{Done}
 use Rattle.disk_model.specs.View.{View}
 use Rattle.executor.specs.Sights.{Sight}
 use Rattle.exec_lines.specs.Pieces.{IsMidLine}
@@ -12,13 +14,15 @@ use Rattle.exec_session.specs.Answers.{Source}
 use Rattle.exec_session.specs.Drains.{spot, Spot}
 use Rattle.exec_session.specs.Rules.{Rules}
 use Rattle.exec_session.specs.Progress.{Position, position}
-use Rattle.exec_session.specs.Runs.{MakesTurns, MayTake, turn}
-use Rattle.exec_session.specs.Serving.{ComesMidOrEnds, HasComeMid, TurnsAlone}
+use Rattle.exec_session.specs.Runs.{MakesOwnTurn, MakesTurns, MayGoOn, MayTake, Reaches, ReachesFault, turn}
+use Rattle.exec_session.specs.Serving.{ComesMidOrEnds, HasComeMid}
 use Rattle.exec_session.specs.Together.{AnswersAll}
-use Rattle.exec_session.specs.Waiting.{ComesOrEnds, HasCome}
+use Rattle.exec_session.specs.Waiting.{ComesOrEnds, HasCome, IsTaken}
+use Rattle.exec_session.specs.declared.lines.Taken.{Taken}
+use Rattle.exec_session.specs.declared.lines.Taken.TheVariants as taken
 use Rattle.exec_session.specs.declared.context.Way.{Way}
 use Rattle.exec_session.specs.declared.context.Way.TheVariants.{Run, Serve}
-use Rattle.exec_session.proofs.WaitLemmas.{all_answered, at_first, at_line, come_more}
+use Rattle.exec_session.proofs.WaitLemmas.{answered_step, at_first, at_line, come_more, go_open}
 
 pub at_none : {A : Type 0} (o : Option A) (P : Type 0) (Q : A → Type 0) → o ≡ None → MatchOption o P Q → P
 at_none None P Q is m = m
@@ -40,36 +44,53 @@ pub turns_serve : (way : Way) → way ≡ Serve → MakesTurns way
 turns_serve Run is = absurd cc
 turns_serve Serve is = tt
 
-module _ {D : Type 0} (look : D → View) (source : Source) (rules : Rules) (p : Position D) where
+-- nothing is done yet
+pub first_mid : {D : Type 0} (look : D → View) (source : Source) (rules : Rules) (p : Position D) (kept : List ℕ) → kept ≡ []
+    → MayGoOn rules.way p.executor → HasComeMid look source rules p Done 0 [] kept p
+first_mid look source rules p kept none goes_on = (p.left, begins p.left kept none, at_first look source rules p goes_on)
+
+open_serves : {D : Type 0} (way : Way) (x : Sight D) → way ≡ Serve → MayGoOn way x → x.is_open ≡ true
+open_serves Run x is goes_on = absurd cc
+open_serves Serve x is goes_on = goes_on
+
+module _ {D : Type 0} (look : D → View) (source : Source) (rules : Rules) (p : Position D) (own : TurnEnd) where
   abbrev Come : ℕ → List Command → Position D → Type 0
-  Come most commands q = HasCome look source rules p most commands q
+  Come most commands q = HasCome look source rules p own most commands q
 
   abbrev ComeMid : ℕ → List Command → List ℕ → Position D → Type 0
-  ComeMid most commands kept q = HasComeMid look source rules p most commands kept q
-
-  -- nothing is done yet
-  pub first_mid : (kept : List ℕ) → kept ≡ [] → ComeMid 0 [] kept p
-  first_mid kept none = (p.left, begins p.left kept none, at_first look source rules p)
+  ComeMid most commands kept q = HasComeMid look source rules p own most commands kept q
 
   -- more lines were allowed
   pub mid_more : (n m : ℕ) (commands : List Command) (kept : List ℕ) (q : Position D) → n ≤ m → ComeMid n commands kept q
       → ComeMid m commands kept q
   mid_more n m commands kept q le (left, mid, come) =
-      (left, mid, come_more look source rules p n m commands (position q.executor left q.heard) le come)
+      (left, mid, come_more look source rules p own n m commands (position q.executor left q.heard) le come)
+
+  -- a run that ends does so with more lines allowed, too
+  pub ends_more : (n m : ℕ) (cs ds : List Command) (kept : List ℕ) (q : Position D) (step : Taken) → step ≢ taken.More
+      → ComesMidOrEnds look source rules p own n cs kept q step → ComesMidOrEnds look source rules p own m ds kept q step
+  ends_more n m cs ds kept q taken.More ends come = absurd (ends refl)
+  ends_more n m cs ds kept q taken.End ends come = come
+  ends_more n m cs ds kept q taken.Closed ends come = come
 
   -- a line was taken, and the buffer is empty
-  pub mid_taken : (most : ℕ) (commands : List Command) (kept : List ℕ) (q : Position D) (ended : Bool) → kept ≡ []
-      → ComesOrEnds look source rules p most commands q ended → ComesMidOrEnds look source rules p most commands kept q ended
-  mid_taken most commands kept q false none come = (q.left, begins q.left kept none, come)
-  mid_taken most commands kept q true none end = end
+  pub mid_taken : (most : ℕ) (commands : List Command) (kept : List ℕ) (q : Position D) (step : Taken) → kept ≡ []
+      → ComesOrEnds look source rules p own most commands q step → ComesMidOrEnds look source rules p own most commands kept q step
+  mid_taken most commands kept q taken.More none come = (q.left, begins q.left kept none, come)
+  mid_taken most commands kept q taken.End none end = end
+  mid_taken most commands kept q taken.Closed none fault = fault
 
   -- all that wait are answered
   pub mid_answered : (most : ℕ) → ((n : ℕ) → n + 1 ≤ most → MayTake rules.way n) → (commands : List Command) (kept : List ℕ)
-      (old new : Sight D) (now : Option (List ℕ)) (heard heard' : Heard D)
+      (old new : Sight D) (now : Option (List ℕ)) (heard heard' : Heard D) (step : Taken)
       → (commands ≢ [] → old.is_open ≡ true) → ComeMid most commands kept (position old now heard)
-      → AnswersAll look rules commands (spot old heard) (spot new heard') → ComeMid most [] kept (position new now heard')
-  mid_answered most may commands kept old new now heard heard' is_open (left, mid, come) answers =
-      (left, mid, all_answered look source rules p most may commands old new left heard heard' is_open come answers)
+      → AnswersAll look rules commands (spot old heard) (spot new heard') → IsTaken rules.way new false step
+      → ComesMidOrEnds look source rules p own most [] kept (position new now heard') step
+  mid_answered most may commands kept old new now heard heard' taken.More is_open (left, mid, come) answers is =
+      (left, mid, answered_step look source rules p own most may commands old new left heard heard' taken.More is_open come answers is)
+  mid_answered most may commands kept old new now heard heard' taken.End is_open (left, mid, come) answers is = absurd cc
+  mid_answered most may commands kept old new now heard heard' taken.Closed is_open (left, mid, come) answers is =
+      answered_step look source rules p own most may commands old new left heard heard' taken.Closed is_open come answers is
 
   -- a look at the input leaves what is left
   pub mid_same : (most : ℕ) (commands : List Command) (kept : List ℕ) (executor : Sight D) (heard : Heard D) (old new : Option (List ℕ))
@@ -77,35 +98,51 @@ module _ {D : Type 0} (look : D → View) (source : Source) (rules : Rules) (p :
   mid_same most commands kept executor heard old new same come =
       subst (λ left. ComeMid most commands kept (position executor left heard)) (sym same) come
 
+  -- a run that has come so far and serves goes on from an open executor
+  pub mid_open : rules.way ≡ Serve → (most : ℕ) (commands : List Command) (kept : List ℕ) (q : Position D) → ComeMid most commands kept q
+      → q.executor.is_open ≡ true
+  mid_open way most commands kept q (left, mid, come) = open_serves rules.way q.executor way come.2.goes_on
+
   -- a turn
-  pub one_turn : rules.way ≡ Serve → (n : ℕ) (kept : List ℕ) (q q' : Position D) → q'.left ≡ q.left → ComeMid n [] kept q
-      → TurnsAlone look rules (spot q.executor q.heard) (spot q'.executor q'.heard) → ComeMid 0 [] kept q'
-  one_turn way n kept q q' same (left, mid, come) turns =
-      (left, subst (IsMidLine left kept) (sym same) mid, by q.executor.is_open refl)
-    where
-      before : Position D
-      before = position q.executor left q.heard
+  turn_reached : rules.way ≡ Serve → (n : ℕ) (kept : List ℕ) (q : Position D) (s : Spot D) (now : ℕ) (end : TurnEnd)
+      → (come : ComeMid n [] kept q) → q.executor.is_open ≡ true
+      → MakesOwnTurn look rules now own (spot q.executor q.heard) s end
+      → Reaches look source rules p end 0 (position s.executor come.0 s.heard)
+  turn_reached way n kept q s now end (left, mid, come) is_open made =
+      let before = position q.executor left q.heard in
+      let (count, few, reached) = at_line look source rules p own n before come in
+      turn own count now before (position s.executor left s.heard) end reached (turns_serve rules.way way) is_open made refl
 
-      after : Position D
-      after = position q'.executor left q'.heard
+  -- which leaves the executor open, or closes it
+  pub one_turn : rules.way ≡ Serve → (n : ℕ) (kept : List ℕ) (q q' : Position D) (now : ℕ) (end : TurnEnd) → q'.left ≡ q.left
+      → ComeMid n [] kept q → q.executor.is_open ≡ true
+      → MakesOwnTurn look rules now own (spot q.executor q.heard) (spot q'.executor q'.heard) end → q'.executor.is_open ≡ true
+      → HasComeMid look source rules p end 0 [] kept q'
+  one_turn way n kept q q' now end same come is_open made still = (
+    come.0,
+    subst (IsMidLine come.0 kept) (sym same) come.1,
+    (
+      0,
+      inl (omega arith),
+      record {
+        left = come.0;
+        read = refl;
+        reached = turn_reached way n kept q (spot q'.executor q'.heard) now end come is_open made;
+        goes_on = go_open rules.way q'.executor still;
+      },
+    ),
+  )
 
-      by : (b : Bool) → q.executor.is_open ≡ b → Come 0 [] after
-      by true is_open =
-          let (now, end, made) = turns.while_open is_open in
-          let (count, few, reached) = at_line look source rules p n before come in (
-            0,
-            inl (omega arith),
-            record {
-              left = left;
-              read = refl;
-              reached = turn count now before after end reached (turns_serve rules.way way) is_open made refl;
-            },
-          )
-      by false closed =
-          let stays = turns.once_closed closed in
-          let executor : q'.executor ≡ q.executor = ap (λ (s : Spot D). s.executor) stays in
-          let told : q'.heard ≡ q.heard = ap (λ (s : Spot D). s.heard) stays in
-          let (count, few, waits) = come in
-          let still : Come 0 [] before = (count, inr closed, waits) in
-          let moved = subst (λ (e : Sight D). Come 0 [] (position e left q.heard)) (sym executor) still in
-          subst (λ (h : Heard D). Come 0 [] (position q'.executor left h)) (sym told) moved
+  pub turn_closes : rules.way ≡ Serve → (n : ℕ) (kept : List ℕ) (q : Position D) (s : Spot D) (now : ℕ) (end : TurnEnd)
+      → ComeMid n [] kept q → q.executor.is_open ≡ true
+      → MakesOwnTurn look rules now own (spot q.executor q.heard) s end → s.executor.is_open ≡ false
+      → ReachesFault look source rules p s
+  turn_closes way n kept q s now end come is_open made closed = record {
+    serves = turns_serve rules.way way;
+    own = end;
+    count = 0;
+    last = position s.executor come.0 s.heard;
+    reached = turn_reached way n kept q s now end come is_open made;
+    is_closed = closed;
+    at_last = refl;
+  }

@@ -3,6 +3,7 @@ use Rattle.std.specs.Prelude.{◌≡◌, ℕ, ◌+◌, Bool, true, false, List, 
 use Rattle.ocf_types.specs.Kinds.{Command}
 use Rattle.ocf_types.specs.declared.refusal.Refusal.{Refusal}
 use Rattle.ocf_types.specs.declared.reply.TurnEnd.{TurnEnd}
+use Rattle.ocf_types.specs.declared.reply.TurnEnd.TheVariants.{Disk}
 use Rattle.disk_model.specs.View.{View}
 use Rattle.executor.specs.declared.report.Report.{Report}
 use Rattle.exec_commands.specs.declared.line.Line.{Line}
@@ -13,10 +14,10 @@ use Rattle.exec_output.specs.declared.send.IoFault.{IoFault}
 use Rattle.exec_session.specs.declared.drain.Terms.{Terms}
 use Rattle.exec_session.specs.declared.lines.Progress.{Progress}
 use Rattle.exec_session.specs.Answers.{Source}
-use Rattle.exec_session.specs.Drains.{GoesOn, Spot, TurnHeard, spot}
+use Rattle.exec_session.specs.Drains.{GoesOn, MakesTurn, Spot, TurnHeard, spot}
 use Rattle.exec_session.specs.Rules.{Rules}
 use Rattle.exec_session.specs.Progress.{AnswersHeard, Position, ReadsLine, Takes, position}
-use Rattle.exec_session.specs.Runs.{MakesTurns, Reaches, ReachesEnd, report_told}
+use Rattle.exec_session.specs.Runs.{Finishes, MakesTurns, MayGoOn, NewsHeard, Reaches, ended, report_told}
 use Rattle.exec_session.specs.Together.{ReadsCommands, TogetherHeard}
 
 -- A drain broke off behind turns that go on, or in the one behind them, of whose notices a front is written, maybe all.
@@ -41,34 +42,44 @@ abbrev pub RowBreaks : {D : Type 0} → (D → View) → Rules → List Command 
 RowBreaks look rules [] p q = ⊥
 RowBreaks look rules (first ∷ others) p q = TogetherHeard (HearsPart rules.form) look rules (first ∷ others) p q
 
+-- A run broke off in an own turn, of whose notices the client heard a front, or of the line that says how it ended.
+pub data OwnTurnBreaks {D : Type 0} (look : D → View) (rules : Rules) (now : ℕ) (before : TurnEnd) (p q : Spot D) : Type 0 where
+  in_notices : (end : TurnEnd) → TurnHeard (HearsPart rules.form) look rules now p q end → OwnTurnBreaks look rules now before p q
+  in_end : (end : TurnEnd) (noticed : Heard D) → MakesTurn look rules now p (spot q.executor noticed) end
+      → NewsHeard (HearsPart rules.form) before end noticed q.heard → OwnTurnBreaks look rules now before p q
+
 -- Behind a place that a run has come to it did one thing more at most, of which the client heard a front: it answered the next line,
--- or a drain's turns up to one of them, or a row of commands, or it made a turn.
-pub data BreaksIn {D : Type 0} (look : D → View) (source : Source) (rules : Rules) (m : Position D) (q : Spot D) : Type 0 where
-  between : q ≡ spot m.executor m.heard → BreaksIn look source rules m q
-  in_line : (left : Option (List ℕ)) → AnswersHeard (HearsPart rules.form) look source rules m (position q.executor left q.heard)
-      → BreaksIn look source rules m q
+-- or a drain's turns up to one of them, or a row of commands, or it made a turn, or told that a disk fault ends it.
+pub data BreaksIn {D : Type 0} (look : D → View) (source : Source) (rules : Rules) (own : TurnEnd) (m : Position D) (q : Spot D) : Type 0 where
+  between : MayGoOn rules.way m.executor → q ≡ spot m.executor m.heard → BreaksIn look source rules own m q
+  in_line : (left : Option (List ℕ)) → MayGoOn rules.way m.executor
+      → AnswersHeard (HearsPart rules.form) look source rules m (position q.executor left q.heard)
+      → BreaksIn look source rules own m q
   in_drain : (left : Option (List ℕ)) (found : Result Line Refusal) → ReadsLine m.left left found → m.executor.is_open ≡ true
-      → ReplyBreaks look rules (spot m.executor m.heard) q found → BreaksIn look source rules m q
+      → ReplyBreaks look rules (spot m.executor m.heard) q found → BreaksIn look source rules own m q
   in_row : (left : Option (List ℕ)) (commands : List Command) → ReadsCommands m.left commands left → m.executor.is_open ≡ true
-      → RowBreaks look rules commands (spot m.executor m.heard) q → BreaksIn look source rules m q
-  in_own_turn : (now : ℕ) (end : TurnEnd) → MakesTurns rules.way → m.executor.is_open ≡ true
-      → TurnHeard (HearsPart rules.form) look rules now (spot m.executor m.heard) q end → BreaksIn look source rules m q
+      → RowBreaks look rules commands (spot m.executor m.heard) q → BreaksIn look source rules own m q
+  in_own_turn : (now : ℕ) → MakesTurns rules.way → m.executor.is_open ≡ true
+      → OwnTurnBreaks look rules now own (spot m.executor m.heard) q → BreaksIn look source rules own m q
+  in_fault : MakesTurns rules.way → m.executor.is_open ≡ false → q.executor ≡ m.executor
+      → HearsPart rules.form m.heard q.heard (ended Disk ∷ []) → BreaksIn look source rules own m q
 
 -- Line after line was answered as said, up to a place behind which the run broke off.
 pub record BreaksOff {D : Type 0} (look : D → View) (source : Source) (rules : Rules) (p : Position D) (q : Spot D) : Type 0 where
+  pub own : TurnEnd
   pub count : ℕ
   pub last : Position D
-  pub reached : Reaches look source rules p count last
-  pub breaks : BreaksIn look source rules last q
+  pub reached : Reaches look source rules p own count last
+  pub breaks : BreaksIn look source rules own last q
 
 -- what stands next in the input was taken, or the run broke off in it
-abbrev pub TakesOrBreaks : {D : Type 0} → (D → View) → Source → Rules → Position D → Position D → Result Progress IoFault → Type 0
-TakesOrBreaks look source rules p q (Ok progress) = Takes look source rules p q progress
-TakesOrBreaks look source rules p q (Err fault) = BreaksIn look source rules p (spot q.executor q.heard)
+abbrev pub TakesOrBreaks : {D : Type 0} → (D → View) → Source → Rules → TurnEnd → Position D → Position D → Result Progress IoFault → Type 0
+TakesOrBreaks look source rules own p q (Ok progress) = Takes look source rules p q progress
+TakesOrBreaks look source rules own p q (Err fault) = BreaksIn look source rules own p (spot q.executor q.heard)
 
--- a run came to the end of its input, or broke off before
+-- a run finished, or broke off before
 abbrev pub EndsOrBreaks : {D : Type 0} → (D → View) → Source → Rules → Position D → Position D → Result Unit IoFault → Type 0
-EndsOrBreaks look source rules p q (Ok done) = ReachesEnd look source rules p q
+EndsOrBreaks look source rules p q (Ok done) = Finishes look source rules p q
 EndsOrBreaks look source rules p q (Err fault) = BreaksOff look source rules p (spot q.executor q.heard)
 
 -- A run broke off in telling the report, of which a front was told and a front of that is written, or behind that.

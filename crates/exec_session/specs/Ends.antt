@@ -14,14 +14,14 @@ use Rattle.exec_session.specs.Breaks.{RunBreaks}
 use Rattle.exec_session.specs.Drains.{spot}
 use Rattle.exec_session.specs.Rules.{Rules}
 use Rattle.exec_session.specs.Progress.{Position, position}
-use Rattle.exec_session.specs.Runs.{ReachesEnd, report_told}
+use Rattle.exec_session.specs.Runs.{Finishes, report_told}
 
--- the report is told first, and then all lines are answered
+-- the report is told first, and then all lines are answered, or a disk fault ends a run that serves
 pub record Runs {D N : Type 0} (look : D → View) (source : Source) (rules : Rules) (report : Report N)
     (p q : Position D) : Type 0 where
   pub reported : Heard D
   pub report_first : Hears rules.form p.heard reported (report_told report)
-  pub lines : ReachesEnd look source rules (record p { heard = reported }) q
+  pub lines : Finishes look source rules (record p { heard = reported }) q
 
 -- how a run ends that leads from one place to another
 abbrev pub EndsAs : {D N T : Type 0} → (D → View) → Source → Rules → Report N → Position D

@@ -1,5 +1,6 @@
 //! The next line of the input, and what is done with it.
 ghost use Rattle.std.specs.Prelude.{◌≡◌, ℕ, ◌+◌, ◌<◌, [], List, true, length, Option};
+ghost use Rattle.ocf_types.specs.declared.reply.TurnEnd.{TurnEnd};
 ghost use Rattle.exec_lines.specs.Buffer.{line_bytes};
 ghost use Rattle.exec_lines.specs.Pieces.{IsNext};
 ghost use Rattle.exec_client.specs.MayTell.{AllStand};
@@ -8,10 +9,11 @@ ghost use Rattle.exec_session.specs.Gathered.{waiting};
 ghost use Rattle.exec_session.specs.Rules.{rules_of};
 ghost use Rattle.exec_session.specs.Progress.{Position, ReadsInput, position};
 ghost use Rattle.exec_session.specs.Together.{ReadsCommand};
-ghost use Rattle.exec_session.specs.Waiting.{Comes, HasCome, MayTakeBehind, MayWait};
+ghost use Rattle.exec_session.specs.Runs.{MayGoOn};
+ghost use Rattle.exec_session.specs.Waiting.{Comes, HasCome, IsTaken, MayTakeBehind, MayWait};
 
 use crate::answer::reply_to;
-use crate::context::RunContext;
+use crate::context::{RunContext, Way};
 use crate::gathered::Gathered;
 use crate::metadata::Metadata;
 use crate::together::answer_gathered;
@@ -45,6 +47,34 @@ enum Progress {
     End,
 }
 
+/// How a run goes on.
+#[derive(Clone, Copy, Debug, PartialEq, Eq)]
+pub enum Taken {
+    /// The next line may be taken.
+    More,
+    /// The input has ended.
+    End,
+    /// The run serves, and a disk fault has closed its executor: it ends.
+    Closed,
+}
+
+/// How a run goes on once the input has ended or has not.
+pub fn next_step<D: Disk + Drop, C: Children + Drop, K, M>(
+    context: &RunContext<K, M>,
+    executor: &Executor<D, C>,
+    has_ended: bool,
+) -> Taken
+    ensures { IsTaken context.now.way executor.now has_ended result }
+{
+    if context.way == Way::Serve && !executor.is_open() {
+        Taken::Closed
+    } else if has_ended {
+        Taken::End
+    } else {
+        Taken::More
+    }
+}
+
 /// What stands next in the input, whose line is in the buffer.
 pub fn found_in(alloc: Global, buffer: &LineBuffer, next: Next) -> Found
     ensures found { (left now : Option (List ℕ)) → IsNext left next (line_bytes buffer.now) now
@@ -72,8 +102,9 @@ fn answer_found<D: Disk + Drop, C: Children + Drop, T: Client<D, C>, K: Clock, M
     requires stands { AllStand D.view (T.heard client.old) executor.old }
     ensures stands { AllStand D.view (T.heard client.new) executor.new }
     ensures opened { (T.heard client.new).opened ≡ (T.heard client.old).opened }
-    ensures takes { (left now : Option (List ℕ)) → ReadsInput left now found
-        → TakesOrBreaks D.view (M.gives context.now.metadata.now) (rules_of context.now)
+    ensures takes { (own : TurnEnd) (left now : Option (List ℕ))
+        → MayGoOn context.now.way executor.old → ReadsInput left now found
+        → TakesOrBreaks D.view (M.gives context.now.metadata.now) (rules_of context.now) own
         (position executor.old left (T.heard client.old))
         (position executor.new now (T.heard client.new)) result }
 {
@@ -95,55 +126,64 @@ fn take_command<D: Disk + Drop, C: Children + Drop, T: Client<D, C>, K: Clock, M
     gathered: &mut Gathered,
     command: Command,
     has_next: bool,
-) -> Result<bool, IoFault>
+) -> Result<Taken, IoFault>
     requires open { executor.old.is_open ≡ true }
     requires few { length (waiting gathered.old) < 64 }
     requires stands { AllStand D.view (T.heard client.old) executor.old }
     ensures waits { MayWait executor.new (waiting gathered.new) }
     ensures stands { AllStand D.view (T.heard client.new) executor.new }
     ensures opened { (T.heard client.new).opened ≡ (T.heard client.old).opened }
-    ensures takes { (p : Position D) (most : ℕ) (left now : Option (List ℕ))
+    ensures takes { (p : Position D) (own : TurnEnd) (most : ℕ)
+        (left now : Option (List ℕ))
         → MayTakeBehind context.now.way most → ReadsCommand left now command
-        → HasCome D.view (M.gives context.now.metadata.now) (rules_of context.now) p most
+        → HasCome D.view (M.gives context.now.metadata.now) (rules_of context.now) p own most
         (waiting gathered.old) (position executor.old left (T.heard client.old))
-        → Comes D.view (M.gives context.now.metadata.now) (rules_of context.now) p (most + 1)
+        → Comes D.view (M.gives context.now.metadata.now) (rules_of context.now) p own
+        (most + 1)
         (waiting gathered.new) (position executor.new now (T.heard client.new)) result }
 {
     gathered.push(command);
     if has_next && !gathered.is_full() {
-        return Ok(false);
+        return Ok(Taken::More);
     }
     answer_gathered(context, client, executor, gathered)?;
-    Ok(false)
+    Ok(next_step(context, executor, false))
 }
 
-// Answers the commands that wait, and then what stands next in the input. Whether the input ended.
+// Answers the commands that wait, and then what stands next in the input, unless the run ends before that.
 fn take_other<D: Disk + Drop, C: Children + Drop, T: Client<D, C>, K: Clock, M: Metadata>(
     context: &RunContext<K, M>,
     client: &mut T,
     executor: &mut Executor<D, C>,
     gathered: &mut Gathered,
     found: Found,
-) -> Result<bool, IoFault>
+) -> Result<Taken, IoFault>
     requires waits { MayWait executor.old (waiting gathered.old) }
     requires stands { AllStand D.view (T.heard client.old) executor.old }
     ensures none { waiting gathered.new ≡ [] }
     ensures stands { AllStand D.view (T.heard client.new) executor.new }
     ensures opened { (T.heard client.new).opened ≡ (T.heard client.old).opened }
-    ensures takes { (p : Position D) (most : ℕ) (left now : Option (List ℕ))
+    ensures takes { (p : Position D) (own : TurnEnd) (most : ℕ)
+        (left now : Option (List ℕ))
         → MayTakeBehind context.now.way most → ReadsInput left now found
-        → HasCome D.view (M.gives context.now.metadata.now) (rules_of context.now) p most
+        → HasCome D.view (M.gives context.now.metadata.now) (rules_of context.now) p own most
         (waiting gathered.old) (position executor.old left (T.heard client.old))
-        → Comes D.view (M.gives context.now.metadata.now) (rules_of context.now) p (most + 1)
+        → Comes D.view (M.gives context.now.metadata.now) (rules_of context.now) p own
+        (most + 1)
         (waiting gathered.new) (position executor.new now (T.heard client.new)) result }
 {
     answer_gathered(context, client, executor, gathered)?;
+    let step = next_step(context, executor, false);
+    if step != Taken::More {
+        return Ok(step);
+    }
     let progress = answer_found(context, client, executor, found)?;
-    Ok(progress == Progress::End)
+    let has_ended = progress == Progress::End;
+    Ok(next_step(context, executor, has_ended))
 }
 
 /// Takes what stands next in the input: a command waits while the next line is there already, and else all that wait are
-/// answered together; anything else is answered behind them. Whether the input ended.
+/// answered together; anything else is answered behind them.
 pub fn take_found<D: Disk + Drop, C: Children + Drop, T: Client<D, C>, K: Clock, M: Metadata>(
     context: &RunContext<K, M>,
     client: &mut T,
@@ -151,17 +191,19 @@ pub fn take_found<D: Disk + Drop, C: Children + Drop, T: Client<D, C>, K: Clock,
     gathered: &mut Gathered,
     found: Found,
     has_next: bool,
-) -> Result<bool, IoFault>
+) -> Result<Taken, IoFault>
     requires waits { MayWait executor.old (waiting gathered.old) }
     requires stands { AllStand D.view (T.heard client.old) executor.old }
     ensures waits { MayWait executor.new (waiting gathered.new) }
     ensures stands { AllStand D.view (T.heard client.new) executor.new }
     ensures opened { (T.heard client.new).opened ≡ (T.heard client.old).opened }
-    ensures takes { (p : Position D) (most : ℕ) (left now : Option (List ℕ))
+    ensures takes { (p : Position D) (own : TurnEnd) (most : ℕ)
+        (left now : Option (List ℕ))
         → MayTakeBehind context.now.way most → ReadsInput left now found
-        → HasCome D.view (M.gives context.now.metadata.now) (rules_of context.now) p most
+        → HasCome D.view (M.gives context.now.metadata.now) (rules_of context.now) p own most
         (waiting gathered.old) (position executor.old left (T.heard client.old))
-        → Comes D.view (M.gives context.now.metadata.now) (rules_of context.now) p (most + 1)
+        → Comes D.view (M.gives context.now.metadata.now) (rules_of context.now) p own
+        (most + 1)
         (waiting gathered.new) (position executor.new now (T.heard client.new)) result }
 {
     match found {

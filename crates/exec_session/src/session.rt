@@ -1,5 +1,6 @@
 //! Command lines answered one by one.
-ghost use Rattle.std.specs.Prelude.{◌≡◌, ℕ, ◌+◌, [], OnErr, OnOk};
+ghost use Rattle.std.specs.Prelude.{◌≡◌, ℕ, ◌+◌, [], true, OnErr, OnOk};
+ghost use Rattle.ocf_types.specs.declared.reply.TurnEnd.{TurnEnd};
 ghost use Rattle.exec_lines.specs.Buffer.{line_bytes};
 ghost use Rattle.exec_client.specs.MayTell.{AllStand};
 ghost use Rattle.exec_session.specs.Breaks.{EndsOrBreaks, RunBreaks};
@@ -13,7 +14,7 @@ ghost use Rattle.exec_session.specs.Waiting.{Comes, HasCome, MayTakeBehind, MayW
 
 use crate::context::{RunContext, Way};
 use crate::gathered::Gathered;
-use crate::lines::{found_in, take_found};
+use crate::lines::{Taken, found_in, take_found};
 use crate::metadata::Metadata;
 use crate::report::tell_report;
 use crate::serve::serve_all;
@@ -36,7 +37,7 @@ pub struct Run<D: Drop, C: Drop> {
     pub children: C,
 }
 
-// Reads the next line and takes it. Whether the input ended.
+// Reads the next line and takes it.
 fn take_next<R: Input, D: Disk + Drop, C: Children + Drop, T: Client<D, C>, K: Clock, M: Metadata>(
     context: &RunContext<K, M>,
     reader: &mut R,
@@ -44,16 +45,18 @@ fn take_next<R: Input, D: Disk + Drop, C: Children + Drop, T: Client<D, C>, K: C
     executor: &mut Executor<D, C>,
     buffer: &mut LineBuffer,
     gathered: &mut Gathered,
-) -> Result<bool, IoFault>
+) -> Result<Taken, IoFault>
     requires waits { MayWait executor.old (waiting gathered.old) }
     requires stands { AllStand D.view (T.heard client.old) executor.old }
     ensures waits { MayWait executor.new (waiting gathered.new) }
     ensures stands { AllStand D.view (T.heard client.new) executor.new }
     ensures opened { (T.heard client.new).opened ≡ (T.heard client.old).opened }
-    ensures takes { (p : Position D) (most : ℕ) → MayTakeBehind context.now.way most
-        → HasCome D.view (M.gives context.now.metadata.now) (rules_of context.now) p most
-        (waiting gathered.old) (position executor.old (R.remaining reader.old) (T.heard client.old))
-        → Comes D.view (M.gives context.now.metadata.now) (rules_of context.now) p (most + 1)
+    ensures takes { (p : Position D) (own : TurnEnd) (most : ℕ)
+        → MayTakeBehind context.now.way most
+        → HasCome D.view (M.gives context.now.metadata.now) (rules_of context.now) p own
+        most (waiting gathered.old) (position executor.old (R.remaining reader.old) (T.heard client.old))
+        → Comes D.view (M.gives context.now.metadata.now) (rules_of context.now) p own
+        (most + 1)
         (waiting gathered.new)
         (position executor.new (R.remaining reader.new) (T.heard client.new)) result }
 {
@@ -82,7 +85,7 @@ fn answer_all<R: Input, D: Disk + Drop, C: Children + Drop, T: Client<D, C>, K: 
         (position executor.new (R.remaining reader.new) (T.heard client.new)) result }
 {
     for _ in 0..NUM_MAX {
-        if take_next(context, reader, client, executor, buffer, gathered)? {
+        if take_next(context, reader, client, executor, buffer, gathered)? != Taken::More {
             return Ok(());
         }
     }
@@ -108,6 +111,7 @@ fn answer_in_way<
 ) -> Result<(), IoFault>
     requires empty { line_bytes buffer.old ≡ [] }
     requires none { waiting gathered.old ≡ [] }
+    requires open { executor.old.is_open ≡ true }
     requires stands { AllStand D.view (T.heard client.old) executor.old }
     ensures stands { AllStand D.view (T.heard client.new) executor.new }
     ensures opened { (T.heard client.new).opened ≡ (T.heard client.old).opened }
@@ -141,6 +145,7 @@ fn report_and_answer<
     requires empty { line_bytes buffer.old ≡ [] }
     requires none { waiting gathered.old ≡ [] }
     requires reported { IsReportOf D.view (T.heard client.old).opened report.now }
+    requires open { executor.old.is_open ≡ true }
     requires stands { AllStand D.view (T.heard client.old) executor.old }
     ensures stands { AllStand D.view (T.heard client.new) executor.new }
     ensures opened { (T.heard client.new).opened ≡ (T.heard client.old).opened }
@@ -174,6 +179,7 @@ fn answer_lines<
     report: &Report,
 ) -> Result<(), Fault>
     requires reported { IsReportOf D.view (T.heard client.old).opened report.now }
+    requires open { executor.old.is_open ≡ true }
     requires stands { AllStand D.view (T.heard client.old) executor.old }
     ensures stands { AllStand D.view (T.heard client.new) executor.new }
     ensures opened { (T.heard client.new).opened ≡ (T.heard client.old).opened }
@@ -206,10 +212,11 @@ fn answer_lines<
 }
 
 /// Tells a client what the opening reports, and then answers each line of the input, up to its end; a run that serves makes turns by
-/// itself, too. Commands that stand whole in what was read, one behind the other, are recorded together, and their replies
-/// flushed together; any other reply is flushed before the next line is answered, and a turn's notices before the next turn.
-/// Where the disk failed the end of the input is a fault; input or output that fails is another, and so is a reply that finds
-/// no memory. In any case all children are given up then, and the executor closed.
+/// itself, too, and tells how they ended. Commands that stand whole in what was read, one behind the other, are recorded together,
+/// and their replies flushed together; any other reply is flushed before the next line is answered, and a turn's notices before the
+/// next turn. Where the disk failed the end of the input is a fault, and a run that serves ends at once by it, with the line of a
+/// turn that ended so; input or output that fails is another, and so is a reply that finds no memory. In any case all children are
+/// given up then, and the executor closed.
 pub fn run_lines<
     R: Input,
     D: Disk + Drop,

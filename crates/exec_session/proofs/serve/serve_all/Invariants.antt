@@ -15,6 +15,6 @@ invariant-loop g l = record {
   stands : AllStand g.D.Disk.view (g.T.Client.heard l.client) l.executor;
   opened : (g.T.Client.heard l.client).opened ≡ (g.T.Client.heard l.fn.client).opened;
   come : HasComeMid g.D.Disk.view (g.M.Metadata.gives l.context.metadata.now) (rules_of l.context)
-      (position l.fn.executor (g.R.Read.remaining l.fn.reader) (g.T.Client.heard l.fn.client)) 0 []
+      (position l.fn.executor (g.R.Read.remaining l.fn.reader) (g.T.Client.heard l.fn.client)) l.own 0 []
       (line_bytes l.buffer) (position l.executor (g.R.Read.remaining l.reader) (g.T.Client.heard l.client));
 }

@@ -1,5 +1,6 @@
 use Rattle.std.proofs.Common.{◌≡◌, []}
 use Rattle.exec_lines.specs.Buffer.{line_bytes}
+use Rattle.ocf_types.specs.declared.reply.TurnEnd.{TurnEnd}
 use Rattle.exec_client.specs.MayTell.{AllStand}
 use Rattle.exec_session.specs.Gathered.{waiting}
 use Rattle.exec_session.specs.Rules.{rules_of}
@@ -15,10 +16,10 @@ invariant-loop-reads g l = record {
   waits : MayWait l.executor (waiting l.gathered);
   stands : AllStand g.D.Disk.view (g.T.Client.heard l.client) l.executor;
   opened : (g.T.Client.heard l.client).opened ≡ (g.T.Client.heard l.fn.client).opened;
-  come : (p : Position g.row.D.Denot)
-      → HasComeMid g.D.Disk.view (g.M.Metadata.gives l.context.metadata.now) (rules_of l.context) p 0 []
+  come : (p : Position g.row.D.Denot) (own : TurnEnd)
+      → HasComeMid g.D.Disk.view (g.M.Metadata.gives l.context.metadata.now) (rules_of l.context) p own 0 []
       (line_bytes l.fn.buffer) (position l.fn.executor (g.R.Read.remaining l.fn.reader) (g.T.Client.heard l.fn.client))
-      → HasComeMid g.D.Disk.view (g.M.Metadata.gives l.context.metadata.now) (rules_of l.context) p l._reads
+      → HasComeMid g.D.Disk.view (g.M.Metadata.gives l.context.metadata.now) (rules_of l.context) p own l._reads
       (waiting l.gathered) (line_bytes l.buffer)
       (position l.executor (g.R.Read.remaining l.reader) (g.T.Client.heard l.client));
 }

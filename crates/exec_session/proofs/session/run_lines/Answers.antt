@@ -34,3 +34,8 @@ returns-clause-told g c =
       disk_is = c.close-disk.ensures.disk;
       children_are = c.close-disk.ensures.children;
     }
+
+pub answer_lines-ended-requires-clause-open : goal.answer_lines-ended-requires-clause-open
+answer_lines-ended-requires-clause-open g c =
+    let (old, from, now, opens) = c.requires.reported in
+    opens.over.is_open
