@@ -75,6 +75,11 @@ static gboolean tell_news(gpointer data) {
 static void take(char *line, char **reply) {
     bool is_notice = g_str_has_prefix(line, "{\"action\":");
     crm_trace("< %s", line);
+    if (g_str_has_prefix(line, "{\"end\":")) { /* of a turn that the child made by itself: nothing that ends so is asked for */
+        crm_warn("The executor's turn ended: %s", line);
+        g_free(line);
+        return;
+    }
     if (is_notice) {
         g_queue_push_tail(&notices, line);
     } else if (owed == 0) {

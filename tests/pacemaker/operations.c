@@ -19,6 +19,7 @@ struct operation {
     guint delay;    /* the timer of its start delay, or 0 */
     gint64 number;  /* the executor's call, or 0 where it has none */
     gint64 queued;  /* milliseconds since 1970 */
+    bool probes;    /* it was interrupted, and a monitor in its place finds out whether its work is done */
     bool told;      /* and then how last */
     int told_code, told_status;
     struct result result;
@@ -159,11 +160,12 @@ static char *stand(struct resource *resource, const char *words) {
     return reply;
 }
 
-/* Gives an operation to the executor, with its own parameters. */
+/* Gives an operation to the executor, or the monitor in its place, with the operation's own parameters and timeout. */
 static void begin(struct resource *resource, struct operation *operation) {
     g_autoptr(GHashTable) parameters = xml2list(operation->asked);
     const char *level = g_hash_table_lookup(parameters, "OCF_CHECK_LEVEL");
-    g_autofree char *words = registration(resource, parameters), *action = json_text(operation->action);
+    g_autofree char *words = registration(resource, parameters);
+    g_autofree char *action = json_text(operation->probes ? "monitor" : operation->action);
     g_autofree char *recurs = g_strdup_printf("\"op\":\"recur\",\"interval\":%u", operation->interval);
     g_autofree char *once = g_strdup_printf("\"op\":\"exec\",\"action\":%s", action);
     g_autofree char *stands = stand(resource, words), *reply = NULL;
@@ -215,11 +217,40 @@ static void work_later(void) {
 
 /* ---- What the executor tells */
 
-/* Ends an operation by a result. A recurring monitor that was interrupted runs again, so only its next result is told. */
+/* The code of a monitor that finds a start or a promote done. -1 for other operations, which are not probed. */
+static int code_when_done(const struct operation *operation) {
+    if (g_ascii_strcasecmp(operation->action, "start") == 0)
+        return PCMK_OCF_OK;
+    return g_ascii_strcasecmp(operation->action, "promote") == 0 ? PCMK_OCF_RUNNING_PROMOTED : -1;
+}
+
+/* An interrupted operation may have done its work. A monitor in its place, before anything else of the resource, decides which
+   result is sent. */
+static void probe(struct operation *operation) {
+    struct resource *resource = resource_of(operation->asked);
+    crm_notice("The %s of %s was interrupted, and is probed", operation->action, resource->id);
+    operation->probes = true;
+    resource->busy = NULL;
+    resource->pending = g_list_prepend(resource->pending, operation);
+    work_later();
+}
+
+/* The monitor in the place of an interrupted operation has ended. */
+static void conclude_probe(struct operation *operation, const char *outcome, int code) {
+    if (g_str_equal(outcome, "done") && code == code_when_done(operation))
+        finish(operation, PCMK_OCF_OK, PCMK_EXEC_DONE, NULL);
+    else
+        finish(operation, PCMK_OCF_UNKNOWN_ERROR, PCMK_EXEC_ERROR, "interrupted");
+}
+
+/* Ends an operation by a result. A recurring monitor that was interrupted runs again, so only its next result is sent. */
 static void conclude(struct operation *operation, const char *line) {
     gint64 since = json_number(line, "since"), at = json_number(line, "at");
     g_autofree char *outcome = json_word(line, "outcome");
+    bool is_interrupted = g_str_equal(outcome, "interrupted");
     int code = json_number(line, "code"), status = PCMK_EXEC_ERROR;
+    if (operation->probes && !is_interrupted)
+        return conclude_probe(operation, outcome, code);
     if (g_str_equal(outcome, "done"))
         status = PCMK_EXEC_DONE;
     else if (g_str_equal(outcome, "timed-out"))
@@ -231,7 +262,11 @@ static void conclude(struct operation *operation, const char *line) {
     operation->result.run_at = since / 1000;
     operation->result.run_time = at - since;
     operation->result.queue_time = operation->interval ? 0 : MAX(since - operation->queued, 0);
-    if (!operation->interval || !g_str_equal(outcome, "interrupted"))
+    if (is_interrupted && operation->interval)
+        return;
+    if (is_interrupted && code_when_done(operation) >= 0)
+        probe(operation);
+    else
         finish(operation, code, status, status == PCMK_EXEC_DONE ? NULL : outcome);
 }
 

@@ -1,6 +1,7 @@
 /* Resources, and what clients asked to be done with them: one operation of a resource at a time, in order. A recurring
    monitor recurs in the executor. A one-time operation waits here until the one before it has ended, so that its parameters
-   can be set first: the executor has parameters by resource, and Pacemaker by operation. */
+   can be set first: the executor has parameters by resource, and Pacemaker by operation. A start or promote that was
+   interrupted is followed by a monitor, and is reported as done where that finds the service running. */
 #ifndef OPERATIONS_H
 #define OPERATIONS_H
 

@@ -2,7 +2,10 @@
 # Pacemaker over `PROGRAM serve` with a journal: the bridge of this folder stands in pacemaker-execd's place. Wanted:
 #   suite   each OCF test of Pacemaker's own suite of its executor, cts-exec of its source package, passes
 #   two     on a cluster of two nodes all resources are placed as under pacemaker-execd, at creation, in standby and back
-#   slow    where the executor is killed amid a slow start, the service is down in truth whenever the cluster says so
+#   slow    the executor is killed amid a slow start: the cluster finds the service started, as under pacemaker-execd, and whenever
+#           it says that the service is stopped, the service is down in truth
+#   timeout a start runs past its timeout: the program that it waits for ends with it, as under pacemaker-execd, so the service does
+#           not come up after the stop
 # Everything runs in namespaces of its own and at the same time, each with a folder of its own. It wants root, bash, and of Debian
 # pacemaker, pacemaker-dev, pacemaker-cli-utils, corosync, resource-agents, libqb-dev, pkg-config, python3-psutil, iproute2,
 # procps and gcc; for the suite the source package is fetched. What can't be had is skipped by name: with nothing left the status
@@ -12,7 +15,7 @@ set -u
 . "$(dirname "$0")/../common.sh" "$@"
 folder=$(cd "$(dirname "$0")" && pwd)
 parts=${*:2}
-parts=${parts:-suite two slow}
+parts=${parts:-suite two slow timeout}
 
 # What the suite tests of other classes of agents than OCF, and of several at once.
 out_of_scope='_lsb$|_service$|_stonith$|_systemd$|^stonith_|^get_lsb_|^get_stonith_|^multi_rsc_|^verify_agent_lists$'
@@ -46,7 +49,7 @@ one_test() {
     fi
 }
 
-suite() {
+check_suite() {
     mkdir -p "$here/source" "$here/list"
     /usr/bin/python3 -c 'import psutil' 2> /dev/null || skip "suite: there is no python3-psutil"
     "$folder/source.sh" "$here/source" || exit $?
@@ -65,32 +68,57 @@ suite() {
     [ "$wanted" -gt 0 ] && [ "$(wc -l < "$here/passed")" -eq "$wanted" ]
 }
 
-two() {
-    local one
+# Runs a script on a cluster, under pacemaker-execd and under the bridge at the same time. The output goes to NAME-real.out and
+# NAME-bridge.out. Use: side_by_side NAME CLUSTER
+side_by_side() {
+    local one execd
     for one in real bridge; do
-        mkdir -p "$here/two-$one"
+        mkdir -p "$here/$1-$one"
         [ $one = real ] && execd=real || execd=$here/bridge
-        timeout 150 "$folder/two.sh" "$here/two-$one" "$execd" "$folder/two.script" > "$here/two-$one.out" 2>&1 &
+        timeout 240 "$folder/$2" "$here/$1-$one" "$execd" "$folder/$1.script" > "$here/$1-$one.out" 2>&1 &
     done
     wait
+}
+
+# Whether a file has a line for each of these. Use: holds FILE PATTERN..
+holds() {
+    local pattern
+    for pattern in "${@:2}"; do
+        grep -q -e "$pattern" "$1" || { echo "${1##*/} has no line: $pattern"; return 1; }
+    done
+}
+
+check_two() {
+    side_by_side two two.sh
     cat "$here/two-bridge.out"
     [ "$(grep -c '^ \* web .*: Started n' "$here/two-bridge.out")" -eq 3 ] &&
         diff "$here/two-real.out" "$here/two-bridge.out" && echo "two: all is placed as under pacemaker-execd"
 }
 
-slow() {
-    mkdir -p "$here/slow"
-    timeout 120 "$folder/one.sh" "$here/slow" "$here/bridge" "$folder/slow.script" > "$here/slow.out" 2>&1
-    cat "$here/slow.out"
-    grep -q 'Result of start operation for db on n1: Error (interrupted)' "$here/slow.out" &&
-        grep -q 'start under way: 0, in truth: down, .* Stopped' "$here/slow.out" &&
-        ! grep -E 'Stopped' "$here/slow.out" | grep -v 'start under way: 0, in truth: down,' &&
-        echo "slow: it was down in truth whenever the cluster said so"
+check_slow() {
+    side_by_side slow one.sh
+    tail -n +1 "$here"/slow-{real,bridge}.out
+    local -a wanted=('in the end .* start: 0, in truth: up, .* Started n1' 'monitor operation for db on n1: ok')
+    holds "$here/slow-real.out" "${wanted[@]}" &&
+        ! grep 'Result of \(start\|stop\)' "$here/slow-real.out" &&
+        holds "$here/slow-bridge.out" "${wanted[@]}" 'The start of db was interrupted' 'start operation for db on n1: ok' &&
+        ! grep 'Result of stop' "$here/slow-bridge.out" &&
+        ! grep 'Stopped' "$here/slow-bridge.out" | grep -v 'start: 0, in truth: down,' &&
+        echo "slow: the service was found started, as under pacemaker-execd"
+}
+
+check_timeout() {
+    side_by_side timeout one.sh
+    tail -n +1 "$here"/timeout-{real,bridge}.out
+    local -a wanted=('start operation for db on n1: Timed Out' 'stop operation for db on n1: ok'
+        'at second 9 .* start: 0, in truth: down, .* Stopped')
+    holds "$here/timeout-real.out" "${wanted[@]}" && holds "$here/timeout-bridge.out" "${wanted[@]}" &&
+        echo "timeout: nothing of the start lived on, as under pacemaker-execd"
 }
 
 declare -A processes
 for part in $parts; do
-    "$part" > "$here/$part.told" 2>&1 &
+    "check_$part" > "$here/$part.told" 2>&1 &
     processes[$part]=$!
 done
 skipped=0
@@ -105,4 +133,4 @@ for part in $parts; do
     esac
 done
 [ "$failed" -ne 0 ] || [ "$skipped" -eq 0 ] || exit 77
-finish "Pacemaker over serve: its suite, two nodes, and a kill amid a slow start"
+finish "Pacemaker over serve: its suite, two nodes, a kill amid a slow start, and a start past its timeout"
