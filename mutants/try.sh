@@ -2,11 +2,13 @@
 # Tries a crate's wrong bodies, mutants/NAME/*.edit, on a copy of the repository, and prints the fate of each. The gate
 # keeps a few of its own, in crates/NAME/must-fail. It begins with what was proved before: a kit whose gate tries one crate alone
 # knows what it proved on this machine, and any other finds the libraries below as the checks of the work tree left them.
+# The name tests stands for those that only a check of the built program refuses: try_tests.sh.
 # Use: mutants/try.sh NAME [EDIT..]
 set -eu
 top=$(cd "$(dirname "$0")/.." && pwd)
 name=${1:?a crate is wanted: make mutants NAME=recurring}
 shift
+[ "$name" != tests ] || exec "$top/mutants/try_tests.sh" "$@"
 copy=$(mktemp -d)
 trap 'rm -rf "$copy"' EXIT
 

@@ -1,0 +1,108 @@
+#!/usr/bin/env bash
+# Tries the wrong bodies that only a check of the built program refuses, mutants/tests/*.edit, and prints the fate of each. In a copy
+# of the repository it makes the edit and compiles the program, unproved: the check that the edit names has to fail with it, and to
+# pass with a program that is compiled so without an edit. That takes two to five minutes for each program on a quiet machine. With
+# PROGRAMS=DIR the programs are kept in DIR, and what is there is not compiled again.
+# Use: mutants/try_tests.sh [NAME..]
+set -eu
+cd "$(dirname "$0")/.."
+copy=$(mktemp -d)
+trap 'rm -rf "$copy"' EXIT
+programs=$(realpath "${PROGRAMS:-$copy}")
+
+# Copies the files as they stand in the work tree.
+copy_tree() {
+    rm -rf "$copy/top"
+    mkdir "$copy/top" "$copy/top/tmp"
+    git ls-files -co --exclude-standard -z | while IFS= read -r -d '' file; do
+        if [ -f "$file" ]; then printf '%s\0' "$file"; fi
+    done | tar --null -T - -cf - | tar -xf - -C "$copy/top"
+}
+
+# Makes an edit in the copy. Use: make_edit EDIT
+make_edit() {
+    python3 - "$1" "$copy/top" << 'MAKE_EDIT'
+import os, sys
+
+with open(sys.argv[1], encoding="utf-8") as edit:
+    lines = [line.rstrip("\n").partition(": ") for line in edit]
+path = os.path.join(sys.argv[2], next(text for key, _, text in lines if key == "file"))
+with open(path, encoding="utf-8") as file:
+    body = file.read()
+for old, new in zip([text for key, _, text in lines if key == "old"], [text for key, _, text in lines if key == "new"]):
+    if body.count(old) != 1:
+        sys.exit(f"{sys.argv[1]}: stands {body.count(old)} times in its file: {old}")
+    body = body.replace(old, new)
+with open(path, "w", encoding="utf-8") as file:
+    file.write(body)
+MAKE_EDIT
+}
+
+# Compiles the program of the copy. `rt try` runs what it compiled, for ten seconds here, in a temporary directory, from which the
+# program is taken meanwhile. Use: compile PROGRAM
+compile() {
+    local tried running
+    (cd "$copy/top/crates/ocfexec" && echo '{"op":"watch","limit":10000}' |
+        TMPDIR=$copy/top/tmp rt try --steps 1 -- run --memory > "$copy/said" 2>&1) &
+    tried=$!
+    while kill -0 "$tried" 2> /dev/null && [ ! -e "$1" ]; do
+        running=$(pgrep -f "$copy/top/tmp/.*/program run --memory" | head -n 1)
+        if [ -n "$running" ]; then
+            cp "$(tr '\0' '\n' < "/proc/$running/cmdline" | grep "^$copy/top/tmp/.*/program$")" "$copy/program" && mv "$copy/program" "$1"
+        fi
+        sleep 0.2
+    done
+    wait "$tried" || true
+    [ -x "$1" ]
+}
+
+# Has the program with an edit, or with none, in $programs. Use: built NAME
+built() {
+    [ ! -x "$programs/$1" ] || return 0
+    copy_tree
+    [ "$1" = unedited ] || make_edit "mutants/tests/$1.edit" 2> "$copy/said" || return 1
+    compile "$programs/$1"
+}
+
+# Whether the check that an edit names says this word of a program; any of its checks where it names none. Use: says WORD EDIT PROGRAM
+says() {
+    local script sentence
+    script=$(sed -n 's/^refused by: \([^,]*\).*/\1/p' "$2")
+    sentence=$(sed -n 's/^refused by: [^,]*, //p' "$2")
+    ONLY=$sentence LIMIT=1200 timeout 1500 "$script" "$3" < /dev/null > "$copy/said" 2>&1 || true
+    sed -n "s/^$1 *[0-9.]* s  [a-z_]*: //p" "$copy/said" | grep -c -x -F -e "$sentence" > /dev/null ||
+        { [ -z "$sentence" ] && grep -c "^$1 " "$copy/said" > /dev/null; }
+}
+
+# Says what became of an edit. Use: try NAME
+try() {
+    local edit=mutants/tests/$1.edit
+    if ! built unedited || ! built "$1"; then
+        fate="NOT TRIED: it was not compiled"
+    elif ! says ok "$edit" "$programs/unedited"; then
+        fate="NOT TRIED: its check does not pass without it"
+    elif ! says failed "$edit" "$programs/$1"; then
+        fate="NOT REFUSED"
+    else
+        fate="refused"
+        return 0
+    fi
+    return 1
+}
+
+if [ $# -eq 0 ]; then
+    for edit in mutants/tests/*.edit; do set -- "$@" "$(basename "$edit" .edit)"; done
+fi
+passed=0 failed=0
+for name in "$@"; do
+    if try "$name"; then
+        passed=$((passed + 1))
+        echo "$name: $fate"
+    else
+        failed=$((failed + 1))
+        echo "$name: $fate"
+        cat "$copy/said"
+    fi
+done
+echo "$passed passed, $failed failed"
+[ "$failed" -eq 0 ]
