@@ -193,12 +193,12 @@ class Life:
                 known.told = []
 
     def hear(self, lines, out):
-        """Replies, one to a line, and notices between them."""
+        """Replies, one to a line, and between them notices, and how turns ended that no line asked for."""
         asked = iter(lines)
         for line in out:
             if "outcome" in line:
                 self.take_notice(line)
-            else:
+            elif "end" not in line:
                 self.take_reply(next(asked), line)
 
     # what an opening finds
