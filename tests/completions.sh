@@ -22,6 +22,7 @@ in_bash() {
 same "bash, subcommands" "--help --version run serve show status" "$(in_bash ocfexec '')"
 same "bash, an option" "--journal" "$(in_bash ocfexec serve --jo)"
 same "bash, a flag" "--leave-orphans" "$(in_bash ocfexec serve --le)"
+same "bash, a flag of a journal" "--any-owner" "$(in_bash ocfexec serve --an)"
 same "bash, an option of status" "--json" "$(in_bash ocfexec status --js)"
 same "bash, a folder" "$here/lib $here/libexec" "$(in_bash ocfexec serve --journal "$here/li")"
 checked "bash"

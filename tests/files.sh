@@ -1,6 +1,6 @@
 #!/usr/bin/env bash
-# Journals in files: what is made, what is refused and how it is told, what is shown of a journal that is in use, files that
-# are replaced, a device that is full, room that was reserved, and how dear the opening of a full part is. Wanted on a quiet
+# Journals in files: what is made, what is refused and how it is told, whose files root opens, what is shown of a journal that is in
+# use, files that are replaced, a device that is full, room that was reserved, and how dear the opening of a full part is. Wanted on a quiet
 # machine: under 0.5 seconds and 64 MiB of memory. It fails at ten times that time, so that a busy machine does not.
 # Use: files.sh PROGRAM
 set -u
@@ -50,6 +50,21 @@ shown() {
     if [ "$(id -u)" -eq 0 ]; then as=(setpriv --reuid=65534 --regid=65534 --clear-groups); fi
     status=0
     "${as[@]}" "$here/viewer" show --journal "$1" > out 2> err || status=$?
+}
+
+# A journal that root opens with --any-owner alone: it is refused for this path and reason, and nothing is made. Use: distrusted DIR PATH WHY
+distrusted() {
+    local before
+    before=$(inside "$1")
+    refused "$1" 5 "ocfexec: disk" "$2: $3"
+    same "$1, advice" "Anyone who can write the journal decides what root starts. Make root its only writer, or give --any-owner." "$(tail -n 1 "$here/err")"
+    same "$1, refused" "$before" "$(inside "$1")"
+    for word in show status; do
+        "$program" "$word" --journal "$1" > out 2> err
+        same "$word of $1" "0 " "$? $(cat err)"
+    done
+    printf '{"op":"list"}\n' | "$program" run --journal "$1" --any-owner > out 2> err
+    same "$1 by --any-owner" "0 0 " "${PIPESTATUS[*]} $(cat err)"
 }
 
 # What a folder has, with lengths, modes and moments of change. Use: inside DIR
@@ -152,6 +167,26 @@ chmod 755 fixed bare
 "$program" show --journal nowhere > out 2> err
 same "show of a folder that is not there" "5 ocfexec: disk
 nowhere: No such file or directory (os error 2)" "$? $(cat err)"
+
+# Root opens only a journal of which it is the only writer; any other user opens whatever it may
+if [ "$(id -u)" -eq 0 ]; then
+    mkdir others && chown 65534 others
+    distrusted others others "belongs to user 65534, and not to root"
+    mkdir grouped && chmod 775 grouped
+    distrusted grouped grouped "may be written by its group or others"
+    mkdir public && chmod 1757 public
+    distrusted public public "may be written by its group or others"
+    journal given && chown 65534 given/part-a
+    distrusted given given/part-a "belongs to user 65534, and not to root"
+    journal shared && chmod 660 shared/part-b
+    distrusted shared shared/part-b "may be written by its group or others"
+    journal readable && chgrp 65534 readable readable/part-a && chmod 755 readable && chmod 644 readable/part-a
+    run readable '{"op":"list"}'
+    same "a journal that others may read" '{"ok":true,"resources":["r1"]}' "$(cat out)"
+    mkdir nobody && chown 65534 nobody && chmod 777 nobody
+    printf '%s\n' "$register" | setpriv --reuid=65534 --regid=65534 --clear-groups "$here/viewer" run --journal nobody > out 2> err
+    same "an executor that is not root" '{"ok":true}' "$(cat out err)"
+fi
 
 # A journal is shown while its executor is busy with registrations, parameters and tidies: what is listed is a prefix of
 # what was registered, and no shorter than what was listed before

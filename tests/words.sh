@@ -70,7 +70,7 @@ for command in register unregister params exec recur cancel withdraw forget list
 done
 ends 0 "" run --help
 holds "run --help" "--journal <DIR>" --memory "--root <DIR>" "--via <PROGRAM>" "--path <PATH>" "[default: /usr/lib/ocf]" \
-    "[default: /usr/sbin:/usr/bin:/sbin:/bin]" "--tidy-at <BYTES>" "[default: 6291456]" "--orphans <MS>" "[default: 20000]" --leave-orphans \
+    "[default: /usr/sbin:/usr/bin:/sbin:/bin]" --any-owner "--tidy-at <BYTES>" "[default: 6291456]" "--orphans <MS>" "[default: 20000]" --leave-orphans \
     "just one of --journal and --memory" Examples: "ocfexec run --memory"
 ends 0 "" show --help
 holds "show --help" Example: "ocfexec show --journal /var/lib/ocfexec"
@@ -87,7 +87,7 @@ for bytes in 0 045 8388608; do
     ends 0 "" run --memory --tidy-at "$bytes"
 done
 for millis in 0 045 86400000; do
-    ends 0 "" run --memory --orphans "$millis" --leave-orphans
+    ends 0 "" run --memory --orphans "$millis" --leave-orphans --any-owner
 done
 ends 0 "" show --memory
 wrote "show --memory" '{"ok":true,"resources":[]}'
@@ -140,6 +140,7 @@ misused "^error: " --memory
 misused "^error: " run --memory more
 misused "^error: " run --fast --memory
 misused "^error: " run --memory=yes
+misused "^error: " run --memory --any-owner=no
 misused "^error: " run --memory --leave-orphans=yes
 misused "^error: " run --memory --leave-orphans yes
 misused "^error: " run --memory --via -x

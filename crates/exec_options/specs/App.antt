@@ -34,12 +34,13 @@ default_tidy_at = codes "6291456"
 abbrev pub default_orphans : Text
 default_orphans = codes "20000"
 
--- where the journal is, and when it is tidied
+-- where the journal is, whether root opens one that other users can write, and when it is tidied
 abbrev pub with_journal_app : App → App
 with_journal_app a =
     let a₁ = with_rule a (text_rule (codes "journal")) in
     let a₂ = with_rule a₁ (flag_rule (codes "memory")) in
-    with_rule a₂ (text_rule_or (codes "tidy-at") default_tidy_at)
+    let a₃ = with_rule a₂ (flag_rule (codes "any-owner")) in
+    with_rule a₃ (text_rule_or (codes "tidy-at") default_tidy_at)
 
 -- where the agents are
 abbrev pub with_site_app : App → App

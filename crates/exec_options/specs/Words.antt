@@ -52,6 +52,7 @@ is_absolute [] = false
 pub record IsReadFrom (rows : List Row) (o : Options) : Type 0 where
   pub journal : folder_of o.journal ≡ first_of (codes "journal") rows
   pub choice : IsChoice rows
+  pub any_owner : o.any_owner ≡ is_true_text (first_of (codes "any-owner") rows)
   pub tidy_at : IsNumberTo part_limit (tidy_text rows) o.tidy_at
   pub root : o.root.now ≡ root_text rows
   pub absolute : is_absolute o.root.now ≡ true

@@ -75,6 +75,11 @@ fn with_journal_options<'a>(alloc: Global, command: Command<'a>) -> Result<Comma
         "memory",
         "Keep the journal in memory: it is gone when the program ends",
     ))?;
+    let command = command.arg(flag(
+        alloc,
+        "any-owner",
+        "As root, open a journal that other users can write, too",
+    ))?;
     command.arg(text_option_or(
         alloc,
         "tidy-at",

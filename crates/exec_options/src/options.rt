@@ -53,6 +53,8 @@ pub enum JournalPlace<'a> {
 pub struct Options<'a> {
     pub subcommand: Subcommand,
     pub journal: JournalPlace<'a>,
+    /// Whether root opens a journal whose directory or files other users can write, too.
+    pub any_owner: bool,
     /// The folder of the agents, an absolute path: an agent is the file `resource.d/PROVIDER/TYPE` in it.
     pub root: &'a str,
     /// The program that each agent is started through, or none.

@@ -122,6 +122,7 @@ fn options_of<'a>(
     Ok(Options {
         subcommand,
         journal,
+        any_owner: is_set(matches, "any-owner"),
         tidy_at,
         root,
         via: text_of(matches, "via"),

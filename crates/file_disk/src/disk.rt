@@ -10,6 +10,7 @@ use crate::fault::{OpenFault, of_part};
 use crate::folder::open_folder;
 use crate::log::Log;
 use crate::part_file::PartFile;
+use crate::trust::Owners;
 use disk_model::{Disk, DiskFault};
 use ocf_types::{PART_LIMIT, Part};
 use std::alloc::{Allocator, Global};
@@ -17,17 +18,20 @@ use std::fs::File;
 use std::os::unix::fs::FileExt;
 use std::rt::Files;
 
-// Opens both files, and makes those that are missing.
+// Opens both files, whose owners and modes have to be accepted, and makes those that are missing.
 fn open_files<R: Files<File = File>, A: Allocator + Copy>(
     rt: &R,
     alloc: A,
     dir: &str,
+    owners: Owners,
 ) -> Result<(PartFile<A>, PartFile<A>), OpenFault> {
     let a = entry_of(rt, alloc, dir, Part::A)?;
     let b = entry_of(rt, alloc, dir, Part::B)?;
     refuse_loss(a, b)?;
     let a = PartFile::open(rt, alloc, dir, Part::A)?;
+    a.refuse_distrusted(Part::A, owners)?;
     let b = PartFile::open(rt, alloc, dir, Part::B)?;
+    b.refuse_distrusted(Part::B, owners)?;
     Ok((a, b))
 }
 
@@ -56,14 +60,15 @@ impl<R: Files<File = File> + Copy, A: Allocator + Copy> FileDisk<R, A> {
     /// Opens both files of a folder, and makes those that are missing, for their owner alone. It is refused as `Gone` where
     /// one is missing while the other is not empty; nothing is made then. The folder and both files are locked for as long as
     /// this value lives, so that a second opening is answered `InUse`. All are synced, and then both files are read whole.
+    /// An owner or a mode that is not accepted is refused: that of the directory before anything is made or locked.
     ///
     /// The path is that of a folder, by way of links or not. A failed opening may leave empty files.
-    pub fn open(rt: &R, alloc: A, dir: &str) -> Result<FileDisk<R, A>, OpenFault>
+    pub fn open(rt: &R, alloc: A, dir: &str, owners: Owners) -> Result<FileDisk<R, A>, OpenFault>
         ensures fresh { IfOk result IsFresh }
         ensures no_name { dir.now ≡ [] → IsErr result }
     {
-        let folder = open_folder(rt, alloc, dir)?;
-        let (a, b) = open_files(rt, alloc, dir)?;
+        let folder = open_folder(rt, alloc, dir, owners)?;
+        let (a, b) = open_files(rt, alloc, dir, owners)?;
         folder.sync_all().map_err(OpenFault::folder)?;
         let a_bytes = of_part(Part::A, a.contents(alloc))?;
         let b_bytes = of_part(Part::B, b.contents(alloc))?;

@@ -3,6 +3,7 @@ ghost use Rattle.std.specs.Prelude.{◌≡◌, Ok, IfErr, IfOk};
 ghost use Rattle.file_disk.specs.Faults.{IsOfPart};
 ghost use Rattle.file_disk.specs.declared.fault.OpenFault.TheVariants.{Memory};
 
+use crate::trust::Distrust;
 use ocf_types::Part;
 use std::alloc::AllocError;
 use std::fmt::{self, Display, Formatter};
@@ -21,6 +22,12 @@ pub enum OpenFault {
     /// A folder, a symbolic link or a device has the name of the part's file.
     #[error("not a plain file")]
     NotPlain(Part),
+    /// The executor runs as root, and another user may write the directory.
+    #[error("{0}")]
+    FolderDistrusted(Distrust),
+    /// The executor runs as root, and another user may write the part's file.
+    #[error("{1}")]
+    Distrusted(Part, Distrust),
     /// The part's file is open as a journal's already.
     #[error("in use by another executor")]
     Locked(Part),
@@ -99,12 +106,23 @@ impl OpenFault {
         match self {
             OpenFault::File(part, _)
             | OpenFault::NotPlain(part)
+            | OpenFault::Distrusted(part, _)
             | OpenFault::Locked(part)
             | OpenFault::Gone(part) => Some(file_name(*part)),
-            OpenFault::Folder(_) | OpenFault::InUse | OpenFault::Changing | OpenFault::Memory => {
-                None
-            }
+            OpenFault::Folder(_)
+            | OpenFault::FolderDistrusted(_)
+            | OpenFault::InUse
+            | OpenFault::Changing
+            | OpenFault::Memory => None,
         }
+    }
+
+    /// Whether the directory or a file was refused for its owner or mode.
+    pub fn is_distrust(&self) -> bool {
+        matches!(
+            self,
+            OpenFault::FolderDistrusted(_) | OpenFault::Distrusted(_, _)
+        )
     }
 
     /// The fault with the path that it speaks of, in the folder that was to be opened.

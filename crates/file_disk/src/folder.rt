@@ -3,6 +3,7 @@ ghost use Rattle.std.specs.Prelude.{◌≡◌, [], IsErr};
 
 use crate::fault::OpenFault;
 use crate::part_file::above_streams;
+use crate::trust::Owners;
 use std::alloc::Allocator;
 use std::fs::{self, File, TryLockError};
 use std::io::{self, ErrorKind};
@@ -30,17 +31,22 @@ pub fn find_folder<R: Files, A: Allocator>(rt: &R, alloc: A, dir: &str) -> Resul
     }
 }
 
-/// Opens a folder, so that its entries can be synced, and locks it for as long as it is open.
+/// Opens a directory whose owner and mode are accepted, so that its entries can be synced, and locks it for as long as it
+/// is open.
 pub fn open_folder<R: Files<File = File>, A: Allocator>(
     rt: &R,
     alloc: A,
     dir: &str,
+    owners: Owners,
 ) -> Result<File, OpenFault>
     ensures { dir.now ≡ [] → IsErr result }
 {
     let path = folder_path(alloc, dir)?;
     let folder = File::open(rt, path.as_str()).map_err(OpenFault::folder)?;
     let folder = above_streams(folder).map_err(OpenFault::folder)?;
+    if let Some(why) = owners.distrust_of(&folder).map_err(OpenFault::folder)? {
+        return Err(OpenFault::FolderDistrusted(why));
+    }
     match folder.try_lock() {
         Ok(()) => Ok(folder),
         Err(TryLockError::WouldBlock) => Err(OpenFault::InUse),

@@ -18,6 +18,7 @@ mod look;
 mod part_file;
 mod ram;
 mod record;
+mod trust;
 
 pub use disk::FileDisk;
 pub use error::{FileError, TellsError};
@@ -25,3 +26,4 @@ pub use fault::{Located, OpenFault};
 pub use look::read_parts;
 pub use part_file::OWNER_ONLY;
 pub use ram::RamDisk;
+pub use trust::{Distrust, Owners};

@@ -3,6 +3,7 @@ ghost use Rattle.std.specs.Prelude.{◌≡◌, ◌≤◌, IfErr, IfOk, length};
 ghost use Rattle.file_disk.specs.Faults.{IsOfPart};
 
 use crate::fault::{OpenFault, file_name, of_part};
+use crate::trust::Owners;
 use ocf_types::{PART_LIMIT, Part};
 use std::alloc::{Allocator, Global};
 use std::fs::{self, File, OpenOptions, TryLockError};
@@ -72,6 +73,16 @@ impl<A: Allocator + Copy> PartFile<A> {
             Ok(()) => Ok(PartFile { file, path }),
             Err(TryLockError::WouldBlock) => Err(OpenFault::Locked(part)),
             Err(TryLockError::Error(error)) => Err(OpenFault::file(part, error)),
+        }
+    }
+
+    /// Refuses a file whose owner or mode is not accepted.
+    pub fn refuse_distrusted(&self, part: Part, owners: Owners) -> Result<(), OpenFault>
+        ensures { IfErr result (IsOfPart part) }
+    {
+        match of_part(part, owners.distrust_of(&self.file))? {
+            Some(why) => Err(OpenFault::Distrusted(part, why)),
+            None => Ok(()),
         }
     }
 

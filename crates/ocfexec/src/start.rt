@@ -18,7 +18,7 @@ use exec_options::{JournalPlace, Options, Subcommand, WordsFault, read_words};
 use exec_output::{Fault, Look, show, status};
 use exec_session::{RunContext, Way, run_lines};
 use executor::{Executor, OpenError};
-use file_disk::{FileDisk, OpenFault, RamDisk, TellsError, read_parts};
+use file_disk::{FileDisk, OpenFault, Owners, RamDisk, TellsError, read_parts};
 use ocf_env::Site;
 use std::env;
 use std::io::{self, BufReader, ErrorKind};
@@ -30,6 +30,10 @@ const READ_SIZE: usize = 65_536;
 
 // How often the files of a journal that reads as damaged are read, before that is told.
 const LOOKS: usize = 4;
+
+// What can be done where root refuses a journal for its owner or mode.
+const OWNER_ADVICE: &str =
+    "Anyone who can write the journal decides what root starts. Make root its only writer, or give --any-owner.";
 
 // How many turns a drain makes at most.
 const MOST_TURNS: u64 = 100_000_000;
@@ -70,16 +74,30 @@ fn refuse(rt: &HostRuntime, fault: &WordsFault) -> Result<(), Fault>
     }
 }
 
+// Which owners and modes of the journal's files are accepted.
+fn owners_of(options: Options) -> Owners {
+    if options.any_owner {
+        Owners::Any
+    } else {
+        Owners::TrustedBy(libc::geteuid())
+    }
+}
+
 // The files of this folder. An agent that was being started when its executor was killed holds the locks up to its own
 // first instruction: so a lock is waited for, for a fifth of a second.
-fn open_files(rt: &HostRuntime, folder: &str) -> Result<FileDisk<HostRuntime>, OpenFault> {
+fn open_files(
+    rt: &HostRuntime,
+    options: Options,
+    folder: &str,
+) -> Result<FileDisk<HostRuntime>, OpenFault> {
+    let owners = owners_of(options);
     for _ in 0..10 {
-        match FileDisk::open(rt, rt.alloc(), folder) {
+        match FileDisk::open(rt, rt.alloc(), folder, owners) {
             Err(OpenFault::InUse | OpenFault::Locked(_)) => sleep(rt, Duration::from_millis(20)),
             opened => return opened,
         }
     }
-    FileDisk::open(rt, rt.alloc(), folder)
+    FileDisk::open(rt, rt.alloc(), folder, owners)
 }
 
 // The disk of a journal in this folder. Why there is none is told here, behind the line of the fault.
@@ -92,6 +110,9 @@ fn found<D: Drop>(rt: &HostRuntime, folder: &str, disk: Result<D, OpenFault>) ->
         Err(why) => {
             let _ = rt.eprintln(format_args!("ocfexec: {}", Fault::NotOpened));
             let _ = rt.eprintln(format_args!("{}", why.located(folder)));
+            if why.is_distrust() {
+                let _ = rt.eprintln(OWNER_ADVICE);
+            }
             Err(Fault::NotOpened)
         }
     }
@@ -154,7 +175,7 @@ fn run_in(rt: &HostRuntime, options: Options, log: Log, folder: &str) -> Result<
     match options.subcommand {
         Subcommand::Show | Subcommand::Status => show_files(rt, options, folder),
         Subcommand::Run | Subcommand::Serve => {
-            let disk = found(rt, folder, open_files(rt, folder))?;
+            let disk = found(rt, folder, open_files(rt, options, folder))?;
             run_on(rt, options, log, disk)
         }
     }
