@@ -28,12 +28,19 @@ class Ended(Exception):
     """The executor ended. Its status stands behind; below 0 it is the signal that killed it."""
 
 
+def with_default_signals():
+    """A shell starts what is in the background with these signals ignored, and agents would inherit that."""
+    for number in (signal.SIGINT, signal.SIGQUIT):
+        signal.signal(number, signal.SIG_DFL)
+
+
 class Executor:
     """One run of ocfexec that serves: commands are lines to it, replies and results are lines from it."""
 
     def __init__(self, words, slow):
         # a session of its own, so that a terminal's interrupt reaches the client alone
-        self.process = subprocess.Popen(words, stdin=subprocess.PIPE, stdout=subprocess.PIPE, start_new_session=True)
+        self.process = subprocess.Popen(words, stdin=subprocess.PIPE, stdout=subprocess.PIPE, start_new_session=True,
+                                        preexec_fn=with_default_signals)
         self.slow = slow
         self.read = b""  # what was read and is no whole line yet
         self.results = {}  # the last result of each call

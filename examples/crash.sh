@@ -33,7 +33,8 @@ set -- "$program" run --journal "$here/journal" --root "$here/root" --via sh
 
 say "An executor starts web and db, and has db's promotion queued. It is killed as soon as web is up."
 mkfifo "$here/in"
-"$@" < "$here/in" > "$here/out" &
+# a shell starts what is in the background with SIGINT and SIGQUIT ignored, and agents would inherit that
+env --default-signal=INT,QUIT "$@" < "$here/in" > "$here/out" &
 pid=$!
 exec 3> "$here/in"
 for id in web db; do

@@ -1,6 +1,8 @@
 # What the checks of the shell share; read by `. "$(dirname "$0")/common.sh" "$@"`, with the program as the first word. A check has a
 # folder of its own, `$here`, which is removed at its end.
 # shellcheck shell=sh
+# The program names the signals that are ignored when it starts, as those are of what nohup or a script's `&` starts.
+[ "${signals-}" = default ] || exec env --default-signal signals=default "$0" "$@"
 program=$(realpath "$1")
 check=${0##*/}
 here=$(mktemp -d)
@@ -49,7 +51,7 @@ feed() {
     fed=$1
     shift
     mkfifo "$here/in"
-    "$program" "$@" < "$here/in" > "$fed" &
+    env --default-signal "$program" "$@" < "$here/in" > "$fed" &
     pid=$!
     exec 3> "$here/in"
     rm "$here/in"

@@ -1,7 +1,8 @@
 #!/usr/bin/env python3
-"""The two ends of a run: a reader that goes away ends a drain, a watch and a run that serves within a second, with its agents, and
-descriptors that do not block are waited for; behind a device that fails a run waits, too; and starts that are refused: with SIGCHLD
-ignored, and with a root that is not absolute.
+"""The two ends of a run: a reader that goes away ends a drain, a watch and a run that serves within a
+second, with its agents; descriptors that do not block are waited for; behind a device that
+fails a run waits, too; starts with signals ignored, which are named; and starts that are refused: with SIGCHLD ignored, and with a root
+that is not absolute.
 Use: ends.py PROGRAM"""
 import fcntl
 import json
@@ -16,7 +17,23 @@ from helper import PROGRAM
 
 
 class Ends(helper.Check):
-    def gone(self, word, *last):
+    def pid_in(self, path):
+        while not os.path.exists(path) or not os.path.getsize(path):
+            time.sleep(0.02)
+        with open(path, encoding="ascii") as file:
+            return int(file.read())
+
+    def ends_unheard(self, run):
+        # its status and its first word, within a second after nobody reads any more
+        run.stdout.close()
+        began = time.monotonic()
+        self.assertEqual(run.wait(5), 7)
+        self.assertLess(time.monotonic() - began, 1.5)
+        self.assertTrue(run.stderr.read().startswith(b"ocfexec: input or output\n"))
+        run.stderr.close()
+        run.stdin.close()
+
+    def gone(self, word, *last, until=None):
         self.agent("Sleeper", 'echo $$ > "$OCF_RESKEY_pid"\nexec sleep 60\n')
         pid_file = self.place("pid")
         run = subprocess.Popen([PROGRAM, word, "--memory", "--root", self.here],
@@ -24,19 +41,12 @@ class Ends(helper.Check):
         self.addCleanup(run.kill)
         run.stdin.write(helper.lines(helper.register("r1", "Sleeper", pid=pid_file), helper.action("r1", "start"), *last))
         run.stdin.flush()
-        while not os.path.exists(pid_file) or not os.path.getsize(pid_file):
-            time.sleep(0.02)
-        with open(pid_file, encoding="ascii") as file:
-            pid = int(file.read())
-        run.stdout.close()
-        began = time.monotonic()
-        self.assertEqual(run.wait(5), 7)
-        self.assertLess(time.monotonic() - began, 1.5)
-        self.assertTrue(run.stderr.read().startswith(b"ocfexec: input or output\n"))
+        pid = self.pid_in(pid_file)
+        while until and run.stdout.readline() != until:
+            pass
+        self.ends_unheard(run)
         time.sleep(0.1)
         self.assertFalse(helper.is_alive(pid), "its agent lives on")
-        run.stderr.close()
-        run.stdin.close()
 
     def test_drain(self):
         """a reader that goes away amid a drain"""
@@ -91,6 +101,23 @@ class Ends(helper.Check):
         first, *advice = done.stderr.splitlines()
         self.assertEqual((done.returncode, first, len(advice)), (8, b"ocfexec: SIGCHLD is ignored", 1))
         self.assertEqual(os.listdir(folder), [])
+
+    def test_ignored(self):
+        """signals that are ignored at the start are named once, by run and by serve, and agents inherit them"""
+        def ignore():
+            for number in (signal.SIGHUP, signal.SIGTERM):
+                signal.signal(number, signal.SIG_IGN)
+        shown = self.place("shown")
+        self.agent("Shows", 'grep SigIgn /proc/$$/status > "$OCF_RESKEY_to"\n')
+        told = helper.lines(helper.register("r1", "Shows", to=shown), helper.action("r1", "start"), {"op": "drain"})
+        for word in ("run", "serve"):
+            done = helper.run(word, "--memory", "--root", self.here, told=told, preexec_fn=ignore)
+            self.assertEqual(done.stderr, b"ocfexec: started with ignored signals, which agents inherit: SIGHUP, SIGTERM\n")
+            with open(shown, encoding="ascii") as file:
+                mask = int(file.read().split()[1], 16)
+            self.assertEqual([number for number in (1, 2, 13, 15) if mask >> (number - 1) & 1], [1, 15])
+        self.assertEqual(helper.run("show", "--memory", preexec_fn=ignore).stderr, b"")
+        self.assertEqual(helper.run("run", "--memory").stderr, b"")
 
     def test_fault(self):
         """a device that fails in a turn ends a run that is served, while its input is open"""

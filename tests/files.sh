@@ -200,7 +200,7 @@ while [ ! -e enough ] && [ "$number" -lt 256 ]; do
     done
     printf '{"op":"tidy"}\n'
     sleep 0.01
-done | "$program" run --journal busy > busy_replies 2> busy_err &
+done | env --default-signal "$program" run --journal busy > busy_replies 2> busy_err &
 pid=$!
 until [ -s busy_replies ]; do
     sleep 0.01
@@ -241,7 +241,8 @@ printf '%s\n' "$large" "$large" "$large" "$large" "$large" '{"op":"list"}' '{"op
     '{"op":"meta","provider":"p","type":"t"}' nope > lines
 (trap '' XFSZ && ulimit -f 64 && exec "$program" run --journal full) < lines > out 2> err
 same "a full device, status" 5 $?
-same "a full device, standard error" "ocfexec: disk
+same "a full device, standard error" "ocfexec: started with ignored signals, which agents inherit: SIGXFSZ
+ocfexec: disk
 full/part-a: File too large (os error 27)
 $check_device" "$(cat err)"
 same "a full device, last replies" '{"error":"disk","number":16}

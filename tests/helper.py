@@ -4,6 +4,7 @@ environment, the one test of that sentence is tried."""
 import json
 import os
 import shutil
+import signal
 import subprocess
 import sys
 import tempfile
@@ -14,6 +15,12 @@ import unittest
 PROGRAM = os.path.realpath(sys.argv[1]) if len(sys.argv) > 1 else ""
 PARTS = ("part-a", "part-b")
 TOP = os.path.dirname(os.path.dirname(os.path.abspath(__file__)))
+
+# The program names the signals that are ignored when it starts, as those are of what nohup or a script's `&` starts. What Python
+# itself ignores is at its default in what it starts.
+for ignored in signal.valid_signals() - {signal.SIGPIPE, signal.SIGXFSZ}:
+    if signal.getsignal(ignored) == signal.SIG_IGN:
+        signal.signal(ignored, signal.SIG_DFL)
 
 
 def number(name, default):

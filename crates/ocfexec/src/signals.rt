@@ -1,8 +1,41 @@
-//! What whoever started the program left it.
+//! Which signals the program was started with as ignored.
 use proc_files::{is_ignored, read_head};
+use std::fmt::{self, Display, Formatter};
 
 // The number of SIGCHLD. Linux, signal(7).
 const SIGCHLD: u8 = 17;
+
+// The signals that an agent inherits as ignored, with their numbers on x86 and ARM. Linux, signal(7). SIGKILL and SIGSTOP cannot be
+// ignored, SIGCHLD is refused, and SIGPIPE is at its default in each agent.
+const INHERITED: [(u8, &str); 27] = [
+    (1, "SIGHUP"),
+    (2, "SIGINT"),
+    (3, "SIGQUIT"),
+    (4, "SIGILL"),
+    (5, "SIGTRAP"),
+    (6, "SIGABRT"),
+    (7, "SIGBUS"),
+    (8, "SIGFPE"),
+    (10, "SIGUSR1"),
+    (11, "SIGSEGV"),
+    (12, "SIGUSR2"),
+    (14, "SIGALRM"),
+    (15, "SIGTERM"),
+    (16, "SIGSTKFLT"),
+    (18, "SIGCONT"),
+    (20, "SIGTSTP"),
+    (21, "SIGTTIN"),
+    (22, "SIGTTOU"),
+    (23, "SIGURG"),
+    (24, "SIGXCPU"),
+    (25, "SIGXFSZ"),
+    (26, "SIGVTALRM"),
+    (27, "SIGPROF"),
+    (28, "SIGWINCH"),
+    (29, "SIGIO"),
+    (30, "SIGPWR"),
+    (31, "SIGSYS"),
+];
 
 // How much is read of what the system tells of this process.
 const STATUS_LIMIT: usize = 16_384;
@@ -14,5 +47,48 @@ pub fn children_ignored(rt: &HostRuntime) -> bool {
     match read_head(rt, "/proc/self/status", &mut status) {
         Ok(length) => is_ignored(&status[..length], SIGCHLD),
         Err(_) => false,
+    }
+}
+
+// The signals that agents inherit as ignored, by the `/proc/PID/status` of the program. They are displayed as `SIGINT, SIGQUIT`.
+#[derive(Clone, Copy)]
+struct Ignored<'a> {
+    status: &'a [u8],
+}
+
+impl Ignored<'_> {
+    fn is_empty(self) -> bool {
+        !INHERITED
+            .iter()
+            .any(|(number, _)| is_ignored(self.status, *number))
+    }
+}
+
+impl Display for Ignored<'_> {
+    fn fmt<W: fmt::Write>(&self, f: &mut Formatter<W>) -> fmt::Result {
+        let mut separator = "";
+        for (number, name) in INHERITED.iter() {
+            if is_ignored(self.status, *number) {
+                write!(f, "{separator}{name}")?;
+                separator = ", ";
+            }
+        }
+        Ok(())
+    }
+}
+
+/// Names on standard error the signals that agents inherit as ignored, in one line, if there are any and the system says so.
+pub fn tell_ignored(rt: &HostRuntime) {
+    let mut status = [0u8; STATUS_LIMIT];
+    let Ok(length) = read_head(rt, "/proc/self/status", &mut status) else {
+        return;
+    };
+    let ignored = Ignored {
+        status: &status[..length],
+    };
+    if !ignored.is_empty() {
+        let _ = rt.eprintln(format_args!(
+            "ocfexec: started with ignored signals, which agents inherit: {ignored}"
+        ));
     }
 }

@@ -7,7 +7,7 @@ use crate::agents::{BOOK_ROOM, SiteMetadata, site_of};
 use crate::holder::leave_word;
 use crate::log::log_of;
 use crate::orphans::{Orphans, await_orphans};
-use crate::signals::children_ignored;
+use crate::signals::{children_ignored, tell_ignored};
 use child_keeper::{Log, Processes};
 use disk_model::Disk;
 use exec_client::Teller;
@@ -160,6 +160,9 @@ fn run(rt: &HostRuntime, words: &[String]) -> Result<(), Fault>
     let log = match log_of(rt, options) {
         Ok(log) => log,
         Err(fault) => return Err(fault),
+    if starts_agents {
+        tell_ignored(rt);
+    }
     };
     match options.journal {
         JournalPlace::Folder(folder) => run_in(rt, options, log, folder),
