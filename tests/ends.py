@@ -1,6 +1,6 @@
 #!/usr/bin/env python3
-"""The two ends of a run: a reader that goes away ends a drain, a watch and a run that serves within a
-second, with its agents; descriptors that do not block are waited for; behind a device that
+"""The two ends of a run: a reader that goes away ends a drain, a watch, a run that waits for a line and one that serves within a
+second, with its agents, and an opening that waits for what is left; descriptors that do not block are waited for; behind a device that
 fails a run waits, too; starts with signals ignored, which are named; and starts that are refused: with SIGCHLD ignored, and with a root
 that is not absolute.
 Use: ends.py PROGRAM"""
@@ -59,6 +59,30 @@ class Ends(helper.Check):
     def test_serve(self):
         """a reader that goes away while it is served"""
         self.gone("serve")
+
+    def test_line(self):
+        """a reader that goes away while a run waits for a line"""
+        self.gone("run", {"op": "drain", "limit": 300}, until=b'{"end":"limit"}\n')
+
+    def test_orphans(self):
+        """a reader that goes away while an opening waits for what is left: nothing is recorded, and what is left goes on"""
+        self.agent("Sleeper", 'echo $$ > "$OCF_RESKEY_pid"\nsleep 60\n')
+        folder, pid_file = self.journal(), self.place("pid")
+        words = ["run", "--journal", folder, "--root", self.here, "--orphans"]
+        first = self.heard(*words, "0")
+        first.tell(helper.register("r1", "Sleeper", pid=pid_file), helper.action("r1", "start", timeout=60000), {"op": "drain"})
+        pid = self.pid_in(pid_file)
+        first.killed()
+        before = helper.parts(folder)
+        waiting = subprocess.Popen([PROGRAM, *words, "60000"], stdin=subprocess.PIPE, stdout=subprocess.PIPE, stderr=subprocess.PIPE)
+        self.addCleanup(waiting.kill)
+        time.sleep(1)
+        self.ends_unheard(waiting)
+        self.assertEqual(helper.parts(folder), before)
+        self.assertTrue(helper.is_alive(pid), "what is left goes on")
+        last = helper.run(*words, "0")
+        self.assertEqual([value["outcome"] for value in helper.replies(last.stdout)], ["interrupted"])
+        self.assertFalse(helper.is_alive(pid), "what is left is ended")
 
     def not_blocking(self, word):
         # two thousand lines come in pieces, and their replies are read late

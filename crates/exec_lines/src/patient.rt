@@ -14,18 +14,48 @@ const ONCE: u32 = 1_000;
 pub struct Patient<T> {
     inner: T,
     descriptor: i32,
+    // Where replies to what is read are written to, if a read is to end once nobody can read them any more.
+    replies: Option<i32>,
 }
 
 impl<T> Patient<T> {
     /// A reader or a writer of this descriptor.
     pub fn new(inner: T, descriptor: i32) -> Patient<T> {
-        Patient { inner, descriptor }
+        Patient {
+            inner,
+            descriptor,
+            replies: None,
+        }
+    }
+
+    /// The same reader, whose reads fail with the kind `BrokenPipe` within a second after the other end of this descriptor is
+    /// closed, if nothing is there to be read.
+    pub fn with_replies(mut self, descriptor: i32) -> Patient<T> {
+        self.replies = Some(descriptor);
+        self
+    }
+
+    // Waits for something to be read as long as somebody can read what is replied.
+    fn await_input(&self) -> io::Result<()> {
+        let Some(replies) = self.replies else {
+            return Ok(());
+        };
+        for _ in 0..NUM_MAX {
+            if is_readable(self.descriptor, ONCE) {
+                return Ok(());
+            }
+            if is_hung_up(replies) {
+                return Err(io::Error::from(ErrorKind::BrokenPipe));
+            }
+        }
+        Err(io::Error::from(ErrorKind::TimedOut))
     }
 }
 
 impl<R: Read> Read for Patient<R> {
     fn read(&mut self, buf: &mut [u8]) -> io::Result<usize> {
         for _ in 0..NUM_MAX {
+            self.await_input()?;
             match self.inner.read(buf) {
                 Err(error) if error.kind() == ErrorKind::WouldBlock => {
                     is_readable(self.descriptor, ONCE);

@@ -47,6 +47,10 @@ pub run_ends : {D C N : Type 0} (look : D → View) (tend : C → ChildrenView) 
 run_ends look tend source rules report p left heard run ended =
     ends look source rules report p (position ended.last left heard) run.ended ended.ends
 
+-- a run that nobody reads the report of does not end by its words
+pub unheard_ends : {T : Type 0} (f : Fault) → f ≡ fault.InputOrOutput → IsRunEnd {T = T} (Err f)
+unheard_ends {T} f is = subst (λ x. IsRunEnd {T = T} (Err x)) (sym is) tt
+
 -- words that give no options
 pub refused_ends : {T : Type 0} (words : List (List ℕ)) (f : WordsFault) (r : Result T Fault) → IsFault words f → IsToldAs f r
     → EndsFor words r

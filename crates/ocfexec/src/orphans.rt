@@ -4,11 +4,12 @@ use crate::interrupted::{Interrupted, all_interrupted};
 use crate::times::Times;
 use child_keeper::{Environments, Sought, end_processes, with_ancestors};
 use exec_commands::Left;
+use exec_lines::{Output, Patient};
 use exec_state::State;
 use ocf_env::Site;
 use proc_files::{PidFile, ProcFiles, Process, has};
 use std::alloc::{AllocError, Allocator, Global};
-use std::io;
+use std::io::{self, ErrorKind};
 use std::thread::sleep;
 use std::time::Duration;
 
@@ -178,19 +179,24 @@ fn deal_with(
     Ok(())
 }
 
-// Looks for what is left of these actions until nothing is that may go on, and deals with what may not: what was dealt with.
+// Looks for what is left of these actions until nothing is that may go on, and deals with what may not: what was dealt with. It
+// fails with the kind `BrokenPipe` once nobody can read what would be reported.
 fn await_all(
     rt: &HostRuntime,
     how: Orphans<'_>,
     sessions: &[u32],
     actions: &[&Interrupted],
 ) -> io::Result<Vec<Left>> {
+    let client = Patient::new(io::writer(rt), libc::STDOUT_FILENO);
     let mut dealt = Vec::new(rt.alloc());
     for _ in 0..u64::MAX {
         let found = ActionsSought::new(rt, actions, sessions)?.look()?;
         deal_with(rt, how, sessions, found.as_slice(), &mut dealt)?;
         if found.iter().all(|orphan| orphan.of.deadline.left(rt) == 0) {
             break;
+        }
+        if !client.is_heard() {
+            return Err(io::Error::from(ErrorKind::BrokenPipe));
         }
         sleep(rt, Duration::from_millis(PAUSE));
     }
@@ -223,15 +229,21 @@ fn await_left(
 
 /// Waits for what is left of the actions that run at a state, whose executor is gone: each up to its own timeout, and all of them
 /// up to a limit. What is left then is ended with all that descends from it, or lives on, and is named on standard error. So is
-/// why it could not be looked for. What lives on is given, with its run.
-pub fn await_orphans(rt: &HostRuntime, how: Orphans<'_>, site: &Site, state: &State) -> Vec<Left> {
+/// why it could not be looked for. What lives on is given, with its run; `None` once nobody can read what would be reported.
+pub fn await_orphans(
+    rt: &HostRuntime,
+    how: Orphans<'_>,
+    site: &Site,
+    state: &State,
+) -> Option<Vec<Left>> {
     match await_left(rt, how, site, state) {
-        Ok(left) => left,
+        Ok(left) => Some(left),
+        Err(error) if error.kind() == ErrorKind::BrokenPipe => None,
         Err(error) => {
             let _ = rt.eprintln(format_args!(
                 "ocfexec: what is left of interrupted actions cannot be looked for in /proc: {error}"
             ));
-            Vec::new(rt.alloc())
+            Some(Vec::new(rt.alloc()))
         }
     }
 }

@@ -1,5 +1,5 @@
 //! From the words to a run.
-ghost use Rattle.std.specs.Prelude.{◌≡◌, map, string_bytes};
+ghost use Rattle.std.specs.Prelude.{◌≡◌, IfErr, map, string_bytes};
 ghost use Rattle.exec_output.specs.Faults.{IsRunEnd};
 ghost use Rattle.ocfexec.specs.Starts.{EndsFor, IsFolderEnd, IsNotOpened, IsToldAs, opening_fault};
 
@@ -277,16 +277,18 @@ fn form_of(way: Way, left: &[Left]) -> NoticeForm<'_> {
 }
 
 // Waits for what is left of the actions that a journal finds interrupted, before their interruption is recorded; what lives on.
-// Why a journal cannot be read is found once more when it is opened.
+// Why a journal cannot be read is found once more when it is opened. It fails once nobody can read what would be reported.
 fn await_interrupted<D: Disk + Drop>(
     rt: &HostRuntime,
     options: Options,
     site: &Site,
     disk: D,
-) -> (D, Vec<Left>) {
+) -> Result<(D, Vec<Left>), Fault>
+    ensures { IfErr result (λ f. f ≡ Fault.InputOrOutput) }
+{
     let none = Vec::new(rt.alloc());
     let JournalPlace::Folder(folder) = options.journal else {
-        return (disk, none);
+        return Ok((disk, none));
     };
     let how = Orphans {
         folder,
@@ -295,15 +297,17 @@ fn await_interrupted<D: Disk + Drop>(
     };
     match Journal::open(rt.alloc(), disk) {
         Ok((journal, state)) => {
-            let left = await_orphans(rt, how, site, &state);
-            (journal.into_disk(), left)
+            let Some(left) = await_orphans(rt, how, site, &state) else {
+                return Err(Fault::InputOrOutput);
+            };
+            Ok((journal.into_disk(), left))
         }
-        Err((_, disk)) => (disk, none),
+        Err((_, disk)) => Ok((disk, none)),
     }
 }
 
 // Opens the executor and answers the lines of standard input.
-#[tactic(auto, using(crate::proofs::StartLemmas::run_ends))]
+#[tactic(auto, using(crate::proofs::StartLemmas::run_ends, crate::proofs::StartLemmas::unheard_ends))]
 fn run_agents<D: Disk + TellsError + Drop>(
     rt: &HostRuntime,
     options: Options,
@@ -314,7 +318,7 @@ fn run_agents<D: Disk + TellsError + Drop>(
     ensures { IsRunEnd result }
 {
     let alloc = rt.alloc();
-    let input = Patient::new(rt.reader(), libc::STDIN_FILENO);
+    let input = Patient::new(rt.reader(), libc::STDIN_FILENO).with_replies(libc::STDOUT_FILENO);
     let Ok(mut reader) = BufReader::with_capacity(alloc, READ_SIZE, input) else {
         return Err(Fault::Memory);
     };
@@ -324,7 +328,7 @@ fn run_agents<D: Disk + TellsError + Drop>(
     let (Ok(site), Ok(asked)) = (site_of(alloc, options), site_of(alloc, options)) else {
         return Err(Fault::Memory);
     };
-    let (disk, left) = await_interrupted(rt, options, &asked, disk);
+    let (disk, left) = await_interrupted(rt, options, &asked, disk)?;
     match Executor::open(alloc, disk, children, site, moment_now(rt).get()) {
         Ok((executor, report)) => {
             let clock = RunClock::new(rt, executor.clock());
