@@ -8,6 +8,7 @@ import fcntl
 import json
 import os
 import resource
+import shutil
 import signal
 import subprocess
 import time
@@ -142,6 +143,32 @@ class Ends(helper.Check):
             self.assertEqual([number for number in (1, 2, 13, 15) if mask >> (number - 1) & 1], [1, 15])
         self.assertEqual(helper.run("show", "--memory", preexec_fn=ignore).stderr, b"")
         self.assertEqual(helper.run("run", "--memory").stderr, b"")
+
+    def lost(self, lose, why):
+        folder, err = self.journal(), self.place("err")
+        run = self.heard("serve", "--journal", folder, err=err)
+        run.tell(helper.register("r1", "None"))
+        self.assertEqual(run.awaits(lambda value: True)[1], {"ok": True})
+        time.sleep(0.5)
+        lose(folder)
+        began = time.monotonic()
+        self.assertEqual(run.run.wait(5), 5)
+        self.assertLess(time.monotonic() - began, 1.5)
+        run.reader.join()
+        self.assertEqual(run.values()[1:], [{"end": "disk"}])
+        with open(err, encoding="utf-8") as file:
+            self.assertEqual(file.read().splitlines()[:2], ["ocfexec: disk", f"{folder}/part-a: {why}"])
+
+    def test_removed(self):
+        """a journal that is removed under a run that serves and rests ends it within a second"""
+        self.lost(shutil.rmtree, "No such file or directory (os error 2)")
+
+    def test_replaced(self):
+        """a directory that is replaced under a run that serves and rests ends it within a second"""
+        def replace(folder):
+            os.rename(folder, self.place("away"))
+            shutil.copytree(self.place("away"), folder)
+        self.lost(replace, "replaced while in use")
 
     def test_fault(self):
         """a device that fails in a turn ends a run that is served, while its input is open"""

@@ -6,6 +6,10 @@
 set -u
 . "$(dirname "$0")/common.sh" "$@"
 register='{"op":"register","id":"r1","provider":"pacemaker","type":"Dummy"}'
+exec_start='{"op":"exec","id":"r1","action":"start"}'
+tidy='{"op":"tidy"}'
+disk_end='{"end":"disk"}'
+disk_error='{"error":"disk","number":16}'
 check_device="Check the device of the journal, its free space and its permissions."
 
 # A journal in which r1 is registered. Use: journal DIR
@@ -32,13 +36,13 @@ let_go() {
     same "$1, reply" '{"ok":true,"resources":["r1"]}' "$(cat "$here/held")"
 }
 
-# Has that executor tidy, which fails since a part's file is no longer that of its path. Use: loses NAME LINE
+# Has that executor do this, which fails since a part's file is no longer that of its path. Use: loses NAME LINE [COMMAND REPLY]
 loses() {
-    printf '{"op":"tidy"}\n' >&3
+    printf '%s\n' "${3-$tidy}" >&3
     exec 3>&-
     wait "$pid"
     same "$1, status" 5 $?
-    same "$1, reply" '{"ok":true,"resources":["r1"]} {"end":"disk"}' "$(tr '\n' ' ' < "$here/held" | sed 's/ $//')"
+    same "$1, reply" "{\"ok\":true,\"resources\":[\"r1\"]} ${4-$disk_end}" "$(tr '\n' ' ' < "$here/held" | sed 's/ $//')"
     same "$1, standard error" "ocfexec: disk
 $2
 $check_device" "$(cat "$here/held_err")"
@@ -138,7 +142,7 @@ let_go "the executor that has the journal"
 run made '{"op":"list"}'
 same "the journal after it" '{"ok":true,"resources":["r1"]}' "$(cat out)"
 
-# Files that are replaced under an executor: no other one opens them, and the next tidy fails
+# Files that are replaced under an executor: no other one opens them, and the next command or tidy fails
 journal replaced
 hold replaced
 cp replaced/part-a copy && mv copy replaced/part-a
@@ -150,6 +154,42 @@ mv renamed away
 loses "a renamed folder" "renamed/part-a: No such file or directory (os error 2)"
 run away '{"op":"list"}'
 same "the renamed folder" '{"ok":true,"resources":["r1"]}' "$(cat out)"
+
+journal removed
+hold removed
+rm -r removed
+loses "a removed folder" "removed/part-a: No such file or directory (os error 2)" "$exec_start" "$disk_error"
+journal swapped
+hold swapped
+mv swapped swapped_away && journal swapped
+loses "a folder in another's place" "swapped/part-a: replaced while in use" "$exec_start" "$disk_error"
+run swapped "$exec_start"
+same "the folder in its place" '{"call":1,"key":"r1_start_0","ok":true}' "$(cat out)"
+
+# A mount over the folder
+if [ "$(id -u)" -eq 0 ]; then apart="unshare --mount"; else apart="unshare --user --map-root-user --mount"; fi
+mkdir over
+if $apart mount -t tmpfs none "$here/over" 2> err; then
+    journal covered
+    cat > covers <<'COVERS'
+mkfifo asked
+env --default-signal "$1" run --journal covered < asked > out 2> err &
+exec 3> asked
+printf '{"op":"list"}\n' >&3
+until [ -s out ]; do sleep 0.01; done
+mount -t tmpfs none covered
+printf '%s\n' "$2" >&3
+exec 3>&-
+wait $!
+echo $? > status
+COVERS
+    $apart sh covers "$program" "$exec_start"
+    same "a mount over the folder, status" 5 "$(cat status)"
+    same "a mount over the folder, reply" "$disk_error" "$(tail -n 1 out)"
+    same "a mount over the folder, standard error" "covered/part-a: No such file or directory (os error 2)" "$(sed -n 2p err)"
+else
+    echo "files.sh: a mount over the folder is not tried: $(cat err)"
+fi
 
 # What is shown of a folder that may only be read, and of one without files: nothing is made and nothing changes
 chmod 711 "$here"
@@ -256,7 +296,6 @@ run full '{"op":"list"}'
 same "opened again" '{"ok":true,"resources":["r1"]}' "$(cat out)"
 
 # Room that was reserved before the device filled: 300 commands and a tidy, and without it no command at all
-if [ "$(id -u)" -eq 0 ]; then apart="unshare --mount"; else apart="unshare --user --map-root-user --mount"; fi
 if command -v fallocate > found && $apart mount -t tmpfs -o size=1m none "$here/other" 2> err; then
     mkdir device
     printf '%s\n' "$register" > lines

@@ -1,5 +1,5 @@
 //! Two files as a disk.
-ghost use Rattle.std.specs.Prelude.{◌≡◌, ◌+◌, ◌≤◌, IfOk, IsErr, OnErr, OnOk, Some, [], drop, is_some, length, take, true};
+ghost use Rattle.std.specs.Prelude.{◌≡◌, ◌+◌, ◌≤◌, IfErr, IfOk, IsErr, OnErr, OnOk, Some, [], drop, is_some, length, take, true};
 ghost use Rattle.disk_model.specs.Image.{Written, bytes_of};
 ghost use Rattle.disk_model.specs.View.{Called, Unwritten, Synced, Tears};
 
@@ -39,8 +39,8 @@ fn open_files<R: Files<File = File>, A: Allocator + Copy>(
 ///
 /// It is honest as long as each length and all bytes that the files answered are those that they held when they were
 /// opened, changed by the writes since. A read, a write and a sync are one call of the system each, gone on with where it
-/// is cut short or interrupted. A length looks at both files, and fails where the path of one leads to another file by now,
-/// or to none: openings and tidies ask for lengths. After the first call that failed none is made any more, and each is
+/// is cut short or interrupted. A sync fails, too, where the path of its file leads to another file by now, or to none; a length
+/// looks so at both files: openings and tidies ask for lengths. After the first call that failed none is made any more, and each is
 /// answered a fault: a system may answer the next sync after one that failed as a success, with nothing on the device.
 #[derive(Drop)]
 pub struct FileDisk<R: Files<File = File> + Copy, A: Allocator + Copy = Global> {
@@ -83,11 +83,15 @@ impl<R: Files<File = File> + Copy, A: Allocator + Copy> FileDisk<R, A> {
         })
     }
 
-    fn file(&self, part: Part) -> &File {
+    fn part_file(&self, part: Part) -> &PartFile<A> {
         match part {
-            Part::A => &self.a.file,
-            Part::B => &self.b.file,
+            Part::A => &self.a,
+            Part::B => &self.b,
         }
+    }
+
+    fn file(&self, part: Part) -> &File {
+        &self.part_file(part).file
     }
 
     // The length of a part. Both files have to be those of their paths still.
@@ -105,6 +109,16 @@ impl<R: Files<File = File> + Copy, A: Allocator + Copy> FileDisk<R, A> {
         match part {
             Part::A => Ok(a),
             Part::B => Ok(b),
+        }
+    }
+
+    // Syncs the file of a part, which has to be that of its path still.
+    fn sync_file(&self, part: Part) -> Result<(), FileError>
+        ensures { IfErr result (λ error. error.part ≡ part) }
+    {
+        match self.part_file(part).sync(&self.rt) {
+            Ok(()) => Ok(()),
+            Err(error) => Err(FileError { part, error }),
         }
     }
 
@@ -241,12 +255,12 @@ impl<R: Files<File = File> + Copy, A: Allocator + Copy> Disk for FileDisk<R, A> 
         if !self.log.goes_on() {
             return Err(self.log.fail(&Call::Refused, &[]));
         }
-        match self.file(part).sync_data() {
+        match self.sync_file(part) {
             Ok(()) => {
                 self.log.pass(&Call::Synced(part), &[]);
                 Ok(())
             }
-            Err(error) => Err(self.fail(&Call::Failed, &[], FileError { part, error })),
+            Err(error) => Err(self.fail(&Call::Failed, &[], error)),
         }
     }
 

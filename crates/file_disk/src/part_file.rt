@@ -3,13 +3,14 @@ ghost use Rattle.std.specs.Prelude.{◌≡◌, ◌≤◌, IfErr, IfOk, length};
 ghost use Rattle.file_disk.specs.Faults.{IsOfPart};
 
 use crate::fault::{OpenFault, file_name, of_part};
+use crate::known_path::KnownPath;
 use crate::trust::Owners;
 use ocf_types::{PART_LIMIT, Part};
 use std::alloc::{Allocator, Global};
 use std::fs::{self, File, OpenOptions, TryLockError};
 use std::io::{self, ErrorKind};
 use std::os::fd::AsRawFd;
-use std::os::unix::fs::{FileExt, MetadataExt, OpenOptionsExt};
+use std::os::unix::fs::{FileExt, OpenOptionsExt};
 use std::rt::Files;
 
 /// The permissions of a new file: its owner alone reads and writes it.
@@ -19,7 +20,7 @@ pub const OWNER_ONLY: u32 = 0o600;
 #[derive(Drop)]
 pub struct PartFile<A: Allocator = Global> {
     pub file: File,
-    path: String<A>,
+    path: KnownPath<A>,
 }
 
 // The file of this path, which is made where nothing is there; `None` where a folder, a link or a device is.
@@ -70,10 +71,13 @@ impl<A: Allocator + Copy> PartFile<A> {
         let file = opened.ok_or(OpenFault::NotPlain(part))?;
         let file = of_part(part, above_streams(file))?;
         match file.try_lock() {
-            Ok(()) => Ok(PartFile { file, path }),
-            Err(TryLockError::WouldBlock) => Err(OpenFault::Locked(part)),
-            Err(TryLockError::Error(error)) => Err(OpenFault::file(part, error)),
+            Ok(()) => {}
+            Err(TryLockError::WouldBlock) => return Err(OpenFault::Locked(part)),
+            Err(TryLockError::Error(error)) => return Err(OpenFault::file(part, error)),
         }
+        let found = of_part(part, file.metadata())?;
+        let path = KnownPath::new(path, &found);
+        Ok(PartFile { file, path })
     }
 
     /// Refuses a file whose owner or mode is not accepted.
@@ -102,11 +106,14 @@ impl<A: Allocator + Copy> PartFile<A> {
     pub fn size<R: Files>(&self, rt: &R) -> io::Result<u64>
         ensures { IfOk result (λ n. n ≤ PART_LIMIT) }
     {
-        let open = self.file.metadata()?;
-        let named = fs::symlink_metadata(rt, self.path.as_str())?;
-        if (open.dev(), open.ino()) != (named.dev(), named.ino()) {
-            return Err(io::Error::new(ErrorKind::Other, "replaced while in use"));
-        }
-        Ok(open.len().min(PART_LIMIT))
+        self.path.check(rt)?;
+        Ok(self.file.metadata()?.len().min(PART_LIMIT))
+    }
+
+    /// Syncs the bytes of the file. It is an error, too, where its path leads to another file by now, or to none: what is
+    /// recorded then would not be found again.
+    pub fn sync<R: Files>(&self, rt: &R) -> io::Result<()> {
+        self.file.sync_data()?;
+        self.path.check(rt)
     }
 }

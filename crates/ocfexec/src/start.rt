@@ -4,6 +4,7 @@ ghost use Rattle.exec_output.specs.Faults.{IsRunEnd};
 ghost use Rattle.ocfexec.specs.Starts.{EndsFor, IsFolderEnd, IsNotOpened, IsToldAs, opening_fault};
 
 use crate::agents::{BOOK_ROOM, SiteMetadata, site_of};
+use crate::guarded::{Guarded, served_paths};
 use crate::holder::leave_word;
 use crate::log::log_of;
 use crate::orphans::{Orphans, await_orphans};
@@ -13,12 +14,14 @@ use disk_model::Disk;
 use exec_client::Teller;
 use exec_commands::{Left, NoticeForm};
 use exec_journal::Journal;
-use exec_lines::{Patient, RunClock, moment_now};
+use exec_lines::{Patient, RunClock, moment_now, write_flushed};
 use exec_options::{JournalPlace, Options, Subcommand, WordsFault, read_words};
 use exec_output::{Fault, Look, show, status};
 use exec_session::{RunContext, Way, run_lines};
 use executor::{Executor, OpenError};
-use file_disk::{FileDisk, OpenFault, Owners, RamDisk, TellsError, read_parts};
+use file_disk::{
+    FileDisk, FileError, JournalPaths, OpenFault, Owners, RamDisk, TellsError, read_parts,
+};
 use ocf_env::Site;
 use std::env;
 use std::io::{self, BufReader, ErrorKind};
@@ -119,9 +122,9 @@ fn found<D: Drop>(rt: &HostRuntime, folder: &str, disk: Result<D, OpenFault>) ->
 }
 
 // Says that the journal's device failed, and what it answered.
-fn tell_device<D: TellsError>(rt: &HostRuntime, options: Options, disk: &D) {
+fn tell_device(rt: &HostRuntime, options: Options, error: Option<FileError>) {
     let _ = rt.eprintln(format_args!("ocfexec: {}", Fault::Disk));
-    if let (JournalPlace::Folder(folder), Some(met)) = (options.journal, disk.first_error()) {
+    if let (JournalPlace::Folder(folder), Some(met)) = (options.journal, error) {
         let _ = rt.eprintln(format_args!("{}", met.located(folder)));
     }
     if let Some(advice) = Fault::Disk.advice() {
@@ -139,7 +142,7 @@ fn told<D: TellsError>(
     ensures { result ≡ ended }
 {
     if let Err(Fault::Disk) = ended {
-        tell_device(rt, options, disk);
+        tell_device(rt, options, disk.first_error());
     }
     ended
 }
@@ -157,12 +160,12 @@ fn run(rt: &HostRuntime, words: &[String]) -> Result<(), Fault>
     if starts_agents && children_ignored(rt) {
         return Err(Fault::ChildrenIgnored);
     }
-    let log = match log_of(rt, options) {
-        Ok(log) => log,
-        Err(fault) => return Err(fault),
     if starts_agents {
         tell_ignored(rt);
     }
+    let log = match log_of(rt, options) {
+        Ok(log) => log,
+        Err(fault) => return Err(fault),
     };
     match options.journal {
         JournalPlace::Folder(folder) => run_in(rt, options, log, folder),
@@ -306,8 +309,28 @@ fn await_interrupted<D: Disk + Drop>(
     }
 }
 
+// How a run over these paths ended: by its device, with the line of such an end, if it broke off since they lead elsewhere.
+fn ended_over(
+    rt: &HostRuntime,
+    options: Options,
+    paths: &Option<JournalPaths>,
+    ended: Result<(), Fault>,
+) -> Result<(), Fault>
+    ensures { IsRunEnd ended → IsRunEnd result }
+{
+    let (Err(Fault::InputOrOutput), Some(paths)) = (ended, paths.as_ref()) else {
+        return ended;
+    };
+    let Err(error) = paths.check(rt) else {
+        return ended;
+    };
+    let _ = write_flushed(&mut io::writer(rt), b"{\"end\":\"disk\"}\n");
+    tell_device(rt, options, Some(error));
+    Err(Fault::Disk)
+}
+
 // Opens the executor and answers the lines of standard input.
-#[tactic(auto, using(crate::proofs::StartLemmas::run_ends, crate::proofs::StartLemmas::unheard_ends))]
+#[tactic(auto, using(crate::proofs::StartLemmas::run_ends, crate::proofs::StartLemmas::same_ends, crate::proofs::StartLemmas::unheard_ends))]
 fn run_agents<D: Disk + TellsError + Drop>(
     rt: &HostRuntime,
     options: Options,
@@ -328,6 +351,7 @@ fn run_agents<D: Disk + TellsError + Drop>(
     let (Ok(site), Ok(asked)) = (site_of(alloc, options), site_of(alloc, options)) else {
         return Err(Fault::Memory);
     };
+    let paths = served_paths(rt, options);
     let (disk, left) = await_interrupted(rt, options, &asked, disk)?;
     match Executor::open(alloc, disk, children, site, moment_now(rt).get()) {
         Ok((executor, report)) => {
@@ -346,9 +370,11 @@ fn run_agents<D: Disk + TellsError + Drop>(
                 tidy_at: options.tidy_at,
             };
             let output = Patient::new(io::writer(rt), libc::STDOUT_FILENO);
+            let output = Guarded::new(rt, output, &paths);
             let mut client = Teller::new(alloc, output, &executor);
             let run = run_lines(&context, &mut reader, &mut client, executor, &report);
-            told(rt, options, &run.disk, run.ended)
+            let ended = told(rt, options, &run.disk, run.ended);
+            ended_over(rt, options, &paths, ended)
         }
         Err(fault) => told(rt, options, &fault.disk, Err(opening_fault(fault.why))),
     }

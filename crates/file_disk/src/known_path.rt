@@ -1,0 +1,36 @@
+//! A path, with the file that it leads to.
+use std::alloc::{Allocator, Global};
+use std::fs::{self, Metadata};
+use std::io::{self, ErrorKind};
+use std::os::unix::fs::MetadataExt;
+use std::rt::Files;
+
+/// A path, with the file that it led to once: its device and its number there. POSIX, stat: `st_dev` and `st_ino`. No other file
+/// has these while that one is open.
+#[derive(Drop)]
+pub struct KnownPath<A: Allocator = Global> {
+    path: String<A>,
+    device: u64,
+    number: u64,
+}
+
+impl<A: Allocator> KnownPath<A> {
+    /// A path that leads to the file of this metadata.
+    pub fn new(path: String<A>, file: &Metadata) -> KnownPath<A> {
+        KnownPath {
+            path,
+            device: file.dev(),
+            number: file.ino(),
+        }
+    }
+
+    /// It is an error if the path leads to another file by now, or to none.
+    pub fn check<R: Files>(&self, rt: &R) -> io::Result<()> {
+        let found = fs::symlink_metadata(rt, self.path.as_str())?;
+        if (found.dev(), found.ino()) == (self.device, self.number) {
+            Ok(())
+        } else {
+            Err(io::Error::new(ErrorKind::Other, "replaced while in use"))
+        }
+    }
+}

@@ -1,0 +1,52 @@
+//! Output that counts as read only while the journal is where it was opened.
+use exec_lines::Output;
+use exec_options::{JournalPlace, Options, Subcommand};
+use file_disk::JournalPaths;
+use std::io::{self, Write};
+
+/// The paths of the journal of a run that serves, which may rest for long without a device call; none of any other run, or where
+/// they are not found.
+pub fn served_paths(rt: &HostRuntime, options: Options) -> Option<JournalPaths> {
+    match (options.subcommand, options.journal) {
+        (Subcommand::Serve, JournalPlace::Folder(folder)) => {
+            JournalPaths::find(rt, rt.alloc(), folder).ok()
+        }
+        _ => None,
+    }
+}
+
+/// The output of a run over a journal. Once a path of the journal leads to another file, or to none, nobody counts as reading the
+/// output: so a run that makes no device call, as one that serves while nothing happens, ends within a second.
+#[derive(Drop)]
+pub struct Guarded<'a, W> {
+    rt: &'a HostRuntime,
+    output: W,
+    paths: &'a Option<JournalPaths>,
+}
+
+impl<'a, W> Guarded<'a, W> {
+    /// The output of a run over a journal with these paths, if they are to be watched.
+    pub fn new(rt: &'a HostRuntime, output: W, paths: &'a Option<JournalPaths>) -> Guarded<'a, W> {
+        Guarded { rt, output, paths }
+    }
+}
+
+impl<W: Write> Write for Guarded<'_, W> {
+    fn write(&mut self, buf: &[u8]) -> io::Result<usize> {
+        self.output.write(buf)
+    }
+
+    fn flush(&mut self) -> io::Result<()> {
+        self.output.flush()
+    }
+}
+
+impl<W: Output> Output for Guarded<'_, W> {
+    fn is_heard(&self) -> bool {
+        let is_there = match self.paths {
+            Some(paths) => paths.check(self.rt).is_ok(),
+            None => true,
+        };
+        is_there && self.output.is_heard()
+    }
+}
