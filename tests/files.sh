@@ -127,6 +127,24 @@ rm lost_a/part-a
 refused lost_a 5 "ocfexec: disk" "lost_a/part-a: gone, while part-b holds a journal"
 same "a lost part A" "lost_a/executor lost_a/part-b" "$(echo lost_a/*)"
 
+# Beside a file that holds no journal no other one is said to be gone
+mkdir garbage && printf 'not a journal at all' > garbage/part-a
+refused garbage 5 "ocfexec: disk" "garbage/part-a: holds no journal"
+"$program" show --journal garbage > out 2> err
+same "show of garbage" "5 ocfexec: disk
+garbage/part-a: holds no journal" "$? $(cat err)"
+same "garbage" "garbage/part-a" "$(echo garbage/*)"
+
+# A part that was emptied beside one that was tidied is refused as a lost one is
+journal emptied
+run emptied '{"op":"tidy"}'
+: > emptied/part-a
+refused emptied 5 "ocfexec: disk" "emptied/part-a: empty, while part-b holds a journal that was tidied"
+"$program" status --journal emptied > out 2> err
+same "status of an emptied part" "5 ocfexec: disk
+emptied/part-a: empty, while part-b holds a journal that was tidied" "$? $(cat err)"
+same "an emptied part" "0" "$(stat -c %s emptied/part-a)"
+
 if [ "$(id -u)" -ne 0 ]; then
     journal unreadable
     chmod 200 unreadable/part-a

@@ -1,13 +1,25 @@
 -- What a folder has under the names of both parts.
-use Rattle.std.specs.Prelude.{Result, Ok, Err}
+use Rattle.std.specs.Prelude.{ℕ, Bool, List, Result, Ok, Err, if◌then◌else◌}
+use Rattle.std.specs.Str.{bytes_eq}
 use Rattle.ocf_types.specs.declared.part.Part.TheVariants.{A, B}
+use Rattle.disk_model.specs.Image.{other}
+use Rattle.two_parts.specs.Head.{bytes_at, magic}
 use Rattle.file_disk.specs.declared.entry.Entry.{Entry}
 use Rattle.file_disk.specs.declared.entry.Entry.TheVariants.{Missing, Filled}
 use Rattle.file_disk.specs.declared.fault.OpenFault.{OpenFault}
-use Rattle.file_disk.specs.declared.fault.OpenFault.TheVariants.{Gone}
+use Rattle.file_disk.specs.declared.fault.OpenFault.TheVariants.{Gone, NoJournal}
 
 -- the part that is gone: missing beside one that is filled
 abbrev pub loss_of : Entry → Entry → Result (Unit {0}) OpenFault
 loss_of Missing Filled = Err (Gone A)
 loss_of Filled Missing = Err (Gone B)
 loss_of _ _ = Ok tt
+
+-- the file begins as each part of a journal does: behind its first gate, open or not, stand the magic bytes
+abbrev pub holds_journal : List ℕ → Bool
+holds_journal text = bytes_eq (bytes_at 1 4 text) magic
+
+-- a loss as it is told where the file that is there begins so: no part is gone beside a file that holds no journal
+abbrev pub told_loss : List ℕ → OpenFault → OpenFault
+told_loss text (Gone part) = if holds_journal text then Gone part else NoJournal (other part)
+told_loss text fault = fault

@@ -2,7 +2,7 @@
 use Rattle.std.specs.Prelude.{◌≡◌, ⊤}
 use Rattle.ocf_types.specs.declared.part.Part.{Part}
 use Rattle.file_disk.specs.declared.fault.OpenFault.{OpenFault}
-use Rattle.file_disk.specs.declared.fault.OpenFault.TheVariants.{Folder, File, NotPlain, FolderDistrusted, Distrusted, Locked, InUse, Gone, Changing, Memory}
+use Rattle.file_disk.specs.declared.fault.OpenFault.TheVariants.{Folder, File, NotPlain, FolderDistrusted, Distrusted, Locked, InUse, Gone, NoJournal, Emptied, Changing, Memory}
 
 -- the fault is told of the file of this part, or is want of memory
 abbrev pub IsOfPart : Part → OpenFault → Type 0
@@ -14,5 +14,7 @@ IsOfPart part (Distrusted p why) = p ≡ part
 IsOfPart part (Locked p) = p ≡ part
 IsOfPart part InUse = ⊥
 IsOfPart part (Gone p) = p ≡ part
+IsOfPart part (NoJournal p) = p ≡ part
+IsOfPart part (Emptied p) = p ≡ part
 IsOfPart part Changing = ⊥
 IsOfPart part Memory = ⊤

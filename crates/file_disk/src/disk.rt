@@ -9,6 +9,7 @@ use crate::error::{FileError, TellsError};
 use crate::fault::{OpenFault, of_part};
 use crate::folder::open_folder;
 use crate::log::Log;
+use crate::look::examined;
 use crate::part_file::PartFile;
 use crate::trust::Owners;
 use disk_model::{Disk, DiskFault};
@@ -27,7 +28,9 @@ fn open_files<R: Files<File = File>, A: Allocator + Copy>(
 ) -> Result<(PartFile<A>, PartFile<A>), OpenFault> {
     let a = entry_of(rt, alloc, dir, Part::A)?;
     let b = entry_of(rt, alloc, dir, Part::B)?;
-    refuse_loss(a, b)?;
+    if let Err(loss) = refuse_loss(a, b) {
+        return Err(examined(rt, alloc, dir, loss));
+    }
     let a = PartFile::open(rt, alloc, dir, Part::A)?;
     a.refuse_distrusted(Part::A, owners)?;
     let b = PartFile::open(rt, alloc, dir, Part::B)?;
@@ -58,7 +61,7 @@ impl<R: Files<File = File> + Copy, A: Allocator + Copy> FileDisk<R, A> {
     ghost use Rattle.file_disk.specs.Record.{IsFault};
 
     /// Opens both files of a folder, and makes those that are missing, for their owner alone. It is refused as `Gone` where
-    /// one is missing while the other is not empty; nothing is made then. The folder and both files are locked for as long as
+    /// one is missing while the other holds a journal, as `NoJournal` where the other holds something else; nothing is made then. The folder and both files are locked for as long as
     /// this value lives, so that a second opening is answered `InUse`. All are synced, and then both files are read whole.
     /// An owner or a mode that is not accepted is refused: that of the directory before anything is made or locked.
     ///

@@ -1,9 +1,9 @@
 // What a folder has under the names of both parts.
 ghost use Rattle.std.specs.Prelude.{◌≡◌, IfErr};
-ghost use Rattle.file_disk.specs.Entries.{loss_of};
+ghost use Rattle.file_disk.specs.Entries.{holds_journal, loss_of, told_loss};
 ghost use Rattle.file_disk.specs.Faults.{IsOfPart};
 
-use crate::fault::{OpenFault, file_name};
+use crate::fault::{OpenFault, file_name, other_part};
 use ocf_types::Part;
 use std::alloc::Allocator;
 use std::fs;
@@ -56,5 +56,25 @@ pub fn refuse_loss(a: Entry, b: Entry) -> Result<(), OpenFault>
         (Entry::Missing, Entry::Filled) => Err(OpenFault::Gone(Part::A)),
         (Entry::Filled, Entry::Missing) => Err(OpenFault::Gone(Part::B)),
         _ => Ok(()),
+    }
+}
+
+// What each part of a journal has behind its first gate.
+const MAGIC: [u8; 4] = *b"OCFJ";
+
+// Whether a file with these bytes begins as each part of a journal does.
+fn holds_journal(bytes: &[u8]) -> bool
+    ensures { result ≡ holds_journal bytes.now }
+{
+    bytes.len() >= 5 && bytes[1..5] == MAGIC[..]
+}
+
+/// A loss as it is told where the file that is there has these bytes: no part is gone beside a file that holds no journal.
+pub fn told_loss(loss: OpenFault, bytes: &[u8]) -> OpenFault
+    ensures { result ≡ told_loss bytes.now loss }
+{
+    match loss {
+        OpenFault::Gone(part) if !holds_journal(bytes) => OpenFault::NoJournal(other_part(part)),
+        _ => loss,
     }
 }

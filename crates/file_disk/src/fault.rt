@@ -1,5 +1,6 @@
 //! Why the files of a journal were not opened.
 ghost use Rattle.std.specs.Prelude.{◌≡◌, Ok, IfErr, IfOk};
+ghost use Rattle.disk_model.specs.Image.{other};
 ghost use Rattle.file_disk.specs.Faults.{IsOfPart};
 ghost use Rattle.file_disk.specs.declared.fault.OpenFault.TheVariants.{Memory};
 
@@ -34,9 +35,15 @@ pub enum OpenFault {
     /// The folder is open as a journal's already.
     #[error("in use by another executor")]
     InUse,
-    /// The part's file is gone, while the other one is not empty: no stop leaves that.
+    /// The part's file is gone, while the other one holds a journal: no crash leaves that.
     #[error("gone, while {} holds a journal", other_name(*.0))]
     Gone(Part),
+    /// The part's file is not empty and holds no journal, and the other one is gone.
+    #[error("holds no journal")]
+    NoJournal(Part),
+    /// The part's file is empty, while the other one holds a journal that was tidied: no crash leaves that.
+    #[error("empty, while {} holds a journal that was tidied", other_name(*.0))]
+    Emptied(Part),
     /// The journal was tidied each time that it was read.
     #[error("changes faster than it can be read")]
     Changing,
@@ -61,12 +68,19 @@ pub(crate) fn file_name(part: Part) -> &'static str {
     }
 }
 
+/// The other part.
+pub fn other_part(part: Part) -> Part
+    ensures { result ≡ other part }
+{
+    match part {
+        Part::A => Part::B,
+        Part::B => Part::A,
+    }
+}
+
 // The name of the other part's file.
 fn other_name(part: Part) -> &'static str {
-    match part {
-        Part::A => file_name(Part::B),
-        Part::B => file_name(Part::A),
-    }
+    file_name(other_part(part))
 }
 
 /// What a call of the system on the part's file gave.
@@ -108,7 +122,9 @@ impl OpenFault {
             | OpenFault::NotPlain(part)
             | OpenFault::Distrusted(part, _)
             | OpenFault::Locked(part)
-            | OpenFault::Gone(part) => Some(file_name(*part)),
+            | OpenFault::Gone(part)
+            | OpenFault::NoJournal(part)
+            | OpenFault::Emptied(part) => Some(file_name(*part)),
             OpenFault::Folder(_)
             | OpenFault::FolderDistrusted(_)
             | OpenFault::InUse

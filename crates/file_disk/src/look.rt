@@ -3,8 +3,8 @@ ghost use Rattle.std.specs.Prelude.{◌≡◌, ◌≤◌, [], IfErr, IfOk, IfSom
 ghost use Rattle.file_disk.specs.Faults.{IsOfPart};
 ghost use Rattle.file_disk.specs.RamDisk.{IsFresh, view_of};
 
-use crate::entry::{Entry, entry_of, refuse_loss};
-use crate::fault::{OpenFault, file_name, of_part};
+use crate::entry::{Entry, entry_of, refuse_loss, told_loss};
+use crate::fault::{OpenFault, file_name, of_part, other_part};
 use crate::folder::find_folder;
 use crate::ram::RamDisk;
 use ocf_types::{HEAD_LEN, PART_LIMIT, Part};
@@ -105,6 +105,31 @@ impl<A: Allocator + Copy> Sight<A> {
     }
 }
 
+/// A loss in this folder as it is told, which depends on whether the file that is there holds a journal.
+pub(crate) fn examined<R: Files<File = File>, A: Allocator + Copy>(
+    rt: &R,
+    alloc: A,
+    dir: &str,
+    loss: OpenFault,
+) -> OpenFault {
+    let OpenFault::Gone(part) = loss else {
+        return loss;
+    };
+    match Sight::of(rt, alloc, dir, other_part(part)) {
+        Ok(sight) => told_loss(loss, sight.bytes.as_slice()),
+        Err(fault) => fault,
+    }
+}
+
+// Refuses a pair of which one is gone, by what was read of both.
+fn refuse_lost<A: Allocator + Copy>(a: &Sight<A>, b: &Sight<A>) -> Result<(), OpenFault> {
+    let there = if a.bytes.is_empty() { b } else { a };
+    match refuse_loss(a.entry(), b.entry()) {
+        Ok(()) => Ok(()),
+        Err(loss) => Err(told_loss(loss, there.bytes.as_slice())),
+    }
+}
+
 // Both parts as a stop might have left them, or `None` where a tidy came between.
 fn look<R: Files<File = File>, A: Allocator + Copy>(
     rt: &R,
@@ -121,13 +146,13 @@ fn look<R: Files<File = File>, A: Allocator + Copy>(
     if !(a_stands && b_stands) {
         return Ok(None);
     }
-    refuse_loss(a.entry(), b.entry())?;
+    refuse_lost(&a, &b)?;
     Ok(Some(RamDisk::from_parts(a.bytes, b.bytes)))
 }
 
 /// Both parts of a folder's files as a disk in memory, whoever may be writing the files. They are opened for reading alone:
 /// nothing is made, written or locked. A missing file is an empty part; it is refused as `Gone` beside one that is not
-/// empty, and where tidies come between again and again as `Changing`.
+/// empty (or as `NoJournal`, where that is none), and where tidies come between again and again as `Changing`.
 pub fn read_parts<R: Files<File = File>, A: Allocator + Copy>(
     rt: &R,
     alloc: A,

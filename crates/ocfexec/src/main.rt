@@ -6,6 +6,7 @@ ghost use Rattle.std.specs.Process.{exit_status};
 ghost use Rattle.ocfexec.specs.Starts.{status_of_end};
 
 mod agents;
+mod emptied;
 mod guarded;
 mod holder;
 mod interrupted;

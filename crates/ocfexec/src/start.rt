@@ -4,6 +4,7 @@ ghost use Rattle.exec_output.specs.Faults.{IsRunEnd};
 ghost use Rattle.ocfexec.specs.Starts.{EndsFor, IsFolderEnd, IsNotOpened, IsToldAs, opening_fault};
 
 use crate::agents::{BOOK_ROOM, SiteMetadata, site_of};
+use crate::emptied::not_emptied;
 use crate::guarded::{Guarded, served_paths};
 use crate::holder::leave_word;
 use crate::log::log_of;
@@ -181,7 +182,7 @@ fn run_in(rt: &HostRuntime, options: Options, log: Log, folder: &str) -> Result<
     match options.subcommand {
         Subcommand::Show | Subcommand::Status => show_files(rt, options, folder),
         Subcommand::Run | Subcommand::Serve => {
-            let disk = found(rt, folder, open_files(rt, options, folder))?;
+            let disk = found(rt, folder, not_emptied(open_files(rt, options, folder)))?;
             run_on(rt, options, log, disk)
         }
     }
@@ -194,13 +195,13 @@ fn show_files(rt: &HostRuntime, options: Options, folder: &str) -> Result<(), Fa
     ensures { IsFolderEnd result }
 {
     for _ in 1..LOOKS {
-        let disk = found(rt, folder, read_parts(rt, rt.alloc(), folder))?;
+        let disk = found(rt, folder, not_emptied(read_parts(rt, rt.alloc(), folder)))?;
         let ended = show_on(rt, options, disk);
         if !matches!(ended, Err(Fault::Damaged(_))) {
             return ended;
         }
     }
-    let disk = found(rt, folder, read_parts(rt, rt.alloc(), folder))?;
+    let disk = found(rt, folder, not_emptied(read_parts(rt, rt.alloc(), folder)))?;
     show_on(rt, options, disk)
 }
 
