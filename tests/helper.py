@@ -93,7 +93,7 @@ def kib(pid, name):
 
 def shim(source, folder):
     """A library of this source in C, to be loaded before the C library's."""
-    built = os.path.join(folder, source.removesuffix(".c") + ".so")
+    built = os.path.join(folder, os.path.basename(source).removesuffix(".c") + ".so")
     subprocess.run(["cc", "-O1", "-shared", "-fPIC", "-o", built, os.path.join(TOP, "tests", source), "-ldl"], check=True)
     return built
 

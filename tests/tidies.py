@@ -2,7 +2,8 @@
 """Tidies one journal again and again, a change between each two, and kills `PROGRAM run` with signal 9 at random moments. Wanted after
 each kill: the last change that was acknowledged is found, or one that was sent behind it; all that never changed is found as it was; a
 second opening writes nothing. A session of four times what a part holds is answered without a refusal, since the program tidies by
-itself, and with `--tidy-at 0` it is refused as journal-full.
+itself, and with `--tidy-at 0` it is refused as journal-full. While an agent runs it does not tidy at its first mark: a timeout is
+told in time though each sync is slow, and the journal is tidied behind it.
 Use: tidies.py PROGRAM, with ROUNDS and SEED in the environment"""
 import os
 import random
@@ -10,11 +11,15 @@ import subprocess
 import time
 
 import helper
-from helper import PROGRAM
+from helper import PROGRAM, action
 
 PAIRS = 1500
 LARGE = {f"p{place:02}": chr(97 + place) * 1000 for place in range(15)}
 OK, DONE, FULL = b'{"ok":true}', b'{"end":"done"}', b'{"error":"journal-full","number":14}'
+
+
+def large(name):
+    return {"op": "params", "id": name, "params": LARGE}
 
 
 def change(number):
@@ -76,8 +81,7 @@ class Tidies(helper.Check):
     def filled(self, *options):
         # how many commands of four times what a part holds were refused as journal-full
         folder = self.journal()
-        large = {"op": "params", "id": "large", "params": LARGE}
-        replies = self.session(folder, [helper.register("large", "Step"), *[large] * 2200], *options)
+        replies = self.session(folder, [helper.register("large", "Step"), *[large("large")] * 2200], *options)
         refused = replies.count(FULL)
         self.assertEqual((len(replies), replies.count(OK) + refused), (2201, 2201), "a reply to each")
         for name in helper.PARTS:
@@ -91,6 +95,34 @@ class Tidies(helper.Check):
     def test_not_by_itself(self):
         """and refused, where it does not"""
         self.assertGreater(self.filled("--tidy-at", "0"), 0)
+
+    def past_half(self, names):
+        # a journal of large resources whose tail is at twice what a tidy leaves, and how long its part is
+        journal = self.journal()
+        registered = [helper.register(name, "Step", **LARGE) for name in names]
+        self.session(journal, [*registered, *[large(name) for name in names]], "--tidy-at", "0")
+        return journal, os.path.getsize(os.path.join(journal, "part-a"))
+
+    def test_timeout(self):
+        """a timeout of a second is told in time past the first mark, with syncs of 5 milliseconds, and then the journal is tidied"""
+        self.agent("Sleeper", '[ "$1" = start ] && exec sleep 30\nexit 0\n')
+        names = [f"r{place}" for place in range(150)]
+        journal, length = self.past_half(names)
+        slow = {**os.environ, "LD_PRELOAD": helper.shim("../bench/slow_sync.c", self.here)}
+        words = ["--journal", journal, "--root", self.here, "--tidy-at", str(length + 40000)]
+        run = self.heard("serve", *words, env=slow)
+        run.tell(helper.register("late", "Sleeper"), action("late", "start", timeout=1000))
+        began, _ = run.awaits(lambda value: value.get("key") == "late_start_0", 60)
+        run.tell(*[large(name) for name in names[:5]])
+        at, notice = run.awaits(lambda value: helper.is_notice(value, id="late"), 60)
+        self.assertEqual(notice["outcome"], "timed-out")
+        self.assertLess(at - began, 2, "told in time")
+        self.assertGreater(os.path.getsize(os.path.join(journal, "part-a")), length + 40000, "past the first mark")
+        until = time.monotonic() + 60
+        while os.path.getsize(os.path.join(journal, "part-b")) < 2000000 and time.monotonic() < until:
+            time.sleep(0.1)
+        self.assertGreaterEqual(os.path.getsize(os.path.join(journal, "part-b")), 2000000, "tidied once nothing runs")
+        self.assertEqual(run.ends(60), 0)
 
 
 if __name__ == "__main__":

@@ -8,7 +8,7 @@ use exec_client::Teller;
 use exec_commands::NoticeForm;
 use exec_lines::{Input, Output};
 use exec_output::Fault;
-use exec_session::{Metadata, RunContext, Way, run_lines};
+use exec_session::{Metadata, Pace, RunContext, Way, run_lines};
 use executor::Executor;
 use ocf_env::{Site, Text};
 use ocf_types::{AgentType, MetaFault, Provider, StartFault};
@@ -96,6 +96,7 @@ fn ended_in_way<R: Input, W: Output>(
         form: NoticeForm::Short,
         most_turns: 3,
         tidy_at: 0,
+        pace: Pace::new(),
     };
     match Executor::open(alloc, disk, children, nowhere(alloc), 5_000) {
         Ok((executor, report)) => {

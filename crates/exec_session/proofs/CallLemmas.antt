@@ -36,11 +36,11 @@ use Rattle.exec_session.proofs.TellLemmas.{Plain, cleared_room, closed_plain, is
 use Rattle.exec_session.proofs.TellLemmas.{together_stand, turn_behind_room}
 
 -- room is made by a call, or by none, and nothing is told
-room_stands : {D : Type 0} (look : D → View) (rules : Rules) (x y : Sight D) → x.is_open ≡ true → MakesRoom look rules x y
-    → StandsBehind look x y []
-room_stands look rules x y is_open room = by (is_tidy_due rules x) refl
+room_stands : {D : Type 0} (look : D → View) (rules : Rules) (now : ℕ) (x y : Sight D) → x.is_open ≡ true
+    → MakesRoom look rules now x y → StandsBehind look x y []
+room_stands look rules now x y is_open room = by (is_tidy_due rules x now room.pace) refl
   where
-    by : (b : Bool) → is_tidy_due rules x ≡ b → StandsBehind look x y []
+    by : (b : Bool) → is_tidy_due rules x now room.pace ≡ b → StandsBehind look x y []
     by true due = let made = room.made due in tidy_stands look x y made.0 is_open made.1
     by false none = none_stands look x y [] (room.none none) nothing
 
@@ -92,7 +92,7 @@ module _ {D : Type 0} (look : D → View) where
         subst (λ (r : LineReply). StandsBehind look x y (Answered r ∷ [])) (sym serves.told) (by serves.middle.is_open refl)
       where
         room : StandsBehind look x serves.middle []
-        room = room_stands look rules x serves.middle is_open serves.room
+        room = room_stands look rules serves.now x serves.middle is_open serves.room
 
         by : (b : Bool) → serves.middle.is_open ≡ b → StandsBehind look x y (answered serves.given ∷ [])
         by true open_still =
@@ -112,7 +112,7 @@ module _ {D : Type 0} (look : D → View) where
         middle = answers.serves.middle
 
         room : StandsBehind look p.executor middle []
-        room = room_stands look rules p.executor middle is_open answers.serves.room
+        room = room_stands look rules answers.serves.now p.executor middle is_open answers.serves.room
 
         by : (b : Bool) → middle.is_open ≡ b → StandsBehind look p.executor q.executor (map answered answers.given)
         by true open_still =
@@ -131,7 +131,7 @@ module _ {D : Type 0} (look : D → View) where
         cleared = with_empty_book p.executor
 
         room : StandsBehind look p.executor made.middle []
-        room = cleared_room look p.executor cleared made.middle refl (room_stands look rules cleared made.middle is_open made.room)
+        room = cleared_room look p.executor cleared made.middle refl (room_stands look rules now cleared made.middle is_open made.room)
 
         by : (b : Bool) → made.middle.is_open ≡ b → Goes p q
         by true open_still =

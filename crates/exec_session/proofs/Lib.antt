@@ -6,3 +6,4 @@ pub mod CallLemmas
 pub mod TellLemmas
 pub mod HeardLemmas
 pub mod BreakLemmas
+pub mod RoomLemmas

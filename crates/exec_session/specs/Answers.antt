@@ -64,15 +64,15 @@ DrainsFor look ends_idle limit rules p q reply =
     (now : ℕ) × (end : DrainEnd) × (reply ≡ answer.Drain end)
     × Drains look rules (record { ends_idle = ends_idle; until = now + limit; most = rules.most_turns }) now p q end
 
--- What an open executor does with a request: room is made, and then it is served at the moment that the clock shows,
--- whatever that is. Where a disk fault closed the executor as room was made, it is refused for that and nothing else is done.
+-- What an open executor does with a request, at the moment that the clock shows, whatever that is: room is made, and then it is
+-- served. Where a disk fault closed the executor as room was made, it is refused for that and nothing else is done.
 pub record ServesNow {D : Type 0} (look : D → View) (rules : Rules) (request : Request)
     (old new : Sight D) (reply : LineReply) : Type 0 where
   pub middle : Sight D
   pub now : ℕ
   pub given : Reply
   pub told : reply ≡ answer.Request given
-  pub room : MakesRoom look rules old middle
+  pub room : MakesRoom look rules now old middle
   pub serves : middle.is_open ≡ true → Serves look now request middle new given
   pub fails : middle.is_open ≡ false → (given ≡ Refused refusal.Disk) × (new ≡ middle)
   pub closes : new.is_open ≡ false ↔ (given ≡ Refused refusal.Disk)

@@ -30,7 +30,7 @@ Hearing D = Heard D → Heard D → List Said → Type 0
 pub record TurnHeard {D : Type 0} (hears_so : Hearing D) (look : D → View) (rules : Rules) (now : ℕ) (p q : Spot D)
     (end : TurnEnd) : Type 0 where
   pub middle : Sight D
-  pub room : MakesRoom look rules (with_empty_book p.executor) middle
+  pub room : MakesRoom look rules now (with_empty_book p.executor) middle
   pub takes : middle.is_open ≡ true → TakesTurn look now middle q.executor end
   pub hears : middle.is_open ≡ true → hears_so p.heard q.heard (map Noticed q.executor.told)
   pub fails : middle.is_open ≡ false → (end ≡ Disk) × (q.executor ≡ middle) × (q.heard ≡ p.heard)

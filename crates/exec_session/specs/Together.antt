@@ -24,14 +24,14 @@ ReadsCommands old [] new = new ≡ old
 ReadsCommands old (first ∷ others) new =
     (behind : Option (List ℕ)) × ReadsCommand old behind first × ReadsCommands behind others new
 
--- What an open executor does with commands that arrived together: room is made, and then it takes them at the moment that the
--- clock shows, whatever that is. Where a disk fault closed the executor as room was made, each is refused for that and nothing
+-- What an open executor does with commands that arrived together, at the moment that the clock shows, whatever that is: room is made,
+-- and then it takes them. Where a disk fault closed the executor as room was made, each is refused for that and nothing
 -- else is done.
 pub record ServesTogether {D : Type 0} (look : D → View) (rules : Rules) (commands : List Command)
     (old new : Sight D) (given : List Reply) : Type 0 where
   pub middle : Sight D
   pub now : ℕ
-  pub room : MakesRoom look rules old middle
+  pub room : MakesRoom look rules now old middle
   pub takes : middle.is_open ≡ true → TakesCommands look now commands middle new given
   pub fails : middle.is_open ≡ false → (given ≡ replicate (length commands) (Refused Disk)) × (new ≡ middle)
 

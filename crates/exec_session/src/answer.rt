@@ -11,7 +11,7 @@ ghost use Rattle.exec_session.specs.Rules.{rules_of};
 use crate::context::RunContext;
 use crate::drain::{Terms, drain};
 use crate::metadata::Metadata;
-use crate::room::make_room;
+use crate::room::{make_room, tidy_timed};
 use child_model::Children;
 use disk_model::Disk;
 use exec_client::Client;
@@ -102,8 +102,8 @@ fn drain_reply<D: Disk + Drop, C: Children + Drop, T: Client<D, C>, K: Clock, M:
     Ok(LineReply::Drain(end))
 }
 
-// Makes room, and then does what a request asks at the moment that the clock shows. Where the disk fails as room is made the
-// request is refused for that.
+// Makes room at the moment that the clock shows, and then does what a request asks, at that moment. Where the disk fails as room is
+// made the request is refused for that.
 fn request_reply<D: Disk + Drop, C: Children + Drop, K: Clock, M>(
     context: &RunContext<K, M>,
     executor: &mut Executor<D, C>,
@@ -115,10 +115,10 @@ fn request_reply<D: Disk + Drop, C: Children + Drop, K: Clock, M>(
     ensures serves { ServesNow D.view
         (rules_of context.now) request executor.old executor.new result }
 {
-    if !make_room(context, executor) {
+    let now = moment_now(context.clock).get();
+    if !make_room(context, executor, now) {
         return refused(Refusal::Disk);
     }
-    let now = moment_now(context.clock).get();
     LineReply::Request(executor.command(now, request))
 }
 
@@ -144,7 +144,7 @@ fn open_reply<D: Disk + Drop, C: Children + Drop, T: Client<D, C>, K: Clock, M: 
         Ok(Line::Request(request)) => Ok(request_reply(context, executor, request)),
         Ok(Line::Drain(limit)) => drain_reply(context, client, executor, true, limit),
         Ok(Line::Watch(limit)) => drain_reply(context, client, executor, false, limit),
-        Ok(Line::Tidy) => Ok(LineReply::Tidy(executor.tidy())),
+        Ok(Line::Tidy) => Ok(LineReply::Tidy(tidy_timed(context, executor))),
         Ok(
             Line::Meta {
                 provider,

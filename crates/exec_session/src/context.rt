@@ -1,4 +1,5 @@
 //! What a run stands on beside its executor, its input and its output.
+use crate::pace::Pace;
 use exec_commands::NoticeForm;
 use std::alloc::Global;
 
@@ -23,7 +24,9 @@ pub struct RunContext<'a, K, M> {
     pub form: NoticeForm<'a>,
     /// How many turns a drain makes at most. It makes one in any case.
     pub most_turns: u64,
-    /// Past this offset of the journal's tail, in bytes, a run tidies by itself where that gains a quarter of a part; 0 for
-    /// never.
+    /// Past this offset of the journal's tail, in bytes, a run tidies by itself where that gains a quarter of a part and nothing
+    /// waits for it, or near the end of the part; 0 for never.
     pub tidy_at: u64,
+    /// How fast it tidies.
+    pub pace: Pace,
 }

@@ -9,6 +9,7 @@ mod gathered;
 pub mod laws;
 mod lines;
 mod metadata;
+mod pace;
 mod pause;
 mod report;
 mod room;
@@ -19,4 +20,5 @@ mod turn;
 
 pub use context::{RunContext, Way};
 pub use metadata::Metadata;
+pub use pace::Pace;
 pub use session::{Run, run_lines};

@@ -1,44 +1,113 @@
 //! Room in the journal, which a run makes by itself.
-ghost use Rattle.std.specs.Prelude.{◌≡◌, [], true};
+ghost use Rattle.std.specs.Prelude.{◌≡◌, ◌≤◌, ◌+◌, ◌/◌, ◌^◌, [], true};
+ghost use Rattle.exec_journal.specs.Tidying.{tidied_tail};
+ghost use Rattle.executor.specs.TidyCalls.{TidiesWhile};
 ghost use Rattle.exec_client.specs.MayTell.{StandsBehind};
-ghost use Rattle.exec_session.specs.Rules.{MakesRoom, is_tidy_due, rules_of};
+ghost use Rattle.exec_session.specs.Rules.{MakesRoom, is_at_leisure, is_monitor_due, is_tidy_due, rules_of};
 
 use crate::context::RunContext;
 use child_model::Children;
 use disk_model::Disk;
+use exec_lines::moment_now;
 use executor::Executor;
+use ocf_types::{EVENT_LIMIT, PART_LIMIT, RESERVE, TidyEnd};
+use std::rt::Clock;
 
 // How many bytes a tidy has to gain at least: a quarter of a part. So one that gains less is made once the tail has grown
 // by that much.
 const WORTHWHILE: u64 = 2_097_152;
 
-// Whether the tail is past the limit, and would fall by what is worthwhile.
+// The second mark: past it a tidy is made though something waits for it. Behind it there is room for the reserve and for seventy of
+// the longest events, more than the commands that are answered together and a turn need.
+const SECOND_MARK: u64 = PART_LIMIT - RESERVE - 70 * EVENT_LIMIT as u64;
+
+// How many bytes a piece of a tidy has, each of which is synced.
+const PIECE: u64 = 4_096;
+
+// How many pieces a tidy would write, or one more.
+fn pieces<D: Disk + Drop, C: Children + Drop>(executor: &Executor<D, C>) -> u64
+    ensures value { result ≡ tidied_tail executor.now.state / 4096 + 1 }
+    ensures few { result ≤ 2 ^ 52 }
+{
+    executor.tidied_tail() / PIECE + 1
+}
+
+// Whether a monitor is due within so many milliseconds from this moment, or was due before.
+fn is_monitor_due<D: Disk + Drop, C: Children + Drop>(
+    executor: &Executor<D, C>,
+    now: u64,
+    lasts: u64,
+) -> bool
+    ensures { result ≡ is_monitor_due executor.now now lasts }
+{
+    match executor.first_due() {
+        Some(due) => due.saturating_sub(now) <= lasts,
+        None => false,
+    }
+}
+
+// Whether nothing would wait for so many milliseconds from this moment.
+fn is_at_leisure<D: Disk + Drop, C: Children + Drop>(
+    executor: &Executor<D, C>,
+    now: u64,
+    lasts: u64,
+) -> bool
+    ensures { result ≡ is_at_leisure executor.now now lasts }
+{
+    executor.idle() && !is_monitor_due(executor, now, lasts)
+}
+
+// Whether the tail is past the first mark, would fall by what is worthwhile, and nothing would wait for that or the tail is past the
+// second mark.
 fn is_tidy_due<D: Disk + Drop, C: Children + Drop, K, M>(
     context: &RunContext<K, M>,
     executor: &Executor<D, C>,
+    now: u64,
+    pace: u64,
 ) -> bool
-    ensures { result ≡ is_tidy_due (rules_of context.now) executor.now }
+    requires known { pace ≤ 1000 }
+    ensures { result ≡ is_tidy_due (rules_of context.now) executor.now now pace }
 {
     let tail = executor.tail();
     if context.tidy_at == 0 || tail <= context.tidy_at {
         return false;
     }
-    WORTHWHILE <= tail.saturating_sub(executor.tidied_tail())
+    if tail.saturating_sub(executor.tidied_tail()) < WORTHWHILE {
+        return false;
+    }
+    SECOND_MARK < tail || is_at_leisure(executor, now, pace * pieces(executor))
 }
 
-/// Tidies the journal where that is due. Whether the executor is open then: a disk fault closes it.
-pub fn make_room<D: Disk + Drop, C: Children + Drop, K, M>(
+/// Tidies the journal, and notes how long a piece of that took.
+pub fn tidy_timed<D: Disk + Drop, C: Children + Drop, K: Clock, M>(
     context: &RunContext<K, M>,
     executor: &mut Executor<D, C>,
+) -> TidyEnd
+    ensures tidies { TidiesWhile executor.old.is_open D.view executor.old executor.new result }
+{
+    let pieces = pieces(executor);
+    let start = moment_now(context.clock).get();
+    let end = executor.tidy();
+    let millis = moment_now(context.clock).get().saturating_sub(start);
+    context.pace.took(millis, pieces);
+    end
+}
+
+/// Tidies the journal where that is due at this moment. Whether the executor is open then: a disk fault closes it.
+pub fn make_room<D: Disk + Drop, C: Children + Drop, K: Clock, M>(
+    context: &RunContext<K, M>,
+    executor: &mut Executor<D, C>,
+    now: u64,
 ) -> bool
     requires open { executor.old.is_open ≡ true }
     ensures stands { StandsBehind D.view executor.old executor.new [] }
-    ensures makes { MakesRoom D.view (rules_of context.now) executor.old executor.new }
+    ensures makes { MakesRoom D.view (rules_of context.now) now executor.old executor.new }
     ensures value { result ≡ executor.new.is_open }
 {
-    if !is_tidy_due(context, executor) {
+    let pace = context.pace.each();
+    if !is_tidy_due(context, executor, now, pace) {
         return true;
     }
-    executor.tidy();
+    tidy_timed(context, executor);
     executor.is_open()
 }

@@ -20,8 +20,8 @@ use exec_output::IoFault;
 use executor::Executor;
 use std::rt::Clock;
 
-// Makes room, and then does what the commands ask at the moment that the clock shows. Where the disk fails as room is made
-// each is refused for that.
+// Makes room at the moment that the clock shows, and then does what the commands ask, at that moment. Where the disk fails as room
+// is made each is refused for that.
 fn serve_gathered<D: Disk + Drop, C: Children + Drop, K: Clock, M>(
     context: &RunContext<K, M>,
     executor: &mut Executor<D, C>,
@@ -36,11 +36,11 @@ fn serve_gathered<D: Disk + Drop, C: Children + Drop, K: Clock, M>(
         (replied gathered.new) }
     ensures none { waiting gathered.new ≡ [] }
 {
-    if !make_room(context, executor) {
+    let now = moment_now(context.clock).get();
+    if !make_room(context, executor, now) {
         gathered.refuse_all();
         return;
     }
-    let now = moment_now(context.clock).get();
     gathered.take_all(executor, now);
 }
 

@@ -14,9 +14,10 @@ use exec_client::{Client, Told};
 use exec_output::IoFault;
 use executor::Executor;
 use ocf_types::TurnEnd;
+use std::rt::Clock;
 
 /// Makes room and then a turn at this moment, and tells its notices. Where the disk fails as room is made there is no turn.
-pub fn make_turn<D: Disk + Drop, C: Children + Drop, T: Client<D, C>, K, M>(
+pub fn make_turn<D: Disk + Drop, C: Children + Drop, T: Client<D, C>, K: Clock, M>(
     context: &RunContext<K, M>,
     client: &mut T,
     executor: &mut Executor<D, C>,
@@ -33,7 +34,7 @@ pub fn make_turn<D: Disk + Drop, C: Children + Drop, T: Client<D, C>, K, M>(
         (spot executor.old (T.heard client.old)) (spot executor.new (T.heard client.new)) end) }
 {
     executor.clear_book();
-    if !make_room(context, executor) {
+    if !make_room(context, executor, now) {
         return Ok(TurnEnd::Disk);
     }
     let end = executor.turn(now);

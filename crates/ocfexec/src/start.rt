@@ -18,7 +18,7 @@ use exec_journal::Journal;
 use exec_lines::{Patient, RunClock, moment_now, write_flushed};
 use exec_options::{JournalPlace, Options, Subcommand, WordsFault, read_words};
 use exec_output::{Fault, Look, show, status};
-use exec_session::{RunContext, Way, run_lines};
+use exec_session::{Pace, RunContext, Way, run_lines};
 use executor::{Executor, OpenError};
 use file_disk::{
     FileDisk, FileError, JournalPaths, OpenFault, Owners, RamDisk, TellsError, read_parts,
@@ -369,6 +369,7 @@ fn run_agents<D: Disk + TellsError + Drop>(
                 form,
                 most_turns: MOST_TURNS,
                 tidy_at: options.tidy_at,
+                pace: Pace::new(),
             };
             let output = Patient::new(io::writer(rt), libc::STDOUT_FILENO);
             let output = Guarded::new(rt, output, &paths);

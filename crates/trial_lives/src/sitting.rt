@@ -12,7 +12,7 @@ use disk_model::{Disk, MemDisk};
 use exec_client::Teller;
 use exec_commands::NoticeForm;
 use exec_lines::{RunClock, moment_now};
-use exec_session::{Metadata, RunContext, run_lines};
+use exec_session::{Metadata, Pace, RunContext, run_lines};
 use executor::{Executor, OpenError};
 use ocf_types::{AgentType, MetaFault, Provider, StartFault};
 use std::alloc::Global;
@@ -58,6 +58,7 @@ pub fn sit(alloc: Global, disk: MemDisk, plan: Plan, output: &mut Vec<u8>) -> Re
                 form: NoticeForm::Timed(&[]),
                 most_turns: u64::MAX,
                 tidy_at: plan.tidy_at,
+                pace: Pace::new(),
             };
             let mut client = Client {
                 lines: plan.lines,

@@ -4,7 +4,7 @@ use anyhow::{Result, bail, ensure};
 use disk_model::MemDisk;
 use exec_client::Teller;
 use exec_commands::NoticeForm;
-use exec_session::{RunContext, Way, run_lines};
+use exec_session::{Pace, RunContext, Way, run_lines};
 use executor::Executor;
 use ocf_types::Part;
 use std::alloc::Global;
@@ -27,6 +27,7 @@ fn answered(alloc: Global, lines: &[u8], output: &mut Vec<u8>) -> Result<MemDisk
         form: NoticeForm::Short,
         most_turns: TURNS,
         tidy_at: TIDY_AT,
+        pace: Pace::new(),
     };
     let mut reader = lines;
     let disk = MemDisk::new(alloc);

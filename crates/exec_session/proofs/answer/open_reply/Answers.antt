@@ -32,9 +32,9 @@ pub returns-in-Ok-Tidy-clause-may_tell : goal.returns-in-Ok-Tidy-clause-may_tell
 returns-in-Ok-Tidy-clause-may_tell g c =
     let look = g.D.Disk.view in
     let heard = g.T.Client.heard c.args.client.now in
-    let stands = all_still_stand look heard c.args.executor.now c.tidy.new.self c.requires.stands
-    (tidied_stands look c.args.executor.now c.tidy.new.self c.tidy.result c.tidy.ensures.tidies) in
-    may_reply_none look heard c.tidy.new.self (answer.Tidy c.tidy.result) stands refl tt
+    let stands = all_still_stand look heard c.args.executor.now c.tidy_timed.new.executor c.requires.stands
+    (tidied_stands look c.args.executor.now c.tidy_timed.new.executor c.tidy_timed.result c.tidy_timed.ensures.tidies) in
+    may_reply_none look heard c.tidy_timed.new.executor (answer.Tidy c.tidy_timed.result) stands refl tt
 
 pub returns-in-Ok-Meta-clause-may_tell : goal.returns-in-Ok-Meta-clause-may_tell
 returns-in-Ok-Meta-clause-may_tell g c =

@@ -1,4 +1,5 @@
-use Rattle.std.proofs.Common.{[], refl}
+use Rattle.std.proofs.Common.{[], refl, subst, sym, true≢false, ◌∙◌}
+use Rattle.executor.specs.TidyCalls.{TidiesWhile}
 use Rattle.exec_client.specs.Behind.{nothing}
 use Rattle.exec_client.proofs.Growing.{none_stands, tidied_stands}
 use Rattle.exec_session.proofs.room.make_room.Goals as goal
@@ -7,6 +8,28 @@ pub returns-then-not-is_tidy_due-clause-stands : goal.returns-then-not-is_tidy_d
 returns-then-not-is_tidy_due-clause-stands g c =
     none_stands g.D.Disk.view c.args.executor.now c.args.executor.now [] refl nothing
 
+pub returns-then-not-is_tidy_due-clause-makes : goal.returns-then-not-is_tidy_due-clause-makes
+returns-then-not-is_tidy_due-clause-makes g c =
+    let undue = sym c.if-not-is_tidy_due.ensures in record {
+      pace = c.each-pace.result;
+      some_time = c.each-pace.ensures.least;
+      made = λ due. absurd (true≢false (sym due ∙ undue));
+      none = λ _. refl;
+    }
+
 pub returns-clause-stands : goal.returns-clause-stands
 returns-clause-stands g c =
-    tidied_stands g.D.Disk.view c.args.executor.now c.tidy.new.self c.tidy.result c.tidy.ensures.tidies
+    tidied_stands g.D.Disk.view c.args.executor.now c.tidy_timed.new.executor c.tidy_timed.result c.tidy_timed.ensures.tidies
+
+pub returns-clause-makes : goal.returns-clause-makes
+returns-clause-makes g c =
+    let due = sym c.if-not-is_tidy_due.ensures in
+    let new = c.tidy_timed.new.executor in record {
+      pace = c.each-pace.result;
+      some_time = c.each-pace.ensures.least;
+      made = λ _. (
+        c.tidy_timed.result,
+        subst (λ b. TidiesWhile b g.D.Disk.view c.args.executor.now new c.tidy_timed.result) c.requires.open c.tidy_timed.ensures.tidies,
+      );
+      none = λ undue. absurd (true≢false (sym due ∙ undue));
+    }

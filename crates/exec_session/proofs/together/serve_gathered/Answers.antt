@@ -7,7 +7,7 @@ pub returns-then-not-make_room-clause-serves : goal.returns-then-not-make_room-c
 returns-then-not-make_room-clause-serves g c =
     let closed = sym c.if-not-make_room.ensures.value in record {
       middle = c.make_room.new.executor;
-      now = 0;
+      now = c.get-now.result;
       room = c.make_room.ensures.makes;
       takes = λ is_open. absurd (true≢false (sym is_open ∙ closed));
       fails = λ _. (c.refuse_all.ensures.replies, refl);

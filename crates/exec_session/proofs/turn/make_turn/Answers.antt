@@ -19,7 +19,7 @@ returns-then-not-make_room-clause-made g c =
       middle = middle;
       room =
           subst (λ (x : Sight g.row.D.Denot). MakesRoom g.D.Disk.view
-          (rules_of c.args.context.now) x middle) c.clear_book.ensures.cleared c.make_room.ensures.makes;
+          (rules_of c.args.context.now) c.args.now x middle) c.clear_book.ensures.cleared c.make_room.ensures.makes;
       takes = λ is_open. absurd (true≢false (sym is_open ∙ closed));
       hears = λ is_open. absurd (true≢false (sym is_open ∙ closed));
       fails = λ _. (refl, refl, refl);
@@ -55,7 +55,7 @@ returns-clause-made g c =
       middle = middle;
       room =
           subst (λ (x : Sight g.row.D.Denot). MakesRoom g.D.Disk.view
-          (rules_of c.args.context.now) x middle) c.clear_book.ensures.cleared c.make_room.ensures.makes;
+          (rules_of c.args.context.now) c.args.now x middle) c.clear_book.ensures.cleared c.make_room.ensures.makes;
       takes = λ _. subst (λ b. TurnsWhile b g.D.Disk.view c.args.now middle last c.turn-end.result) is_open c.turn-end.ensures.turns;
       hears =
           λ _. subst (λ (told : List Notice). Hears c.args.context.now.form (g.T.Client.heard c.args.client.now)
@@ -102,7 +102,7 @@ returns-in_err-tell-clause-breaks g c =
         middle = middle;
         room =
             subst (λ (x : Sight g.row.D.Denot). MakesRoom g.D.Disk.view
-            (rules_of c.args.context.now) x middle) c.clear_book.ensures.cleared c.make_room.ensures.makes;
+            (rules_of c.args.context.now) c.args.now x middle) c.clear_book.ensures.cleared c.make_room.ensures.makes;
         takes = λ _. subst (λ b. TurnsWhile b g.D.Disk.view c.args.now middle last c.turn-end.result) is_open c.turn-end.ensures.turns;
         hears =
             λ _. subst (λ (told : List Notice). HearsPart c.args.context.now.form (g.T.Client.heard c.args.client.now)
