@@ -3,13 +3,13 @@ PREFIX ?= /usr/local
 PROGRAM := crates/ocfexec/out/ocfexec
 AGENTS := crates/ocf_agents/out/ocf_agents
 
-.PHONY: run test check mutants bench soak fuzz sanitize install deb guide clean
+.PHONY: run test check mutants bench costs soak fuzz sanitize install deb guide clean
 
 # Compiles every crate, proves nothing, and answers the example's commands, with the example's agent.
 run:
 	@cd crates/ocfexec && rt try -- run --memory --root $(CURDIR)/examples < ../../examples/first.jsonl
 
-# The gate, which proves everything from nothing, and then the checks of the programs that it built.
+# The gate, which proves every crate, the wrong bodies whose stamps are old, and then the checks of the programs that it built.
 test:
 	@tests/gate.sh
 
@@ -17,13 +17,17 @@ test:
 check:
 	@tests/check.sh
 
-# Tries the wrong bodies of one crate that the gate does not keep: make mutants NAME=recurring
+# Tries the wrong bodies of one crate, make mutants NAME=recurring; without a name or with NAME=gate all those under a stamp.
 mutants:
-	@mutants/try.sh $(NAME)
+	@mutants/try.sh $(or $(NAME),gate)
 
-# The rate of each benchmark. The first call proves the program; `crates/bench/out/bench NAME ROUNDS` runs it again.
+# The rate of each benchmark, whose program is proved by this call: the gate has no benchmarks.
 bench:
-	cd crates/bench && rt run -- appends 20 && rt run -- events 20 && rt run -- state-reads 20 && rt run -- state-writes 20 && rt run -- triples 20 && rt run -- openings 1 && rt run -- tidies 4 && rt run -- waiting-turns 20 && rt run -- busy-turns 5 && rt run -- resting-turns 20 && rt run -- lone-turns 20 && rt run -- due-turns 20 && rt run -- scans 20
+	@bench/rates.sh
+
+# What each crate costs in a gate from nothing, as the table of docs/ARCHITECTURE.md. Nothing else should run meanwhile.
+costs:
+	@bench/costs.py --into docs/ARCHITECTURE.md -- rt ci --anew
 
 # A life of thirty days on a simulated clock; `make check` has one of a day.
 soak:

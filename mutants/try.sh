@@ -1,14 +1,16 @@
 #!/usr/bin/env bash
-# Tries a crate's wrong bodies, mutants/NAME/*.edit, on a copy of the repository, and prints the fate of each. The gate
-# keeps a few of its own, in crates/NAME/must-fail. It begins with what was proved before: a kit whose gate tries one crate alone
-# knows what it proved on this machine, and any other finds the libraries below as the checks of the work tree left them.
-# The name tests stands for those that only a check of the built program refuses: try_tests.sh.
+# Tries a crate's wrong bodies, mutants/NAME/*.edit and mutants/gate/NAME/*.edit, on a copy of the repository, and prints the fate of
+# each. The gate keeps a few of its own, in crates/NAME/must-fail. It begins with what was proved before: a kit whose gate tries one
+# crate alone knows what it proved on this machine, and any other finds the libraries below as the checks of the work tree left them.
+# The name tests stands for those that only a check of the built program refuses, try_tests.sh, and gate for all that have a
+# stamp, stamps.py.
 # Use: mutants/try.sh NAME [EDIT..]
 set -eu
 top=$(cd "$(dirname "$0")/.." && pwd)
 name=${1:?a crate is wanted: make mutants NAME=recurring}
 shift
 [ "$name" != tests ] || exec "$top/mutants/try_tests.sh" "$@"
+[ "$name" != gate ] || exec "$top/mutants/stamps.py" all "$@"
 copy=$(mktemp -d)
 trap 'rm -rf "$copy"' EXIT
 
@@ -18,13 +20,15 @@ git ls-files -co --exclude-standard -z | while IFS= read -r -d '' file; do
     if [ -f "$file" ]; then printf '%s\0' "$file"; fi
 done | tar --null -T - -cf - | tar -xf - -C "$copy"
 
+# Those of the crates below are the gate's affair.
+rm -rf "$copy"/crates/*/must-fail
 tried=$copy/crates/$name/must-fail
 mkdir -p "$tried"
-if [ $# -eq 0 ]; then
-    cp "mutants/$name/"*.edit "$tried/"
-fi
+for folder in "crates/$name/must-fail" "mutants/$name" "mutants/gate/$name"; do
+    [ $# -gt 0 ] || [ ! -d "$folder" ] || cp "$folder/"*.edit "$tried/"
+done
 for edit in "$@"; do
-    cp "mutants/$name/$edit.edit" "$tried/"
+    cp "mutants/$name/$edit.edit" "$tried/" 2> /dev/null || cp "mutants/gate/$name/$edit.edit" "$tried/"
 done
 git init -q "$copy"
 

@@ -49,6 +49,7 @@ holds ''
 acts Dummy stop 0
 holds_nothing
 acts Dummy stop 0
+acts Dummy monitor 7
 acts Dummy validate-all 0
 acts Dummy promote 3
 acts Dummy demote 3
@@ -76,10 +77,14 @@ printf 'promoted\n' > "$state"
 acts Stateful monitor 1
 acts Stateful demote 0
 holds unpromoted
-: > "$state"
-acts Stateful monitor 1
 acts Stateful stop 0
 holds_nothing
+for torn in promo ''; do
+    printf %s "$torn" > "$state"
+    acts Stateful monitor 1
+    acts Stateful stop 0
+    holds_nothing
+done
 acts Stateful stop 0
 acts Stateful promote 7
 

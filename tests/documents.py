@@ -16,7 +16,7 @@ DOCUMENTS = ["README.md", "CONTRIBUTING.md", "mutants/README.md", *sorted(glob.g
 MANUAL = "docs/ocfexec.8"
 SUBCOMMANDS = ["run", "serve", "show", "status"]
 # What others name so, what only a gate leaves, and what a document says is not there.
-OUTSIDE = {"--keep-size", "--length", "--pdeathsig", "/srv/hour", "ArgGroup", "clap_complete", "clone3", "crates/ocfexec/out/gate",
+OUTSIDE = {"--default-signal", "--keep-size", "--length", "--pdeathsig", "/srv/hour", "ArgGroup", "clap_complete", "clone3", "crates/ocfexec/out/gate",
            "fallocate", "flock", "get_ocf_metadata", "hidepid", "isatty", "list_ocf_providers", "migrate_from", "migrate_to", "nohup",
            "ocfexec run --version", "perf", "rattle-kit-13f", "rt check --fix-imports", "strace -c -w", "wait4"}
 # What stands for any name of its kind.
@@ -80,7 +80,7 @@ class Names:
     def is_path(self, name, place):
         """From the top, in crates/ or in a crate that the place names; or an edit."""
         crate, _, edit = name.partition("/")
-        tried = [name, f"crates/{name}", f"mutants/{name}.edit", f"crates/{crate}/must-fail/{edit}.edit"]
+        tried = [name, f"crates/{name}", f"mutants/{name}.edit", f"mutants/gate/{name}.edit", f"crates/{crate}/must-fail/{edit}.edit"]
         return any(map(is_any, tried + [f"crates/{crate}/{name}" for crate in self.near(place)]))
 
     def is_file(self, name, place):

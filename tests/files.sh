@@ -190,9 +190,9 @@ mkdir over
 if $apart mount -t tmpfs none "$here/over" 2> err; then
     journal covered
     cat > covers <<'COVERS'
-mkfifo asked
-env --default-signal "$1" run --journal covered < asked > out 2> err &
-exec 3> asked
+mkfifo fifo
+env --default-signal "$1" run --journal covered < fifo > out 2> err &
+exec 3> fifo
 printf '{"op":"list"}\n' >&3
 until [ -s out ]; do sleep 0.01; done
 mount -t tmpfs none covered

@@ -8,6 +8,9 @@ use std::io::{self, BufReader, ErrorKind, Read, Write};
 // How long is waited at once, in milliseconds.
 const ONCE: u32 = 1_000;
 
+// How long a read waits until it looks whether somebody can read what is replied, in milliseconds.
+const UNTIL_A_LOOK: u32 = 500;
+
 /// A reader or a writer of a descriptor, which may be one that does not block: where a call would have to wait, it waits, and
 /// goes on.
 #[derive(Drop)]
@@ -41,7 +44,7 @@ impl<T> Patient<T> {
             return Ok(());
         };
         for _ in 0..NUM_MAX {
-            if is_readable(self.descriptor, ONCE) {
+            if is_readable(self.descriptor, UNTIL_A_LOOK) {
                 return Ok(());
             }
             if is_hung_up(replies) {

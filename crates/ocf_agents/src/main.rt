@@ -11,8 +11,6 @@ mod laws;
 mod run;
 mod state_file;
 mod table;
-#[cfg(test)]
-mod tests;
 
 use ocf_codes::Code;
 use std::process::ExitCode;

@@ -1,0 +1,227 @@
+#!/usr/bin/env python3
+"""The wrong bodies of mutants/gate/CRATE/*.edit, each under a stamp: mutants/tried has a line `CRATE/EDIT SUM` for each that was seen
+refused. The sum is over the edit, the kit, and the lines of crates.txt and the files of src/, specs/ and proofs/ of the crate and of all
+crates below it, so a stamp is old as soon as one of them differs.
+
+`check` tries each edit whose line is missing or old, and `all` tries every one; both write the lines of what was refused, and take away
+those of what was not. An edit counts where the check refuses it, and its first refused goal is of an edited function or of a caller of
+one. Of the crates, -j are tried at a time, three if left out, and no more than memory holds. What the kit saw of the same files on this
+machine before it does not do again. The last line counts the edits.
+
+Use: stamps.py check|all [-j CRATES]"""
+import argparse
+import collections
+import concurrent.futures
+import contextlib
+import glob
+import hashlib
+import os
+import re
+import signal
+import subprocess
+import sys
+import threading
+import time
+
+sys.dont_write_bytecode = True
+import goals  # noqa: E402
+
+TOP = os.path.dirname(os.path.dirname(os.path.abspath(__file__)))
+EDITS = os.path.join(TOP, "mutants", "gate")
+TRIED = os.path.join(TOP, "mutants", "tried")
+PARTS = ("src", "specs", "proofs")
+NAME = re.compile(r"[A-Za-z0-9_-][A-Za-z0-9_.-]*\.edit")
+FATE = re.compile(r"^rt: must-fail ([\w.-]+/[\w.-]+)\.edit: (.*)", re.MULTILINE)
+# What the check of one crate may take of memory.
+CHECK_KIB = 3_500_000
+
+
+class Texts:
+    """The texts of the repository as they stand now, each of which is read once."""
+
+    def __init__(self):
+        self.kit = subprocess.run(["rt", "version"], capture_output=True, check=True, text=True).stdout.strip()
+        with open(os.path.join(TOP, "crates.txt"), encoding="utf-8") as lines:
+            pairs = [line.split("#")[0].partition(":") for line in lines]
+        self.words = {name.split()[0]: (name.split()[1:], below.split()) for name, _, below in pairs if name.strip()}
+        self.sums = {}
+
+    def at_or_below(self, crate):
+        """The names of a crate and of all crates below it, in order."""
+        found, left = set(), [crate]
+        while left:
+            name = left.pop()
+            if name in self.words and name not in found:
+                found.add(name)
+                left += self.words[name][1]
+        return sorted(found)
+
+    def sum_of_crate(self, crate):
+        """The sum of a crate's own files, by name and content."""
+        if crate not in self.sums:
+            folders = [top for part in PARTS for top in os.walk(os.path.join(TOP, "crates", crate, part))]
+            paths = [os.path.join(top, file) for top, _, files in folders for file in files]
+            total = hashlib.sha256()
+            for path in sorted(paths):
+                total.update(repr((os.path.relpath(path, TOP), read(path))).encode())
+            self.sums[crate] = total.hexdigest()
+        return self.sums[crate]
+
+    def sum_of_edit(self, edit):
+        """The sum that an edit's line has, once it was seen refused with these texts."""
+        crates = [(name, self.words[name], self.sum_of_crate(name)) for name in self.at_or_below(edit.split("/")[0])]
+        return hashlib.sha256(repr((edit, read(path_of(edit)), self.kit, crates)).encode()).hexdigest()
+
+
+def read(path):
+    with open(path, "rb") as file:
+        return file.read()
+
+
+def path_of(edit):
+    return os.path.join(EDITS, edit + ".edit")
+
+
+def edits():
+    """The edits by name, and the paths of what stands among them and is none, or is one of no crate."""
+    found, odd = [], []
+    for path in sorted(glob.glob("**", root_dir=EDITS, recursive=True)):
+        if os.path.isdir(os.path.join(EDITS, path)) or path.endswith(".md"):
+            continue
+        crate, _, name = path.partition("/")
+        is_one = NAME.fullmatch(name) and os.path.isdir(os.path.join(TOP, "crates", crate))
+        (found if is_one else odd).append(path.removesuffix(".edit") if is_one else path)
+    return found, odd
+
+
+class Stamps:
+    """The lines of mutants/tried."""
+
+    def __init__(self):
+        self.lines, self.lock, self.is_told = {}, threading.Lock(), False
+        with contextlib.suppress(FileNotFoundError), open(TRIED, encoding="utf-8") as file:
+            self.lines = {words[0]: words[1] for words in map(str.split, file) if len(words) == 2}
+        self.found = dict(self.lines)
+
+    def settle(self, known, refused, others):
+        """Notes the sums of edits that were refused, drops the lines of others, and of what is no edit, and writes the file."""
+        with self.lock:
+            self.lines.update(refused)
+            self.lines = {edit: total for edit, total in self.lines.items() if edit in known and edit not in others}
+            try:
+                with open(TRIED + ".new", "w", encoding="utf-8") as file:
+                    file.writelines(f"{edit} {total}\n" for edit, total in sorted(self.lines.items()))
+                os.replace(TRIED + ".new", TRIED)
+            except OSError as error:
+                if not self.is_told:
+                    print(f"mutants/tried cannot be written here ({error.strerror}), so what is tried now is tried again by the next call")
+                self.is_told = True
+
+    def has_news(self):
+        return self.lines != self.found and not self.is_told
+
+
+def fates(crate, names, running):
+    """What a try of these edits of a crate said of each, by name, and all that it said. `running` has the process meanwhile."""
+    words = [os.path.join(TOP, "mutants", "try.sh"), crate, *names]
+    how = {"stdin": subprocess.DEVNULL, "stdout": subprocess.PIPE, "stderr": subprocess.STDOUT, "errors": "replace"}
+    with subprocess.Popen(words, start_new_session=True, **how) as tried:
+        running.add(tried)
+        said = tried.communicate()[0]
+        running.discard(tried)
+    return dict(FATE.findall(said)), said
+
+
+def fault_of(edit, fate):
+    """Why an edit does not count after it was tried, or none."""
+    if fate is None:
+        return "NOT TRIED: the crate was not proved, or nothing was said of this edit"
+    if not fate.startswith("refused"):
+        return fate
+    return goals.fault(os.path.join(TOP, "crates", edit.split("/")[0]), path_of(edit), fate)
+
+
+def try_crate(crate, wanted, stamps, known, running):
+    """Tries edits of one crate, whose sums are given, prints what became of each, and settles their lines. Gives how many count."""
+    began = time.monotonic()
+    told, said = fates(crate, [edit.split("/")[1] for edit in wanted], running)
+    refused, others, lines = {}, [], []
+    after = Texts()
+    for edit, total in wanted.items():
+        fault = fault_of(edit, told.get(edit))
+        if fault is None and after.sum_of_edit(edit) != total:
+            fault = "NOT TRIED: a file that it rests on changed meanwhile"
+        if fault is None:
+            refused[edit] = total
+        elif not fault.startswith("NOT TRIED"):
+            others.append(edit)
+        lines.append(f"  {'FAILED' if fault else 'refused'}  {edit}: {fault or told[edit]}")
+    stamps.settle(known, refused, others)
+    if not told:
+        lines += said.splitlines()[-20:]
+    print(f"{crate}: {len(wanted)} tried in {time.monotonic() - began:.0f} s", *lines, sep="\n", flush=True)
+    return len(refused)
+
+
+def memory():
+    """The memory in KiB that programs may take now."""
+    with open("/proc/meminfo", encoding="ascii") as lines:
+        return int(re.search(r"MemAvailable:\s*(\d+)", lines.read())[1])
+
+
+def at_once(asked, crates):
+    """How many crates are tried at a time."""
+    return max(1, min(asked or 3, len(os.sched_getaffinity(0)), memory() // CHECK_KIB, crates))
+
+
+def end_all(running):
+    for tried in list(running):
+        with contextlib.suppress(ProcessLookupError):
+            os.killpg(tried.pid, signal.SIGTERM)
+
+
+def try_all(wanted, asked, stamps, known):
+    """Tries these edits, crate by crate. Gives how many count."""
+    by_crate, running = collections.defaultdict(dict), set()
+    for edit, total in wanted.items():
+        by_crate[edit.split("/")[0]][edit] = total
+    lanes = at_once(asked, len(by_crate))
+    if lanes > 1:
+        os.environ.setdefault("RT_JOBS", str(max(1, len(os.sched_getaffinity(0)) // lanes)))
+    # those with the most to do come first
+    order = sorted(by_crate.items(), key=lambda pair: -len(pair[1]))
+    with concurrent.futures.ThreadPoolExecutor(lanes) as pool:
+        calls = [pool.submit(try_crate, crate, edits, stamps, known, running) for crate, edits in order]
+        try:
+            return sum(call.result() for call in calls)
+        finally:
+            pool.shutdown(wait=False, cancel_futures=True)
+            end_all(running)
+
+
+def main():
+    asked = argparse.ArgumentParser(description=__doc__.split("\n", maxsplit=1)[0])
+    asked.add_argument("what", choices=["check", "all"])
+    asked.add_argument("-j", type=int, default=0, metavar="CRATES", help="how many crates are tried at a time")
+    asked = asked.parse_args()
+    signal.signal(signal.SIGTERM, lambda *_: sys.exit(143))
+    began, texts, stamps = time.monotonic(), Texts(), Stamps()
+    known, odd = edits()
+    sums = {edit: texts.sum_of_edit(edit) for edit in known}
+    wanted = {edit: total for edit, total in sums.items() if asked.what == "all" or stamps.lines.get(edit) != total}
+    kept = len(known) - len(wanted)
+    print(f"wrong bodies under a stamp: {kept} as mutants/tried has them, {len(wanted)} to be tried", flush=True)
+    refused = try_all(wanted, asked.j, stamps, set(known)) if wanted else 0
+    for path in odd:
+        print(f"  FAILED  mutants/gate/{path}: no edit of a crate")
+    if wanted:
+        print(f"{len(wanted)} tried in {time.monotonic() - began:.0f} s")
+    if stamps.has_news():
+        print("mutants/tried has changed: commit it")
+    failed = len(wanted) - refused + len(odd)
+    print(f"{kept + refused} passed, {failed} failed")
+    return 1 if failed else 0
+
+
+if __name__ == "__main__":
+    sys.exit(main())
