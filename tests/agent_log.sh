@@ -1,6 +1,6 @@
 #!/bin/sh
 # What agents write: appended to the file of --log, told to standard error by -, and lost without either; a file that cannot be
-# opened is refused before the journal is; and what an agent leaves in the background goes on writing behind the executor.
+# opened, and a named pipe, is refused before the journal is opened; and what an agent leaves in the background goes on writing behind the executor.
 # Use: agent_log.sh PROGRAM
 set -u
 . "$(dirname "$0")/common.sh" "$@"
@@ -19,7 +19,7 @@ starts() {
     status=0
     printf '%s\n' "{\"op\":\"register\",\"id\":\"r1\",\"provider\":\"test\",\"type\":\"Talker\",\"params\":{\"go\":\"$here/go\"}}" \
         '{"op":"exec","id":"r1","action":"start"}' '{"op":"drain"}' \
-        | "$program" run --root "$here/root" "$@" > "$here/out" 2> "$here/err" || status=$?
+        | timeout 20 "$program" run --root "$here/root" "$@" > "$here/out" 2> "$here/err" || status=$?
 }
 
 # without it all is lost
@@ -44,8 +44,9 @@ printf 'start of r1\nstart fails: no such device\n' > "$here/wanted"
 is_wanted "standard error" "$here/err"
 same "with --log -, the notice" "start done 5 OCF_ERR_INSTALLED" "$(notices "$here/out")"
 
-# a file that is not opened: no journal is made
-for log in "$here/none/log" "$here/root"; do
+# a file that is not opened, and a named pipe, which would wait for a reader: no journal is made
+mkfifo "$here/pipe"
+for log in "$here/none/log" "$here/root" "$here/pipe"; do
     starts --journal "$here/journal" --log "$log"
     same "--log $log, status" 7 "$status"
     same "--log $log, standard output" "" "$(cat "$here/out")"
@@ -54,6 +55,7 @@ for log in "$here/none/log" "$here/root"; do
     same "--log $log, advice" "Nothing was changed. Check the file of --log, its folder and its permissions." "$(sed -n 3p "$here/err")"
     [ ! -e "$here/journal" ] || differs "the journal" "none" "$(ls -l "$here/journal")"
 done
+same "--log $here/pipe, why" "$here/pipe: a named pipe, whose reader may go; give a file, or - for standard error" "$(sed -n 2p "$here/err")"
 
 # closed standard streams take nothing of the log
 starts --memory --log "$here/alone" 2>&-

@@ -180,13 +180,17 @@ refused() {
         printf '{"op":"meta","provider":"%s","type":"%s"}\n' "${agent%/*}" "${agent#*/}"
     done > "$here/lines"
     printf '{"op":"drain"}\n' >> "$here/lines"
-    "$program" run --memory --root "$here/root" < "$here/lines" > "$here/replies"
+    "$program" run --memory --root "$here/root" < "$here/lines" > "$here/replies" 2> "$here/err"
     grep '"end"' "$here/replies" > "$here/out"
     printf '{"end":"%s"}\n' missing other denied denied other missing idle > "$here/wanted"
     replied 'metadata of agents that cannot be started'
     printf 'start not-started %s\n' 5 1 4 4 1 5 > "$here/wanted"
     outcomes "$here/replies" > "$here/out"
     replied 'agents that cannot be started'
+    printf 'ocfexec: %s was not started: %s\n' 'meta-data of file:Below' 'Not a directory (os error 20)' \
+        'meta-data of test:Bare' 'Exec format error (os error 8)' 'run 2 of r2' 'Not a directory (os error 20)' \
+        'run 5 of r5' 'Exec format error (os error 8)' > "$here/wanted"
+    is_wanted 'why agents cannot be started' "$here/err"
 }
 
 # An agent that ignores the signal to end is killed at its timeout, and what it started stays.

@@ -24,7 +24,7 @@ count() {
     grep -c "^$1 .* s  " "$said"
 }
 
-for check in words.sh status.sh lines.sh random_lines.py speed.sh drains.sh clock.py ends.py serve.py faults.py together.py agents.sh agents_alone.sh agent_log.sh \
+for check in words.sh status.sh lines.sh random_lines.py speed.sh drains.sh clock.py ends.py stderr.py serve.py faults.py together.py agents.sh agents_alone.sh agent_log.sh \
     meta_variables.sh documents.py stamps.py rounds.py files.sh memory.py growths.py journals.py layouts.py durable.sh real_syncs.py kills.py endings.py orphans.py tidies.py soak.py fuzz.py clients.sh cluster.sh \
     package.sh completions.sh real_agents.sh guide.sh; do
     status=0

@@ -1,6 +1,5 @@
 pub mod Scripts
 pub mod Scripted
-pub mod StartFaults
 pub mod Agents
 pub mod Commands
 pub mod Ends

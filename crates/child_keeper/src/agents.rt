@@ -7,8 +7,8 @@ ghost use Rattle.child_keeper.specs.Agents.{others_of, runs_of};
 ghost use Rattle.child_model.specs.Children.{live_limit, without_run};
 
 use crate::live::LIVE_LIMIT;
-use crate::patience::still_runs;
 use ocf_types::{RscId, RunId};
+use process_ends::still_runs;
 use std::alloc::{AllocError, Allocator};
 use std::io;
 use std::process::{Child, ExitStatus, OpenProcess};

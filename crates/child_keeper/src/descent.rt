@@ -1,7 +1,7 @@
 //! What belongs to agents that are to end.
 use crate::agents::Agent;
-use crate::search::{Environments, Sought};
 use proc_files::{ActionMark, ProcFiles, Process};
+use process_ends::{Environments, Sought};
 use std::alloc::{AllocError, Allocator};
 use std::process::OpenProcess;
 use std::{io, slice};
@@ -77,31 +77,6 @@ impl<R: ProcFiles, P: OpenProcess + Drop, M: Allocator + Copy> Sought
                     .is_job_of_any(self.rt, process, marks.as_slice())
             {
                 found.push(*process)?;
-            }
-        }
-        Ok(found)
-    }
-}
-
-/// A child of this process, under its number.
-#[derive(Drop)]
-pub struct ChildSought<'a, R> {
-    pub rt: &'a R,
-    pub pid: u32,
-}
-
-impl<R: ProcFiles> Sought for ChildSought<'_, R> {
-    fn among<A: Allocator + Copy>(
-        &mut self,
-        alloc: A,
-        table: &[Process],
-    ) -> Result<Vec<Process, A>, AllocError> {
-        let mut found = Vec::new(alloc);
-        if let Ok(own) = self.rt.own() {
-            let child = table.iter().find(|process| process.pid == self.pid
-                && process.parent == own.pid);
-            if let Some(child) = child {
-                found.push(*child)?;
             }
         }
         Ok(found)

@@ -5,8 +5,8 @@ ghost use Rattle.child_model.specs.Children.{live_limit};
 
 use crate::agents::Agent;
 use crate::live::LIVE_LIMIT;
-use crate::patience::still_runs;
 use ocf_types::RscId;
+use process_ends::still_runs;
 use std::alloc::{AllocError, Allocator};
 use std::collections::VecDeque;
 use std::process::OpenProcess;

@@ -5,16 +5,15 @@ ghost use Rattle.ocf_types.specs.declared.outcome.MetaFault.TheVariants.{Failed}
 
 use crate::Poll;
 use crate::command::command_of;
-use crate::ending::end_child;
-use crate::ends::{end_of, start_fault};
-use crate::patience::{Deadline, Pauses, outlives};
-use crate::tell::tell_alive;
+use crate::ends::end_of;
+use crate::refused::{name_text, refused};
 use crate::waited::Waited;
 use ocf_env::{Site, launch_meta};
-use ocf_types::{AgentType, METADATA_LIMIT, MetaFault, Provider};
+use ocf_types::{AgentType, METADATA_LIMIT, MetaFault, Provider, StartFault};
 use proc_files::ProcFiles;
+use process_ends::{Deadline, Pauses, end_child, outlives, tell_alive};
 use std::alloc::{AllocError, Allocator};
-use std::io::{Eprint, ErrorKind, Read};
+use std::io::{self, Eprint, ErrorKind, Read};
 use std::process::{Child, Command, OpenProcess, Processes, Stdio};
 use std::rt::Clock;
 
@@ -127,7 +126,7 @@ fn give_up<R: Processes + Clock + Eprint + ProcFiles, P: OpenProcess, A: Allocat
     child: &mut Child<P>,
 ) {
     if end_child(rt, alloc, child) {
-        tell_alive(rt, child, "meta-data", "was killed");
+        tell_alive(rt, child, "meta-data");
     }
 }
 
@@ -165,6 +164,17 @@ fn meta_command<A: Allocator + Copy, S: Allocator>(
     Ok(command)
 }
 
+// The fault of a question for metadata that the system does not start.
+fn refused_meta<R: Eprint>(
+    rt: &R,
+    provider: &Provider,
+    agent: &AgentType,
+    error: &io::Error,
+) -> StartFault {
+    let (provider, agent) = (name_text(provider.as_bytes()), name_text(agent.as_bytes()));
+    refused(rt, format_args!("meta-data of {provider}:{agent}"), error)
+}
+
 /// What an agent writes when it is asked for its metadata, as it is: at most [`METADATA_LIMIT`] bytes. OCF Resource Agent
 /// API 1.1, meta-data.
 ///
@@ -199,7 +209,7 @@ where
     let deadline = Deadline::after(rt, limit);
     let mut child = match command.spawn(rt) {
         Ok(child) => child,
-        Err(error) => return Err(MetaFault::NotStarted(start_fault(&error))),
+        Err(error) => return Err(MetaFault::NotStarted(refused_meta(rt, provider, agent, &error))),
     };
     let heard = hear_child(rt, deadline, &mut child, &mut metadata);
     let code = code_of(rt, alloc, deadline, &mut child, heard)?;

@@ -8,21 +8,22 @@ use crate::book::Book;
 use crate::command::{command_of, write_to};
 use crate::dying::Dying;
 use crate::ending::end_agents;
-use crate::ends::{poll_of, start_fault};
+use crate::ends::poll_of;
 use crate::live::LIVE_LIMIT;
 use crate::log::Log;
-use crate::tell::tell_alive;
+use crate::refused::{name_text, refused};
 use crate::{Answer, Children, Entry, KillFault, Poll};
 use disk_model::Disk;
 use exec_journal::Journal;
 use ocf_env::{Invocation, Launch};
 use ocf_types::{RunId, StartFault};
 use proc_files::ProcFiles;
+use process_ends::tell_alive;
 use std::alloc::{AllocError, Allocator, Global};
-use std::io::Eprint;
+use std::io::{self, Eprint};
 use std::process::{Child, OpenProcess};
 use std::rt::Clock;
-use std::{mem, process, str};
+use std::{mem, process};
 
 /// Agents as processes of the system. Each runs in the root folder with just the variables of its launch, and reads
 /// nothing and writes where the log says; it has no descriptor but 0, 1 and 2, blocks no signal and is ended by SIGPIPE, and
@@ -30,11 +31,11 @@ use std::{mem, process, str};
 ///
 /// What was killed ends in `end_killed`, all of it together: each agent with all its descendants and its background jobs in this
 /// session, which are stopped first, so that none of them starts others unseen. Its end is waited for, a tenth of a second at
-/// most: what outlives that is named on standard error. While an agent that was killed lives on, its resource's next actions but
-/// a stop are refused as [`StartFault::Other`].
+/// most: what outlives that is named on standard error, by its number and its command. While an agent that was killed lives on,
+/// its resource's next actions but a stop are refused as [`StartFault::Other`].
 ///
 /// A start takes the memory of its command from the allocator, and is refused as [`StartFault::Other`] where there is none, or
-/// no descriptor more.
+/// no descriptor more. The error is said on standard error then, as with each start that is refused so by the system.
 #[derive(Drop)]
 pub struct Processes<R: process::Processes + Drop, A: Allocator + Copy = Global> {
     rt: R,
@@ -79,7 +80,7 @@ impl<R: process::Processes + Clock + Eprint + ProcFiles + Drop, A: Allocator + C
         end_all(&self.rt, self.alloc, &mut self.killed, &mut self.dying);
     }
 
-    // Starts an agent, unless one of its resource that was killed lives on.
+    // Starts an agent, unless one of its resource that was killed lives on. Why the system refuses it is said on standard error.
     fn spawned<L: Allocator>(&mut self, launch: &Launch<L>) -> Result<Child<R::Started>, StartFault>
         ensures same { processes_of self.new ≡ processes_of self.old }
         ensures live { self.new.live ≡ self.old.live }
@@ -88,7 +89,10 @@ impl<R: process::Processes + Clock + Eprint + ProcFiles + Drop, A: Allocator + C
         if self.dying.has(&launch.id) && !is_stop(launch) {
             return Err(StartFault::Other);
         }
-        spawn(&self.rt, self.alloc, &self.log, &launch.invocation)
+        match spawn(&self.rt, self.alloc, &self.log, &launch.invocation) {
+            Ok(child) => Ok(child),
+            Err(error) => Err(refused_run(&self.rt, launch, &error)),
+        }
     }
 
     // Gives a child up, to be ended.
@@ -126,12 +130,11 @@ fn end_all<
 }
 
 // Says on standard error that an agent lives on that was killed, and that it holds its resource up.
-fn tell_killed<P: OpenProcess + Drop>(out: &impl Eprint, agent: &Agent<P>) {
+fn tell_killed<R: Eprint + ProcFiles, P: OpenProcess + Drop>(rt: &R, agent: &Agent<P>) {
     let run = agent.run.get();
-    tell_alive(out, &agent.child, format_args!("run {run}"), "was killed");
-    // names are ASCII
-    let id = str::from_utf8(agent.id.as_bytes()).unwrap_or_default();
-    let _ = out.eprintln(format_args!(
+    tell_alive(rt, &agent.child, format_args!("run {run}"));
+    let id = name_text(agent.id.as_bytes());
+    let _ = rt.eprintln(format_args!(
         "ocfexec: until it ends this executor starts no action of {id} but a stop"
     ));
 }
@@ -144,21 +147,27 @@ fn is_stop<L: Allocator>(launch: &Launch<L>) -> bool {
     }
 }
 
+// The fault of a start that the system refuses.
+fn refused_run<R: Eprint, L: Allocator>(
+    rt: &R,
+    launch: &Launch<L>,
+    error: &io::Error,
+) -> StartFault {
+    let (run, id) = (launch.run.get(), name_text(launch.id.as_bytes()));
+    refused(rt, format_args!("run {run} of {id}"), error)
+}
+
 // Starts the program of an invocation.
 fn spawn<R: process::Processes, A: Allocator + Copy, L: Allocator>(
     rt: &R,
     alloc: A,
     log: &Log,
     invocation: &Invocation<L>,
-) -> Result<Child<R::Started>, StartFault> {
-    let (Ok(output), Ok(errors)) = (log.stdio(), log.stdio()) else {
-        return Err(StartFault::Other);
-    };
-    let Ok(mut command) = command_of(alloc, invocation) else {
-        return Err(StartFault::Other);
-    };
+) -> io::Result<Child<R::Started>> {
+    let (output, errors) = (log.stdio()?, log.stdio()?);
+    let mut command = command_of(alloc, invocation)?;
     write_to(&mut command, output, errors);
-    command.spawn(rt).map_err(|error| start_fault(&error))
+    command.spawn(rt)
 }
 
 impl<R: process::Processes + Clock + Eprint + ProcFiles + Drop, A: Allocator + Copy> Children

@@ -3,7 +3,7 @@ ghost use Rattle.std.specs.Prelude.{◌≡◌, ◌≤◌, length, IfOk};
 ghost use Rattle.ocf_types.specs.Limits.{metadata_limit};
 ghost use Rattle.ocfexec.specs.Starts.{site_of};
 
-use child_keeper::run_meta;
+use child_keeper::{System, run_meta};
 use exec_options::Options;
 use exec_session::Metadata;
 use ocf_env::{Site, Text};
@@ -35,7 +35,7 @@ pub fn site_of(alloc: Global, options: Options) -> Result<Site, AllocError>
 /// The metadata of a site's agents, each of which is asked for it.
 #[derive(Drop)]
 pub struct SiteMetadata<'a> {
-    pub rt: &'a HostRuntime,
+    pub system: &'a System<'a>,
     pub site: Site,
 }
 
@@ -49,6 +49,6 @@ impl Metadata for SiteMetadata<'_> {
         agent: &AgentType,
         limit: u32,
     ) -> Result<Vec<u8>, MetaFault> {
-        run_meta(self.rt, alloc, &self.site, provider, agent, limit)
+        run_meta(self.system, alloc, &self.site, provider, agent, limit)
     }
 }

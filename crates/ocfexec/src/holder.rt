@@ -1,9 +1,10 @@
 //! Which executor held a journal last: it leaves word of itself in the journal's folder.
+use child_keeper::System;
 use file_disk::OWNER_ONLY;
 use proc_files::{ProcFiles, read_head};
 use std::alloc::Global;
 use std::fs::{self, OpenOptions};
-use std::io::{self, ErrorKind, Write};
+use std::io::{self, Eprint, ErrorKind, Write};
 use std::os::unix::fs::OpenOptionsExt;
 use std::str;
 
@@ -95,9 +96,9 @@ fn put(rt: &HostRuntime, folder: &str, moment: u64) -> io::Result<()> {
 }
 
 /// Leaves word of this executor, whose clock shows this moment. What is not left is said on standard error.
-pub fn leave_word(rt: &HostRuntime, folder: &str, moment: u64) {
-    if let Err(error) = put(rt, folder, moment) {
-        let _ = rt.eprintln(format_args!(
+pub fn leave_word(system: &System<'_>, folder: &str, moment: u64) {
+    if let Err(error) = put(system.host(), folder, moment) {
+        let _ = system.eprintln(format_args!(
             "ocfexec: {folder}/executor cannot be written, so a later executor may not know all processes of this one: {error}"
         ));
     }

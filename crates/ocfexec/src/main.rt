@@ -16,19 +16,22 @@ mod signals;
 mod start;
 mod times;
 
+use child_keeper::System;
 use exec_output::Fault;
+use std::io::Eprint;
 use std::process::ExitCode;
 
 fn main(rt: HostRuntime) -> ExitCode {
-    let ended = start::start(&rt);
+    let system = System::new(&rt);
+    let ended = start::start(&system);
     if let Err(fault) = ended {
-        tell(&rt, fault);
+        tell(&system, fault);
     }
     exit_code(ended)
 }
 
 // Says on standard error what ended the program, and what can be done about it in a line behind.
-fn tell(rt: &HostRuntime, fault: Fault) {
+fn tell(out: &impl Eprint, fault: Fault) {
     if matches!(
         fault,
         Fault::Usage | Fault::Log | Fault::NotOpened | Fault::Disk
@@ -36,9 +39,9 @@ fn tell(rt: &HostRuntime, fault: Fault) {
         // it was told where it happened
         return;
     }
-    let _ = rt.eprintln(format_args!("ocfexec: {fault}"));
+    let _ = out.eprintln(format_args!("ocfexec: {fault}"));
     if let Some(advice) = fault.advice() {
-        let _ = rt.eprintln(advice);
+        let _ = out.eprintln(advice);
     }
 }
 

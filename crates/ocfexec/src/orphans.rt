@@ -2,14 +2,14 @@
 use crate::holder::read_holder;
 use crate::interrupted::{Interrupted, all_interrupted};
 use crate::times::Times;
-use child_keeper::{Environments, Sought, end_processes, with_ancestors};
+use child_keeper::{Environments, Sought, System, end_processes, with_ancestors};
 use exec_commands::Left;
 use exec_lines::{Output, Patient};
 use exec_state::State;
 use ocf_env::Site;
 use proc_files::{PidFile, ProcFiles, Process, has};
 use std::alloc::{AllocError, Allocator, Global};
-use std::io::{self, ErrorKind};
+use std::io::{self, Eprint, ErrorKind};
 use std::thread::sleep;
 use std::time::Duration;
 
@@ -143,9 +143,9 @@ impl Sought for ActionsSought<'_> {
 }
 
 // Names a process whose action may go on no more.
-fn tell_late(rt: &HostRuntime, orphan: &Orphan<'_>, leave: bool) {
+fn tell_late(out: &impl Eprint, orphan: &Orphan<'_>, leave: bool) {
     let done = if leave { "still lives" } else { "is ended" };
-    let _ = rt.eprintln(format_args!(
+    let _ = out.eprintln(format_args!(
         "ocfexec: pid {} of {}, which was interrupted, {done}",
         orphan.process.pid, orphan.of
     ));
@@ -153,18 +153,19 @@ fn tell_late(rt: &HostRuntime, orphan: &Orphan<'_>, leave: bool) {
 
 // Deals with the processes whose actions may go on no more, but for those that were dealt with before.
 fn deal_with(
-    rt: &HostRuntime,
+    system: &System<'_>,
     how: Orphans<'_>,
     sessions: &[u32],
     found: &[Orphan<'_>],
     dealt: &mut Vec<Left>,
 ) -> Result<(), AllocError> {
+    let rt = system.host();
     let mut late = Vec::new(rt.alloc());
     for orphan in found {
         let pid = orphan.process.pid;
         let is_new = !dealt.iter().any(|left| left.pid == pid);
         if is_new && orphan.of.deadline.left(rt) == 0 {
-            tell_late(rt, orphan, how.leave);
+            tell_late(system, orphan, how.leave);
             late.push(orphan.of)?;
             dealt.push(Left {
                 run: orphan.of.run,
@@ -174,7 +175,7 @@ fn deal_with(
     }
     if !how.leave && !late.is_empty() {
         let mut sought = ActionsSought::new(rt, late.as_slice(), sessions)?;
-        end_processes(rt, rt.alloc(), &mut sought);
+        end_processes(system, rt.alloc(), &mut sought);
     }
     Ok(())
 }
@@ -182,16 +183,17 @@ fn deal_with(
 // Looks for what is left of these actions until nothing is that may go on, and deals with what may not: what was dealt with. It
 // fails with the kind `BrokenPipe` once nobody can read what would be reported.
 fn await_all(
-    rt: &HostRuntime,
+    system: &System<'_>,
     how: Orphans<'_>,
     sessions: &[u32],
     actions: &[&Interrupted],
 ) -> io::Result<Vec<Left>> {
+    let rt = system.host();
     let client = Patient::new(io::writer(rt), libc::STDOUT_FILENO);
     let mut dealt = Vec::new(rt.alloc());
     for _ in 0..u64::MAX {
         let found = ActionsSought::new(rt, actions, sessions)?.look()?;
-        deal_with(rt, how, sessions, found.as_slice(), &mut dealt)?;
+        deal_with(system, how, sessions, found.as_slice(), &mut dealt)?;
         if found.iter().all(|orphan| orphan.of.deadline.left(rt) == 0) {
             break;
         }
@@ -205,11 +207,12 @@ fn await_all(
 
 // Waits for what is left of the actions that run at a state, and ends it or leaves it: what is left.
 fn await_left(
-    rt: &HostRuntime,
+    system: &System<'_>,
     how: Orphans<'_>,
     site: &Site,
     state: &State,
 ) -> io::Result<Vec<Left>> {
+    let rt = system.host();
     let alloc = rt.alloc();
     let holder = read_holder(rt, how.folder);
     let times = Times::new(rt, holder, how.limit);
@@ -223,7 +226,7 @@ fn await_left(
     for action in &actions {
         all.push(action).map_err(AllocError::from)?;
     }
-    let dealt = await_all(rt, how, &sessions, all.as_slice())?;
+    let dealt = await_all(system, how, &sessions, all.as_slice())?;
     Ok(if how.leave { dealt } else { Vec::new(alloc) })
 }
 
@@ -231,19 +234,19 @@ fn await_left(
 /// up to a limit. What is left then is ended with all that descends from it, or lives on, and is named on standard error. So is
 /// why it could not be looked for. What lives on is given, with its run; `None` once nobody can read what would be reported.
 pub fn await_orphans(
-    rt: &HostRuntime,
+    system: &System<'_>,
     how: Orphans<'_>,
     site: &Site,
     state: &State,
 ) -> Option<Vec<Left>> {
-    match await_left(rt, how, site, state) {
+    match await_left(system, how, site, state) {
         Ok(left) => Some(left),
         Err(error) if error.kind() == ErrorKind::BrokenPipe => None,
         Err(error) => {
-            let _ = rt.eprintln(format_args!(
+            let _ = system.eprintln(format_args!(
                 "ocfexec: what is left of interrupted actions cannot be looked for in /proc: {error}"
             ));
-            Some(Vec::new(rt.alloc()))
+            Some(Vec::new(system.host().alloc()))
         }
     }
 }

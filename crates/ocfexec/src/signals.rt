@@ -1,6 +1,8 @@
 //! Which signals the program was started with as ignored.
+use child_keeper::System;
 use proc_files::{is_ignored, read_head};
 use std::fmt::{self, Display, Formatter};
+use std::io::Eprint;
 
 // The number of SIGCHLD. Linux, signal(7).
 const SIGCHLD: u8 = 17;
@@ -78,16 +80,16 @@ impl Display for Ignored<'_> {
 }
 
 /// Names on standard error the signals that agents inherit as ignored, in one line, if there are any and the system says so.
-pub fn tell_ignored(rt: &HostRuntime) {
+pub fn tell_ignored(system: &System<'_>) {
     let mut status = [0u8; STATUS_LIMIT];
-    let Ok(length) = read_head(rt, "/proc/self/status", &mut status) else {
+    let Ok(length) = read_head(system.host(), "/proc/self/status", &mut status) else {
         return;
     };
     let ignored = Ignored {
         status: &status[..length],
     };
     if !ignored.is_empty() {
-        let _ = rt.eprintln(format_args!(
+        let _ = system.eprintln(format_args!(
             "ocfexec: started with ignored signals, which agents inherit: {ignored}"
         ));
     }

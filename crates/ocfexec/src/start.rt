@@ -10,7 +10,7 @@ use crate::holder::leave_word;
 use crate::log::log_of;
 use crate::orphans::{Orphans, await_orphans};
 use crate::signals::{children_ignored, tell_ignored};
-use child_keeper::{Log, Processes};
+use child_keeper::{Log, Processes, System};
 use disk_model::Disk;
 use exec_client::Teller;
 use exec_commands::{Left, NoticeForm};
@@ -25,7 +25,7 @@ use file_disk::{
 };
 use ocf_env::Site;
 use std::env;
-use std::io::{self, BufReader, ErrorKind};
+use std::io::{self, BufReader, Eprint, ErrorKind};
 use std::path::Path;
 use std::thread::sleep;
 use std::time::Duration;
@@ -52,9 +52,9 @@ fn words_of(rt: &HostRuntime) -> Result<Vec<String>, Fault> {
 }
 
 /// Does what the words of the command line ask for.
-pub fn start(rt: &HostRuntime) -> Result<(), Fault> {
-    let words = words_of(rt)?;
-    run(rt, words.as_slice())
+pub fn start(system: &System<'_>) -> Result<(), Fault> {
+    let words = words_of(system.host())?;
+    run(system, words.as_slice())
 }
 
 // What words end with that give no options. A text that was asked for is printed, and so is `clap`'s text of a usage fault.
@@ -105,17 +105,17 @@ fn open_files(
 }
 
 // The disk of a journal in this folder. Why there is none is told here, behind the line of the fault.
-fn found<D: Drop>(rt: &HostRuntime, folder: &str, disk: Result<D, OpenFault>) -> Result<D, Fault>
+fn found<D: Drop>(out: &impl Eprint, folder: &str, disk: Result<D, OpenFault>) -> Result<D, Fault>
     ensures { IsNotOpened result }
 {
     match disk {
         Ok(disk) => Ok(disk),
         Err(OpenFault::Memory) => Err(Fault::Memory),
         Err(why) => {
-            let _ = rt.eprintln(format_args!("ocfexec: {}", Fault::NotOpened));
-            let _ = rt.eprintln(format_args!("{}", why.located(folder)));
+            let _ = out.eprintln(format_args!("ocfexec: {}", Fault::NotOpened));
+            let _ = out.eprintln(format_args!("{}", why.located(folder)));
             if why.is_distrust() {
-                let _ = rt.eprintln(OWNER_ADVICE);
+                let _ = out.eprintln(OWNER_ADVICE);
             }
             Err(Fault::NotOpened)
         }
@@ -123,19 +123,19 @@ fn found<D: Drop>(rt: &HostRuntime, folder: &str, disk: Result<D, OpenFault>) ->
 }
 
 // Says that the journal's device failed, and what it answered.
-fn tell_device(rt: &HostRuntime, options: Options, error: Option<FileError>) {
-    let _ = rt.eprintln(format_args!("ocfexec: {}", Fault::Disk));
+fn tell_device(out: &impl Eprint, options: Options, error: Option<FileError>) {
+    let _ = out.eprintln(format_args!("ocfexec: {}", Fault::Disk));
     if let (JournalPlace::Folder(folder), Some(met)) = (options.journal, error) {
-        let _ = rt.eprintln(format_args!("{}", met.located(folder)));
+        let _ = out.eprintln(format_args!("{}", met.located(folder)));
     }
     if let Some(advice) = Fault::Disk.advice() {
-        let _ = rt.eprintln(advice);
+        let _ = out.eprintln(advice);
     }
 }
 
 // How it ended on this disk. A fault of the device is told here, since the disk knows more of it than the fault says.
 fn told<D: TellsError>(
-    rt: &HostRuntime,
+    out: &impl Eprint,
     options: Options,
     disk: &D,
     ended: Result<(), Fault>,
@@ -143,16 +143,17 @@ fn told<D: TellsError>(
     ensures { result ≡ ended }
 {
     if let Err(Fault::Disk) = ended {
-        tell_device(rt, options, disk.first_error());
+        tell_device(out, options, disk.first_error());
     }
     ended
 }
 
 // Does what these words ask for, the program's name first.
 #[tactic(auto, using(crate::proofs::StartLemmas::journal_ends, crate::proofs::StartLemmas::folder_ends, crate::proofs::StartLemmas::log_ends))]
-fn run(rt: &HostRuntime, words: &[String]) -> Result<(), Fault>
+fn run(system: &System<'_>, words: &[String]) -> Result<(), Fault>
     ensures { EndsFor (map string_bytes words.now) result }
 {
+    let rt = system.host();
     let options = match read_words(rt.alloc(), words) {
         Ok(options) => options,
         Err(fault) => return refuse(rt, &fault),
@@ -162,28 +163,29 @@ fn run(rt: &HostRuntime, words: &[String]) -> Result<(), Fault>
         return Err(Fault::ChildrenIgnored);
     }
     if starts_agents {
-        tell_ignored(rt);
+        tell_ignored(system);
     }
-    let log = match log_of(rt, options) {
+    let log = match log_of(system, options) {
         Ok(log) => log,
         Err(fault) => return Err(fault),
     };
     match options.journal {
-        JournalPlace::Folder(folder) => run_in(rt, options, log, folder),
-        JournalPlace::Memory => run_on(rt, options, log, RamDisk::new(rt.alloc())),
+        JournalPlace::Folder(folder) => run_in(system, options, log, folder),
+        JournalPlace::Memory => run_on(system, options, log, RamDisk::new(rt.alloc())),
     }
 }
 
 // Does what the options ask for with the journal in this folder, or says why there is none.
 #[tactic(auto, using(crate::proofs::StartLemmas::opened_ends, crate::proofs::StartLemmas::not_opened_ends))]
-fn run_in(rt: &HostRuntime, options: Options, log: Log, folder: &str) -> Result<(), Fault>
+fn run_in(system: &System<'_>, options: Options, log: Log, folder: &str) -> Result<(), Fault>
     ensures { IsFolderEnd result }
 {
     match options.subcommand {
-        Subcommand::Show | Subcommand::Status => show_files(rt, options, folder),
+        Subcommand::Show | Subcommand::Status => show_files(system, options, folder),
         Subcommand::Run | Subcommand::Serve => {
-            let disk = found(rt, folder, not_emptied(open_files(rt, options, folder)))?;
-            run_on(rt, options, log, disk)
+            let opened = open_files(system.host(), options, folder);
+            let disk = found(system, folder, not_emptied(opened))?;
+            run_on(system, options, log, disk)
         }
     }
 }
@@ -191,18 +193,19 @@ fn run_in(rt: &HostRuntime, options: Options, log: Log, folder: &str) -> Result<
 // Shows the journal in this folder, which another program may be writing. Damage is told where it is found each time that
 // the files are read.
 #[tactic(auto, using(crate::proofs::StartLemmas::opened_ends, crate::proofs::StartLemmas::not_opened_ends))]
-fn show_files(rt: &HostRuntime, options: Options, folder: &str) -> Result<(), Fault>
+fn show_files(system: &System<'_>, options: Options, folder: &str) -> Result<(), Fault>
     ensures { IsFolderEnd result }
 {
+    let rt = system.host();
     for _ in 1..LOOKS {
-        let disk = found(rt, folder, not_emptied(read_parts(rt, rt.alloc(), folder)))?;
-        let ended = show_on(rt, options, disk);
+        let disk = found(system, folder, not_emptied(read_parts(rt, rt.alloc(), folder)))?;
+        let ended = show_on(system, options, disk);
         if !matches!(ended, Err(Fault::Damaged(_))) {
             return ended;
         }
     }
-    let disk = found(rt, folder, not_emptied(read_parts(rt, rt.alloc(), folder)))?;
-    show_on(rt, options, disk)
+    let disk = found(system, folder, not_emptied(read_parts(rt, rt.alloc(), folder)))?;
+    show_on(system, options, disk)
 }
 
 // How a status is looked at: now, and in colour on a terminal alone.
@@ -227,24 +230,25 @@ fn is_terminal(rt: &HostRuntime) -> bool {
 
 // Shows the journal on this disk, as lines of JSON or as a table.
 fn show_on<D: Disk + TellsError + Drop>(
-    rt: &HostRuntime,
+    system: &System<'_>,
     options: Options,
     disk: D,
 ) -> Result<(), Fault>
     ensures { IsRunEnd result }
 {
+    let rt = system.host();
     let (disk, ended) = match options.subcommand {
         Subcommand::Status if !options.json => {
             status(rt.alloc(), disk, &mut io::writer(rt), &look_of(rt, options))
         }
         _ => show(rt.alloc(), disk, &mut io::writer(rt)),
     };
-    told(rt, options, &disk, ended)
+    told(system, options, &disk, ended)
 }
 
 // Does what the options ask for with a journal on this disk.
 fn run_on<D: Disk + TellsError + Drop>(
-    rt: &HostRuntime,
+    system: &System<'_>,
     options: Options,
     log: Log,
     disk: D,
@@ -252,9 +256,9 @@ fn run_on<D: Disk + TellsError + Drop>(
     ensures { IsRunEnd result }
 {
     match options.subcommand {
-        Subcommand::Run => run_agents(rt, options, log, disk, Way::Run),
-        Subcommand::Serve => run_agents(rt, options, log, disk, Way::Serve),
-        Subcommand::Show | Subcommand::Status => show_on(rt, options, disk),
+        Subcommand::Run => run_agents(system, options, log, disk, Way::Run),
+        Subcommand::Serve => run_agents(system, options, log, disk, Way::Serve),
+        Subcommand::Show | Subcommand::Status => show_on(system, options, disk),
     }
 }
 
@@ -283,14 +287,15 @@ fn form_of(way: Way, left: &[Left]) -> NoticeForm<'_> {
 // Waits for what is left of the actions that a journal finds interrupted, before their interruption is recorded; what lives on.
 // Why a journal cannot be read is found once more when it is opened. It fails once nobody can read what would be reported.
 fn await_interrupted<D: Disk + Drop>(
-    rt: &HostRuntime,
+    system: &System<'_>,
     options: Options,
     site: &Site,
     disk: D,
 ) -> Result<(D, Vec<Left>), Fault>
     ensures { IfErr result (λ f. f ≡ Fault.InputOrOutput) }
 {
-    let none = Vec::new(rt.alloc());
+    let alloc = system.host().alloc();
+    let none = Vec::new(alloc);
     let JournalPlace::Folder(folder) = options.journal else {
         return Ok((disk, none));
     };
@@ -299,9 +304,9 @@ fn await_interrupted<D: Disk + Drop>(
         limit: options.orphans,
         leave: options.leave_orphans,
     };
-    match Journal::open(rt.alloc(), disk) {
+    match Journal::open(alloc, disk) {
         Ok((journal, state)) => {
-            let Some(left) = await_orphans(rt, how, site, &state) else {
+            let Some(left) = await_orphans(system, how, site, &state) else {
                 return Err(Fault::InputOrOutput);
             };
             Ok((journal.into_disk(), left))
@@ -312,7 +317,7 @@ fn await_interrupted<D: Disk + Drop>(
 
 // How a run over these paths ended: by its device, with the line of such an end, if it broke off since they lead elsewhere.
 fn ended_over(
-    rt: &HostRuntime,
+    system: &System<'_>,
     options: Options,
     paths: &Option<JournalPaths>,
     ended: Result<(), Fault>,
@@ -322,18 +327,19 @@ fn ended_over(
     let (Err(Fault::InputOrOutput), Some(paths)) = (ended, paths.as_ref()) else {
         return ended;
     };
+    let rt = system.host();
     let Err(error) = paths.check(rt) else {
         return ended;
     };
     let _ = write_flushed(&mut io::writer(rt), b"{\"end\":\"disk\"}\n");
-    tell_device(rt, options, Some(error));
+    tell_device(system, options, Some(error));
     Err(Fault::Disk)
 }
 
 // Opens the executor and answers the lines of standard input.
 #[tactic(auto, using(crate::proofs::StartLemmas::run_ends, crate::proofs::StartLemmas::same_ends, crate::proofs::StartLemmas::unheard_ends))]
 fn run_agents<D: Disk + TellsError + Drop>(
-    rt: &HostRuntime,
+    system: &System<'_>,
     options: Options,
     log: Log,
     disk: D,
@@ -341,30 +347,32 @@ fn run_agents<D: Disk + TellsError + Drop>(
 ) -> Result<(), Fault>
     ensures { IsRunEnd result }
 {
+    let rt = system.host();
     let alloc = rt.alloc();
     let input = Patient::new(rt.reader(), libc::STDIN_FILENO).with_replies(libc::STDOUT_FILENO);
     let Ok(mut reader) = BufReader::with_capacity(alloc, READ_SIZE, input) else {
         return Err(Fault::Memory);
     };
-    let Ok(children) = Processes::new(rt, alloc, log, BOOK_ROOM) else {
+    let Ok(children) = Processes::new(system, alloc, log, BOOK_ROOM) else {
         return Err(Fault::Memory);
     };
-    let (Ok(site), Ok(asked)) = (site_of(alloc, options), site_of(alloc, options)) else {
+    let (Ok(own), Ok(site)) = (site_of(alloc, options), site_of(alloc, options)) else {
         return Err(Fault::Memory);
     };
     let paths = served_paths(rt, options);
-    let (disk, left) = await_interrupted(rt, options, &asked, disk)?;
-    match Executor::open(alloc, disk, children, site, moment_now(rt).get()) {
+    let (disk, left) = await_interrupted(system, options, &site, disk)?;
+    match Executor::open(alloc, disk, children, own, moment_now(rt).get()) {
         Ok((executor, report)) => {
             let clock = RunClock::new(rt, executor.clock());
             if let JournalPlace::Folder(folder) = options.journal {
-                leave_word(rt, folder, moment_now(&clock).get());
+                leave_word(system, folder, moment_now(&clock).get());
             }
             let form = form_of(way, left.as_slice());
+            let metadata = SiteMetadata { system, site };
             let context = RunContext {
                 alloc,
                 clock: &clock,
-                metadata: &SiteMetadata { rt, site: asked },
+                metadata: &metadata,
                 way,
                 form,
                 most_turns: MOST_TURNS,
@@ -375,9 +383,9 @@ fn run_agents<D: Disk + TellsError + Drop>(
             let output = Guarded::new(rt, output, &paths);
             let mut client = Teller::new(alloc, output, &executor);
             let run = run_lines(&context, &mut reader, &mut client, executor, &report);
-            let ended = told(rt, options, &run.disk, run.ended);
-            ended_over(rt, options, &paths, ended)
+            let ended = told(system, options, &run.disk, run.ended);
+            ended_over(system, options, &paths, ended)
         }
-        Err(fault) => told(rt, options, &fault.disk, Err(opening_fault(fault.why))),
+        Err(fault) => told(system, options, &fault.disk, Err(opening_fault(fault.why))),
     }
 }

@@ -1,5 +1,5 @@
 use Rattle.std.specs.Bool.{⊤}
-use Rattle.child_keeper.proofs.patience.outlives.Given as goal
+use Rattle.process_ends.proofs.patience.outlives.Given as goal
 
 abbrev pub invariant-loop-pauses : goal.invariant-loop-pauses
 invariant-loop-pauses g l = ⊤

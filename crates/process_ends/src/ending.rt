@@ -1,0 +1,115 @@
+//! The end of processes with all that they started.
+use crate::descent::ChildSought;
+use crate::patience::{Pauses, outlives};
+use crate::search::{Sought, found_now};
+use crate::signal::{Signal, send_signal};
+use crate::tell::{tell_all, tell_unstopped};
+use proc_files::{ProcFiles, Process, has};
+use std::alloc::{AllocError, Allocator};
+use std::io::{self, Eprint};
+use std::process::{Child, OpenProcess, Processes};
+use std::rt::Clock;
+
+// How often the processes are looked through at most. In each round what was not found before is stopped, so that it cannot
+// start others unseen; two rounds are enough where nothing is started meanwhile.
+const ROUNDS: usize = 8;
+
+// Stops these processes, but for those that are stopped already. Whether there were any.
+fn stop_more<R: Processes + Clock, A: Allocator + Copy>(
+    rt: &R,
+    alloc: A,
+    found: &[Process],
+    stopped: &mut Vec<Process, A>,
+) -> io::Result<bool> {
+    let mut more = Vec::new(alloc);
+    for process in found {
+        if !has(stopped.as_slice(), process) {
+            more.push(*process).map_err(AllocError::from)?;
+        }
+    }
+    // what could not be stopped is to be killed all the same
+    stopped.extend_from_slice(more.as_slice())?;
+    send_signal(rt, alloc, Signal::Stop, more.as_slice())?;
+    Ok(!more.is_empty())
+}
+
+// Stops what is sought with all that descends from it, and gathers it, as far as it comes.
+fn stop_all<R: Processes + Clock + ProcFiles, S: Sought, A: Allocator + Copy>(
+    rt: &R,
+    alloc: A,
+    sought: &mut S,
+    stopped: &mut Vec<Process, A>,
+) -> io::Result<()> {
+    for _ in 0..ROUNDS {
+        let found = found_now(rt, alloc, sought, stopped.as_slice())?;
+        if !stop_more(rt, alloc, found.as_slice(), stopped)? {
+            break;
+        }
+    }
+    Ok(())
+}
+
+/// Whether a process is there still, under its number and with its start, and has not ended.
+pub fn still_lives<R: ProcFiles>(rt: &R, process: &Process) -> bool {
+    match rt.process_of(process.pid) {
+        Ok(Some(now)) => now.is(process) && !now.has_ended,
+        Ok(None) => false,
+        Err(_) => true,
+    }
+}
+
+/// What is sought, with all that descends from it, stopped: as much of it as can be found. Where that is not all it is said on
+/// standard error why.
+pub fn stopped<R: Processes + Clock + Eprint + ProcFiles, S: Sought, A: Allocator + Copy>(
+    rt: &R,
+    alloc: A,
+    sought: &mut S,
+) -> Vec<Process, A> {
+    let mut stopped = Vec::new(alloc);
+    if let Err(error) = stop_all(rt, alloc, sought, &mut stopped) {
+        tell_unstopped(rt, &error);
+    }
+    // a number may have been given again
+    stopped.retain(|process| still_lives(rt, process));
+    stopped
+}
+
+// Waits for killed processes, and lets go of each that has ended.
+fn await_gone<R: Clock + ProcFiles, A: Allocator>(rt: &R, processes: &mut Vec<Process, A>) {
+    let mut pauses = Pauses::after_kill();
+    processes.retain(|process| still_lives(rt, process));
+    while !processes.is_empty() && pauses.pause(rt) {
+        processes.retain(|process| still_lives(rt, process));
+    }
+}
+
+/// Ends a child of this process with all that descends from it, and waits for it, two tenths of a second at most. Whether the
+/// child lives on; what else does is named on standard error.
+pub fn end_child<R: Processes + Clock + Eprint + ProcFiles, P: OpenProcess, A: Allocator + Copy>(
+    rt: &R,
+    alloc: A,
+    child: &mut Child<P>,
+) -> bool {
+    let pid = child.id();
+    let mut found = stopped(rt, alloc, &mut ChildSought { rt, pid });
+    let _ = send_signal(rt, alloc, Signal::Kill, found.as_slice());
+    let _ = child.kill();
+    let outlives = outlives(rt, child, Pauses::after_kill());
+    found.retain(|process| process.pid != pid);
+    await_gone(rt, &mut found);
+    tell_all(rt, found.as_slice());
+    outlives
+}
+
+/// Ends processes that no agent of this executor is, with all that they started, and waits for it, a tenth of a second at most.
+/// What lives on is named on standard error.
+pub fn end_processes<R: Processes + Clock + Eprint + ProcFiles, S: Sought, A: Allocator + Copy>(
+    rt: &R,
+    alloc: A,
+    sought: &mut S,
+) {
+    let mut left = stopped(rt, alloc, sought);
+    let _ = send_signal(rt, alloc, Signal::Kill, left.as_slice());
+    await_gone(rt, &mut left);
+    tell_all(rt, left.as_slice());
+}

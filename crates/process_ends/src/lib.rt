@@ -1,0 +1,22 @@
+//! The end of processes with all that they started: how they are found, stopped, killed and waited for; and the standard error on
+//! which it is said what lives on.
+#![tactic(auto)]
+
+mod descent;
+mod ending;
+mod errors;
+mod line;
+mod patience;
+mod search;
+mod signal;
+mod system;
+mod tell;
+
+pub use descent::ChildSought;
+pub use ending::{end_child, end_processes, still_lives, stopped};
+pub use errors::ErrorLines;
+pub use patience::{Deadline, Pauses, outlives, still_runs};
+pub use search::{Environments, Sought, with_ancestors};
+pub use signal::{Signal, send_signal};
+pub use system::System;
+pub use tell::{tell_alive, tell_all, tell_unstopped};
