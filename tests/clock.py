@@ -1,8 +1,10 @@
 #!/usr/bin/env python3
 """Steps of the wall clock, by a shim over clock_gettime (clock.c): an action's timeout, a watch's limit and recurring monitors keep
-their length while the clock is set back or forward, and a journal that was written ten years ahead goes on.
+their length while the clock is set back or forward, a journal that was written ten years ahead goes on, and a status counts ages by the
+clock of the executor, or says that a moment is in the future.
 Use: clock.py PROGRAM"""
 import os
+import re
 import shutil
 import time
 import unittest
@@ -11,6 +13,7 @@ import helper
 
 YEARS = 315360000  # ten of them, in seconds
 DRAIN = {"op": "drain"}
+UNITS = {"ms": 1, "s": 1000, "min": 60000, "h": 3600000, "days": 86400000}
 
 
 @unittest.skipUnless(shutil.which("cc"), "install a C compiler (apt-get install gcc)")
@@ -26,9 +29,11 @@ class Clock(helper.Check):
             ahead.write(str(seconds))
         os.rename(self.place("ahead.new"), self.place("ahead"))
 
-    def shimmed(self, *journal):
-        environment = {**os.environ, "AHEAD": self.place("ahead"), "LD_PRELOAD": self.shim}
-        return self.heard("run", *(journal or ["--memory"]), "--root", self.here, env=environment)
+    def environment(self):
+        return {**os.environ, "AHEAD": self.place("ahead"), "LD_PRELOAD": self.shim}
+
+    def shimmed(self, *journal, word="run"):
+        return self.heard(word, *(journal or ["--memory"]), "--root", self.here, env=self.environment())
 
     def registered(self):
         return helper.register("r1", "Sleeper", **{"for": "4"})
@@ -86,6 +91,70 @@ class Clock(helper.Check):
         self.assertIsNotNone(run.awaits(lambda value: value.get("end") == "idle")[0], "the end of a drain")
         self.assertEqual(self.ended(run, "start"), [("done", 0)])
         self.assertEqual(run.ends(), 0)
+
+    def monitored(self):
+        # an executor with a start that runs and a monitor of 2 s with a result
+        run = self.shimmed("--journal", self.journal(), word="serve")
+        run.tell(helper.register("r1", "Sleeper", **{"for": "30"}), helper.action("r1", "start", timeout=90000),
+                 helper.register("r2", "Sleeper"), {"op": "recur", "id": "r2", "interval": 2000})
+        self.assertIsNotNone(run.awaits(lambda value: helper.is_notice(value, action="monitor"))[0], "a monitor's result")
+        return run
+
+    def status(self, seconds, name="journal", *words):
+        # the table, while the wall clock is so many seconds ahead, with one space in place of each gap
+        self.set_ahead(seconds)
+        done = helper.run("status", "--journal", self.place(name), *words, env=self.environment())
+        self.assertEqual((done.returncode, done.stderr), (0, b""))
+        return re.sub(" +", " ", done.stdout.decode())
+
+    def copied(self, name, executor=None):
+        # the parts alone, and what the file of the executor is to be
+        shutil.copytree(self.place("journal"), self.place(name), ignore=shutil.ignore_patterns("executor*"))
+        if executor is not None:
+            with open(os.path.join(self.place(name), "executor"), "w", encoding="ascii") as file:
+                file.write(executor)
+        return name
+
+    def is_true_to(self, table, seconds):
+        # no length of time is longer, and no moment is in the future
+        spans = [int(count) * UNITS[unit] for count, unit in re.findall(r"(\d+) (ms|s|min|h|days)\b", table)]
+        self.assertGreaterEqual(len(spans), 4, table)
+        self.assertLess(max(spans), seconds * 1000, table)
+        self.assertNotIn("future", table)
+        self.assertNotIn("within", table)
+        for due in re.findall(r"due in (\d+) (ms|s)", table):
+            self.assertLessEqual(int(due[0]) * UNITS[due[1]], 2000, table)
+
+    def test_status(self):
+        """a status of a journal in use, the clock set back and forward"""
+        run, began = self.monitored(), time.monotonic()
+        for seconds in (0, -3600, 3600, -YEARS, YEARS):
+            table = self.status(seconds)
+            self.is_true_to(table, 5 + time.monotonic() - began)
+            self.assertRegex(table, r"r1 test:Sleeper start since \d+ (ms|s)\n")
+            self.assertRegex(table, r"\n every 2 s running, \d+ (ms|s) ago; due (in )?\d+ (ms|s)")
+        self.is_true_to(self.status(YEARS, "journal", "r2"), 5 + time.monotonic() - began)
+        run.run.kill()
+        run.run.wait()
+        self.is_true_to(self.status(-3600), 5 + time.monotonic() - began)
+
+    def test_status_alone(self):
+        """a status of the parts alone, the clock set back and forward"""
+        run, began = self.monitored(), time.monotonic()
+        run.run.kill()
+        run.run.wait()
+        with open(os.path.join(self.place("journal"), "executor"), encoding="ascii") as file:
+            values = file.read().split()
+        files = [None, "", "no executor\n", " ".join(["0" * 36, *values[1:]]) + "\n", " ".join(values[:3]) + "\n"]
+        for place, executor in enumerate(files):
+            name = self.copied(f"copy{place}", executor)
+            self.is_true_to(self.status(0, name), 5 + time.monotonic() - began)
+            table = self.status(-3600, name)
+            self.assertIn("r1 test:Sleeper start since a moment in the future by the clock\n", table)
+            self.assertIn("\n every 2 s running, in the future by the clock; due within 2 s\n", table)
+            table = self.status(YEARS, name)
+            self.assertIn("r1 test:Sleeper start since 3650 days\n", table)
+            self.assertRegex(table, r"\n every 2 s running, 3650 days ago; due 36(49|50) days ago\n")
 
 
 if __name__ == "__main__":

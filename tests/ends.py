@@ -30,7 +30,7 @@ class Ends(helper.Check):
         began = time.monotonic()
         self.assertEqual(run.wait(5), 7)
         self.assertLess(time.monotonic() - began, 1.5)
-        self.assertTrue(run.stderr.read().startswith(b"ocfexec: input or output\n"))
+        self.assertEqual(run.stderr.read().decode().splitlines()[:2], ["ocfexec: input or output", "nobody reads standard output any more"])
         run.stderr.close()
         run.stdin.close()
 

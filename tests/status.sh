@@ -1,6 +1,6 @@
 #!/usr/bin/env bash
 # A journal as a table for a person: of nothing, of what has ended or was withdrawn, of what runs and is queued under an executor that holds the
-# journal, of one resource, as JSON, and in colour on a terminal alone. Nothing is changed by a look.
+# journal, of one resource, as JSON of all and of one, and in colour on a terminal alone. Nothing is changed by a look.
 # Use: status.sh PROGRAM
 set -u
 . "$(dirname "$0")/common.sh" "$@"
@@ -81,9 +81,23 @@ tells --journal "$here/journal" nobody
 same "no such resource, status" 2 "$status"
 same "no such resource, text" "ocfexec: no resource of this id" "$(head -n 1 "$here/err")"
 same "no such resource, output" "" "$(cat "$here/told")"
+checked "no such resource"
+
 "$program" status --json --journal "$here/journal" > "$here/json"
 "$program" show --journal "$here/journal" | cmp -s - "$here/json" || differs "status --json" "what show prints" "$(cat "$here/json")"
-checked "no such resource, and as JSON"
+"$program" status --json --journal "$here/journal" b > "$here/one"
+tail -n 2 "$here/json" | cmp -s - "$here/one" || differs "status --json b" "the last two lines of show" "$(cat "$here/one")"
+"$program" status --journal "$here/journal" a-longer-name --json > "$here/one"
+sed -n '2,3p' "$here/json" | cmp -s - "$here/one" || differs "status a-longer-name --json" "the second and third line of show" "$(cat "$here/one")"
+checked "as JSON"
+
+for name in nobody a-longer-nam B ''; do
+    tells --json --journal "$here/journal" "$name"
+    same "no resource '$name' as JSON, status" 2 "$status"
+    same "no resource '$name' as JSON, text" "ocfexec: no resource of this id" "$(head -n 1 "$here/err")"
+    same "no resource '$name' as JSON, output" "" "$(cat "$here/told")"
+done
+checked "no such resource as JSON"
 
 if command -v script > /dev/null; then
     script -qec "$program status --journal $here/journal" /dev/null < /dev/null > "$here/terminal"

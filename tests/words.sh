@@ -7,7 +7,7 @@ set -u
 
 # What a person can do, as it stands behind the line of a fault.
 free_memory="Free memory or raise the limit of the process, and start it again."
-check_output="Check what standard input and output are connected to. A command without a reply may be recorded."
+check_streams="Check what standard input and output are connected to. A command without a reply may be recorded."
 
 # Compares the status, and what was written on standard error. Use: ended NAME STATUS WANTED_STATUS TEXT
 ended() {
@@ -48,18 +48,28 @@ holds() {
     done
 }
 
+# What is said where standard output fails for this reason; of what reads commands with what can be done. Use: unwritten REASON WORD..
+unwritten() {
+    printf 'ocfexec: input or output\nstandard output could not be written: %s\n' "$1"
+    case $2$3 in run--memory | serve*) echo "$check_streams" ;; esac
+}
+
 # Runs the program with standard output on a device that is full. Use: full_output WORD..
 full_output() {
     printf '{"op":"list"}\n' | "$program" "$@" > /dev/full 2> "$here/err"
-    ended "$* > /dev/full" "${PIPESTATUS[1]}" 7 "ocfexec: input or output
-$check_output"
+    ended "$* > /dev/full" "${PIPESTATUS[1]}" 7 "$(unwritten "No space left on device (os error 28)" "$@" "")"
 }
 
 # Runs the program with standard output closed. Use: closed_output WORD..
 closed_output() {
     printf '{"op":"list"}\n' | "$program" "$@" >&- 2> "$here/err"
-    ended "$* >&-" "${PIPESTATUS[1]}" 7 "ocfexec: input or output
-$check_output"
+    ended "$* >&-" "${PIPESTATUS[1]}" 7 "$(unwritten "Bad file descriptor (os error 9)" "$@" "")"
+}
+
+# Runs the program behind a pipe whose reader is gone. Use: broken_output WORD..
+broken_output() {
+    { sleep 0.2 && printf '{"op":"list"}\n' | "$program" "$@" 2> "$here/err"; echo "${PIPESTATUS[1]}" > "$here/status"; } | true
+    ended "$* | true" "$(cat "$here/status")" 7 "$(unwritten "Broken pipe (os error 32)" "$@" "")"
 }
 
 # What is asked for
@@ -156,15 +166,24 @@ full_output --help
 full_output run --help
 full_output --version
 full_output run --memory
+full_output serve --memory
 full_output show --memory
+full_output status --memory
+full_output status --json --memory
 closed_output run --memory
 closed_output show --memory
+broken_output run --memory
+broken_output show --memory
+broken_output status --memory
+broken_output status --json --memory
 "$program" run --memory <&- > "$here/out" 2> "$here/err"
 ended "run --memory <&-" $? 7 "ocfexec: input or output
-$check_output"
+standard input could not be read: Bad file descriptor (os error 9)
+$check_streams"
 "$program" run --memory < / > "$here/out" 2> "$here/err"
 ended "run --memory < /" $? 7 "ocfexec: input or output
-$check_output"
+standard input could not be read: Is a directory (os error 21)
+$check_streams"
 
 # Standard error that fails changes no status
 "$program" run --journal "$here/none" < /dev/null > "$here/out" 2> /dev/full
@@ -188,8 +207,7 @@ for limit in $(seq 1000 16 12000); do
 $free_memory"
             wrote "run --memory in $limit KiB" ""
             ;;
-        7) ended "run --memory in $limit KiB" 7 7 "ocfexec: input or output
-$check_output" ;;
+        7) same "run --memory in $limit KiB, standard error" "ocfexec: input or output" "$(head -n 1 "$here/err")" ;;
     esac
 done
 if [ "$refused" -eq 0 ] || [ "$answered" -eq 0 ]; then

@@ -167,7 +167,11 @@ fn with_status_options<'a>(alloc: Global, command: Command<'a>) -> Result<Comman
         "ID",
         "The one resource that is asked for, whose history is told, too; left out, all",
     ))?;
-    command.arg(flag(alloc, "json", "Print the lines of show, and no table"))
+    command.arg(flag(
+        alloc,
+        "json",
+        "Print the lines of show, and no table; with ID those of that resource alone",
+    ))
 }
 
 fn bare<'a>(alloc: Global, name: &'a str, about: &'a str, more: &'a str) -> Command<'a>

@@ -1,8 +1,9 @@
 -- What a journal's state is shown as.
-use Rattle.std.specs.Prelude.{◌≡◌, ℕ, ⊤, List, ◌++◌, map, Option, Result, Ok, Err}
+use Rattle.std.specs.Prelude.{◌≡◌, ◌<◌, ℕ, ⊤, List, ◌++◌, length, map, Option, Result, Ok, Err}
 use Rattle.std.specs.Io.KnownBytes.{Appends}
 use Rattle.std.specs.List.{flat_map}
 use Rattle.ocf_types.specs.Answer.{reply_to}
+use Rattle.ocf_types.specs.Places.{id_at}
 use Rattle.ocf_types.specs.State.{State}
 use Rattle.ocf_types.specs.declared.command.Question.{Question}
 use Rattle.ocf_types.specs.declared.command.Question.TheVariants as question
@@ -35,3 +36,13 @@ ShowsAs reads old new (Err fault.Memory) = new ≡ old
 ShowsAs reads old new (Err fault.InputOrOutput) = ⊤
 ShowsAs reads old new (Err fault.ReplyMemory) = ⊤
 ShowsAs reads old new (Err _) = ⊥
+
+-- a resource of this id is registered
+abbrev pub IsRegistered : State → List ℕ → Type 0
+IsRegistered s id = (place : ℕ) × (place < length s.resources) × (id_at s place ≡ id)
+
+-- the same of one resource: its lines alone, or nothing where it is not registered
+abbrev pub ShowsOneAs : {T : Type 0} → Image → List ℕ → Option (List ℕ) → Option (List ℕ) → Result T Fault → Type 0
+ShowsOneAs reads id old new (Ok done) = (s : State) × FoundAs s reads × IsRegistered s id × Appends old new (resource_lines s id)
+ShowsOneAs reads id old new (Err fault.NoResource) = (s : State) × FoundAs s reads × (¬ IsRegistered s id) × (new ≡ old)
+ShowsOneAs reads id old new ended = ShowsAs reads old new ended

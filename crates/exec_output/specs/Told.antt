@@ -1,5 +1,5 @@
 -- What a table tells of a resource: what it does now, its last results, its monitors, what failed last and its history.
-use Rattle.std.specs.Prelude.{ℕ, ◌+◌, ◌-◌, ◌/◌, ◌%◌, ◌==◌, Bool, true, false, ◌&&◌, not, if◌then◌else◌, nat_lt, List, [], ◌∷◌, ◌++◌, length, filter}
+use Rattle.std.specs.Prelude.{ℕ, ◌+◌, ◌-◌, ◌/◌, ◌%◌, ◌==◌, Bool, true, false, ◌&&◌, not, if◌then◌else◌, nat_lt, nat_le, min, List, [], ◌∷◌, ◌++◌, length, filter}
 use Rattle.std.specs.Prelude.{replicate, Option, Some, None, codes, decimal}
 use Rattle.std.specs.List.{flat_map, last_or}
 use Rattle.std.specs.Option.{option_map_or}
@@ -30,18 +30,34 @@ exact_text millis =
     if millis % 60000 == 0 then decimal (millis / 60000) ++ codes " min" else
     (if millis % 1000 == 0 then decimal (millis / 1000) ++ codes " s" else decimal millis ++ codes " ms")
 
--- how long ago a moment was; one that is not yet was just now
-abbrev pub ago_text : ℕ → ℕ → List ℕ
-ago_text now moment = span_text (now - moment) ++ codes " ago"
+-- a moment is in the future by the clock: ahead of it by a second at least. One that is ahead by less is now, since the moments of
+-- two clocks are read one after the other
+abbrev pub is_ahead : ℕ → ℕ → Bool
+is_ahead now moment = nat_le 1000 (moment - now)
 
--- when something is due
-abbrev pub due_text : ℕ → ℕ → List ℕ
-due_text now due = if nat_lt now due then codes "due in " ++ span_text (due - now) else codes "due " ++ ago_text now due
+-- how long ago a moment was
+abbrev pub ago_text : ℕ → ℕ → List ℕ
+ago_text now moment = if is_ahead now moment then codes "in the future by the clock" else span_text (now - moment) ++ codes " ago"
+
+-- when a monitor is due whose last result is of this moment: an interval after that, so in an interval at most
+abbrev pub next_text : ℕ → ℕ → List ℕ
+next_text now due = if nat_lt now due then codes "due in " ++ span_text (due - now) else codes "due " ++ span_text (now - due) ++ codes " ago"
+
+abbrev pub within_text : ℕ → List ℕ
+within_text interval = codes "due within " ++ exact_text interval
+
+abbrev pub due_text : ℕ → ℕ → ℕ → List ℕ
+due_text now at interval = if is_ahead now at then within_text interval else next_text now (min now at + interval)
+
+-- since when something runs
+abbrev pub since_text : ℕ → ℕ → List ℕ
+since_text now moment =
+    if is_ahead now moment then codes " since a moment in the future by the clock" else codes " since " ++ span_text (now - moment)
 
 -- what runs, and since when
 abbrev pub running_text : ℕ → Option Running → List ℕ
 running_text now None = codes "idle"
-running_text now (Some x) = action_word (action_of x.task) ++ codes " since " ++ span_text (now - x.since)
+running_text now (Some x) = action_word (action_of x.task) ++ since_text now x.since
 
 -- how many actions are queued
 abbrev pub queued_text : ℕ → List ℕ
@@ -91,10 +107,10 @@ abbrev pub action_line : Look → List Ended → Action → List ℕ
 action_line look es what =
     option_map_or (λ e. set_in (action_word what) ++ result_text look e) (last_of (is_asked what) es) []
 
--- what is told of a recurring monitor: its last result, and when it is due again, an interval behind that
+-- what is told of a recurring monitor: its last result, and when it is due again
 abbrev pub monitor_text : Look → Recur → Option Ended → List ℕ
 monitor_text look m None = codes "no result yet"
-monitor_text look m (Some e) = result_text look e ++ codes "; " ++ due_text look.moment (e.at + m.interval)
+monitor_text look m (Some e) = result_text look e ++ codes "; " ++ due_text look.moment e.at m.interval
 
 abbrev pub monitor_line : Look → List Ended → Recur → List ℕ
 monitor_line look es m =

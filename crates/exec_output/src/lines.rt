@@ -155,7 +155,7 @@ fn add_actions(
     add_action(text, look, state, place, Action::ValidateAll)
 }
 
-// What is told of a recurring monitor: its last result, and when it is due again, an interval behind that.
+// What is told of a recurring monitor: its last result, and when it is due again.
 fn add_last(
     text: &mut Vec<u8>,
     look: &Look,
@@ -169,8 +169,7 @@ fn add_last(
         Some(ended) => {
             add_result(text, look, &ended)?;
             add(text, "; ")?;
-            let due = ended.at.get() + u64::from(recur.interval.get());
-            add_due(text, look.moment.get(), due)
+            add_due(text, look.moment, ended.at, recur.interval)
         }
         None => add(text, "no result yet"),
     }

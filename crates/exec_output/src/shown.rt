@@ -34,7 +34,8 @@ fn write_answer<W: Write>(
     }
 }
 
-fn write_resource<W: Write>(
+// The replies of `info` and `history` of a resource.
+pub(crate) fn write_resource<W: Write>(
     alloc: Global,
     writer: &mut W,
     state: &State,

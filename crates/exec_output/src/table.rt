@@ -6,7 +6,7 @@ ghost use Rattle.exec_output.specs.Told.{now_text, queued_text, running_text, to
 
 use crate::lines::{add_lines, pad};
 use crate::look::Look;
-use crate::spans::{add, add_number, add_span};
+use crate::spans::{add, add_number, add_since};
 use exec_state::State;
 use ocf_types::{Running, StateView};
 use std::alloc::{AllocError, Global};
@@ -71,8 +71,7 @@ fn add_running(text: &mut Vec<u8>, look: &Look, running: Option<Running>) -> Res
     match running {
         Some(running) => {
             add(text, running.task.action().word())?;
-            add(text, " since ")?;
-            add_span(text, look.moment.get().saturating_sub(running.since.get()))
+            add_since(text, look.moment.get(), running.since.get())
         }
         None => add(text, "idle"),
     }

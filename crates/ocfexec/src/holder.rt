@@ -23,6 +23,14 @@ pub struct Holder {
     pub uptime: u64,
 }
 
+impl Holder {
+    /// The moment that its clock shows so long after the system's boot, in milliseconds.
+    pub fn moment_at(self, uptime: u64) -> u64 {
+        self.moment
+            .saturating_add(uptime.saturating_sub(self.uptime))
+    }
+}
+
 // The first words of a small file of the system.
 fn text_in<'a>(rt: &HostRuntime, path: &str, room: &'a mut [u8]) -> Option<&'a str> {
     let length = read_head(rt, path, room).ok()?;

@@ -11,9 +11,11 @@ mod guarded;
 mod holder;
 mod interrupted;
 mod log;
+mod look;
 mod orphans;
 mod signals;
 mod start;
+mod streams;
 mod times;
 
 use child_keeper::System;
@@ -34,7 +36,7 @@ fn main(rt: HostRuntime) -> ExitCode {
 fn tell(out: &impl Eprint, fault: Fault) {
     if matches!(
         fault,
-        Fault::Usage | Fault::Log | Fault::NotOpened | Fault::Disk
+        Fault::Usage | Fault::Log | Fault::NotOpened | Fault::Disk | Fault::InputOrOutput
     ) {
         // it was told where it happened
         return;

@@ -8,16 +8,18 @@ use crate::emptied::not_emptied;
 use crate::guarded::{Guarded, served_paths};
 use crate::holder::leave_word;
 use crate::log::log_of;
+use crate::look::look_of;
 use crate::orphans::{Orphans, await_orphans};
 use crate::signals::{children_ignored, tell_ignored};
+use crate::streams::Streams;
 use child_keeper::{Log, Processes, System};
 use disk_model::Disk;
 use exec_client::Teller;
 use exec_commands::{Left, NoticeForm};
 use exec_journal::Journal;
-use exec_lines::{Patient, RunClock, moment_now, write_flushed};
+use exec_lines::{RunClock, moment_now, write_flushed};
 use exec_options::{JournalPlace, Options, Subcommand, WordsFault, read_words};
-use exec_output::{Fault, Look, show, status};
+use exec_output::{Fault, show, show_one, status};
 use exec_session::{Pace, RunContext, Way, run_lines};
 use executor::{Executor, OpenError};
 use file_disk::{
@@ -25,8 +27,7 @@ use file_disk::{
 };
 use ocf_env::Site;
 use std::env;
-use std::io::{self, BufReader, Eprint, ErrorKind};
-use std::path::Path;
+use std::io::{self, BufReader, Eprint, ErrorKind, Write};
 use std::thread::sleep;
 use std::time::Duration;
 
@@ -64,7 +65,11 @@ fn refuse(rt: &HostRuntime, fault: &WordsFault) -> Result<(), Fault>
     match fault {
         WordsFault::Help(text) => match text.print(rt) {
             Ok(()) => Ok(()),
-            Err(_) => Err(Fault::InputOrOutput),
+            Err(error) => {
+                let ended = Err(Fault::InputOrOutput);
+                Streams::unwritten(error).tell_shown(rt, ended);
+                ended
+            }
         },
         WordsFault::Usage(text) => {
             let _ = text.print(rt);
@@ -208,27 +213,25 @@ fn show_files(system: &System<'_>, options: Options, folder: &str) -> Result<(),
     show_on(system, options, disk)
 }
 
-// How a status is looked at: now, and in colour on a terminal alone.
-fn look_of<'a>(rt: &HostRuntime, options: Options<'a>) -> Look<'a> {
-    Look {
-        moment: moment_now(rt),
-        only: options.resource,
-        colours: is_terminal(rt),
+// Writes what the journal on this disk holds, as lines of JSON or as a table, of all resources or of one.
+fn show_to<D: Disk + Drop, W: Write>(
+    rt: &HostRuntime,
+    options: Options,
+    disk: D,
+    output: &mut W,
+) -> (D, Result<(), Fault>)
+    ensures { IsRunEnd result.1 }
+{
+    match (options.subcommand, options.resource) {
+        (Subcommand::Status, _) if !options.json => {
+            status(rt.alloc(), disk, output, &look_of(rt, options))
+        }
+        (Subcommand::Status, Some(id)) => show_one(rt.alloc(), disk, output, id),
+        _ => show(rt.alloc(), disk, output),
     }
 }
 
-// Whether standard output is a terminal. Linux, proc(5).
-fn is_terminal(rt: &HostRuntime) -> bool {
-    match Path::new("/proc/self/fd/1").read_link(rt) {
-        Ok(path) => match path.to_str() {
-            Some(path) => path.starts_with("/dev/pts/") || path.starts_with("/dev/tty"),
-            None => false,
-        },
-        Err(_) => false,
-    }
-}
-
-// Shows the journal on this disk, as lines of JSON or as a table.
+// Shows the journal on this disk.
 fn show_on<D: Disk + TellsError + Drop>(
     system: &System<'_>,
     options: Options,
@@ -237,12 +240,10 @@ fn show_on<D: Disk + TellsError + Drop>(
     ensures { IsRunEnd result }
 {
     let rt = system.host();
-    let (disk, ended) = match options.subcommand {
-        Subcommand::Status if !options.json => {
-            status(rt.alloc(), disk, &mut io::writer(rt), &look_of(rt, options))
-        }
-        _ => show(rt.alloc(), disk, &mut io::writer(rt)),
-    };
+    let streams = Streams::new();
+    let mut output = streams.output(io::writer(rt));
+    let (disk, ended) = show_to(rt, options, disk, &mut output);
+    streams.tell_shown(system, ended);
     told(system, options, &disk, ended)
 }
 
@@ -307,7 +308,9 @@ fn await_interrupted<D: Disk + Drop>(
     match Journal::open(alloc, disk) {
         Ok((journal, state)) => {
             let Some(left) = await_orphans(system, how, site, &state) else {
-                return Err(Fault::InputOrOutput);
+                let unheard = Err(Fault::InputOrOutput);
+                Streams::new().tell_shown(system, unheard);
+                return unheard;
             };
             Ok((journal.into_disk(), left))
         }
@@ -349,7 +352,10 @@ fn run_agents<D: Disk + TellsError + Drop>(
 {
     let rt = system.host();
     let alloc = rt.alloc();
-    let input = Patient::new(rt.reader(), libc::STDIN_FILENO).with_replies(libc::STDOUT_FILENO);
+    let streams = Streams::new();
+    let input = streams
+        .input(rt.reader())
+        .with_replies(libc::STDOUT_FILENO);
     let Ok(mut reader) = BufReader::with_capacity(alloc, READ_SIZE, input) else {
         return Err(Fault::Memory);
     };
@@ -379,12 +385,13 @@ fn run_agents<D: Disk + TellsError + Drop>(
                 tidy_at: options.tidy_at,
                 pace: Pace::new(),
             };
-            let output = Patient::new(io::writer(rt), libc::STDOUT_FILENO);
-            let output = Guarded::new(rt, output, &paths);
+            let output = Guarded::new(rt, streams.output(io::writer(rt)), &paths);
             let mut client = Teller::new(alloc, output, &executor);
             let run = run_lines(&context, &mut reader, &mut client, executor, &report);
             let ended = told(system, options, &run.disk, run.ended);
-            ended_over(system, options, &paths, ended)
+            let ended = ended_over(system, options, &paths, ended);
+            streams.tell_run(system, ended);
+            ended
         }
         Err(fault) => told(system, options, &fault.disk, Err(opening_fault(fault.why))),
     }

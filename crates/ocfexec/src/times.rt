@@ -24,9 +24,7 @@ impl<'a> Times<'a> {
     pub fn new(rt: &'a HostRuntime, holder: Option<Holder>, limit: u64) -> Times<'a> {
         let uptime = uptime(rt).unwrap_or(0);
         let now = match holder {
-            Some(holder) => holder
-                .moment
-                .saturating_add(uptime.saturating_sub(holder.uptime)),
+            Some(holder) => holder.moment_at(uptime),
             None => moment_now(rt).get(),
         };
         Times {

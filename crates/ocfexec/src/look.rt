@@ -1,0 +1,46 @@
+//! How a journal is looked at for a status.
+use crate::holder::{read_holder, uptime};
+use exec_lines::moment_now;
+use exec_options::{JournalPlace, Options};
+use exec_output::Look;
+use ocf_types::Moment;
+use std::path::Path;
+
+// The moment now by the clock of the executor that opened the journal in this folder last, where that was in this boot.
+fn executor_moment(rt: &HostRuntime, folder: &str) -> Option<Moment> {
+    let holder = read_holder(rt, folder)?;
+    Some(Moment::cut(holder.moment_at(uptime(rt)?)))
+}
+
+// The moment from which ages are counted. The moments of a journal are those of its executor's clock, which no step of the
+// system's clock changes: so it is that clock's moment where it can be known, and else the system's.
+fn moment_of(rt: &HostRuntime, journal: JournalPlace) -> Moment {
+    let known = match journal {
+        JournalPlace::Folder(folder) => executor_moment(rt, folder),
+        JournalPlace::Memory => None,
+    };
+    match known {
+        Some(moment) => moment,
+        None => moment_now(rt),
+    }
+}
+
+/// How a status is looked at: now, and in colour on a terminal alone.
+pub fn look_of<'a>(rt: &HostRuntime, options: Options<'a>) -> Look<'a> {
+    Look {
+        moment: moment_of(rt, options.journal),
+        only: options.resource,
+        colours: is_terminal(rt),
+    }
+}
+
+// Whether standard output is a terminal. Linux, proc(5).
+fn is_terminal(rt: &HostRuntime) -> bool {
+    match Path::new("/proc/self/fd/1").read_link(rt) {
+        Ok(path) => match path.to_str() {
+            Some(path) => path.starts_with("/dev/pts/") || path.starts_with("/dev/tty"),
+            None => false,
+        },
+        Err(_) => false,
+    }
+}
