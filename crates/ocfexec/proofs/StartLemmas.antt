@@ -48,8 +48,8 @@ run_ends look tend source rules report p left heard run ended =
     ends look source rules report p (position ended.last left heard) run.ended ended.ends
 
 -- a run that nobody reads the report of does not end by its words, and neither does one whose end is that of a run
-pub unheard_ends : {T : Type 0} (f : Fault) → f ≡ fault.InputOrOutput → IsRunEnd {T = T} (Err f)
-unheard_ends {T} f is = subst (λ x. IsRunEnd {T = T} (Err x)) (sym is) tt
+pub unheard_ends : (T : Type 0) (f : Fault) → f ≡ fault.InputOrOutput → IsRunEnd {T = T} (Err f)
+unheard_ends T f is = subst (λ x. IsRunEnd {T = T} (Err x)) (sym is) tt
 
 pub same_ends : {T : Type 0} (r s : Result T Fault) → r ≡ s → IsRunEnd s → IsRunEnd r
 same_ends r s same ends = subst IsRunEnd (sym same) ends

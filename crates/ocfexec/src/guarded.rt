@@ -18,20 +18,20 @@ pub fn served_paths(rt: &HostRuntime, options: Options) -> Option<JournalPaths> 
 /// The output of a run over a journal. Once a path of the journal leads to another file, or to none, nobody counts as reading the
 /// output: so a run that makes no device call, as one that serves while nothing happens, ends within a second.
 #[derive(Drop)]
-pub struct Guarded<'a, W> {
-    rt: &'a HostRuntime,
+pub struct Guarded<W> {
+    rt: HostRuntime,
     output: W,
-    paths: &'a Option<JournalPaths>,
+    paths: Option<JournalPaths>,
 }
 
-impl<'a, W> Guarded<'a, W> {
+impl<W> Guarded<W> {
     /// The output of a run over a journal with these paths, if they are to be watched.
-    pub fn new(rt: &'a HostRuntime, output: W, paths: &'a Option<JournalPaths>) -> Guarded<'a, W> {
+    pub fn new(rt: HostRuntime, output: W, paths: Option<JournalPaths>) -> Guarded<W> {
         Guarded { rt, output, paths }
     }
 }
 
-impl<W: Write> Write for Guarded<'_, W> {
+impl<W: Write> Write for Guarded<W> {
     fn write(&mut self, buf: &[u8]) -> io::Result<usize> {
         self.output.write(buf)
     }
@@ -41,10 +41,10 @@ impl<W: Write> Write for Guarded<'_, W> {
     }
 }
 
-impl<W: Output> Output for Guarded<'_, W> {
+impl<W: Output> Output for Guarded<W> {
     fn is_heard(&self) -> bool {
-        let is_there = match self.paths {
-            Some(paths) => paths.check(self.rt).is_ok(),
+        let is_there = match &self.paths {
+            Some(paths) => paths.check(&self.rt).is_ok(),
             None => true,
         };
         is_there && self.output.is_heard()

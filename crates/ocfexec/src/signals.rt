@@ -1,7 +1,7 @@
 //! Which signals the program was started with as ignored.
 use child_keeper::System;
 use proc_files::{is_ignored, read_head};
-use std::fmt::{self, Display, Formatter};
+use std::alloc::{AllocError, Global};
 use std::io::Eprint;
 
 // The number of SIGCHLD. Linux, signal(7).
@@ -52,45 +52,43 @@ pub fn children_ignored(rt: &HostRuntime) -> bool {
     }
 }
 
-// The signals that agents inherit as ignored, by the `/proc/PID/status` of the program. They are displayed as `SIGINT, SIGQUIT`.
-#[derive(Clone, Copy)]
-struct Ignored<'a> {
-    status: &'a [u8],
-}
-
-impl Ignored<'_> {
-    fn is_empty(self) -> bool {
-        !INHERITED
-            .iter()
-            .any(|(number, _)| is_ignored(self.status, *number))
+// The line of a status that says which signals are ignored, with its newline; nothing if there is none.
+fn ignored_line(status: &[u8]) -> &[u8] {
+    let mut lines = status.split_inclusive(|byte| *byte == b'\n');
+    match lines.find(|line| line.starts_with(b"SigIgn:")) {
+        Some(line) => line,
+        None => &status[..0],
     }
 }
 
-impl Display for Ignored<'_> {
-    fn fmt<W: fmt::Write>(&self, f: &mut Formatter<W>) -> fmt::Result {
-        let mut separator = "";
-        for (number, name) in INHERITED.iter() {
-            if is_ignored(self.status, *number) {
-                write!(f, "{separator}{name}")?;
-                separator = ", ";
+// The names of the signals that agents inherit as ignored, by that line of the program, as `SIGINT, SIGQUIT`. It fails only where
+// memory is refused.
+fn ignored_names(alloc: Global, line: &[u8]) -> Result<String, AllocError> {
+    let mut names = String::new(alloc);
+    for (number, name) in INHERITED.iter() {
+        if is_ignored(line, *number) {
+            if !names.is_empty() {
+                names.push_str(", ")?;
             }
+            names.push_str(name)?;
         }
-        Ok(())
     }
+    Ok(names)
 }
 
 /// Names on standard error the signals that agents inherit as ignored, in one line, if there are any and the system says so.
 pub fn tell_ignored(system: &System<'_>) {
+    let rt = system.host();
     let mut status = [0u8; STATUS_LIMIT];
-    let Ok(length) = read_head(system.host(), "/proc/self/status", &mut status) else {
+    let Ok(length) = read_head(rt, "/proc/self/status", &mut status) else {
         return;
     };
-    let ignored = Ignored {
-        status: &status[..length],
+    let Ok(names) = ignored_names(rt.alloc(), ignored_line(&status[..length])) else {
+        return;
     };
-    if !ignored.is_empty() {
+    if !names.is_empty() {
         let _ = system.eprintln(format_args!(
-            "ocfexec: started with ignored signals, which agents inherit: {ignored}"
+            "ocfexec: started with ignored signals, which agents inherit: {names}"
         ));
     }
 }

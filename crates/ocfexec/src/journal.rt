@@ -1,0 +1,88 @@
+//! The files of a journal: how they are opened, and what is said on standard error of their faults.
+ghost use Rattle.std.specs.Prelude.{◌≡◌};
+ghost use Rattle.ocfexec.specs.Starts.{IsNotOpened};
+
+use exec_options::{JournalPlace, Options};
+use exec_output::Fault;
+use file_disk::{FileDisk, FileError, OpenFault, Owners, TellsError};
+use std::io::Eprint;
+use std::thread::sleep;
+use std::time::Duration;
+
+// What can be done where root refuses a journal for its owner or mode.
+const OWNER_ADVICE: &str =
+    "Anyone who can write the journal decides what root starts. Make root its only writer, or give --any-owner.";
+
+// Which owners and modes of the journal's files are accepted.
+fn owners_of(options: Options) -> Owners {
+    if options.any_owner {
+        Owners::Any
+    } else {
+        Owners::TrustedBy(libc::geteuid())
+    }
+}
+
+/// The files of this directory. An agent that was being started when its executor was killed holds the locks up to its own
+/// first instruction: so a lock is waited for, for a fifth of a second.
+pub fn open_files(
+    rt: &HostRuntime,
+    options: Options,
+    folder: &str,
+) -> Result<FileDisk<HostRuntime>, OpenFault> {
+    let owners = owners_of(options);
+    for _ in 0..10 {
+        match FileDisk::open(rt, rt.alloc(), folder, owners) {
+            Err(OpenFault::InUse | OpenFault::Locked(_)) => sleep(rt, Duration::from_millis(20)),
+            opened => return opened,
+        }
+    }
+    FileDisk::open(rt, rt.alloc(), folder, owners)
+}
+
+/// The disk of a journal in this directory. Why there is none is said here, after the line of the fault.
+pub fn found<D: Drop>(
+    out: &impl Eprint,
+    folder: &str,
+    disk: Result<D, OpenFault>,
+) -> Result<D, Fault>
+    ensures { IsNotOpened result }
+{
+    match disk {
+        Ok(disk) => Ok(disk),
+        Err(OpenFault::Memory) => Err(Fault::Memory),
+        Err(why) => {
+            let _ = out.eprintln(format_args!("ocfexec: {}", Fault::NotOpened));
+            let _ = out.eprintln(format_args!("{}", why.located(folder)));
+            if why.is_distrust() {
+                let _ = out.eprintln(OWNER_ADVICE);
+            }
+            Err(Fault::NotOpened)
+        }
+    }
+}
+
+/// Says that the journal's device failed, and what it answered.
+pub fn tell_device(out: &impl Eprint, options: Options, error: Option<FileError>) {
+    let _ = out.eprintln(format_args!("ocfexec: {}", Fault::Disk));
+    if let (JournalPlace::Folder(folder), Some(met)) = (options.journal, error) {
+        let _ = out.eprintln(format_args!("{}", met.located(folder)));
+    }
+    if let Some(advice) = Fault::Disk.advice() {
+        let _ = out.eprintln(advice);
+    }
+}
+
+/// How it ended on this disk. A fault of the device is said here, since the disk knows more of it than the fault says.
+pub fn told<D: TellsError>(
+    out: &impl Eprint,
+    options: Options,
+    disk: &D,
+    ended: Result<(), Fault>,
+) -> Result<(), Fault>
+    ensures { result ≡ ended }
+{
+    if let Err(Fault::Disk) = ended {
+        tell_device(out, options, disk.first_error());
+    }
+    ended
+}

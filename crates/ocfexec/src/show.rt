@@ -1,0 +1,78 @@
+//! What is shown of a journal.
+ghost use Rattle.std.specs.Prelude.{◌≡◌};
+ghost use Rattle.exec_output.specs.Faults.{IsRunEnd};
+ghost use Rattle.ocfexec.specs.Starts.{IsFolderEnd};
+
+use crate::emptied::not_emptied;
+use crate::journal::{found, told};
+use crate::look::look_of;
+use crate::streams::{FirstError, tell_shown};
+use child_keeper::System;
+use disk_model::Disk;
+use exec_options::{Options, Subcommand};
+use exec_output::{Fault, show, show_one, status};
+use file_disk::{TellsError, read_parts};
+use std::io::{self, Write};
+
+// How often the files of a journal that reads as damaged are read, before that is told.
+const LOOKS: usize = 4;
+
+// Writes what the journal on this disk holds, as lines of JSON or as a table, of all resources or of one.
+fn show_to<D: Disk + Drop, W: Write>(
+    rt: &HostRuntime,
+    options: Options,
+    disk: D,
+    output: &mut W,
+) -> (D, Result<(), Fault>)
+    ensures { IsRunEnd result.1 }
+{
+    match (options.subcommand, options.resource) {
+        (Subcommand::Status, _) if !options.json => {
+            status(rt.alloc(), disk, output, &look_of(rt, options))
+        }
+        (Subcommand::Status, Some(id)) => show_one(rt.alloc(), disk, output, id),
+        _ => show(rt.alloc(), disk, output),
+    }
+}
+
+/// Shows the journal on this disk.
+pub fn show_on<D: Disk + TellsError + Drop>(
+    system: &System<'_>,
+    options: Options,
+    disk: D,
+) -> Result<(), Fault>
+    ensures { IsRunEnd result }
+{
+    let rt = system.host();
+    let unwritten = FirstError::none();
+    let mut output = unwritten.output(io::writer(rt));
+    let (disk, ended) = show_to(rt, options, disk, &mut output);
+    tell_shown(system, &unwritten, ended);
+    told(system, options, &disk, ended)
+}
+
+/// Shows the journal in this directory, which another program may be writing. Damage is told where it is found each time that
+/// the files are read.
+#[tactic(auto, using(crate::proofs::StartLemmas::opened_ends, crate::proofs::StartLemmas::not_opened_ends))]
+pub fn show_files(system: &System<'_>, options: Options, folder: &str) -> Result<(), Fault>
+    ensures { IsFolderEnd result }
+{
+    let rt = system.host();
+    for _ in 1..LOOKS {
+        let disk = found(
+            system,
+            folder,
+            not_emptied(read_parts(rt, rt.alloc(), folder)),
+        )?;
+        let ended = show_on(system, options, disk);
+        if !matches!(ended, Err(Fault::Damaged(_))) {
+            return ended;
+        }
+    }
+    let disk = found(
+        system,
+        folder,
+        not_emptied(read_parts(rt, rt.alloc(), folder)),
+    )?;
+    show_on(system, options, disk)
+}
