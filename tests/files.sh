@@ -191,6 +191,7 @@ if $apart mount -t tmpfs none "$here/over" 2> err; then
     journal covered
     cat > covers <<'COVERS'
 mkfifo fifo
+: > out
 env --default-signal "$1" run --journal covered < fifo > out 2> err &
 exec 3> fifo
 printf '{"op":"list"}\n' >&3

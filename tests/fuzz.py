@@ -11,7 +11,7 @@ from helper import PROGRAM
 
 TRIALS = os.environ.get("TRIALS", os.path.join(helper.TOP, "crates/trials/out/trials"))
 CORPUS = os.path.join(helper.TOP, "tests/fuzz/corpus")
-SHOWN, DAMAGED = 0, 3
+SHOWN, REFUSED, DAMAGED = 0, 5, 3
 
 
 class Fuzz(helper.Check):
@@ -64,7 +64,10 @@ class Fuzz(helper.Check):
                 with open(os.path.join(folder, file), "wb") as out:
                     out.write(part)
             done = subprocess.run([PROGRAM, "show", "--journal", folder], capture_output=True, timeout=10)
-            self.assertIn(done.returncode, (SHOWN, DAMAGED), (name, done.stderr))
+            if b"" in parts and b": empty, while part-" in done.stderr:
+                self.assertEqual(done.returncode, REFUSED, name)
+            else:
+                self.assertIn(done.returncode, (SHOWN, DAMAGED), (name, done.stderr))
             self.assertEqual(helper.parts(folder), parts, name)
 
 

@@ -1,7 +1,7 @@
 /* No wait lasts, for tests/rounds.py: loaded before the C library (LD_PRELOAD). nanosleep returns at once, and so does poll, which
-   asks the system only once in a thousand times, and else finds nothing. The file $WAITS, of 8 bytes, has the number of waits at any
-   moment. Children get no such variable. No other function of the C library is called, so that a program with AddressSanitizer in
-   it can be tried, too. */
+   asks the system only once in 1,001 times, and else finds nothing: an odd number, since calls may come in pairs. The file $WAITS, of
+   8 bytes, has the number of waits at any moment. Children get no such variable. No other function of the C library is called, so
+   that a program with AddressSanitizer in it can be tried, too. */
 #define _GNU_SOURCE
 #include <fcntl.h>
 #include <poll.h>
@@ -30,7 +30,7 @@ int poll(struct pollfd *asked, nfds_t count, int wait) {
         return (int)syscall(SYS_poll, asked, count, wait);
     if (wait > 0)
         ++*waits;
-    if (++calls % 1000 == 0)
+    if (++calls % 1001 == 0)
         return (int)syscall(SYS_poll, asked, count, 0);
     for (nfds_t place = 0; place < count; place++)
         asked[place].revents = 0;

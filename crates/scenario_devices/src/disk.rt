@@ -2,21 +2,37 @@
 ghost use Rattle.std.specs.Prelude.{◌≡◌, ◌+◌, ◌≤◌, IfOk, Ok, length};
 ghost use Rattle.disk_model.specs.View.{Called};
 
-use anyhow::Result;
+use anyhow::{Result, ensure};
 use disk_model::{Disk, DiskFault, Fill, MemDisk};
 use ocf_types::{PART_LIMIT, Part};
 use std::alloc::{AllocError, Global};
 use std::cell::RefCell;
 use std::rc::Rc;
 
+// Bytes that are written into a part from an offset on.
+#[derive(Drop)]
+struct Write {
+    part: Part,
+    at: u64,
+    bytes: Vec<u8>,
+}
+
+// A counted call: the number that the disk in memory gives it, and what it writes.
+#[derive(Drop)]
+struct Call {
+    number: u64,
+    write: Option<Write>,
+}
+
 /// A disk in memory. Of its device calls only writes and syncs are counted, done or failed, and can be planned to fail.
 #[derive(Drop)]
 pub struct Device {
+    alloc: Global,
     disk: MemDisk,
     // How many of its device calls were lengths and reads.
     lookups: u64,
-    // Of each counted call the number that the disk in memory gives it.
-    calls: Vec<u64>,
+    // Each counted call.
+    calls: Vec<Call>,
     stop: Option<u64>,
     fault: Option<u64>,
 }
@@ -24,6 +40,7 @@ pub struct Device {
 impl Device {
     pub fn new(alloc: Global, disk: MemDisk) -> Device {
         Device {
+            alloc,
             disk,
             lookups: 0,
             calls: Vec::new(alloc),
@@ -75,19 +92,51 @@ impl Device {
         self.disk.image(alloc, self.number_of(call), fill)
     }
 
+    fn counted(&self, call: u64) -> Option<&Call> {
+        self.calls.get(call.saturating_sub(1) as usize)
+    }
+
     // The number that the disk in memory gives to this counted call, from 1 on; past the last one that of its next call.
     fn number_of(&self, call: u64) -> u64 {
-        let place = call.saturating_sub(1) as usize;
-        match self.calls.get(place) {
-            Some(number) => *number,
+        match self.counted(call) {
+            Some(counted) => counted.number,
             None => self.disk.clock().saturating_add(1),
         }
     }
 
+    // What this counted call writes; none of a sync.
+    fn write_of(&self, call: u64) -> Option<&Write> {
+        self.counted(call)?.write.as_ref()
+    }
+
+    /// How many bytes this counted call writes.
+    pub fn written_by(&self, call: u64) -> usize {
+        match self.write_of(call) {
+            Some(write) => write.bytes.len(),
+            None => 0,
+        }
+    }
+
+    /// A disk as a stop in this counted call may leave this one, where the call has written so many of its bytes, and nothing else
+    /// is there that was not synced.
+    pub fn cut(&self, alloc: Global, call: u64, size: usize) -> Result<MemDisk> {
+        let mut disk = self.image(alloc, call, Fill::Synced)?;
+        if let Some(write) = self.write_of(call) {
+            let bytes = write.bytes.get(..size).unwrap_or(write.bytes.as_slice());
+            let end = write.at.saturating_add(bytes.len() as u64);
+            ensure!(
+                write.at as usize <= disk.bytes(write.part).len() && end <= PART_LIMIT,
+                "a write has no place"
+            );
+            disk.write_at(write.part, write.at, bytes)?;
+        }
+        Ok(disk)
+    }
+
     // Counts the next call, and plans what it is to do.
-    fn count(&mut self) -> Result<(), DiskFault> {
+    fn count(&mut self, write: Option<Write>) -> Result<(), DiskFault> {
         let number = self.disk.clock().saturating_add(1);
-        if self.calls.push(number).is_err() {
+        if self.calls.push(Call { number, write }).is_err() {
             return Err(DiskFault);
         }
         let call = Some(self.call_count());
@@ -120,7 +169,14 @@ impl Device {
     fn write_at(&mut self, part: Part, at: u64, bytes: &[u8]) -> Result<(), DiskFault>
         requires { at + length bytes.now ≤ PART_LIMIT }
     {
-        self.count()?;
+        let Ok(copy) = bytes.to_vec(self.alloc) else {
+            return Err(DiskFault);
+        };
+        self.count(Some(Write {
+            part,
+            at,
+            bytes: copy,
+        }))?;
         if at as usize > self.disk.bytes(part).len() {
             return Err(DiskFault);
         }
@@ -128,7 +184,7 @@ impl Device {
     }
 
     fn sync(&mut self, part: Part) -> Result<(), DiskFault> {
-        self.count()?;
+        self.count(None)?;
         self.disk.sync(part)
     }
 }

@@ -64,6 +64,8 @@ pub enum Look {
     Found,
     /// What is found on each image of the disk.
     Stops(Vec<Filling>),
+    /// What is found where each write of the disk is cut behind each of its bytes.
+    Cuts,
     /// The event of a layout that these bytes begin with.
     Event(Layout, Vec<u8>),
     /// The state of a layout that these bytes spell.
@@ -129,6 +131,7 @@ enum Verb {
     Parts,
     Found,
     Stops,
+    Cuts,
     Event(Layout),
     State(Layout),
     Launch,
@@ -139,7 +142,7 @@ enum Verb {
     Lives,
 }
 
-const VERBS: [(&str, Verb); 35] = [
+const VERBS: [(&str, Verb); 36] = [
     ("scenario", Verb::Scenario),
     ("part", Verb::Part),
     ("starts", Verb::Starts),
@@ -165,6 +168,7 @@ const VERBS: [(&str, Verb); 35] = [
     ("parts", Verb::Parts),
     ("found", Verb::Found),
     ("stops", Verb::Stops),
+    ("cuts", Verb::Cuts),
     ("event", Verb::Event(Layout::Second)),
     ("state", Verb::State(Layout::Second)),
     ("event-1", Verb::Event(Layout::First)),
@@ -274,6 +278,7 @@ fn read_look(alloc: Global, verb: Verb, words: &mut Words) -> Result<Look, BadLi
         Verb::Parts => Ok(Look::Parts),
         Verb::Found => Ok(Look::Found),
         Verb::Stops => read_fillings(alloc, words).map(Look::Stops),
+        Verb::Cuts => Ok(Look::Cuts),
         Verb::Event(layout) => Ok(Look::Event(layout, words.bytes(alloc)?)),
         Verb::State(layout) => Ok(Look::State(layout, words.bytes(alloc)?)),
         Verb::Launch => read_launch(words),

@@ -2,6 +2,8 @@
 //! an executor over both, with what it tells printed.
 #![tactic(auto)]
 
+mod calls;
+mod fate;
 mod finding;
 mod look;
 mod print;
@@ -10,5 +12,5 @@ mod tables;
 mod together;
 mod world;
 
-pub use print::print_rows;
+pub use print::{print_checked, print_rows};
 pub use world::World;

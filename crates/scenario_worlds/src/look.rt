@@ -1,6 +1,8 @@
 //! Looks at a world.
 use crate::finding::found_on;
-use crate::print::{hex_text, print_launch, print_line, print_part, print_rows, push_reply};
+use crate::print::{
+    hex_text, print_checked, print_launch, print_line, print_part, print_rows, push_reply,
+};
 use crate::tables::{print_codes, print_expected};
 use crate::world::World;
 use anyhow::{Context, Result};
@@ -23,25 +25,46 @@ impl World {
     }
 
     fn show_found<W: Write>(&self, writer: &mut W) -> Result<()> {
-        let disk = self.device()?.copied(self.alloc)?;
-        let text = found_on(self.alloc, disk)?;
+        let (text, _disk) = found_on(self.alloc, self.copied()?)?;
         writer.write_all(text.as_slice())?;
         Ok(())
     }
 
-    fn show_stops<W: Write>(&self, filling: &Filling, writer: &mut W) -> Result<()> {
+    // What is found on the image of each call: how many these are.
+    fn show_stops<W: Write>(&self, filling: &Filling, writer: &mut W) -> Result<usize> {
         let mut findings = Vec::new(self.alloc);
-        for call in 0..self.call_count()? {
-            findings.push(self.finding_on_image(call + 1, filling)?)?;
+        for call in 1..=self.call_count()? {
+            let finding = self.finding_on_image(call, filling);
+            findings.push(finding.context(format_args!("stops {filling}, call {call}"))?)?;
         }
-        print_rows(writer, filling, findings.as_slice())
+        print_rows(writer, filling, findings.as_slice())?;
+        Ok(findings.len())
     }
 
     fn show_all_stops<W: Write>(&self, fillings: &[Filling], writer: &mut W) -> Result<()> {
+        let mut count: usize = 0;
         for filling in fillings {
-            self.show_stops(filling, writer)?;
+            count = count.saturating_add(self.show_stops(filling, writer)?);
         }
-        Ok(())
+        print_checked(writer, "stops", count, "stops")
+    }
+
+    // How many cuts of this call's write were looked at.
+    fn check_cuts(&self, call: u64) -> Result<usize> {
+        let size = self.device()?.written_by(call);
+        for count in 1..size {
+            let checked = self.check_cut(call, count);
+            checked.context(format_args!("call {call}, cut behind {count} bytes"))?;
+        }
+        Ok(size.saturating_sub(1))
+    }
+
+    fn show_cuts<W: Write>(&self, writer: &mut W) -> Result<()> {
+        let mut count: usize = 0;
+        for call in 1..=self.call_count()? {
+            count = count.saturating_add(self.check_cuts(call)?);
+        }
+        print_checked(writer, "cuts", count, "cuts")
     }
 
     fn show_launch<W: Write>(&mut self, id: &RscId, task: Task, writer: &mut W) -> Result<()> {
@@ -63,6 +86,7 @@ impl World {
             Look::Parts => self.show_parts(writer),
             Look::Found => self.show_found(writer),
             Look::Stops(fillings) => self.show_all_stops(fillings.as_slice(), writer),
+            Look::Cuts => self.show_cuts(writer),
             Look::Event(layout, bytes) => show_event(self.alloc, *layout, bytes.as_slice(), writer),
             Look::State(layout, bytes) => show_state(self.alloc, *layout, bytes.as_slice(), writer),
             Look::Launch(id, task) => self.show_launch(id, *task, writer),

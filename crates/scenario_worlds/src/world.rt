@@ -1,20 +1,15 @@
 //! The world of a scenario.
-use crate::finding::finding_on;
-use crate::print::{
-    print_entries, print_line, print_open_error, print_opened, print_tidy, print_turn, push_reply,
-};
+use crate::finding::{digest_of, found_on};
 use crate::session::Session;
-use crate::together::answer_all;
 use anyhow::Result;
 use disk_model::MemDisk;
-use executor::{OpenError, Report};
 use ocf_types::Part;
-use scenario_devices::{Device, PlannedChildren, SharedDisk, WorldChildren};
+use scenario_devices::{Device, WorldChildren};
+use scenario_oracle::Oracle;
 use scenario_steps::{Act, Filling, SiteWords};
 use std::alloc::{AllocError, Global};
 use std::cell::{Ref, RefCell};
 use std::io::Write;
-use std::mem;
 use std::rc::Rc;
 
 /// A disk, children, the site of agents, and an executor where one is open.
@@ -24,16 +19,15 @@ pub struct World {
     // The parts as they were given last.
     a: Vec<u8>,
     b: Vec<u8>,
-    device: Rc<RefCell<Device>>,
+    pub(crate) device: Rc<RefCell<Device>>,
     pub(crate) children: WorldChildren,
-    site: SiteWords,
+    pub(crate) site: SiteWords,
     // Command lines that are to be handed over at once.
-    waiting: Vec<Vec<u8>>,
+    pub(crate) waiting: Vec<Vec<u8>>,
     pub(crate) session: Option<Session>,
+    // What openings of this disk have to find.
+    pub(crate) oracle: Oracle,
 }
-
-// Why an executor was not opened, and the children.
-type NotOpened = (OpenError, PlannedChildren);
 
 fn shared(alloc: Global, disk: MemDisk) -> Result<Rc<RefCell<Device>>, AllocError> {
     Ok(Rc::new(alloc, RefCell::new(Device::new(alloc, disk)))?)
@@ -54,6 +48,7 @@ impl World {
             site,
             waiting: Vec::new(alloc),
             session: None,
+            oracle: Oracle::new(alloc)?,
         })
     }
 
@@ -89,7 +84,7 @@ impl World {
     }
 
     // Closes an executor that is open, and keeps its children: whether one was.
-    fn end_session(&mut self) -> bool {
+    pub(crate) fn end_session(&mut self) -> bool {
         match self.session.take() {
             Some(session) => {
                 self.children.keep(session.close());
@@ -114,12 +109,21 @@ impl World {
         }
         let a = self.a.clone()?;
         let b = self.b.clone()?;
-        self.put_disk(MemDisk::from_parts(self.alloc, a, b)?)
+        self.put_disk(MemDisk::from_parts(self.alloc, a, b)?)?;
+        let copy = self.copied()?;
+        self.oracle.begin(copy)
     }
 
     fn put_image(&mut self, call: u64, filling: &Filling) -> Result<()> {
         let disk = self.image(call, filling)?;
-        self.put_disk(disk)
+        self.put_disk(disk)?;
+        let copy = self.copied()?;
+        self.oracle.begin_behind(call, copy)
+    }
+
+    // A disk that reads the same.
+    pub(crate) fn copied(&self) -> Result<MemDisk> {
+        Ok(self.device()?.copied(self.alloc)?)
     }
 
     fn image(&self, call: u64, filling: &Filling) -> Result<MemDisk> {
@@ -130,95 +134,6 @@ impl World {
     fn put_children(&mut self) -> Result<()> {
         self.end_session();
         self.children.renew()
-    }
-
-    fn open_session(&mut self, now: u64) -> Result<Result<(Session, Report), NotOpened>> {
-        let site = self.site.site(self.alloc)?;
-        let words = self.site.copied()?;
-        let disk = SharedDisk::new(&self.device)?;
-        let children = self.children.take()?;
-        Ok(Session::open(self.alloc, disk, children, site, words, now))
-    }
-
-    fn open<W: Write>(&mut self, now: u64, writer: &mut W) -> Result<()> {
-        self.end_session();
-        match self.open_session(now)? {
-            Ok((session, report)) => {
-                self.session = Some(session);
-                print_opened(self.alloc, writer, &report)
-            }
-            Err((why, children)) => {
-                self.children.keep(children);
-                print_open_error(writer, &why)
-            }
-        }
-    }
-
-    fn close<W: Write>(&mut self, writer: &mut W) -> Result<()> {
-        if self.end_session() {
-            print_line(writer, "closed")
-        } else {
-            print_line(writer, "no executor")
-        }
-    }
-
-    fn turn<W: Write>(&mut self, now: u64, writer: &mut W) -> Result<()> {
-        let lookups = self.device()?.lookups();
-        let Some(session) = &mut self.session else {
-            return print_line(writer, "no executor");
-        };
-        let known = session.book_len();
-        let end = session.turn(now);
-        print_entries(writer, session.book_behind(known), lookups)?;
-        print_turn(self.alloc, writer, session.told(end), end)
-    }
-
-    fn tidy<W: Write>(&mut self, writer: &mut W) -> Result<()> {
-        match &mut self.session {
-            Some(session) => print_tidy(writer, session.tidy()),
-            None => print_line(writer, "no executor"),
-        }
-    }
-
-    fn clear<W: Write>(&mut self, writer: &mut W) -> Result<()> {
-        match &mut self.session {
-            Some(session) => session.clear_book(),
-            None => return print_line(writer, "no executor"),
-        }
-        Ok(())
-    }
-
-    fn abandon<W: Write>(&mut self, writer: &mut W) -> Result<()> {
-        match &mut self.session {
-            Some(session) => session.abandon(),
-            None => return print_line(writer, "no executor"),
-        }
-        print_line(writer, "abandoned")
-    }
-
-    fn command<W: Write>(&mut self, now: u64, line: &[u8], writer: &mut W) -> Result<()> {
-        let Some(session) = &mut self.session else {
-            return print_line(writer, "no executor");
-        };
-        match session.answer(self.alloc, now, line) {
-            Some(reply) => push_reply(self.alloc, writer, &reply),
-            None => print_line(writer, "no step"),
-        }
-    }
-
-    fn wait(&mut self, line: &[u8]) -> Result<()> {
-        let line = line.to_vec(self.alloc)?;
-        self.waiting.push(line)?;
-        Ok(())
-    }
-
-    // Hands over the lines that wait.
-    fn together<W: Write>(&mut self, now: u64, writer: &mut W) -> Result<()> {
-        let lines = mem::replace(&mut self.waiting, Vec::new(self.alloc));
-        match &mut self.session {
-            Some(session) => answer_all(self.alloc, session, now, lines.as_slice(), writer),
-            None => print_line(writer, "no executor"),
-        }
     }
 
     /// Plays a step that changes the world.
@@ -264,14 +179,27 @@ impl World {
         Ok(())
     }
 
-    /// The digest of what is found on what the disk reads.
-    pub fn finding(&self) -> Result<u64> {
-        let disk = self.device()?.copied(self.alloc)?;
-        finding_on(self.alloc, disk)
+    // The digest of what is found on a disk that a stop in this call may have left, which the oracle looks at.
+    fn finding_on(&self, call: u64, disk: MemDisk) -> Result<u64> {
+        let (text, disk) = found_on(self.alloc, disk)?;
+        self.oracle.check(call, disk)?;
+        Ok(digest_of(text.as_slice()))
     }
 
-    /// The digest of what is found on the image of this call.
+    /// The digest of what is found on what the disk reads. It is an error where an acknowledged event or a started run is not found,
+    /// or more than was accepted.
+    pub fn finding(&self) -> Result<u64> {
+        self.finding_on(u64::MAX, self.copied()?)
+    }
+
+    /// The same on the image of this call.
     pub fn finding_on_image(&self, call: u64, filling: &Filling) -> Result<u64> {
-        finding_on(self.alloc, self.image(call, filling)?)
+        self.finding_on(call, self.image(call, filling)?)
+    }
+
+    /// Has the oracle look at what a stop in this call leaves that has written so many of its bytes.
+    pub(crate) fn check_cut(&self, call: u64, size: usize) -> Result<()> {
+        let disk = self.device()?.cut(self.alloc, call, size)?;
+        self.oracle.check(call, disk)
     }
 }

@@ -1,6 +1,6 @@
 //! Scenarios, line by line.
 use crate::sweep::play_sweep;
-use anyhow::{Result, bail};
+use anyhow::{Context, Result, bail};
 use scenario_steps::{Act, BadLine, Line};
 use scenario_worlds::World;
 use std::alloc::Global;
@@ -19,6 +19,8 @@ pub enum Ending {
 #[derive(Drop)]
 struct Script {
     alloc: Global,
+    // The scenario's name, which has no bytes before the first one begins.
+    name: String,
     world: World,
     acts: Vec<Act>,
 }
@@ -27,6 +29,7 @@ impl Script {
     fn new(alloc: Global) -> Result<Script> {
         Ok(Script {
             alloc,
+            name: String::new(alloc),
             world: World::new(alloc)?,
             acts: Vec::new(alloc),
         })
@@ -38,17 +41,18 @@ impl Script {
         Ok(())
     }
 
-    fn begin<W: Write>(&mut self, name: &str, writer: &mut W) -> Result<()> {
+    fn begin<W: Write>(&mut self, name: String, writer: &mut W) -> Result<()> {
         self.world = World::new(self.alloc)?;
         self.acts.clear();
         writeln!(writer, "scenario {name}")?;
+        self.name = name;
         Ok(())
     }
 
     fn play<W: Write>(&mut self, line: Line, writer: &mut W) -> Result<()> {
         match line {
             Line::Empty => Ok(()),
-            Line::Scenario(name) => self.begin(name.as_str(), writer),
+            Line::Scenario(name) => self.begin(name, writer),
             Line::Act(act) => self.act(act, writer),
             Line::Look(look) => self.world.show(&look, writer),
             Line::Sweep(sweep) => play_sweep(self.alloc, &sweep, self.acts.as_slice(), writer),
@@ -58,7 +62,10 @@ impl Script {
     // Whether these bytes were a step, which is then played.
     fn read<W: Write>(&mut self, bytes: &[u8], writer: &mut W) -> Result<bool> {
         match Line::read(self.alloc, bytes) {
-            Ok(line) => self.play(line, writer)?,
+            Ok(line) => {
+                let played = self.play(line, writer);
+                played.context(format_args!("scenario {}", self.name))?;
+            }
             Err(BadLine::Memory) => bail!("out of memory"),
             Err(BadLine::NoStep) => return Ok(false),
         }

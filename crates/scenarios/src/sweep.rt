@@ -1,7 +1,7 @@
 //! Sweeps: a scenario played again and again, each time with another call planned to fail.
-use anyhow::Result;
+use anyhow::{Context, Result};
 use scenario_steps::{Act, Filling, Sweep};
-use scenario_worlds::{World, print_rows};
+use scenario_worlds::{World, print_checked, print_rows};
 use std::alloc::Global;
 use std::fmt::Display;
 use std::io::{self, Write};
@@ -130,9 +130,15 @@ impl Played<'_> {
     }
 
     // What is found for each call in turn.
-    fn push_findings(&self, alloc: Global, findings: &mut Vec<u64>) -> Result<()> {
+    fn push_findings(
+        &self,
+        alloc: Global,
+        label: &impl Display,
+        findings: &mut Vec<u64>,
+    ) -> Result<()> {
         for call in 1..u64::MAX {
-            match self.finding_after(alloc, call)? {
+            let finding = self.finding_after(alloc, call);
+            match finding.context(format_args!("{label}, call {call}"))? {
                 Some(finding) => findings.push(finding)?,
                 None => return Ok(()),
             }
@@ -140,11 +146,32 @@ impl Played<'_> {
         Ok(())
     }
 
-    fn print<W: Write>(&self, alloc: Global, label: &impl Display, writer: &mut W) -> Result<()> {
+    // Prints what is found: for how many calls.
+    fn print<W: Write>(
+        &self,
+        alloc: Global,
+        label: &impl Display,
+        writer: &mut W,
+    ) -> Result<usize> {
         let mut findings = Vec::new(alloc);
-        self.push_findings(alloc, &mut findings)?;
-        print_rows(writer, label, findings.as_slice())
+        self.push_findings(alloc, label, &mut findings)?;
+        print_rows(writer, label, findings.as_slice())?;
+        Ok(findings.len())
     }
+}
+
+fn print_faults<W: Write>(
+    alloc: Global,
+    acts: &[Act],
+    failing: Failing,
+    writer: &mut W,
+) -> Result<()> {
+    let label = match failing {
+        Failing::ChildFault => "faults children",
+        _ => "faults disk",
+    };
+    let count = Played::Once(acts, failing).print(alloc, &label, writer)?;
+    print_checked(writer, label, count, "faults")
 }
 
 fn print_stopped<W: Write>(
@@ -153,26 +180,30 @@ fn print_stopped<W: Write>(
     fillings: &[Filling],
     writer: &mut W,
 ) -> Result<()> {
+    let mut count: usize = 0;
     for filling in fillings {
         let label = format_args!("stopped {filling}");
-        Played::Once(acts, Failing::Stop(*filling)).print(alloc, &label, writer)?;
+        let stops = Played::Once(acts, Failing::Stop(*filling)).print(alloc, &label, writer)?;
+        count = count.saturating_add(stops);
     }
-    Ok(())
+    print_checked(writer, "stopped", count, "stops")
 }
 
-// The sitting that the image at this place ends, the N-th of its life, stopped with each of these fillings.
+// The sitting that the image at this place ends, the N-th of its life, stopped with each of these fillings: how many stops these are.
 fn print_sitting<W: Write>(
     alloc: Global,
     sitting: Sitting,
     number: usize,
     fillings: &[Filling],
     writer: &mut W,
-) -> Result<()> {
+) -> Result<usize> {
+    let mut count: usize = 0;
     for filling in fillings {
         let label = format_args!("lives {number} {filling}");
-        Played::Life(sitting, *filling).print(alloc, &label, writer)?;
+        let stops = Played::Life(sitting, *filling).print(alloc, &label, writer)?;
+        count = count.saturating_add(stops);
     }
-    Ok(())
+    Ok(count)
 }
 
 fn print_lives<W: Write>(
@@ -182,19 +213,16 @@ fn print_lives<W: Write>(
     writer: &mut W,
 ) -> Result<()> {
     let mut number = 0;
+    let mut count: usize = 0;
     for (place, act) in acts.iter().enumerate() {
         if matches!(act, Act::Image(..)) {
             number += 1;
-            print_sitting(
-                alloc,
-                Sitting::ending_at(acts, place),
-                number,
-                fillings,
-                writer,
-            )?;
+            let sitting = Sitting::ending_at(acts, place);
+            let stops = print_sitting(alloc, sitting, number, fillings, writer)?;
+            count = count.saturating_add(stops);
         }
     }
-    Ok(())
+    print_checked(writer, "lives", count, "stops")
 }
 
 /// Plays these acts as long as the planned call of a sweep comes, and prints what is found.
@@ -205,12 +233,8 @@ pub fn play_sweep<W: Write>(
     writer: &mut W,
 ) -> Result<()> {
     match sweep {
-        Sweep::DiskFaults => {
-            Played::Once(acts, Failing::DiskFault).print(alloc, &"faults disk", writer)
-        }
-        Sweep::ChildFaults => {
-            Played::Once(acts, Failing::ChildFault).print(alloc, &"faults children", writer)
-        }
+        Sweep::DiskFaults => print_faults(alloc, acts, Failing::DiskFault, writer),
+        Sweep::ChildFaults => print_faults(alloc, acts, Failing::ChildFault, writer),
         Sweep::Stopped(fillings) => print_stopped(alloc, acts, fillings.as_slice(), writer),
         Sweep::Lives(fillings) => print_lives(alloc, acts, fillings.as_slice(), writer),
     }
