@@ -55,6 +55,15 @@ class Serving(helper.Check):
         self.assertEqual(reply, {"ok": True, "resources": ["slow", "quick"]}, "a line in two pieces")
         self.assertEqual(run.ends(), 0, "the end of input with an agent running")
 
+    def test_key_twice(self):
+        """a line in which an object has a key twice is refused as syntax, at any depth; run takes the last"""
+        twice = (b'{"op":"list","op":"list"}\n', b'{"op":"list","id":{"a":[{"b":1,"\\u0062":2}]}}\n')
+        refused = {"error": "syntax", "number": 1}
+        for text in twice:
+            self.assertEqual(helper.replies(helper.run("serve", "--memory", told=text).stdout), [refused], text)
+        done = helper.run("run", "--memory", told=b'{"op":"drain","op":"list"}\n' + twice[1])
+        self.assertEqual(helper.replies(done.stdout), [{"ok": True, "resources": []}] * 2)
+
     def test_flood(self):
         """a timeout of half a second in a flood of a million questions"""
         run, flood = self.served(), b'{"op":"list"}\n' * 1000

@@ -3,3 +3,4 @@ pub mod Values
 pub mod Lines
 pub mod Objects
 pub mod Replies
+pub mod Twice

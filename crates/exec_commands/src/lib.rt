@@ -14,6 +14,7 @@ mod params;
 mod read;
 mod reply;
 mod results;
+mod strict;
 mod texts;
 mod values;
 
@@ -23,3 +24,4 @@ pub use line::Line;
 pub use notice::{NoticeForm, write_notice};
 pub use read::read_command;
 pub use reply::{LineReply, write_reply, write_request_reply};
+pub use strict::read_strictly;

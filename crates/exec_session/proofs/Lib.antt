@@ -1,5 +1,4 @@
 pub mod DrainLemmas
-pub mod LineLemmas
 pub mod WaitLemmas
 pub mod ServeLemmas
 pub mod CallLemmas

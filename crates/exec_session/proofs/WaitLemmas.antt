@@ -22,10 +22,11 @@ use Rattle.exec_session.specs.declared.lines.Taken.{Taken}
 use Rattle.exec_session.specs.declared.lines.Taken.TheVariants as taken
 
 -- one command more is read
-reads_more : (a b c : Option (List ℕ)) (commands : List Command) (command : Command) → ReadsCommands a commands b
-    → ReadsCommand b c command → ReadsCommands a (commands ++ command ∷ []) c
-reads_more a b c [] command same read = (c, subst (λ x. ReadsCommand x c command) same read, refl)
-reads_more a b c (first ∷ others) command (behind, one, more) read = (behind, one, reads_more behind b c others command more read)
+reads_more : (way : Way) (a b c : Option (List ℕ)) (commands : List Command) (command : Command) → ReadsCommands way a commands b
+    → ReadsCommand way b c command → ReadsCommands way a (commands ++ command ∷ []) c
+reads_more way a b c [] command same read = (c, subst (λ x. ReadsCommand way x c command) same read, refl)
+reads_more way a b c (first ∷ others) command (behind, one, more) read =
+    (behind, one, reads_more way behind b c others command more read)
 
 -- a run by lines alone takes any line, one that serves 64 behind a turn
 pub may_run : (way : Way) (most : ℕ) → way ≡ Run → MayTakeBehind way most
@@ -92,7 +93,7 @@ module _ {D : Type 0} (look : D → View) (source : Source) (rules : Rules) (p :
 
   -- a command more waits
   pub one_waits : (most : ℕ) (commands commands' : List Command) (command : Command) (executor : Sight D)
-      (left now : Option (List ℕ)) (heard : Heard D) → executor.is_open ≡ true → ReadsCommand left now command
+      (left now : Option (List ℕ)) (heard : Heard D) → executor.is_open ≡ true → ReadsCommand rules.way left now command
       → commands' ≡ commands ++ command ∷ [] → Come most commands (position executor left heard)
       → Come (most + 1) commands' (position executor now heard)
   one_waits most commands commands' command executor left now heard is_open read same (count, few, waits) = (
@@ -100,7 +101,9 @@ module _ {D : Type 0} (look : D → View) (source : Source) (rules : Rules) (p :
     more few,
     record {
       left = waits.left;
-      read = subst (λ cs. ReadsCommands waits.left cs now) (sym same) (reads_more waits.left left now commands command waits.read read);
+      read =
+          subst (λ cs. ReadsCommands rules.way waits.left cs now) (sym same)
+          (reads_more rules.way waits.left left now commands command waits.read read);
       reached = waits.reached;
       goes_on = go_open rules.way executor is_open;
     },

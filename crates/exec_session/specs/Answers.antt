@@ -13,6 +13,7 @@ use Rattle.executor.specs.Commands.{Serves}
 use Rattle.executor.specs.Sights.{Sight}
 use Rattle.executor.specs.TidyCalls.{Tidies}
 use Rattle.exec_commands.specs.Lines.{line_read}
+use Rattle.exec_commands.specs.Twice.{HasKeyTwice}
 use Rattle.exec_commands.specs.declared.ends.DrainEnd.{DrainEnd}
 use Rattle.exec_commands.specs.declared.ends.DrainEnd.TheVariants.{Turn}
 use Rattle.ocf_types.specs.declared.outcome.MetaFault.{MetaFault}
@@ -22,11 +23,17 @@ use Rattle.exec_commands.specs.declared.reply.LineReply.{LineReply}
 use Rattle.exec_commands.specs.declared.reply.LineReply.TheVariants as answer
 use Rattle.exec_session.specs.Drains.{Drains, Spot}
 use Rattle.exec_session.specs.Rules.{Rules, MakesRoom}
+use Rattle.exec_session.specs.declared.context.Way.{Way}
+use Rattle.exec_session.specs.declared.context.Way.TheVariants.{Run, Serve}
 
--- a line of these bytes is read as the definition says, but that memory may be refused in reading it
-abbrev pub IsReadAs : List ℕ → Result Line Refusal → Type 0
-IsReadAs bytes (Ok found) = line_read bytes ≡ Ok found
-IsReadAs bytes (Err why) = why ≢ refusal.Memory → line_read bytes ≡ Err why
+-- A line of these bytes is read as the definition says, but that memory may be refused in reading it; a run that serves refuses one in
+-- which a key comes twice as syntax.
+abbrev pub IsReadAs : Way → List ℕ → Result Line Refusal → Type 0
+IsReadAs Run bytes (Ok found) = line_read bytes ≡ Ok found
+IsReadAs Run bytes (Err why) = why ≢ refusal.Memory → line_read bytes ≡ Err why
+IsReadAs Serve bytes (Ok found) = (line_read bytes ≡ Ok found) × ¬ (HasKeyTwice bytes)
+IsReadAs Serve bytes (Err why) =
+    why ≢ refusal.Memory → (HasKeyTwice bytes → why ≡ refusal.Syntax) × (¬ (HasKeyTwice bytes) → line_read bytes ≡ Err why)
 
 -- a source of metadata: what it may answer for the agent of a provider and a type that is given so many milliseconds, its
 -- metadata or why it has none

@@ -55,9 +55,9 @@ pub data BreaksIn {D : Type 0} (look : D → View) (source : Source) (rules : Ru
   in_line : (left : Option (List ℕ)) → MayGoOn rules.way m.executor
       → AnswersHeard (HearsPart rules.form) look source rules m (position q.executor left q.heard)
       → BreaksIn look source rules own m q
-  in_drain : (left : Option (List ℕ)) (found : Result Line Refusal) → ReadsLine m.left left found → m.executor.is_open ≡ true
+  in_drain : (left : Option (List ℕ)) (found : Result Line Refusal) → ReadsLine rules.way m.left left found → m.executor.is_open ≡ true
       → ReplyBreaks look rules (spot m.executor m.heard) q found → BreaksIn look source rules own m q
-  in_row : (left : Option (List ℕ)) (commands : List Command) → ReadsCommands m.left commands left → m.executor.is_open ≡ true
+  in_row : (left : Option (List ℕ)) (commands : List Command) → ReadsCommands rules.way m.left commands left → m.executor.is_open ≡ true
       → RowBreaks look rules commands (spot m.executor m.heard) q → BreaksIn look source rules own m q
   in_own_turn : (now : ℕ) → MakesTurns rules.way → m.executor.is_open ≡ true
       → OwnTurnBreaks look rules now own (spot m.executor m.heard) q → BreaksIn look source rules own m q

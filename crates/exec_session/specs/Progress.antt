@@ -16,22 +16,23 @@ use Rattle.exec_session.specs.declared.lines.Progress.TheVariants as progress
 use Rattle.exec_session.specs.Answers.{Source, IsReadAs, IsReply}
 use Rattle.exec_session.specs.Drains.{Hearing, spot}
 use Rattle.exec_session.specs.Rules.{Rules}
+use Rattle.exec_session.specs.declared.context.Way.{Way}
 
 -- where it is known what a reader has left: the next line has no bytes, and what stands behind it is left
 abbrev pub PassesLine : Option (List ℕ) → Option (List ℕ) → Type 0
 PassesLine None new = ⊤
 PassesLine (Some xs) new = (0 < length xs) × (first_line xs ≡ []) × (new ≡ Some (after_first_line xs))
 
--- where it is known what a reader has left: the next line is read as this, and what stands behind it is left
-abbrev pub ReadsLine : Option (List ℕ) → Option (List ℕ) → Result Line Refusal → Type 0
-ReadsLine None new found = ⊤
-ReadsLine (Some xs) new found = (first_line xs ≢ []) × (new ≡ Some (after_first_line xs)) × IsReadAs (first_line xs) found
+-- where it is known what a reader has left: the next line is read as this by a run that goes so, and what stands behind it is left
+abbrev pub ReadsLine : Way → Option (List ℕ) → Option (List ℕ) → Result Line Refusal → Type 0
+ReadsLine way None new found = ⊤
+ReadsLine way (Some xs) new found = (first_line xs ≢ []) × (new ≡ Some (after_first_line xs)) × IsReadAs way (first_line xs) found
 
 -- what stands next in the input, from what a reader has left to what it has left then
-abbrev pub ReadsInput : Option (List ℕ) → Option (List ℕ) → Found → Type 0
-ReadsInput old new found.End = IsAtEnd old
-ReadsInput old new found.Empty = PassesLine old new
-ReadsInput old new (found.Line line) = ReadsLine old new line
+abbrev pub ReadsInput : Way → Option (List ℕ) → Option (List ℕ) → Found → Type 0
+ReadsInput way old new found.End = IsAtEnd old
+ReadsInput way old new found.Empty = PassesLine old new
+ReadsInput way old new (found.Line line) = ReadsLine way old new line
 
 -- where a run is: its executor, what the reader has left, and what the client has heard
 pub record Position (D : Type 0) : Type 0 where
@@ -48,7 +49,7 @@ pub record AnswersHeard {D : Type 0} (hears_so : Hearing D) (look : D → View) 
   pub found : Result Line Refusal
   pub reply : LineReply
   pub noticed : Heard D
-  pub read : ReadsLine p.left q.left found
+  pub read : ReadsLine rules.way p.left q.left found
   pub answered : IsReply look source rules (spot p.executor p.heard) (spot q.executor noticed) found reply
   pub hears : hears_so noticed q.heard (Answered reply ∷ [])
 

@@ -13,16 +13,17 @@ use Rattle.exec_client.specs.Said.{answered}
 use Rattle.exec_session.specs.Drains.{Hearing, Spot, spot}
 use Rattle.exec_session.specs.Rules.{Rules, MakesRoom}
 use Rattle.exec_session.specs.Progress.{Position, ReadsLine}
+use Rattle.exec_session.specs.declared.context.Way.{Way}
 
--- the next line is read as this command
-abbrev pub ReadsCommand : Option (List ℕ) → Option (List ℕ) → Command → Type 0
-ReadsCommand old new command = ReadsLine old new (Ok (line.Request (asked.Command command)))
+-- the next line is read as this command by a run that goes so
+abbrev pub ReadsCommand : Way → Option (List ℕ) → Option (List ℕ) → Command → Type 0
+ReadsCommand way old new command = ReadsLine way old new (Ok (line.Request (asked.Command command)))
 
 -- the next lines are read as these commands, one behind the other
-abbrev pub ReadsCommands : Option (List ℕ) → List Command → Option (List ℕ) → Type 0
-ReadsCommands old [] new = new ≡ old
-ReadsCommands old (first ∷ others) new =
-    (behind : Option (List ℕ)) × ReadsCommand old behind first × ReadsCommands behind others new
+abbrev pub ReadsCommands : Way → Option (List ℕ) → List Command → Option (List ℕ) → Type 0
+ReadsCommands way old [] new = new ≡ old
+ReadsCommands way old (first ∷ others) new =
+    (behind : Option (List ℕ)) × ReadsCommand way old behind first × ReadsCommands way behind others new
 
 -- What an open executor does with commands that arrived together, at the moment that the clock shows, whatever that is: room is made,
 -- and then it takes them. Where a disk fault closed the executor as room was made, each is refused for that and nothing
@@ -55,5 +56,5 @@ AnswersAll look rules (first ∷ others) p q = AnswersTogether look rules (first
 -- The next lines are commands, which are answered together.
 pub record AnswersRow {D : Type 0} (look : D → View) (rules : Rules) (commands : List Command)
     (p q : Position D) : Type 0 where
-  pub read : ReadsCommands p.left commands q.left
+  pub read : ReadsCommands rules.way p.left commands q.left
   pub answered : AnswersTogether look rules commands (spot p.executor p.heard) (spot q.executor q.heard)

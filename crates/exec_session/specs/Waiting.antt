@@ -30,7 +30,7 @@ pub record MayWait {D : Type 0} (x : Sight D) (commands : List Command) : Type 0
 pub record Waits {D : Type 0} (look : D → View) (source : Source) (rules : Rules)
     (p : Position D) (own : TurnEnd) (count : ℕ) (commands : List Command) (q : Position D) : Type 0 where
   pub left : Option (List ℕ)
-  pub read : ReadsCommands left commands q.left
+  pub read : ReadsCommands rules.way left commands q.left
   pub reached : Reaches look source rules p own count (position q.executor left q.heard)
   pub goes_on : MayGoOn rules.way q.executor
 

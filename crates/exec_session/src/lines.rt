@@ -4,6 +4,7 @@ ghost use Rattle.ocf_types.specs.declared.reply.TurnEnd.{TurnEnd};
 ghost use Rattle.exec_lines.specs.Buffer.{line_bytes};
 ghost use Rattle.exec_lines.specs.Pieces.{IsNext};
 ghost use Rattle.exec_client.specs.MayTell.{AllStand};
+ghost use Rattle.exec_session.specs.Answers.{IsReadAs};
 ghost use Rattle.exec_session.specs.Breaks.{TakesOrBreaks};
 ghost use Rattle.exec_session.specs.Gathered.{waiting};
 ghost use Rattle.exec_session.specs.Rules.{rules_of};
@@ -20,7 +21,7 @@ use crate::together::answer_gathered;
 use child_model::Children;
 use disk_model::Disk;
 use exec_client::{Client, Told};
-use exec_commands::{Line, read_command};
+use exec_commands::{Line, read_command, read_strictly};
 use exec_lines::{LineBuffer, Next};
 use exec_output::IoFault;
 use executor::Executor;
@@ -75,10 +76,20 @@ pub fn next_step<D: Disk + Drop, C: Children + Drop, K, M>(
     }
 }
 
-/// What stands next in the input, whose line is in the buffer.
-pub fn found_in(alloc: Global, buffer: &LineBuffer, next: Next) -> Found
+// What a line asks for, or why it is refused: a run that serves refuses one in which a key comes twice.
+fn read_line(way: Way, alloc: Global, bytes: &[u8]) -> Result<Line, Refusal>
+    ensures { IsReadAs way bytes.now result }
+{
+    match way {
+        Way::Run => read_command(alloc, bytes),
+        Way::Serve => read_strictly(alloc, bytes),
+    }
+}
+
+/// What stands next in the input of a run that goes so, whose line is in the buffer.
+pub fn found_in(way: Way, alloc: Global, buffer: &LineBuffer, next: Next) -> Found
     ensures found { (left now : Option (List ℕ)) → IsNext left next (line_bytes buffer.now) now
-        → ReadsInput left now result }
+        → ReadsInput way left now result }
 {
     match next {
         Next::End => Found::End,
@@ -87,7 +98,7 @@ pub fn found_in(alloc: Global, buffer: &LineBuffer, next: Next) -> Found
             if buffer.line().is_empty() {
                 return Found::Empty;
             }
-            Found::Line(read_command(alloc, buffer.line()))
+            Found::Line(read_line(way, alloc, buffer.line()))
         }
     }
 }
@@ -103,7 +114,7 @@ fn answer_found<D: Disk + Drop, C: Children + Drop, T: Client<D, C>, K: Clock, M
     ensures stands { AllStand D.view (T.heard client.new) executor.new }
     ensures opened { (T.heard client.new).opened ≡ (T.heard client.old).opened }
     ensures takes { (own : TurnEnd) (left now : Option (List ℕ))
-        → MayGoOn context.now.way executor.old → ReadsInput left now found
+        → MayGoOn context.now.way executor.old → ReadsInput context.now.way left now found
         → TakesOrBreaks D.view (M.gives context.now.metadata.now) (rules_of context.now) own
         (position executor.old left (T.heard client.old))
         (position executor.new now (T.heard client.new)) result }
@@ -135,7 +146,7 @@ fn take_command<D: Disk + Drop, C: Children + Drop, T: Client<D, C>, K: Clock, M
     ensures opened { (T.heard client.new).opened ≡ (T.heard client.old).opened }
     ensures takes { (p : Position D) (own : TurnEnd) (most : ℕ)
         (left now : Option (List ℕ))
-        → MayTakeBehind context.now.way most → ReadsCommand left now command
+        → MayTakeBehind context.now.way most → ReadsCommand context.now.way left now command
         → HasCome D.view (M.gives context.now.metadata.now) (rules_of context.now) p own most
         (waiting gathered.old) (position executor.old left (T.heard client.old))
         → Comes D.view (M.gives context.now.metadata.now) (rules_of context.now) p own
@@ -165,7 +176,7 @@ fn take_other<D: Disk + Drop, C: Children + Drop, T: Client<D, C>, K: Clock, M: 
     ensures opened { (T.heard client.new).opened ≡ (T.heard client.old).opened }
     ensures takes { (p : Position D) (own : TurnEnd) (most : ℕ)
         (left now : Option (List ℕ))
-        → MayTakeBehind context.now.way most → ReadsInput left now found
+        → MayTakeBehind context.now.way most → ReadsInput context.now.way left now found
         → HasCome D.view (M.gives context.now.metadata.now) (rules_of context.now) p own most
         (waiting gathered.old) (position executor.old left (T.heard client.old))
         → Comes D.view (M.gives context.now.metadata.now) (rules_of context.now) p own
@@ -199,7 +210,7 @@ pub fn take_found<D: Disk + Drop, C: Children + Drop, T: Client<D, C>, K: Clock,
     ensures opened { (T.heard client.new).opened ≡ (T.heard client.old).opened }
     ensures takes { (p : Position D) (own : TurnEnd) (most : ℕ)
         (left now : Option (List ℕ))
-        → MayTakeBehind context.now.way most → ReadsInput left now found
+        → MayTakeBehind context.now.way most → ReadsInput context.now.way left now found
         → HasCome D.view (M.gives context.now.metadata.now) (rules_of context.now) p own most
         (waiting gathered.old) (position executor.old left (T.heard client.old))
         → Comes D.view (M.gives context.now.metadata.now) (rules_of context.now) p own

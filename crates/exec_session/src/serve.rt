@@ -66,7 +66,7 @@ fn take_read<R: Input, D: Disk + Drop, C: Children + Drop, T: Client<D, C>, K: C
     let Some(next) = gather_line(reader, buffer)? else {
         return Ok(Taken::More);
     };
-    let found = found_in(context.alloc, buffer, next);
+    let found = found_in(context.way, context.alloc, buffer, next);
     buffer.clear();
     let has_next = reader.has_line();
     take_found(context, client, executor, gathered, found, has_next)

@@ -61,7 +61,7 @@ fn take_next<R: Input, D: Disk + Drop, C: Children + Drop, T: Client<D, C>, K: C
         (position executor.new (R.remaining reader.new) (T.heard client.new)) result }
 {
     let next = next_line(reader, buffer)?;
-    let found = found_in(context.alloc, buffer, next);
+    let found = found_in(context.way, context.alloc, buffer, next);
     let has_next = reader.has_line();
     take_found(context, client, executor, gathered, found, has_next)
 }

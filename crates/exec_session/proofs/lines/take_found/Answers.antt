@@ -12,7 +12,7 @@ pub returns-in-Line-Ok-Request-Command-clause-takes : goal.returns-in-Line-Ok-Re
 returns-in-Line-Ok-Request-Command-clause-takes g c = λ p own most left now may read come.
     let arm = c.in-Line-Ok-Request-Command in
     let is : c.args.found ≡ found.Line (Ok (line.Request (asked.Command arm.command))) = cc in
-    c.take_command.ensures.takes p own most left now may (subst (λ (f : Found). ReadsInput left now f) is read) come
+    c.take_command.ensures.takes p own most left now may (subst (λ (f : Found). ReadsInput c.args.context.now.way left now f) is read) come
 
 pub returns-in_default-clause-takes : goal.returns-in_default-clause-takes
 returns-in_default-clause-takes g c = λ p own most left now may read come.
@@ -23,4 +23,4 @@ returns-in_default-clause-takes g c = λ p own most left now may read come.
       | in_default-via-in-Line+in-Err-1 w ↦ cc
       | in_default-via-in-Empty-1 w ↦ cc
     ] in
-    c.take_other.ensures.takes p own most left now may (subst (λ (f : Found). ReadsInput left now f) same read) come
+    c.take_other.ensures.takes p own most left now may (subst (λ (f : Found). ReadsInput c.args.context.now.way left now f) same read) come
