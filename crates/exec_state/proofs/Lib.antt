@@ -6,5 +6,6 @@ pub mod Rooms
 pub mod Resting
 pub mod Restored
 pub mod DueSteps
+pub mod Dues
 pub mod DueLaw
 pub mod Examples

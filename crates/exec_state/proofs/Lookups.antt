@@ -50,7 +50,7 @@ module _ {A : Type 0} where
       by false other k = rw other k
 
   -- a fact of each key holds of the one at a place
-  key_fact : (P : List ℕ → Type 0) (es : List (List ℕ × A)) (i : ℕ) (k : List ℕ) (v : A) → AllByRecursion P (keys_of es)
+  pub key_fact : (P : List ℕ → Type 0) (es : List (List ℕ × A)) (i : ℕ) (k : List ℕ) (v : A) → AllByRecursion P (keys_of es)
       → Some (k, v) ≡ slice_get es i → P k
   key_fact P [] i k v h at = absurd (let none : Some (k, v) ≡ None = at in cc)
   key_fact P (e ∷ es) zero k v h at =

@@ -1,17 +1,19 @@
 -- The pick over monitors with their due moments is the pick over the due moment of each call.
-use Rattle.std.proofs.Common.{◌≡◌, ℕ, ◌==◌, ◌<◌, true, false, List, [], ◌∷◌, map, find, Option, Some, None, MatchOption, unwrap_or, refl}
+use Rattle.std.proofs.Common.{◌≡◌, ℕ, ◌==◌, ◌<◌, ◌||◌, nat_lt, true, false, length, List, [], ◌∷◌, map, find, Option, Some, None, MatchOption, is_some, unwrap_or, refl}
 use Rattle.std.proofs.Common.{sym, ap, subst, ◌∙◌, arith}
 use Rattle.std.specs.Option.{option_map}
 use Rattle.std.specs.List.{AllByRecursion}
 use Rattle.std.specs.Map.{lookup}
 use Rattle.std.specs.Str.{bytes_eq}
 use Rattle.std.proofs.lemmas.Bool.{false_from_ne_true}
-use Rattle.std.proofs.lemmas.Bool.Decides.{Decides-eqb}
+use Rattle.std.proofs.lemmas.Bool.Decides.{Decides-eqb, nat_tests}
 use Rattle.std.proofs.lemmas.Map.Made.{lookup-map_values}
+use Rattle.ocf_types.specs.declared.operation.Op.{Op}
 use Rattle.ocf_types.specs.declared.operation.Recur.{Recur}
-use Rattle.ocf_types.specs.Resource.{Resource}
+use Rattle.ocf_types.specs.declared.operation.Running.{Running}
+use Rattle.ocf_types.specs.Resource.{History, Resource, is_busy}
 use Rattle.ocf_types.specs.State.{Registry, resource_at}
-use Rattle.ocf_types.specs.Due.{due_pairs, IsPickOf, IsPick}
+use Rattle.ocf_types.specs.Due.{due_pairs, IsLeastDue, IsPickOf, IsPick}
 use Rattle.ocf_types.specs.LawfulState.{IsAscending, IsLawfulResource}
 use Rattle.recurring.specs.declared.monitor.Monitor.{Monitor}
 use Rattle.recurring.specs.Monitors.{recurs, pairs}
@@ -81,3 +83,14 @@ choice s id now pick h = by (resource_at s.state id) refl
         let all : due_pairs r.recurring (due_of s.monitors id) ≡ pairs ms
         = subst (λ (l : List Recur). due_pairs l (due_in ms) ≡ pairs ms) same (due_pairs-recurs ms ascends) in
         rw all p
+
+-- with nothing queued or running, what is due first is picked
+pub idle_picks : (h : History) (ps : List (ℕ × ℕ)) (now : ℕ) (pick : Option ℕ) → is_busy h ≡ false → IsLeastDue ps now pick
+    → IsPickOf h.running h.queue ps now pick
+idle_picks h ps now pick idle least = by h.running h.queue idle
+  where
+    by : (x : Option Running) (queue : List Op) → (nat_lt 0 (length queue) || is_some x) ≡ false → IsPickOf x queue ps now pick
+    by None [] e = least
+    by None (o ∷ os) e = absurd (grind (arith, nat_tests))
+    by (Some x) [] e = absurd (let bad : true ≡ false = e in cc)
+    by (Some x) (o ∷ os) e = absurd (grind (arith, nat_tests))

@@ -1,12 +1,9 @@
 -- When nothing is to begin.
-use Rattle.std.proofs.Common.{◌≡◌, ℕ, suc, ◌<◌, ◌≤◌, ◌+◌, ◌++◌, min, length, take, slice_get, Bool, true, false, cond, List, [], ◌∷◌, Option, Some, None, MatchOption, is_some, All, ◌⊎◌, inl, inr, append-nil}
+use Rattle.std.proofs.Common.{◌≡◌, ℕ, suc, ◌<◌, ◌+◌, ◌++◌, min, length, take, slice_get, Bool, true, false, cond, List, [], ◌∷◌, Option, Some, None, MatchOption, is_some}
 use Rattle.std.proofs.Common.{unwrap_or, refl, ap, arith}
 use Rattle.std.specs.Prelude.{⊤}
 use Rattle.std.specs.Option.{option_map}
-use Rattle.std.specs.List.{AllByRecursion, flat_map}
-use Rattle.std.proofs.lemmas.Bool.{cases_lt}
-use Rattle.std.proofs.lemmas.List.Concat.{flat_map-append}
-use Rattle.std.proofs.lemmas.List.Elements.{All-append, Contains-append_left, Contains-append_right}
+use Rattle.std.specs.List.{AllByRecursion}
 use Rattle.std.specs.Map.{lookup, values_of}
 use Rattle.std.specs.Str.{bytes_eq}
 use Rattle.std.proofs.lemmas.Map.Made.{lookup-map_values}
@@ -18,7 +15,7 @@ use Rattle.ocf_types.specs.Due.{IsPickOf}
 use Rattle.recurring.specs.Monitors.{pairs, IsFirstMoment}
 use Rattle.exec_state.specs.declared.registered.Registered.{Registered}
 use Rattle.exec_state.specs.Seen.{seen, seen_all, monitors_of, monitors_all}
-use Rattle.exec_state.specs.Store.{Store, Monitors, all_pairs, monitors_at}
+use Rattle.exec_state.specs.Store.{Store, Monitors, monitors_at}
 use Rattle.exec_state.specs.Resting.{AllRest, RestBefore, Rests}
 use Rattle.exec_state.specs.Lawful.{IsLawfulStore}
 use Rattle.exec_state.proofs.Choices.{take_more_some}
@@ -94,42 +91,3 @@ rests_all s now h rest id = choice s id now None h (by (lookup (bytes_eq id) s.s
         → MatchOption o (nothing ≡ None) (λ r. IsPickOf r.history.running r.history.queue (pairs (monitors_at s.monitors id)) now None)
     by None k = refl
     by (Some r) k = k
-
--- the least of two lists of pairs
-pub least_of_both : (xs ys : List (ℕ × ℕ)) (a b is : ℕ) → is ≡ min a b → IsFirstMoment xs (Some a) → IsFirstMoment ys (Some b)
-    → IsFirstMoment (xs ++ ys) (Some is)
-least_of_both xs ys a b is same h k = by (cases_lt a b)
-  where
-    all : is ≤ a → is ≤ b → All (λ p. is ≤ p.0) (xs ++ ys)
-    all la lb = All-append (λ p. is ≤ p.0) xs ys (λ i d lt. omega (arith, la, h.2 i d lt)) (λ i d lt. omega (arith, lb, k.2 i d lt))
-
-    by : (a < b) ⊎ (b ≤ a) → IsFirstMoment (xs ++ ys) (Some is)
-    by (inl lt) =
-        let e : is ≡ a = omega (arith, same, lt) in
-        (h.0, rw e (Contains-append_left xs ys (a, h.0) h.1), all (omega (arith, e)) (omega (arith, e, lt)))
-    by (inr le) =
-        let e : is ≡ b = omega (arith, same, le) in
-        (k.0, rw e (Contains-append_right xs ys (b, k.0) k.1), all (omega (arith, e, le)) (omega (arith, e)))
-
-pub earlier_of : (xs ys : List (ℕ × ℕ)) (a b : Option ℕ) → IsFirstMoment xs a → IsFirstMoment ys b → a ≡ None → IsFirstMoment (xs ++ ys) b
-earlier_of xs ys None b h k e = rw h k
-earlier_of xs ys (Some a) b h k e = absurd (cc)
-
-pub earlier_of_left : (xs ys : List (ℕ × ℕ)) (a b : Option ℕ) → IsFirstMoment xs a → IsFirstMoment ys b → b ≡ None → IsFirstMoment (xs ++ ys) a
-earlier_of_left xs ys a None h k e = rw (k, append-nil xs) h
-earlier_of_left xs ys a (Some b) h k e = absurd (cc)
-
--- one more resource
-pub first_more : {H : Type 0} (rs : List (Registered H)) (i : ℕ) (r : Registered H) (so_far own is : Option ℕ) → slice_get rs i ≡ Some r
-    → ((xs ys : List (ℕ × ℕ)) → IsFirstMoment xs so_far → IsFirstMoment ys own → IsFirstMoment (xs ++ ys) is)
-    → IsFirstMoment (flat_map (λ x. pairs x.monitors) (take i rs)) so_far
-    → IsFirstMoment (pairs r.monitors) own
-    → IsFirstMoment (flat_map (λ x. pairs x.monitors) (take (i + 1) rs)) is
-first_more {H = H} rs i r so_far own is at least h k =
-    rw (take_more_some rs i r at, flat_map-append (λ (x : Registered H). pairs x.monitors) (take i rs) (r ∷ []), append-nil (pairs r.monitors))
-    (least (flat_map (λ x. pairs x.monitors) (take i rs)) (pairs r.monitors) h k)
-
--- the pairs of the values are those of the monitors
-pub pairs_seen : {H : Type 0} (es : List (List ℕ × Registered H)) → flat_map (λ r. pairs r.monitors) (values_of es) ≡ all_pairs (monitors_all es)
-pairs_seen [] = refl
-pairs_seen (e ∷ es) = ap (λ (l : List (ℕ × ℕ)). pairs e.1.monitors ++ l) (pairs_seen es)

@@ -1,8 +1,9 @@
 -- What a lawful state gives: room for each resource, and a lawful state where it stays the same.
-use Rattle.std.proofs.Common.{◌≡◌, ℕ, zero, suc, ◌-◌, ◌≤◌, IsTrue, List, [], ◌∷◌, map, drop, length, refl, sym, ap, subst, arith, length-drop}
+use Rattle.std.proofs.Common.{◌≡◌, ℕ, zero, suc, ◌-◌, ◌<◌, ◌≤◌, ◌&&◌, nat_lt, Bool, true, false, IsTrue, List, [], ◌∷◌, map, drop, length, refl, sym, ap, subst, arith, length-drop}
 use Rattle.std.specs.List.{AllByRecursion, IsDistinct}
 use Rattle.std.specs.Map.{keys_of}
 use Rattle.std.specs.Str.{bytes_eq}
+use Rattle.std.proofs.lemmas.Bool.Decides.{nat_tests}
 use Rattle.ocf_types.specs.declared.operation.Recur.{Recur}
 use Rattle.ocf_types.specs.declared.operation.Ended.{Ended}
 use Rattle.ocf_types.specs.Names.{is_rsc_id}
@@ -105,3 +106,9 @@ lawful_new t h same none = lawful_same empty t h same (rw (same, none) refl)
 pub recurs_due : (at : ℕ) (xs : List Recur) → recurs (all_due_at at xs) ≡ xs
 recurs_due at [] = refl
 recurs_due at (x ∷ xs) = ap (λ (ys : List Recur). x ∷ ys) (recurs_due at xs)
+
+-- where all three hold, there is room
+pub last_of_three : (a b : Bool) (n : ℕ) → IsTrue (a && (b && nat_lt 0 n)) → 0 < n
+last_of_three true true n h = grind (arith, nat_tests)
+last_of_three true false n h = absurd (let bad : false ≡ true = h in cc)
+last_of_three false b n h = absurd (let bad : false ≡ true = h in cc)

@@ -12,6 +12,7 @@ use Rattle.ocf_types.specs.declared.event.Change.TheVariants as change
 use Rattle.ocf_types.specs.declared.event.Step.TheVariants as step
 use Rattle.ocf_types.specs.declared.operation.Running.{Running}
 use Rattle.recurring.specs.declared.monitor.Monitor.{Monitor}
+use Rattle.recurring.specs.DueIndex.{Dues}
 use Rattle.recurring.specs.Monitors.{all_due_at, pairs}
 
 -- the recurring monitors of each resource with their due moments, by its id, in order of registration
@@ -39,6 +40,10 @@ monitors_at all id = unwrap_or (lookup (bytes_eq id) all) []
 -- the due moments of all monitors, each with its call
 abbrev pub all_pairs : Monitors → List (ℕ × ℕ)
 all_pairs all = flat_map (λ e. pairs e.1) all
+
+-- the due moments of each resource's monitors with their calls, by its id
+abbrev pub dues_by_id : Monitors → Dues
+dues_by_id all = map (λ e. (e.0, pairs e.1)) all
 
 -- when the monitor of an id and a call is due
 abbrev pub due_of : Monitors → Due

@@ -4,12 +4,12 @@ ghost use Rattle.ocf_types.specs.Due.{IsPickOf};
 ghost use Rattle.ocf_types.specs.Places.{entry_at};
 ghost use Rattle.recurring.specs.Monitors.{pairs, IsFirstMoment};
 ghost use Rattle.exec_state.specs.Seen.{seen};
-ghost use Rattle.exec_state.specs.Store.{Chooses, all_pairs, dues, run_of_pick};
+ghost use Rattle.exec_state.specs.Store.{Chooses, IsChoice, all_pairs, dues, run_of_pick};
 ghost use Rattle.exec_state.specs.Resting.{Rests};
 
 use crate::registered::Registered;
 use crate::state::State;
-use ocf_types::{CallId, Moment, RunId, Running, StateView};
+use ocf_types::{CallId, Moment, RscId, RunId, Running, StateView};
 use std::alloc::Allocator;
 
 impl<A: Allocator + Copy> State<A> {
@@ -20,6 +20,19 @@ impl<A: Allocator + Copy> State<A> {
         ensures { Chooses (dues self.now) at run (entry_at self.now.state place) result }
     {
         self.registry.entry(place).1.pick(run, at)
+    }
+
+    /// The call of what the resource of that id begins at that moment: that of the first queued action, else that of the
+    /// recurring monitor that is due first. `None` where there is no such resource, where an action runs, or where nothing
+    /// is queued and no monitor is due.
+    pub fn choose(&self, id: &RscId, now: Moment) -> Option<CallId>
+        ensures { IsChoice self.now id.now now result }
+    {
+        match self.registry.get(id) {
+            Some(resource) if resource.ops.is_busy() => resource.choose(now),
+            Some(_) => self.registry.due_of(id, now),
+            None => None,
+        }
     }
 
     /// Looks when the next resource has something to begin, unless that is known since the last event. Nothing else

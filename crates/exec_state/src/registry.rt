@@ -7,6 +7,7 @@ ghost use Rattle.std.specs.Str.{bytes_eq};
 ghost use Rattle.indexmap.specs.IndexMap.{values, spare};
 ghost use Rattle.ocf_types.specs.Resource.{booted, history_in, is_busy};
 ghost use Rattle.ocf_types.specs.State.{at_id, others, on_history, stepped, registered};
+ghost use Rattle.ocf_types.specs.Due.{IsLeastDue};
 ghost use Rattle.ocf_types.specs.Places.{no_entry};
 ghost use Rattle.ocf_types.specs.declared.layout.Layout.TheVariants.{First};
 ghost use Rattle.recurring.specs.Monitors.{all_due_at, pairs, IsFirstMoment};
@@ -14,13 +15,15 @@ ghost use Rattle.exec_state.specs.Seen.{seen, seen_all, monitors_of, monitors_al
 ghost use Rattle.exec_state.specs.MonitorsAfter.{monitors_stepped};
 ghost use Rattle.exec_state.specs.Lawful.{recurs_by_id, recurring_by_id};
 ghost use Rattle.exec_state.specs.Resting.{AllRest, RestBefore};
-ghost use Rattle.exec_state.specs.Store.{all_pairs};
+ghost use Rattle.exec_state.specs.Store.{all_pairs, dues_by_id, monitors_at};
 
 use crate::registered::Registered;
 use indexmap::IndexMap;
-use ocf_types::{Moment, Params, RESOURCES_LIMIT, Registration, ResourceParts, RscId, Step};
+use ocf_types::{
+    CallId, Moment, Params, RESOURCES_LIMIT, Registration, ResourceParts, RscId, Step,
+};
 use op_history::Ops;
-use recurring::Recurrings;
+use recurring::{DueIndex, Recurrings};
 use std::alloc::{AllocError, Allocator, Global};
 use std::hash::{BuildHasherDefault, FoldHasher};
 use std::marker::Model;
@@ -33,6 +36,8 @@ type Resources<A> = IndexMap<RscId, Registered<A>, BuildHasherDefault<FoldHasher
 pub(crate) struct Registry<A: Allocator + Copy = Global> {
     resources: Resources<A>,
     next_ops: Option<Ops<A>>,
+    // When each recurring monitor is due.
+    dues: DueIndex<A>,
     // A moment before which no resource has anything to begin: 0 since something changed.
     rests_until: u64,
 }
@@ -44,17 +49,19 @@ impl<A: Allocator + Copy> Model for Registry<A> {
     ghost use Rattle.exec_state.specs.Seen.{seen_all, monitors_all};
     ghost use Rattle.exec_state.specs.Contents.{Contents};
     ghost use Rattle.exec_state.specs.Resting.{RestBefore};
+    ghost use Rattle.exec_state.specs.Store.{dues_by_id};
 
     ghost Value = { Contents };
 
     ghost view = { λ r. record {
       resources = seen_all r.resources.entries;
       monitors = monitors_all r.resources.entries;
-      ready = is_some r.next_ops && nat_lt 0 (spare r.resources);
+      ready = is_some r.next_ops && (nat_lt 0 (spare r.resources) && nat_lt 0 r.dues.room);
     } };
 
     ghost invariant = { λ r. (IfSome r.next_ops (λ o. o ≡ no_history))
-        × RestBefore (seen_all r.resources.entries) (monitors_all r.resources.entries) r.rests_until };
+        × RestBefore (seen_all r.resources.entries) (monitors_all r.resources.entries) r.rests_until
+        × (r.dues.dues ≡ dues_by_id (monitors_all r.resources.entries)) };
 }
 
 impl<A: Allocator + Copy> Registry<A> {
@@ -67,6 +74,7 @@ impl<A: Allocator + Copy> Registry<A> {
         Registry {
             resources: IndexMap::new(alloc),
             next_ops: None,
+            dues: DueIndex::new(alloc),
             rests_until: 0,
         }
     }
@@ -85,13 +93,16 @@ impl<A: Allocator + Copy> Registry<A> {
             (λ r. r.monitors ≡ map (λ e. (e.0, all_due_at due e.1.recurring)) parts.items) }
     {
         let mut resources = IndexMap::new(alloc);
+        let mut dues = DueIndex::new(alloc);
         for part in parts {
             let (id, resource) = Registered::from_parts(alloc, due, part)?;
-            insert(&mut resources, id, resource)?;
+            dues.reserve(1)?;
+            insert(&mut resources, &mut dues, id, resource)?;
         }
         Ok(Registry {
             resources,
             next_ops: None,
+            dues,
             rests_until: 0,
         })
     }
@@ -177,6 +188,7 @@ impl<A: Allocator + Copy> Registry<A> {
         ensures monitors { self.new.monitors ≡ self.old.monitors }
     {
         self.resources.reserve(1)?;
+        self.dues.reserve(1)?;
         if self.next_ops.is_none() {
             self.next_ops = Some(Ops::new(*self.resources.allocator())?);
         }
@@ -197,7 +209,7 @@ impl<A: Allocator + Copy> Registry<A> {
         };
         self.rests_until = 0;
         let (id, resource) = Registered::new(registration, ops, Recurrings::new());
-        if insert(&mut self.resources, id, resource).is_err() {
+        if insert(&mut self.resources, &mut self.dues, id, resource).is_err() {
             unreachable!()
         }
     }
@@ -212,6 +224,7 @@ impl<A: Allocator + Copy> Registry<A> {
         let _len = self.resources.len();
         self.rests_until = 0;
         self.resources.shift_remove(id);
+        self.dues.forget(id);
     }
 
     /// Does what the step of the resource of that id says.
@@ -229,6 +242,7 @@ impl<A: Allocator + Copy> Registry<A> {
             unreachable!()
         };
         resource.take_step(at, step);
+        self.dues.renew(id, &resource.monitors);
     }
 
     /// Boots every resource.
@@ -269,10 +283,14 @@ impl<A: Allocator + Copy> Registry<A> {
             (λ e. (e.0, all_due_at at e.1.recurring)) self.old.resources }
     {
         self.rests_until = 0;
-        let resources = &mut self.resources;
+        let (resources, dues) = (&mut self.resources, &mut self.dues);
         for place in 0..resources.len() {
             let resource = &mut resources[place];
             resource.restart(at);
+            let Some((id, resource)) = resources.get_index(place) else {
+                unreachable!()
+            };
+            dues.renew(id, &resource.monitors);
         }
     }
 
@@ -289,7 +307,15 @@ impl<A: Allocator + Copy> Registry<A> {
     pub(crate) fn first_due(&self) -> Option<u64>
         ensures { IsFirstMoment (all_pairs self.now.monitors) result }
     {
-        first_due(&self.resources)
+        self.dues.first_due()
+    }
+
+    /// The call of the recurring monitor of the resource of that id that is due first, and of the lowest call among those that are
+    /// due then.
+    pub(crate) fn due_of(&self, id: &RscId, now: Moment) -> Option<CallId>
+        ensures { IsLeastDue (pairs (monitors_at self.now.monitors id.now)) now result }
+    {
+        self.dues.due_of(id, now)
     }
 
     /// Whether it is known that no resource has anything to begin at that moment.
@@ -298,31 +324,6 @@ impl<A: Allocator + Copy> Registry<A> {
     {
         now.get() < self.rests_until
     }
-}
-
-/// The earlier of two moments that may be there.
-fn earlier(one: Option<u64>, other: Option<u64>) -> Option<u64>
-    ensures { (xs ys : List (ℕ × ℕ)) → IsFirstMoment xs one → IsFirstMoment ys other
-        → IsFirstMoment (xs ++ ys) result }
-{
-    match (one, other) {
-        (None, other) => other,
-        (one, None) => one,
-        (Some(one), Some(other)) => Some(one.min(other)),
-    }
-}
-
-/// The least moment at which a recurring monitor of one of these is due.
-fn first_due<A: Allocator + Copy>(resources: &Resources<A>) -> Option<u64>
-    ensures { IsFirstMoment (flat_map (λ r. pairs r.monitors) (values resources.now)) result }
-{
-    let mut first = None;
-    for place in 0..resources.len() {
-        let resource = &resources[place];
-        let own = resource.monitors.first_due();
-        first = earlier(first, own);
-    }
-    first
 }
 
 /// A moment before which none of these has anything to begin.
@@ -346,20 +347,26 @@ fn is_any_busy<A: Allocator + Copy>(resources: &Resources<A>) -> bool
     resources.values().any(|resource| resource.ops.is_busy())
 }
 
-/// Adds a resource. The only error is want of memory, which does not come where there is room.
+/// Adds a resource and its recurring monitors. The only error is want of memory, which does not come where there is room.
 fn insert<A: Allocator + Copy>(
     resources: &mut Resources<A>,
+    dues: &mut DueIndex<A>,
     id: RscId,
     resource: Registered<A>,
 ) -> Result<(), AllocError>
-    requires { lookup (bytes_eq id) (seen_all resources.old.entries) ≡ None }
+    requires absent { lookup (bytes_eq id) (seen_all resources.old.entries) ≡ None }
+    requires tied { dues.old.dues ≡ dues_by_id (monitors_all resources.old.entries) }
+    requires room { 0 < dues.old.room }
     ensures resources { OnOk result (seen_all resources.new.entries
         ≡ seen_all resources.old.entries ++ (id, seen resource) ∷ []) }
     ensures monitors { OnOk result
         (monitors_all resources.new.entries
         ≡ monitors_all resources.old.entries ++ (id, resource.monitors) ∷ []) }
+    ensures tied { OnOk result (dues.new.dues ≡ dues_by_id (monitors_all resources.new.entries)) }
     ensures succeeds { 0 < spare resources.old → IsOk result }
 {
+    dues.keep(id.copied());
+    dues.renew(&id, &resource.monitors);
     match resources.insert(id, resource) {
         Ok(_) => Ok(()),
         Err(_) => Err(AllocError),

@@ -4,6 +4,7 @@ use crate::heaps::{Ended, done, grows};
 use crate::parts::FIRST;
 use child_keeper::{Script, Scripted};
 use child_model::{Children, Poll};
+use disk_model::MemDisk;
 use executor::Executor;
 use linked_list_allocator::LocalHeap;
 use ocf_types::{CommandOf, Millis, Request, RequestOf, RscId, Task, TurnEnd};
@@ -29,18 +30,26 @@ fn script(heap: &LocalHeap) -> Option<Script<&LocalHeap>> {
 }
 
 // Whether the start of r1 is begun, polled, and killed as its time is out: none lives then, the book has an entry for the
-// start, for each of two polls and for the kill, and no memory was taken.
+// start, for each of two polls and for the kill, and no memory was taken beside what was used.
+fn played(
+    mut executor: Executor<MemDisk, Scripted<&LocalHeap>>,
+    request: Request,
+    heap: &LocalHeap,
+    used: usize,
+) -> bool {
+    let accepted = refusal(&executor.command(0, request)).is_none();
+    let ends = [executor.turn(0), executor.turn(0), executor.turn(5)];
+    let (_disk, children) = executor.close();
+    let played = children.live_count() == 0 && children.book().len() == 4;
+    accepted && ends == [TurnEnd::Done; 3] && played && heap.used() == used
+}
+
+// The same by an executor that is opened over these children.
 fn plays(alloc: Global, heap: &LocalHeap, children: Scripted<&LocalHeap>) -> Option<bool> {
     let used = heap.used();
     let (request, disk) = (start()?, disk_with(alloc, FIRST, &[])?);
     match Executor::open(alloc, disk, children, nowhere(alloc), 0) {
-        Ok((mut executor, _report)) => {
-            let accepted = refusal(&executor.command(0, request)).is_none();
-            let ends = [executor.turn(0), executor.turn(0), executor.turn(5)];
-            let (_disk, children) = executor.close();
-            let played = children.live_count() == 0 && children.book().len() == 4;
-            Some(accepted && ends == [TurnEnd::Done; 3] && played && heap.used() == used)
-        }
+        Ok((executor, _report)) => Some(played(executor, request, heap, used)),
         Err(_) => None,
     }
 }

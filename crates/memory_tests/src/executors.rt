@@ -94,32 +94,42 @@ fn registered(why: Option<Refusal>, open: bool, part: &[u8]) -> Ended {
     }
 }
 
-// The registration of r1 by an executor in the heap.
-fn register(alloc: Global, heap: &LocalHeap) -> Option<Ended> {
-    let request = registration(heap)?;
-    let disk = disk_with(alloc, CREATED, &[])?;
-    let (children, site) = (no_children(alloc)?, nowhere(heap));
-    let Ok((mut executor, _report)) = Executor::open(heap, disk, children, site, 0) else {
-        return Some(Ended::TooSmall);
-    };
+// How a registration by an executor ends.
+fn ended_by<A: Allocator + Copy, B: Allocator + Copy>(
+    mut executor: Executor<MemDisk<B>, Scripted, A>,
+    request: Request<A>,
+) -> Ended {
     let why = refusal(&executor.command(0, request));
     let open = executor.is_open();
-    Some(registered(why, open, executor.close().0.bytes(Part::A)))
+    registered(why, open, executor.close().0.bytes(Part::A))
 }
 
-// The same by an executor on a disk in the heap: what finds no memory there is a fault of the disk.
+// The registration of r1 by an executor with this memory, on a disk.
+fn register_on<A: Allocator + Copy, B: Allocator + Copy>(
+    alloc: Global,
+    memory: A,
+    disk: MemDisk<B>,
+) -> Option<Ended> {
+    let (children, request) = (no_children(alloc)?, registration(memory)?);
+    Some(
+        match Executor::open(memory, disk, children, nowhere(memory), 0) {
+            Ok((executor, _report)) => ended_by(executor, request),
+            Err(_) => Ended::TooSmall,
+        },
+    )
+}
+
+// By an executor in the heap.
+fn register(alloc: Global, heap: &LocalHeap) -> Option<Ended> {
+    register_on(alloc, heap, disk_with(alloc, CREATED, &[])?)
+}
+
+// By an executor on a disk in the heap: what finds no memory there is a fault of the disk.
 fn register_on_disk(alloc: Global, heap: &LocalHeap) -> Option<Ended> {
-    let request = registration(alloc)?;
-    let Some(disk) = disk_with(heap, CREATED, &[]) else {
-        return Some(Ended::TooSmall);
-    };
-    let (children, site) = (no_children(alloc)?, nowhere(alloc));
-    let Ok((mut executor, _report)) = Executor::open(alloc, disk, children, site, 0) else {
-        return Some(Ended::TooSmall);
-    };
-    let why = refusal(&executor.command(0, request));
-    let open = executor.is_open();
-    Some(registered(why, open, executor.close().0.bytes(Part::A)))
+    match disk_with(heap, CREATED, &[]) {
+        Some(disk) => register_on(alloc, alloc, disk),
+        None => Some(Ended::TooSmall),
+    }
 }
 
 #[test]

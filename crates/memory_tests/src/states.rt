@@ -9,6 +9,7 @@ use ocf_types::{
     StateView, Task,
 };
 use op_history::Ops;
+use recurring::DueIndex;
 use std::alloc::{Allocator, Global};
 
 // A start under that call.
@@ -28,11 +29,22 @@ fn ops(_: Global, heap: &LocalHeap) -> Option<Ended> {
         return Some(Ended::Refused);
     };
     let used = heap.used();
-    ops.accept(op);
+    ops.accept(op).ok()?;
     let withdrawn = ops.withdraw(op.call, Moment::cut(7)).is_ok();
-    ops.accept(op);
+    ops.accept(op).ok()?;
     ops.drop_all(Moment::cut(8));
     Some(done(withdrawn && ops.ended_len() == 2 && heap.used() == used))
+}
+
+// The index of due moments takes memory for a resource before it is kept.
+fn due_index(_: Global, heap: &LocalHeap) -> Option<Ended> {
+    let mut index = DueIndex::new(heap);
+    let reserved = index.reserve(1);
+    let unchanged = index.first_due().is_none();
+    Some(match reserved {
+        Ok(()) => done(unchanged),
+        Err(_) => refused(unchanged),
+    })
 }
 
 fn from_parts(_: Global, heap: &LocalHeap) -> Option<Ended> {
@@ -124,11 +136,12 @@ fn states(rt: HostRuntime) {
     let alloc = rt.alloc();
     let ends = [
         grows(alloc, ops),
+        grows(alloc, due_index),
         grows(alloc, from_parts),
         grows(alloc, prepare),
         grows(alloc, list),
         grows(alloc, info),
         grows(alloc, history),
     ];
-    assert_eq!(rt; ends, [true; 6]);
+    assert_eq!(rt; ends, [true; 7]);
 }

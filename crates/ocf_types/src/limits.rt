@@ -79,3 +79,6 @@ pub const LINE_LIMIT: usize = 131_072;
 
 /// The greatest length of an agent's metadata, in bytes.
 pub const METADATA_LIMIT: usize = 65_536;
+
+/// The longest wait at an opening for what the agents of a killed executor still do, in milliseconds: a day.
+pub const ORPHANS_LIMIT: u64 = 86_400_000;

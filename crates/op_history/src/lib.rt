@@ -7,4 +7,4 @@ mod queued;
 mod results;
 
 pub use entries::{dropped_of, ended_of};
-pub use ops::{NotQueued, Ops};
+pub use ops::{NotQueued, Ops, QueueFull};

@@ -21,6 +21,11 @@ use thiserror::Error;
 #[error("no action of this call is queued")]
 pub struct NotQueued;
 
+/// As many actions are queued as may be: [`QUEUE_LIMIT`].
+#[derive(Clone, Copy, Debug, PartialEq, Eq, Error)]
+#[error("as many actions of this resource are queued as may be")]
+pub struct QueueFull;
+
 /// The operations of one resource: at most [`QUEUE_LIMIT`] queued actions, the one that runs, the last
 /// [`ENDED_KEPT`](ocf_types::ENDED_KEPT) results, and the one that failed last, kept or not. All its memory is taken as it
 /// is made.
@@ -134,12 +139,18 @@ impl<A: Allocator> Ops<A> {
         self.queue.len() > 0 || self.running.is_some()
     }
 
-    /// Puts an action at the end of the queue, which has room for it.
-    pub fn accept(&mut self, op: Op)
-        requires room { length self.old.queue < QUEUE_LIMIT }
-        ensures { self.new ≡ accepted op self.old }
+    /// Puts an action at the end of the queue. It is refused exactly when [`QUEUE_LIMIT`] actions are queued, and then
+    /// nothing changes.
+    pub fn accept(&mut self, op: Op) -> Result<(), QueueFull>
+        ensures refused { IsErr result ↔ (length self.old.queue ≡ QUEUE_LIMIT) }
+        ensures unchanged { OnErr result (self.new ≡ self.old) }
+        ensures accepted { OnOk result (self.new ≡ accepted op self.old) }
     {
+        if self.queue.len() >= QUEUE_LIMIT {
+            return Err(QueueFull);
+        }
         self.queue.push(Queued::new(op));
+        Ok(())
     }
 
     /// What runs once it has begun under that run number: the first queued action; with an empty queue, the recurring

@@ -1,8 +1,11 @@
 -- The recurring monitors of a resource, with their due moments.
-use Rattle.std.specs.Prelude.{◌≡◌, [], ℕ, ◌+◌, ◌<◌, ◌≤◌, ◌==◌, List, map, filter, not, if◌then◌else◌, Option, Some, None, All, Contains}
+use Rattle.std.specs.Prelude.{◌≡◌, [], ℕ, ◌+◌, ◌≤◌, ◌==◌, List, map, filter, not, if◌then◌else◌, Option, Some, None, All, Contains, length, nat_le, is_some}
+use Rattle.ocf_types.specs.Limits.{recurring_limit}
+use Rattle.ocf_types.specs.Resource.{of_interval}
 use Rattle.ocf_types.specs.declared.operation.Recur.{Recur}
-use Rattle.ocf_types.specs.Due.{IsBefore}
 use Rattle.recurring.specs.declared.monitor.Monitor.{Monitor}
+use Rattle.recurring.specs.declared.recurrings.NotAdded.{NotAdded}
+use Rattle.recurring.specs.declared.recurrings.NotAdded.TheVariants.{Duplicate, RecurringFull}
 
 -- the monitors without their due moments
 abbrev pub recurs : List Monitor → List Recur
@@ -21,6 +24,12 @@ pair m = (m.due, m.recur.call)
 
 abbrev pub pairs : List Monitor → List (ℕ × ℕ)
 pairs monitors = map pair monitors
+
+-- what refuses a monitor: one of its interval, or else that there are as many as may be
+abbrev pub refusal_of : Recur → List Monitor → Option NotAdded
+refusal_of m monitors =
+    if is_some (of_interval m.interval (recurs monitors)) then Some Duplicate else
+    (if nat_le recurring_limit (length monitors) then Some RecurringFull else None)
 
 -- the monitors but that of an interval
 abbrev pub cancelled : ℕ → List Monitor → List Monitor
@@ -41,11 +50,6 @@ settled call at monitors = map (settled_one call at) monitors
 -- the monitors after an opening, all due at its moment
 abbrev pub restarted : ℕ → List Monitor → List Monitor
 restarted at monitors = map (due_at at) monitors
-
--- the monitor is one of the pairs, and of those that are due none comes before it; or there is none, and none is due
-abbrev pub IsFirstDue : List (ℕ × ℕ) → ℕ → Option Monitor → Type 0
-IsFirstDue pairs now None = All (λ p. now < p.0) pairs
-IsFirstDue pairs now (Some m) = Contains pairs (pair m) × (m.due ≤ now) × All (λ p. p.0 ≤ now → IsBefore (pair m) p) pairs
 
 -- the moment is that of one of the pairs, and none is earlier; or there is none
 abbrev pub IsFirstMoment : List (ℕ × ℕ) → Option ℕ → Type 0

@@ -1,8 +1,13 @@
-//! The recurring monitors of one resource, each with the moment at which it is due.
+//! The recurring monitors of a resource, each with the moment at which it is due, and an index of those of all resources.
 #![tactic(auto)]
 
+mod due_call;
+mod due_calls;
+mod due_index;
+mod first_moments;
 mod monitor;
 mod recurrings;
 
+pub use due_index::DueIndex;
 pub use monitor::Monitor;
-pub use recurrings::Recurrings;
+pub use recurrings::{NoSuchRecurring, NotAdded, Recurrings};

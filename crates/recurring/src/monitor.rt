@@ -1,7 +1,6 @@
 //! A recurring monitor with its due moment.
-ghost use Rattle.std.specs.Prelude.{◌≡◌, ◌≤◌, ◌↔◌, ◌⊎◌, ℕ, List, [], ◌∷◌, ◌++◌, IsTrue};
-ghost use Rattle.ocf_types.specs.Due.{IsBefore};
-ghost use Rattle.recurring.specs.Monitors.{pair, settled_one, due_at, IsFirstDue, IsFirstMoment};
+ghost use Rattle.std.specs.Prelude.{◌≡◌};
+ghost use Rattle.recurring.specs.Monitors.{settled_one, due_at};
 
 use ocf_types::{CallId, Check, Millis, Moment, Recur};
 use std::default::MadeWith;
@@ -34,54 +33,6 @@ impl Monitor {
         Monitor {
             recur: self.recur,
             due,
-        }
-    }
-
-    /// Whether it is due at that moment.
-    fn is_due(&self, now: Moment) -> bool
-        ensures { IsTrue result ↔ (self.now.due ≤ now) }
-    {
-        self.due <= now.get()
-    }
-
-    /// Whether it comes before the other: due earlier, or at the same moment with no higher call.
-    fn is_before(&self, other: &Monitor) -> bool
-        ensures { IsTrue result ↔ IsBefore (pair self.now) (pair other.now) }
-    {
-        self.due < other.due || (self.due == other.due && self.recur.call <= other.recur.call)
-    }
-
-    /// The one of the two that comes before the other.
-    fn first_of(self, other: Monitor) -> Monitor
-        ensures one { (result ≡ self) ⊎ (result ≡ other) }
-        ensures before_self { IsBefore (pair result) (pair self) }
-        ensures before_other { IsBefore (pair result) (pair other) }
-    {
-        if self.is_before(&other) { self } else { other }
-    }
-
-    /// The first that is due: this monitor, or the first of the others.
-    pub(crate) fn first_due(self, others: Option<Monitor>, now: Moment) -> Option<Monitor>
-        ensures { (xs : List (ℕ × ℕ)) → IsFirstDue xs now others
-            → IsFirstDue (xs ++ pair self ∷ []) now result }
-    {
-        if !self.is_due(now) {
-            return others;
-        }
-        match others {
-            None => Some(self),
-            Some(other) => Some(self.first_of(other)),
-        }
-    }
-
-    /// The least due moment: this monitor's, or the least of the others.
-    pub(crate) fn first_moment(self, others: Option<u64>) -> Option<u64>
-        ensures { (xs : List (ℕ × ℕ)) → IsFirstMoment xs others
-            → IsFirstMoment (xs ++ pair self ∷ []) result }
-    {
-        match others {
-            None => Some(self.due),
-            Some(other) => Some(self.due.min(other)),
         }
     }
 }

@@ -1,13 +1,32 @@
 //! The recurring monitors of one resource.
-ghost use Rattle.std.specs.Prelude.{◌≡◌, ◌<◌, ◌≤◌, [], ◌∷◌, ◌++◌, length, slice_get, nat_le, is_some};
+ghost use Rattle.std.specs.Prelude.{◌≡◌, ◌↔◌, ◌<◌, ◌≤◌, [], ◌∷◌, ◌++◌, length, slice_get, nat_le, is_some, None, IsErr, OnOk, OnErr};
+ghost use Rattle.std.specs.Result.{result_err};
 ghost use Rattle.ocf_types.specs.Resource.{of_call, of_interval, without_interval};
 ghost use Rattle.ocf_types.specs.Due.{IsLeastDue};
-ghost use Rattle.recurring.specs.Monitors.{recurs, pairs, monitor_due_at, all_due_at, cancelled, settled, restarted, IsFirstMoment};
+ghost use Rattle.recurring.specs.Monitors.{recurs, pairs, monitor_due_at, all_due_at, cancelled, refusal_of, settled, restarted, IsFirstMoment};
 
+use crate::due_call::DueCall;
 use crate::monitor::Monitor;
 use arrayvec::ArrayVec;
 use ocf_types::{CallId, Millis, Moment, RECURRING_LIMIT, Recur};
 use std::marker::Model;
+use thiserror::Error;
+
+/// Why a recurring monitor is not added.
+#[derive(Clone, Copy, Debug, PartialEq, Eq, Error)]
+pub enum NotAdded {
+    /// There is a monitor of its interval.
+    #[error("a recurring monitor of this resource has this interval")]
+    Duplicate,
+    /// There are as many monitors as may be: [`RECURRING_LIMIT`].
+    #[error("this resource has as many recurring monitors as may be")]
+    RecurringFull,
+}
+
+/// No recurring monitor has that interval.
+#[derive(Clone, Copy, Debug, PartialEq, Eq, Error)]
+#[error("no recurring monitor of this resource has this interval")]
+pub struct NoSuchRecurring;
 
 /// The recurring monitors of one resource with their due moments, in order of acceptance: at most
 /// [`RECURRING_LIMIT`]. No call takes memory.
@@ -57,6 +76,14 @@ impl Recurrings {
         self.monitors.len()
     }
 
+    /// The monitors, in order of acceptance.
+    pub(crate) fn as_slice(&self) -> &[Monitor]
+        ensures value { result.now ≡ self.now }
+        ensures limit { length result.now ≤ RECURRING_LIMIT }
+    {
+        self.monitors.as_slice()
+    }
+
     /// A monitor. They stand in order of acceptance, from 0.
     pub fn monitor_at(&self, at: usize) -> Monitor
         requires { at < length self.now }
@@ -102,22 +129,38 @@ impl Recurrings {
             .find(|m| m.interval == interval)
     }
 
-    /// Puts a monitor, due at that moment, behind the others, among which there is room for it.
-    pub fn add(&mut self, recur: Recur, due: Moment)
-        requires room { length self.old < RECURRING_LIMIT }
-        ensures monitors { self.new ≡ self.old ++ monitor_due_at due recur ∷ [] }
-        ensures recurs { recurs self.new ≡ recurs self.old ++ recur ∷ [] }
+    /// Puts a monitor, due at that moment, after the others. It is refused exactly when there is one of its interval, or
+    /// else when there are [`RECURRING_LIMIT`] monitors, and then nothing changes.
+    pub fn add(&mut self, recur: Recur, due: Moment) -> Result<(), NotAdded>
+        ensures refused { result_err result ≡ refusal_of recur self.old }
+        ensures unchanged { OnErr result (self.new ≡ self.old) }
+        ensures monitors { OnOk result (self.new ≡ self.old ++ monitor_due_at due recur ∷ []) }
+        ensures recurs { OnOk result (recurs self.new ≡ recurs self.old ++ recur ∷ []) }
     {
+        if self.has_interval(recur.interval) {
+            return Err(NotAdded::Duplicate);
+        }
+        if self.is_full() {
+            return Err(NotAdded::RecurringFull);
+        }
         let due = due.get();
         self.monitors.push(Monitor { recur, due });
+        Ok(())
     }
 
-    /// Takes the monitor of that interval away. Where there is none, nothing changes.
-    pub fn cancel(&mut self, interval: Millis)
-        ensures monitors { self.new ≡ cancelled interval self.old }
-        ensures recurs { recurs self.new ≡ without_interval interval (recurs self.old) }
+    /// Takes the monitor of that interval away. It is refused exactly when there is none, and then nothing changes.
+    pub fn cancel(&mut self, interval: Millis) -> Result<(), NoSuchRecurring>
+        ensures refused { IsErr result ↔ (of_interval interval (recurs self.old) ≡ None) }
+        ensures unchanged { OnErr result (self.new ≡ self.old) }
+        ensures monitors { OnOk result (self.new ≡ cancelled interval self.old) }
+        ensures recurs { OnOk result
+            (recurs self.new ≡ without_interval interval (recurs self.old)) }
     {
+        if !self.has_interval(interval) {
+            return Err(NoSuchRecurring);
+        }
         self.monitors.retain(|m| m.recur.interval != interval);
+        Ok(())
     }
 
     /// After a run of that call ended at that moment: its monitor is due its own interval later. Where it is gone,
@@ -146,11 +189,11 @@ impl Recurrings {
     pub fn due(&self, now: Moment) -> Option<CallId>
         ensures { IsLeastDue (pairs self.now) now result }
     {
-        let mut first: Option<Monitor> = None;
+        let mut first: Option<DueCall> = None;
         for m in self.monitors.as_slice() {
-            first = m.first_due(first, now);
+            first = DueCall::of(m).first_due(first, now);
         }
-        first.map(|m| m.recur.call)
+        first.map(|d| d.call)
     }
 
     /// The least moment, in milliseconds, at which a monitor is due: `None` just where there are no monitors.
@@ -159,7 +202,7 @@ impl Recurrings {
     {
         let mut first: Option<u64> = None;
         for m in self.monitors.as_slice() {
-            first = m.first_moment(first);
+            first = DueCall::of(m).first_moment(first);
         }
         first
     }

@@ -14,8 +14,8 @@ from_parts-requires g c =
     c.loop-part.invariant.0 c.in-Some.ensures.steps.0 c.requires.room
 
 -- the next one is not among those before it
-pub insert-requires : goal.insert-requires
-insert-requires g c =
+pub insert-requires-clause-absent : goal.insert-requires-clause-absent
+insert-requires-clause-absent g c =
     let absent = absent_next (seen_all c.loop-part.resources.entries)
     (into_iter_items c.loop-part.part-iterator) c.args.parts.items _ c.in-Some.part
     c.loop-part.invariant.0 c.in-Some.ensures.steps.0 c.requires.ids in
@@ -35,6 +35,7 @@ loop-part-preserved g c =
       one_more _ done (into_iter_items c.next.new.self) c.args.parts.items c.in-Some.part one before,
       due_one_more c.args.due _ done _ ms c.in-Some.part one monitors c.loop-part.invariant.1,
       search rules,
+      c.in_ok-insert.ensures.tied,
     )
 
 pub returns-clause-resources : goal.returns-clause-resources

@@ -3,10 +3,15 @@ use Rattle.std.specs.Option.{option_map, option_and_then}
 use Rattle.std.specs.Map.{lookup}
 use Rattle.std.specs.Str.{bytes_eq}
 use Rattle.std.proofs.lemmas.Map.Made.{lookup-map_values}
-use Rattle.ocf_types.specs.State.{stepped}
+use Rattle.ocf_types.specs.State.{at_id, stepped}
+use Rattle.recurring.specs.DueIndex.{Dues}
+use Rattle.recurring.specs.Monitors.{pairs}
 use Rattle.exec_state.specs.MonitorsAfter.{monitors_stepped}
 use Rattle.exec_state.specs.Seen.{seen, seen_all, monitors_of, monitors_all}
+use Rattle.exec_state.specs.Store.{dues_by_id}
+use Rattle.exec_state.proofs.Dues.{dues_written}
 use Rattle.exec_state.proofs.Entries.{look_all-set_value}
+use Rattle.exec_state.proofs.Resting.{rest_before_0}
 use Rattle.exec_state.proofs.registry.Registry.take_step.Goals as goal
 
 pub take_step-requires : goal.take_step-requires
@@ -43,3 +48,17 @@ returns-clause-monitors g c =
     (monitors_stepped c.args.at (option_and_then (λ r. r.history.running) (lookup (bytes_eq c.args.id.now) (seen_all es))) c.args.step) es
     was c.take_step.new.self c.get_mut.ensures.unique (sym c.in-Some.ensures.value)
     (c.take_step.ensures.monitors ∙ ap (λ o. monitors_stepped c.args.at o c.args.step was.monitors) (sym running)))
+
+pub invariant_of-self : goal.invariant_of-self
+invariant_of-self g c =
+    let id = c.args.id.now in
+    let es = c.self.inside.resources.entries in
+    let was = c.in-Some.resource.now in
+    let is = c.take_step.new.self in
+    let h = c.get_mut.follows.holds is in (
+      c.self.invariant.0,
+      rest_before_0 _ _,
+      c.renew.ensures.dues ∙ ap (λ (xs : Dues). at_id id (λ ps. pairs is.monitors) xs) c.self.invariant.2
+          ∙ sym (dues_written id es was is c.get_mut.ensures.unique (sym c.in-Some.ensures.value))
+          ∙ sym (ap (λ es. dues_by_id (monitors_all es)) h.0),
+    )

@@ -12,12 +12,12 @@ loop-m-preserved c =
     let i = c.loop-m.m-index in
     let more : pairs (take (i + 1) ms) ≡ pairs (take i ms) ++ pair c.m-item.result ∷ []
     = rw (← c.m-item.is) at (map_more pair ms i c.m-item.result (omega arith)) in
-    rw more (c.first_due-first.ensures (pairs (take i ms)) c.loop-m.invariant)
+    rw more (rw c.of.ensures at (c.first_due-first.ensures (pairs (take i ms)) c.loop-m.invariant))
 
 pub returns : goal.returns
 returns c =
     let ms : List Monitor = c.as_slice-m-items.result.now in
     let all : take c.loop-m.m-index ms ≡ ms = take_all c.loop-m.m-index ms (omega arith) in
-    let call : c.map.result ≡ option_map (λ m. m.recur.call) c.loop-m.first = search rules in
+    let call : c.map.result ≡ option_map (λ d. d.call) c.loop-m.first = search rules in
     rw (call, ← c.self.view_is, ← c.as_slice-m-items.ensures.value, ← all)
     (first_due_call (pairs (take c.loop-m.m-index ms)) c.args.now c.loop-m.first c.loop-m.invariant)

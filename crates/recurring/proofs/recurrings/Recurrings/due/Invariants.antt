@@ -1,5 +1,6 @@
 use Rattle.std.proofs.Common.{take}
-use Rattle.recurring.specs.Monitors.{pairs, IsFirstDue}
+use Rattle.recurring.specs.DueCalls.{IsFirstDue}
+use Rattle.recurring.specs.Monitors.{pairs}
 use Rattle.recurring.proofs.recurrings.Recurrings.due.Given as goal
 
 abbrev pub invariant-loop-m : goal.invariant-loop-m

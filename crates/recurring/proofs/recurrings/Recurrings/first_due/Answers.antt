@@ -10,7 +10,7 @@ loop-m-preserved c =
     let i = c.loop-m.m-index in
     let more : pairs (take (i + 1) ms) ≡ pairs (take i ms) ++ pair c.m-item.result ∷ []
     = rw (← c.m-item.is) at (map_more pair ms i c.m-item.result (omega arith)) in
-    rw more (c.first_moment-first.ensures (pairs (take i ms)) c.loop-m.invariant)
+    rw more (rw c.of.ensures at (c.first_moment-first.ensures (pairs (take i ms)) c.loop-m.invariant))
 
 pub returns : goal.returns
 returns c =

@@ -1,0 +1,15 @@
+use Rattle.std.proofs.Common.{◌≡◌, ◌≢◌, ℕ, ◌*◌, ◌/◌, ◌<◌, ◌≤◌, length, drop}
+use Rattle.recurring.specs.FirstMoments.{IsWon}
+use Rattle.recurring.proofs.first_moments.climb.Given as goal
+
+abbrev pub invariant-loop-node : goal.invariant-loop-node
+invariant-loop-node l = record {
+  long : length l.nodes ≡ 2 * l.places;
+  low : 1 ≤ l.node;
+  high : l.node < 2 * l.places;
+  won : (i : ℕ) → 1 ≤ i → i < l.places → i ≢ l.node / 2 → IsWon l.nodes i;
+  moments : drop l.places l.nodes ≡ drop l.places l.initial.nodes;
+}
+
+abbrev pub decreases-loop-node : goal.decreases-loop-node
+decreases-loop-node l = l.node

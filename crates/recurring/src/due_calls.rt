@@ -1,0 +1,95 @@
+//! The calls of one resource's recurring monitors with their due moments.
+ghost use Rattle.std.specs.Prelude.{◌≡◌, ◌<◌, ◌++◌, ◌∷◌, [], length};
+ghost use Rattle.ocf_types.specs.Due.{IsLeastDue};
+ghost use Rattle.recurring.specs.Monitors.{pairs, IsFirstMoment};
+ghost use Rattle.recurring.specs.DueIndex.{pairs_without, pairs_settled};
+
+use crate::due_call::DueCall;
+use crate::recurrings::Recurrings;
+use arrayvec::ArrayVec;
+use ocf_types::{CallId, Moment, RECURRING_LIMIT};
+use std::marker::Model;
+
+/// The calls of the recurring monitors of one resource, each with its due moment: at most [`RECURRING_LIMIT`]. Contracts
+/// see them as pairs of due moment and call. No call takes memory.
+#[derive(Drop)]
+pub(crate) struct DueCalls {
+    calls: ArrayVec<DueCall, { RECURRING_LIMIT }>,
+}
+
+impl Model for DueCalls {
+    ghost use Rattle.std.specs.Prelude.{List, ℕ};
+    ghost use Rattle.recurring.specs.DueCalls.{pairs_of};
+
+    ghost Value = { List (ℕ × ℕ) };
+
+    ghost view = { λ d. pairs_of d.calls.items };
+}
+
+impl DueCalls {
+    /// No calls.
+    pub(crate) fn new() -> DueCalls
+        ensures { result ≡ [] }
+    {
+        DueCalls {
+            calls: ArrayVec::new_in(()),
+        }
+    }
+
+    /// The calls of these monitors.
+    pub(crate) fn of(monitors: &Recurrings) -> DueCalls
+        ensures { result ≡ pairs monitors.now }
+    {
+        let mut calls = ArrayVec::new_in(());
+        for monitor in monitors.as_slice() {
+            calls.push(DueCall::of(monitor));
+        }
+        DueCalls { calls }
+    }
+
+    /// Puts a call after the others.
+    pub(crate) fn push(&mut self, call: CallId, due: u64)
+        requires { length self.old < RECURRING_LIMIT }
+        ensures { self.new ≡ self.old ++ (due, call) ∷ [] }
+    {
+        self.calls.push(DueCall { due, call });
+    }
+
+    /// Takes that call away.
+    pub(crate) fn remove(&mut self, call: CallId)
+        ensures { self.new ≡ pairs_without call self.old }
+    {
+        self.calls.retain(|d| d.call != call);
+    }
+
+    /// Makes that call due at that moment.
+    pub(crate) fn settle(&mut self, call: CallId, due: u64)
+        ensures { self.new ≡ pairs_settled call due self.old }
+    {
+        for d in self.calls.as_mut_slice() {
+            *d = d.settled(call, due);
+        }
+    }
+
+    /// The call that is due first, and the lowest among those that are due then: `None` just where none is due.
+    pub(crate) fn due(&self, now: Moment) -> Option<CallId>
+        ensures { IsLeastDue self.now now result }
+    {
+        let mut first: Option<DueCall> = None;
+        for d in self.calls.as_slice() {
+            first = d.first_due(first, now);
+        }
+        first.map(|d| d.call)
+    }
+
+    /// The least due moment: `None` just where there are no calls.
+    pub(crate) fn first_moment(&self) -> Option<u64>
+        ensures { IsFirstMoment self.now result }
+    {
+        let mut first: Option<u64> = None;
+        for d in self.calls.as_slice() {
+            first = d.first_moment(first);
+        }
+        first
+    }
+}

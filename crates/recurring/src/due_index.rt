@@ -1,0 +1,179 @@
+//! The recurring monitors of all resources, by the moments at which they are due.
+ghost use Rattle.std.specs.Prelude.{◌≡◌, ◌<◌, ◌≤◌, ◌↔◌, ◌++◌, ◌∷◌, [], None, Any, IsTrue, IsSomeAnd, OnOk, filter, length, not};
+ghost use Rattle.std.specs.Map.{lookup};
+ghost use Rattle.std.specs.Str.{bytes_eq};
+ghost use Rattle.ocf_types.specs.Due.{IsLeastDue};
+ghost use Rattle.ocf_types.specs.State.{at_id};
+ghost use Rattle.recurring.specs.Monitors.{pairs, IsFirstMoment};
+ghost use Rattle.recurring.specs.DueIndex.{pairs_at, pairs_of_all, pairs_settled, pairs_without};
+
+use crate::due_calls::DueCalls;
+use crate::first_moments::FirstMoments;
+use crate::recurrings::Recurrings;
+use indexmap::IndexMap;
+use ocf_types::{CallId, Moment, RECURRING_LIMIT, RscId};
+use std::alloc::{AllocError, Allocator, Global};
+use std::hash::{BuildHasherDefault, FoldHasher};
+use std::marker::Model;
+
+/// The calls of each resource, in the order in which the resources were kept.
+type Resources<A> = IndexMap<RscId, DueCalls, BuildHasherDefault<FoldHasher>, A>;
+
+/// The recurring monitors of all resources, by the moments at which they are due: of each resource, the calls of at most
+/// [`RECURRING_LIMIT`] monitors with their due moments, in milliseconds. Contracts see it as the pairs of due moment and
+/// call by resource (`dues`), and how many more resources can be kept without memory (`room`).
+#[derive(Drop)]
+pub struct DueIndex<A: Allocator + Copy = Global> {
+    resources: Resources<A>,
+    // The first moment of each resource, by its place.
+    firsts: FirstMoments<A>,
+}
+
+impl<A: Allocator + Copy> Model for DueIndex<A> {
+    ghost use Rattle.std.specs.Prelude.{◌-◌, min, length};
+    ghost use Rattle.indexmap.specs.IndexMap.{spare};
+    ghost use Rattle.recurring.specs.DueIndex.{Index, IsTied};
+
+    ghost Value = { Index };
+
+    ghost view = { λ x. record {
+      dues = x.resources.entries;
+      room = min (spare x.resources) (length x.firsts - length x.resources.entries);
+    } };
+
+    ghost invariant = { λ x. IsTied x.resources.entries x.firsts };
+}
+
+impl<A: Allocator + Copy> DueIndex<A> {
+    /// No resources. It takes no memory.
+    pub fn new(alloc: A) -> DueIndex<A>
+        ensures { result.dues ≡ [] }
+    {
+        DueIndex {
+            resources: IndexMap::new(alloc),
+            firsts: FirstMoments::new(alloc),
+        }
+    }
+
+    /// Makes the room for that many more resources. The only error is want of memory.
+    pub fn reserve(&mut self, more: usize) -> Result<(), AllocError>
+        ensures room { OnOk result (more ≤ self.new.room) }
+        ensures dues { self.new.dues ≡ self.old.dues }
+    {
+        self.resources.reserve(more)?;
+        let Some(places) = self.resources.len().checked_add(more) else {
+            return Err(AllocError);
+        };
+        self.firsts.grow(places)?;
+        Ok(())
+    }
+
+    /// Keeps a resource, as yet without monitors.
+    pub fn keep(&mut self, id: RscId)
+        requires absent { lookup (bytes_eq id) self.old.dues ≡ None }
+        requires room { 0 < self.old.room }
+        ensures { self.new.dues ≡ self.old.dues ++ (id, []) ∷ [] }
+    {
+        let Ok(_) = self.resources.insert(id, DueCalls::new()) else {
+            unreachable!()
+        };
+    }
+
+    /// Keeps the resource no longer, and none of its monitors. Those behind it move up.
+    pub fn forget(&mut self, id: &RscId)
+        ensures dues { self.new.dues ≡ filter (λ e. not (bytes_eq id.now e.0)) self.old.dues }
+    {
+        let Some(place) = self.resources.get_index_of(id) else {
+            return;
+        };
+        self.resources.shift_remove_index(place);
+        self.firsts.remove(place);
+    }
+
+    /// Puts a monitor of the resource behind its others: its call, due at that moment.
+    pub fn add(&mut self, id: &RscId, call: CallId, due: u64)
+        requires kept { IsSomeAnd (lookup (bytes_eq id.now) self.old.dues)
+            (λ ps. length ps < RECURRING_LIMIT) }
+        ensures dues { self.new.dues ≡ at_id id.now (λ ps. ps ++ (due, call) ∷ []) self.old.dues }
+        ensures room { self.new.room ≡ self.old.room }
+    {
+        let Some(place) = self.resources.get_index_of(id) else {
+            unreachable!()
+        };
+        let calls = &mut self.resources[place];
+        calls.push(call, due);
+        let first = calls.first_moment();
+        self.firsts.set(place, first);
+    }
+
+    /// Takes the monitor of that call away from the resource. Where there is none, nothing changes.
+    pub fn remove(&mut self, id: &RscId, call: CallId)
+        ensures dues { self.new.dues ≡ at_id id.now (pairs_without call) self.old.dues }
+        ensures room { self.new.room ≡ self.old.room }
+    {
+        let Some(place) = self.resources.get_index_of(id) else {
+            return;
+        };
+        let calls = &mut self.resources[place];
+        calls.remove(call);
+        let first = calls.first_moment();
+        self.firsts.set(place, first);
+    }
+
+    /// Makes the resource's monitor of that call due at that moment. Where there is none, nothing changes.
+    pub fn settle(&mut self, id: &RscId, call: CallId, due: u64)
+        ensures dues { self.new.dues ≡ at_id id.now (pairs_settled call due) self.old.dues }
+        ensures room { self.new.room ≡ self.old.room }
+    {
+        let Some(place) = self.resources.get_index_of(id) else {
+            return;
+        };
+        let calls = &mut self.resources[place];
+        calls.settle(call, due);
+        let first = calls.first_moment();
+        self.firsts.set(place, first);
+    }
+
+    /// Gives the resource these monitors, with their due moments, in place of its own.
+    pub fn renew(&mut self, id: &RscId, monitors: &Recurrings)
+        ensures dues { self.new.dues ≡ at_id id.now (λ ps. pairs monitors.now) self.old.dues }
+        ensures room { self.new.room ≡ self.old.room }
+    {
+        let Some(place) = self.resources.get_index_of(id) else {
+            return;
+        };
+        let calls = &mut self.resources[place];
+        *calls = DueCalls::of(monitors);
+        let first = calls.first_moment();
+        self.firsts.set(place, first);
+    }
+
+    /// The call of the resource's monitor that is due first, and of the lowest call among those that are due then: `None`
+    /// just where none is due.
+    pub fn due_of(&self, id: &RscId, now: Moment) -> Option<CallId>
+        ensures { IsLeastDue (pairs_at self.now.dues id.now) now result }
+    {
+        match self.resources.get(id) {
+            Some(calls) => calls.due(now),
+            None => None,
+        }
+    }
+
+    /// The least moment, in milliseconds, at which a monitor of a resource is due: `None` just where there are no
+    /// monitors.
+    pub fn first_due(&self) -> Option<u64>
+        ensures { IsFirstMoment (pairs_of_all self.now.dues) result }
+    {
+        self.firsts.first()
+    }
+
+    /// Whether a monitor of some resource is due at that moment.
+    pub fn any_due(&self, now: Moment) -> bool
+        ensures { IsTrue result ↔ Any (λ p. p.0 ≤ now) (pairs_of_all self.now.dues) }
+    {
+        match self.first_due() {
+            Some(due) => due <= now.get(),
+            None => false,
+        }
+    }
+}

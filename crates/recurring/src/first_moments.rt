@@ -1,0 +1,165 @@
+//! The first of many moments, kept while single ones change.
+ghost use Rattle.std.specs.Prelude.{◌≡◌, ◌≢◌, ◌+◌, ◌*◌, ◌/◌, ◌<◌, ◌≤◌, ℕ, [], length, drop, remove, slice_index_or, slice_set, None, IfOk, OnOk};
+ghost use Rattle.recurring.specs.FirstMoments.{earlier, IsFirstOf, IsWon, IsTournament};
+
+use std::alloc::{AllocError, Allocator, Global};
+use std::marker::Model;
+
+/// A moment, in milliseconds, or none, for each of some places; and the first of all. A tournament: each node has the
+/// earlier of the moments of two others, so a change concerns the nodes from its place up to the first.
+#[derive(Drop)]
+pub(crate) struct FirstMoments<A: Allocator + Copy = Global> {
+    // Twice as many as places: the moment of place k is node `places + k`, and that of all is node 1.
+    nodes: Vec<Option<u64>, A>,
+    places: usize,
+}
+
+impl<A: Allocator + Copy> Model for FirstMoments<A> {
+    ghost use Rattle.std.specs.Prelude.{List, Option, ℕ, drop};
+    ghost use Rattle.recurring.specs.FirstMoments.{IsTournament};
+
+    ghost Value = { List (Option ℕ) };
+
+    ghost view = { λ t. drop t.places t.nodes.items };
+
+    ghost invariant = { λ t. IsTournament t.places t.nodes.items };
+}
+
+impl<A: Allocator + Copy> FirstMoments<A> {
+    /// No places. It takes no memory.
+    pub(crate) fn new(alloc: A) -> FirstMoments<A>
+        ensures { result ≡ [] }
+    {
+        FirstMoments {
+            nodes: Vec::new(alloc),
+            places: 0,
+        }
+    }
+
+    /// Makes at least that many places. The moments stay, and the new places have none. The only error is want of memory.
+    pub(crate) fn grow(&mut self, places: usize) -> Result<(), AllocError>
+        ensures room { OnOk result (places ≤ length self.new) }
+        ensures kept { length self.old ≤ length self.new }
+        ensures moments { (k : ℕ) → slice_index_or self.new k None
+            ≡ slice_index_or self.old k None }
+    {
+        if places <= self.places {
+            return Ok(());
+        }
+        // At least twice as many as before, so that a place more costs little on average.
+        let places = places.max(self.nodes.len());
+        let nodes = nodes_of(
+            *self.nodes.allocator(),
+            &self.nodes.as_slice()[self.places..],
+            places,
+        )?;
+        self.nodes = nodes;
+        self.places = places;
+        Ok(())
+    }
+
+    /// Sets the moment of a place.
+    pub(crate) fn set(&mut self, place: usize, moment: Option<u64>)
+        requires { place < length self.old }
+        ensures { self.new ≡ slice_set self.old place moment }
+    {
+        let node = self.places + place;
+        self.nodes[node] = moment;
+        climb(self.nodes.as_mut_slice(), self.places, node);
+    }
+
+    /// Takes a place away. Those behind it move up.
+    pub(crate) fn remove(&mut self, place: usize)
+        requires { place < length self.old }
+        ensures { self.new ≡ remove self.old place }
+    {
+        self.nodes.remove(self.places + place);
+        // Without node 0 those of the places begin one node earlier, as they have to.
+        self.nodes.remove(0);
+        self.places -= 1;
+        lay(self.nodes.as_mut_slice(), self.places);
+    }
+
+    /// The first moment of all places: `None` just where none has one.
+    pub(crate) fn first(&self) -> Option<u64>
+        ensures { IsFirstOf self.now result }
+    {
+        if self.places == 0 {
+            return None;
+        }
+        self.nodes[1]
+    }
+}
+
+/// The nodes of that many places, of which the first have these moments, and the others none. The only error is want of
+/// memory.
+fn nodes_of<A: Allocator + Copy>(
+    alloc: A,
+    moments: &[Option<u64>],
+    places: usize,
+) -> Result<Vec<Option<u64>, A>, AllocError>
+    requires { length moments.now ≤ places }
+    ensures won { IfOk result (λ v. IsTournament places v.items) }
+    ensures moments { IfOk result (λ v. (k : ℕ) → slice_index_or (drop places v.items) k None
+        ≡ slice_index_or moments.now k None) }
+{
+    let Some(len) = places.checked_mul(2) else {
+        return Err(AllocError);
+    };
+    let mut nodes = Vec::with_capacity(alloc, len)?;
+    nodes.resize(places, None)?;
+    nodes.extend_from_slice(moments)?;
+    nodes.resize(len, None)?;
+    lay(nodes.as_mut_slice(), places);
+    Ok(nodes)
+}
+
+/// Wins each node before those of the places, from the last one to the first.
+fn lay(nodes: &mut [Option<u64>], places: usize)
+    requires { length nodes.old ≡ 2 * places }
+    ensures won { IsTournament places nodes.new }
+    ensures moments { drop places nodes.new ≡ drop places nodes.old }
+{
+    let mut node = places;
+    while node > 1 {
+        node -= 1;
+        play(nodes, node);
+    }
+}
+
+/// Wins each node that a changed one concerns, where all others are won.
+fn climb(nodes: &mut [Option<u64>], places: usize, changed: usize)
+    requires long { length nodes.old ≡ 2 * places }
+    requires low { 1 ≤ changed }
+    requires high { changed < 2 * places }
+    requires won { (i : ℕ) → 1 ≤ i → i < places → i ≢ changed / 2 → IsWon nodes.old i }
+    ensures won { IsTournament places nodes.new }
+    ensures moments { drop places nodes.new ≡ drop places nodes.old }
+{
+    let mut node = changed;
+    while node > 1 {
+        node /= 2;
+        play(nodes, node);
+    }
+}
+
+/// Gives a node the earlier of the moments of the two below it.
+fn play(nodes: &mut [Option<u64>], node: usize)
+    requires { 2 * node + 1 < length nodes.old }
+    ensures { nodes.new ≡ slice_set nodes.old node (earlier (slice_index_or nodes.old (2 * node) None)
+        (slice_index_or nodes.old (2 * node + 1) None)) }
+{
+    let first = earlier(nodes[2 * node], nodes[2 * node + 1]);
+    nodes[node] = first;
+}
+
+/// The earlier of two moments that may be there.
+fn earlier(one: Option<u64>, other: Option<u64>) -> Option<u64>
+    ensures { result ≡ earlier one other }
+{
+    match (one, other) {
+        (None, other) => other,
+        (one, None) => one,
+        (Some(one), Some(other)) => Some(one.min(other)),
+    }
+}
