@@ -2,6 +2,7 @@
 use disk_model::MemDisk;
 use event_wire::encode_state;
 use exec_journal::{Journal, JournalFault};
+use exec_state::State;
 use std::alloc::Global;
 
 /// The state with no resource.
@@ -57,10 +58,16 @@ pub fn disk_with(alloc: Global, a: &[u8], b: &[u8]) -> Option<MemDisk> {
     MemDisk::from_parts(alloc, a, b.to_vec(alloc).ok()?).ok()
 }
 
-/// Opens the journal on a disk: the spelling of the state that is found, or the fault.
-pub fn found_on(alloc: Global, disk: MemDisk) -> Result<Vec<u8>, JournalFault> {
+// Opens the journal on a disk: the state that is found, or the fault.
+fn state_on(alloc: Global, disk: MemDisk) -> Result<State, JournalFault> {
     match Journal::open(alloc, disk) {
-        Ok((_, state)) => Ok(encode_state(alloc, &state)?),
+        Ok((_, state)) => Ok(state),
         Err((fault, _)) => Err(fault),
     }
+}
+
+/// Opens the journal on a disk: the spelling of the state that is found, or the fault.
+pub fn found_on(alloc: Global, disk: MemDisk) -> Result<Vec<u8>, JournalFault> {
+    let state = state_on(alloc, disk)?;
+    Ok(encode_state(alloc, &state)?)
 }

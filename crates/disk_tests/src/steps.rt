@@ -52,15 +52,19 @@ pub fn end_of(reply: &Reply) -> Reached {
     }
 }
 
+// Has an executor take a request at moment 0, and closes it.
+fn taken<D: Disk + Drop>(mut executor: Executor<D, Scripted>, request: Request) -> (Reached, D) {
+    let reached = end_of(&executor.command(0, request));
+    (reached, executor.close().0)
+}
+
 /// Opens an executor on a disk, registers a resource at moment 0, and closes it.
 pub fn register<D: Disk + Drop>(alloc: Global, disk: D, name: &str) -> Option<(Reached, D)> {
-    let request = registration(alloc, name)?;
-    let (children, site) = (no_children(alloc)?, nowhere(alloc));
-    Some(match Executor::open(alloc, disk, children, site, 0) {
-        Ok((mut executor, _report)) => {
-            let reached = end_of(&executor.command(0, request));
-            (reached, executor.close().0)
-        }
-        Err(fault) => (Reached::NotOpened(fault.why), fault.disk),
-    })
+    let (children, request) = (no_children(alloc)?, registration(alloc, name)?);
+    Some(
+        match Executor::open(alloc, disk, children, nowhere(alloc), 0) {
+            Ok((executor, _report)) => taken(executor, request),
+            Err(fault) => (Reached::NotOpened(fault.why), fault.disk),
+        },
+    )
 }

@@ -3,12 +3,14 @@ ghost use Rattle.std.specs.Prelude.{◌≡◌, IfErr};
 ghost use Rattle.file_disk.specs.Entries.{holds_journal, loss_of, told_loss};
 ghost use Rattle.file_disk.specs.Faults.{IsOfPart};
 
-use crate::fault::{OpenFault, file_name, other_part};
+use crate::fault::{OpenFault, file_name};
+use disk_model::other_part;
 use ocf_types::Part;
 use std::alloc::Allocator;
 use std::fs;
 use std::io::ErrorKind;
 use std::rt::Files;
+use two_parts::MAGIC;
 
 /// What has the name of a part's file.
 #[derive(Clone, Copy, PartialEq, Eq)]
@@ -58,9 +60,6 @@ pub fn refuse_loss(a: Entry, b: Entry) -> Result<(), OpenFault>
         _ => Ok(()),
     }
 }
-
-// What each part of a journal has behind its first gate.
-const MAGIC: [u8; 4] = *b"OCFJ";
 
 // Whether a file with these bytes begins as each part of a journal does.
 fn holds_journal(bytes: &[u8]) -> bool

@@ -1,10 +1,10 @@
 //! Why the files of a journal were not opened.
 ghost use Rattle.std.specs.Prelude.{◌≡◌, Ok, IfErr, IfOk};
-ghost use Rattle.disk_model.specs.Image.{other};
 ghost use Rattle.file_disk.specs.Faults.{IsOfPart};
 ghost use Rattle.file_disk.specs.declared.fault.OpenFault.TheVariants.{Memory};
 
 use crate::trust::Distrust;
+use disk_model::other_part;
 use ocf_types::Part;
 use std::alloc::AllocError;
 use std::fmt::{self, Display, Formatter};
@@ -65,16 +65,6 @@ pub(crate) fn file_name(part: Part) -> &'static str {
     match part {
         Part::A => "part-a",
         Part::B => "part-b",
-    }
-}
-
-/// The other part.
-pub fn other_part(part: Part) -> Part
-    ensures { result ≡ other part }
-{
-    match part {
-        Part::A => Part::B,
-        Part::B => Part::A,
     }
 }
 

@@ -24,7 +24,7 @@ mod trust;
 
 pub use disk::FileDisk;
 pub use error::{FileError, TellsError};
-pub use fault::{Located, OpenFault, other_part};
+pub use fault::{Located, OpenFault};
 pub use journal_paths::JournalPaths;
 pub use look::read_parts;
 pub use part_file::OWNER_ONLY;

@@ -4,9 +4,10 @@ ghost use Rattle.file_disk.specs.Faults.{IsOfPart};
 ghost use Rattle.file_disk.specs.RamDisk.{IsFresh, view_of};
 
 use crate::entry::{Entry, entry_of, refuse_loss, told_loss};
-use crate::fault::{OpenFault, file_name, of_part, other_part};
+use crate::fault::{OpenFault, file_name, of_part};
 use crate::folder::find_folder;
 use crate::ram::RamDisk;
+use disk_model::other_part;
 use ocf_types::{HEAD_LEN, PART_LIMIT, Part};
 use std::alloc::{Allocator, Global};
 use std::fs::File;
