@@ -1,6 +1,7 @@
 #!/usr/bin/env python3
 """Keeps one resource running through ocfexec: starts it, monitors it, starts it anew where a monitor fails, and stops it on
-SIGTERM. An executor that ends is started again: with --journal it goes on where it was, and first tells what was interrupted.
+SIGTERM. An executor that ends is started again: with --journal it goes on where it was, and first reports what was interrupted.
+SIGUSR1 replaces the executor, as after an update: what runs ends and is recorded, and the resource stays as it is.
 
     client.py --interval 10000 ocfexec serve --journal /var/lib/ocfexec
     client.py --type Dummy --param state=/tmp/dummy ocfexec serve --memory --meta-variables --log -
@@ -62,7 +63,8 @@ class Executor:
         """The next reply, waited for so long at most; a result is printed and kept, and gives None, as nothing does."""
         line = self.line(seconds)
         if line is not None and "end" in line:  # of a turn that the executor made by itself, and makes again unless its disk failed
-            print(f"the executor's turn ended: {line['end']}", file=sys.stderr)
+            if line["end"] != "left":
+                print(f"the executor's turn ended: {line['end']}", file=sys.stderr)
             return None
         if line is None or "outcome" not in line:
             return line
@@ -70,13 +72,26 @@ class Executor:
         self.results[line["call"]] = line
         return None
 
-    def ask(self, *words, **command):
-        """The reply to a command that may be refused with one of these words alone."""
+    def send(self, command):
+        """Writes the line of a command."""
         try:
             self.process.stdin.write(json.dumps(command).encode() + b"\n")
             self.process.stdin.flush()
         except OSError:
             raise Ended(self.process.wait()) from None
+
+    def leave(self):
+        """Lets it end in order, so that no action is cut off: hears the results of what still runs, and gives its status."""
+        try:
+            self.send({"op": "leave"})
+            while True:
+                self.hears()
+        except Ended as ended:
+            return ended.args[0]
+
+    def ask(self, *words, **command):
+        """The reply to a command that may be refused with one of these words alone."""
+        self.send(command)
         while (reply := self.hears()) is None:
             pass
         if reply.get("error") not in (None, *words):
@@ -105,18 +120,22 @@ def withdraw_queued(executor, name):
         executor.ask("not-queued", op="withdraw", id=name, call=call)
 
 
-def keep(executor, options, stopping):
-    """Brings the resource up, watches it until it is to stop, and stops it."""
+def keep(executor, options, asked):
+    """Brings the resource up and watches it until a signal comes, then stops it and gives the stop's exit code. SIGUSR1 leaves it
+    as it is, and gives none."""
     name, params = options.id, dict(pair.split("=", 1) for pair in options.param)
     executor.ask("exists", op="register", id=name, provider=options.provider, type=options.type, params=params)
     executor.ask(op="params", id=name, params=params)
     executor.ask("exists", op="recur", id=name, interval=options.interval)
     code = executor.code_of(name, "monitor")
-    while not stopping:
+    while not asked:
         bring_up(executor, name, code)
         executor.results.clear()  # what is older says nothing of the resource any more
         executor.hears(0.5)
         code = next((result["code"] for result in executor.results.values()), 0)
+    if asked == [signal.SIGUSR1]:
+        asked.remove(signal.SIGUSR1)
+        return None
     executor.ask("no-such-recurring", op="cancel", id=name, interval=options.interval)
     withdraw_queued(executor, name)
     return executor.code_of(name, "stop")
@@ -130,15 +149,18 @@ def main():
     parser.add_argument("--interval", type=int, default=10000, help="of the monitor, in milliseconds")
     parser.add_argument("--slow", type=float, default=0, help="seconds to wait behind each line that is read")
     parser.add_argument("words", nargs=argparse.REMAINDER, help="the executor's command line")
-    options, stopping = parser.parse_args(), []
-    for number in (signal.SIGTERM, signal.SIGINT):
-        signal.signal(number, lambda *_: stopping.append(True))
+    options, asked = parser.parse_args(), []  # the signals that came
+    for number in (signal.SIGTERM, signal.SIGINT, signal.SIGUSR1):
+        signal.signal(number, lambda came, _: came in asked or asked.append(came))
     while True:
         executor = Executor(options.words, options.slow)
         try:
-            code = keep(executor, options, stopping)
-            executor.process.stdin.close()
-            return executor.process.wait() or code
+            code = keep(executor, options, asked)
+            status = executor.leave()
+            if code is not None:
+                return status or code
+            if status:
+                raise Ended(status)
         except Ended as ended:
             print(f"client: the executor ended with status {ended}", file=sys.stderr, flush=True)
             if ended.args[0] in FOR_A_PERSON:

@@ -1,23 +1,12 @@
 -- What is kept of a stream that is read.
-use Rattle.std.specs.Prelude.{◌≡◌, ℕ, List, ◌++◌, Option}
-use Rattle.std.specs.Io.KnownBytes.{Consumes, Keeps}
-use Rattle.std.proofs.Common.{ap, append_assoc, ◌∙◌}
-use Rattle.std.proofs.KnownBytes.{Consumes-kept, Consumes-trans}
+use Rattle.std.specs.Prelude.{◌≡◌, ℕ, List, ◌++◌, Option, Some, None, IfSome}
+use Rattle.std.specs.Io.KnownBytes.{Consumes}
+use Rattle.std.proofs.Common.{ap, append_assoc, sym, ◌∙◌}
 
--- what was read so far was kept
-abbrev pub AllKept : Option (List ℕ) → Option (List ℕ) → List ℕ → List ℕ → Type 0
-AllKept had left old new = (part : List ℕ) × (new ≡ old ++ part) × Consumes had left part
-
--- and one piece more
-pub piece_kept : (had left rest : Option (List ℕ)) (piece old kept new : List ℕ) → AllKept had left old kept → new ≡ kept ++ piece
-    → Consumes left rest piece → AllKept had rest old new
-piece_kept had left rest piece old kept new before grown read = (
-  before.0 ++ piece,
-  grown ∙ ap (λ l. l ++ piece) before.1 ∙ append_assoc old before.0 piece,
-  Consumes-trans had left rest before.0 piece before.2 read,
-)
-
--- and nothing more
-pub none_kept : (had left rest : Option (List ℕ)) (old kept new : List ℕ) → AllKept had left old kept → new ≡ kept → Keeps left rest
-    → AllKept had rest old new
-none_kept had left rest old kept new before same keeps = (before.0, same ∙ before.1, Consumes-kept had left rest before.0 before.2 keeps)
+-- what is all of a stream after what was kept is all of it since a moment before
+pub whole_before : (had left : Option (List ℕ)) (old kept part metadata : List ℕ) → kept ≡ old ++ part → Consumes had left part
+    → IfSome left (λ bytes. metadata ≡ kept ++ bytes) → IfSome had (λ bytes. metadata ≡ old ++ bytes)
+whole_before None left old kept part metadata grown read whole = tt
+whole_before (Some x) None old kept part metadata grown read whole = absurd read
+whole_before (Some x) (Some y) old kept part metadata grown read whole =
+    whole ∙ ap (λ l. l ++ y) grown ∙ append_assoc old part y ∙ ap (λ l. old ++ l) (sym read)

@@ -1,6 +1,6 @@
 -- What the system answers, and what children answer then.
-use Rattle.std.specs.Prelude.{◌≡◌, Option, Some, None, Result, Ok, Err, pos}
-use Rattle.std.specs.Process.{exit_code}
+use Rattle.std.specs.Prelude.{◌≡◌, Option, Some, None, Result, Ok, Err, ℤ, pos, unwrap_or}
+use Rattle.std.specs.Process.{exit_code, exit_signal}
 use Rattle.std.specs.declared.io.Error.{Error}
 use Rattle.std.specs.declared.io.ErrorKind.{ErrorKind}
 use Rattle.std.specs.declared.io.ErrorKind.TheVariants.{NotFound, PermissionDenied}
@@ -16,10 +16,14 @@ start_fault NotFound = Missing
 start_fault PermissionDenied = Denied
 start_fault _ = Other
 
--- a child that ended so is told so: by its exit code, or that a signal ended it
+-- the number of the signal that ended a child, as signal(7) numbers them; 0 where the system names none
+abbrev pub signal_of : ExitStatus → ℤ
+signal_of status = unwrap_or (exit_signal status) (pos 0)
+
+-- a child that ended so is told so: by its exit code, or where it has none by the signal that ended it
 abbrev pub TellsEnd : Poll → ExitStatus → Type 0
 TellsEnd (Exited code) status = exit_code status ≡ Some (pos code)
-TellsEnd Signaled status = exit_code status ≡ None
+TellsEnd (Signaled signal) status = (exit_code status ≡ None) × (signal_of status ≡ pos signal)
 TellsEnd _ status = ⊥
 
 -- what a child says when the system was asked for its end and answered so

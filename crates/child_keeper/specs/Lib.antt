@@ -3,4 +3,7 @@ pub mod Scripted
 pub mod Agents
 pub mod Commands
 pub mod Ends
+pub mod Codes
 pub mod Processes
+pub mod MetaOutputs
+pub mod MetaChildren

@@ -1,12 +1,13 @@
 // What the system's answers say of a child.
-ghost use Rattle.std.specs.Prelude.{◌≡◌};
+ghost use Rattle.std.specs.Prelude.{◌≡◌, pos};
 ghost use Rattle.std.specs.IoError.{error_kind};
-ghost use Rattle.child_keeper.specs.Ends.{Tells, TellsEnd, start_fault};
+ghost use Rattle.child_keeper.specs.Ends.{Tells, TellsEnd, signal_of, start_fault};
 
 use crate::Poll;
 use ocf_types::StartFault;
 use std::io;
 use std::io::ErrorKind;
+use std::os::unix::process::ExitStatusExt;
 use std::process::ExitStatus;
 
 /// Why an agent was not started. A `#!` line that names no program is a missing file too.
@@ -20,13 +21,20 @@ pub fn start_fault(error: &io::Error) -> StartFault
     }
 }
 
+// The number of the signal that ended a child, 0 where the system names none.
+fn signal_of(status: ExitStatus) -> u8
+    ensures { pos result ≡ signal_of status }
+{
+    (status.signal().unwrap_or(0).cast_unsigned() % 256) as u8
+}
+
 /// How a child ended.
 pub fn end_of(status: ExitStatus) -> Poll
     ensures { TellsEnd result status }
 {
     match status.code() {
         Some(code) => Poll::Exited((code.cast_unsigned() % 256) as u8),
-        None => Poll::Signaled,
+        None => Poll::Signaled(signal_of(status)),
     }
 }
 

@@ -35,7 +35,8 @@ use std::{mem, process};
 /// its resource's next actions but a stop are refused as [`StartFault::Other`].
 ///
 /// A start takes the memory of its command from the allocator, and is refused as [`StartFault::Other`] where there is none, or
-/// no descriptor more. The error is said on standard error then, as with each start that is refused so by the system.
+/// no descriptor more. The error is said on standard error then, as with each start that is refused so by the system; and so is the
+/// number of a signal that ended an agent.
 #[derive(Drop)]
 pub struct Processes<R: process::Processes + Drop, A: Allocator + Copy = Global> {
     rt: R,
@@ -139,6 +140,12 @@ fn tell_killed<R: Eprint + ProcFiles, P: OpenProcess + Drop>(rt: &R, agent: &Age
     ));
 }
 
+// Says on standard error which signal ended an agent, since its result does not tell that.
+fn tell_signaled<R: Eprint, P: OpenProcess + Drop>(rt: &R, agent: Agent<P>, signal: u8) {
+    let (run, id) = (agent.run.get(), name_text(agent.id.as_bytes()));
+    let _ = rt.eprintln(format_args!("ocfexec: run {run} of {id} was ended by signal {signal}"));
+}
+
 // Whether a launch is that of a stop, which is started whatever lives of its resource. OCF Resource Agent API 1.1, stop.
 fn is_stop<L: Allocator>(launch: &Launch<L>) -> bool {
     match launch.invocation.arguments().last() {
@@ -208,7 +215,8 @@ impl<R: process::Processes + Clock + Eprint + ProcFiles + Drop, A: Allocator + C
         });
         match answer {
             Poll::Running => {}
-            Poll::Exited(_) | Poll::Signaled => drop(self.live.take(run)),
+            Poll::Exited(_) => drop(self.live.take(run)),
+            Poll::Signaled(signal) => tell_signaled(&self.rt, self.live.take(run), signal),
             Poll::Fault => self.give_up(run),
         }
         answer

@@ -9,8 +9,8 @@ pub enum Poll {
     Running,
     /// It ended with this exit code. OCF Resource Agent API 1.1, exit codes.
     Exited(u8),
-    /// A signal ended it.
-    Signaled,
+    /// This signal ended it, as signal(7) numbers them; 0 where the system names none.
+    Signaled(u8),
     /// It could not be asked. It is given up.
     Fault,
 }

@@ -68,13 +68,15 @@ pub reply_has_no_float : (r : LineReply) → has_float (reply_data r) ≡ false
 reply_has_no_float (line.Request r) = request_has_no_float r
 reply_has_no_float (line.Drain end) = refl
 reply_has_no_float (line.Tidy end) = refl
+reply_has_no_float line.Left = refl
 reply_has_no_float (line.Meta (Ok metadata)) = refl
 reply_has_no_float (line.Meta (Err f)) = fault_no_float f
 
-timed_no_float : (lives : Option ℕ) (n : Notice) → has_float (timed_notice_data lives n) ≡ false
+timed_no_float : (lives : Option ℕ) (n : Notice) → has_float (timed_notice_data lives None n) ≡ false
 timed_no_float None n = refl
 timed_no_float (Some pid) n = refl
 
-pub notice_has_no_float : (form : NoticeForm) (n : Notice) → has_float (formed_data form n) ≡ false
-notice_has_no_float notice_form.Short n = refl
-notice_has_no_float (notice_form.Timed left) n = timed_no_float (lives_of left.now n.result.run) n
+pub notice_has_no_float : (form : NoticeForm) (signal : Option ℕ) (n : Notice) → has_float (formed_data form signal n) ≡ false
+notice_has_no_float notice_form.Short signal n = refl
+notice_has_no_float (notice_form.Timed left) None n = timed_no_float (lives_of left.now n.result.run) n
+notice_has_no_float (notice_form.Timed left) (Some signal) n = refl

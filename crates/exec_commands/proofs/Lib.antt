@@ -2,3 +2,4 @@ pub mod FloatLemmas
 pub mod TextLemmas
 pub mod ParamLemmas
 pub mod ValueLemmas
+pub mod LeaveLemmas

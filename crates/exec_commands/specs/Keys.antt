@@ -62,6 +62,10 @@ number_at = needed natural
 abbrev pub number_or : ℕ → List ℕ → Data → Result ℕ Refusal
 number_or default = if_there natural default
 
+-- the number under a key of which anything else is passed over
+abbrev pub number_there : List ℕ → Data → Option ℕ
+number_there key d = option_and_then natural (get key d)
+
 -- the parameters of a line, which may be left out where a resource is registered
 abbrev pub params_at : Data → Result ParamList Refusal
 params_at = needed texts (codes "params")

@@ -1,6 +1,6 @@
 -- What a line asks for, over the JSON value that it is. In each line all keys are looked at first, with their types, then
 -- all names, and then all values.
-use Rattle.std.specs.Prelude.{ℕ, ◌&&◌, nat_le, List, [], ◌∷◌, length, Option, None, Result, Ok, if◌then◌else◌, codes}
+use Rattle.std.specs.Prelude.{ℕ, ◌&&◌, nat_le, List, [], ◌∷◌, length, Option, None, Some, Result, Ok, if◌then◌else◌, codes}
 use Rattle.std.specs.Option.{option_map, option_or, ok_or}
 use Rattle.std.specs.List.{find}
 use Rattle.std.specs.Str.{bytes_eq, is_utf8}
@@ -15,8 +15,8 @@ use Rattle.ocf_types.specs.declared.command.Question.TheVariants as question
 use Rattle.ocf_types.specs.declared.command.RequestOf.TheVariants as request
 use Rattle.ocf_types.specs.declared.refusal.Refusal.{Refusal}
 use Rattle.ocf_types.specs.declared.refusal.Refusal.TheVariants.{UnknownOp}
-use Rattle.exec_commands.specs.Keys.{given, typed, text_at, number_at, number_or, params_at, params_if_there}
-use Rattle.exec_commands.specs.Values.{named, params_of, check_of, task_named, millis_of, call_of, limit_of}
+use Rattle.exec_commands.specs.Keys.{given, typed, text_at, number_at, number_or, number_there, params_at, params_if_there}
+use Rattle.exec_commands.specs.Values.{named, params_of, check_of, task_named, millis_of, call_of, limit_of, limit_if_named}
 use Rattle.exec_commands.specs.Values.{default_limit, default_meta_limit}
 use Rattle.exec_commands.specs.declared.line.Line.{Line}
 use Rattle.exec_commands.specs.declared.line.Line.TheVariants as line
@@ -82,14 +82,13 @@ drain_in d = given (number_or default_limit (codes "limit") d) (λ limit. given 
 abbrev pub watch_in : Data → Result Line Refusal
 watch_in d = given (number_at (codes "limit") d) (λ limit. given (millis_of limit) (λ limit. Ok (line.Watch limit)))
 
--- a question for metadata that names no limit has 30,000 milliseconds
+-- a question for metadata that names no limit has none; what is no number under that key is passed over
 abbrev pub meta_in : Data → Result Line Refusal
 meta_in d =
     given (text_at (codes "provider") d) (λ provider. given (text_at (codes "type") d) (λ agent.
-    given (number_or default_meta_limit (codes "limit") d) (λ limit.
     given (named is_provider provider) (λ provider. given (named is_agent_type agent) (λ agent.
-    given (limit_of limit) (λ limit.
-    Ok (line.Meta provider agent limit)))))))
+    given (limit_if_named (number_there (codes "limit") d)) (λ limit.
+    Ok (line.Meta provider agent limit))))))
 
 -- a command, and a question, as a line
 abbrev pub commanded : Result Command Refusal → Result Line Refusal
@@ -148,3 +147,23 @@ value_of bytes = if nat_le (length bytes) line_limit && is_utf8 bytes then read 
 -- what the bytes of a line ask for, or the first refusal
 abbrev pub line_read : List ℕ → Result Line Refusal
 line_read bytes = given (typed (value_of bytes)) line_of
+
+-- a question for metadata of a run that serves, which has 30,000 milliseconds where it names no limit
+abbrev pub served_meta_in : Data → Result Line Refusal
+served_meta_in d =
+    given (text_at (codes "provider") d) (λ provider. given (text_at (codes "type") d) (λ agent.
+    given (number_or default_meta_limit (codes "limit") d) (λ limit.
+    given (named is_provider provider) (λ provider. given (named is_agent_type agent) (λ agent.
+    given (limit_of limit) (λ limit.
+    Ok (line.Meta provider agent (Some limit))))))))
+
+-- what a value asks a run for that serves: it may also be asked to end in order
+abbrev pub served_for : List ℕ → Data → Result Line Refusal
+served_for word d =
+    if bytes_eq word (codes "leave") then Ok line.Leave else (if bytes_eq word (codes "meta") then served_meta_in d else line_of d)
+
+abbrev pub served_line_of : Data → Result Line Refusal
+served_line_of d = given (text_at (codes "op") d) (λ word. served_for word d)
+
+abbrev pub served_line_read : List ℕ → Result Line Refusal
+served_line_read bytes = given (typed (value_of bytes)) served_line_of

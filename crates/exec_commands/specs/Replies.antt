@@ -145,20 +145,27 @@ abbrev pub lives_member : Option ℕ → List (List ℕ × Data)
 lives_member None = []
 lives_member (Some pid) = (codes "lives", natural_data pid) ∷ []
 
--- the same with when it began and ended, and with the process of it that lives on, where one does
-abbrev pub timed_notice_data : Option ℕ → Notice → Data
-timed_notice_data lives n = object_from (
+-- the key of the signal that ended an agent, where one did
+abbrev pub signal_member : Option ℕ → List (List ℕ × Data)
+signal_member None = []
+signal_member (Some signal) = (codes "signal", natural_data signal) ∷ []
+
+-- the same with when it began and ended, with the process of it that lives on, where one does, and with the signal that ended it
+abbrev pub timed_notice_data : Option ℕ → Option ℕ → Notice → Data
+timed_notice_data lives signal n = object_from (
     (codes "action", string (action_word n.result.action)) ∷ (codes "at", natural_data n.result.at)
     ∷ (codes "call", natural_data n.result.call) ∷ (codes "code", natural_data (outcome_code n.result.outcome))
     ∷ (codes "id", string n.id) ∷ (codes "interval", natural_data n.result.interval)
     ∷ (lives_member lives ++ ((codes "name", string (name_read (outcome_code n.result.outcome)))
     ∷ (codes "outcome", string (outcome_word n.result.outcome)) ∷ (codes "run", natural_data n.result.run)
-    ∷ (codes "since", natural_data n.result.since) ∷ [])))
+    ∷ (signal_member signal ++ ((codes "since", natural_data n.result.since) ∷ [])))))
 
--- a notice in this form
-abbrev pub formed_data : NoticeForm → Notice → Data
-formed_data notice_form.Short n = notice_data n
-formed_data (notice_form.Timed left) n = timed_notice_data (lives_of left.now n.result.run) n
+-- A notice in this form, of a run that this signal ended, if one did: POSIX, <signal.h>. A process is left of interrupted runs alone,
+-- which no signal is known to have ended.
+abbrev pub formed_data : NoticeForm → Option ℕ → Notice → Data
+formed_data notice_form.Short signal n = notice_data n
+formed_data (notice_form.Timed left) None n = timed_notice_data (lives_of left.now n.result.run) None n
+formed_data (notice_form.Timed left) (Some signal) n = timed_notice_data None (Some signal) n
 
 -- the reply to a request, and to a line
 abbrev pub request_data : Reply → Data
@@ -174,6 +181,7 @@ abbrev pub reply_data : LineReply → Data
 reply_data (line.Request r) = request_data r
 reply_data (line.Drain end) = end_data (drain_word end)
 reply_data (line.Tidy end) = end_data (tidy_word end)
+reply_data line.Left = end_data (codes "left")
 reply_data (line.Meta (Ok metadata)) = length_data metadata.items
 reply_data (line.Meta (Err why)) = fault_data why
 
@@ -186,8 +194,8 @@ behind _ = []
 abbrev pub reply_line : LineReply → List ℕ
 reply_line reply = compact_text (reply_data reply) ++ 10 ∷ behind reply
 
-abbrev pub formed_line : NoticeForm → Notice → List ℕ
-formed_line form notice = compact_text (formed_data form notice) ++ 10 ∷ []
+abbrev pub formed_line : NoticeForm → Option ℕ → Notice → List ℕ
+formed_line form signal notice = compact_text (formed_data form signal notice) ++ 10 ∷ []
 
 -- the line of a reply to a request
 abbrev pub request_line : Reply → List ℕ

@@ -1,5 +1,5 @@
 -- Names and values of a line. A text that is no name is bad-name; a value outside its range is bad-value.
-use Rattle.std.specs.Prelude.{ℕ, ◌&&◌, ◌^◌, nat_le, nat_lt, List, length, Bool, Option, option_and_then, option_map, Result, Ok, Err, if◌then◌else◌}
+use Rattle.std.specs.Prelude.{ℕ, ◌&&◌, ◌^◌, nat_le, nat_lt, List, length, Bool, Option, None, Some, option_and_then, option_map, Result, Ok, Err, if◌then◌else◌}
 use Rattle.std.specs.Option.{ok_or}
 use Rattle.std.specs.List.{list_all}
 use Rattle.ocf_types.specs.Limits.{num_max, params_limit}
@@ -57,8 +57,8 @@ millis_of n = if nat_le 1 n && nat_lt n (2 ^ 32) then Ok n else Err BadValue
 abbrev pub call_of : ℕ → Result ℕ Refusal
 call_of n = if nat_le 1 n && nat_le n num_max then Ok n else Err BadValue
 
--- how long a drain, and an agent that is asked for its metadata, takes at most where the line names no limit, in
--- milliseconds; and the longest that it may name, a day
+-- how long a drain takes at most where the line names no limit, and in a run that serves an agent that is asked for its metadata, in
+-- milliseconds; and the longest that a line may name, a day
 abbrev pub default_limit : ℕ
 default_limit = 60000
 
@@ -70,3 +70,8 @@ longest_limit = 86400000
 
 abbrev pub limit_of : ℕ → Result ℕ Refusal
 limit_of n = if nat_le n longest_limit then Ok n else Err BadValue
+
+-- a limit, where one is named
+abbrev pub limit_if_named : Option ℕ → Result (Option ℕ) Refusal
+limit_if_named None = Ok None
+limit_if_named (Some n) = given (limit_of n) (λ limit. Ok (Some limit))

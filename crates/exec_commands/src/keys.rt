@@ -1,7 +1,7 @@
 //! Texts and numbers under the keys of a line.
 ghost use Rattle.std.specs.Prelude.{◌≡◌, Ok, Err, IfOk, IfErr};
 ghost use Rattle.serde_json.specs.View.{view};
-ghost use Rattle.exec_commands.specs.Keys.{text_at, typed, natural, number_at, number_or};
+ghost use Rattle.exec_commands.specs.Keys.{text_at, typed, natural, number_at, number_or, number_there};
 
 use ocf_types::Refusal;
 use serde_json::Value;
@@ -36,6 +36,16 @@ pub fn number_at(line: &Value, key: &str) -> Result<u64, Refusal>
     match line.get(key) {
         Some(found) => natural(found),
         None => Err(Refusal::Syntax),
+    }
+}
+
+/// The number under a key; none where the key is left out, or holds anything else.
+pub fn number_there(line: &Value, key: &str) -> Option<u64>
+    ensures { result ≡ number_there key.now (view line.now) }
+{
+    match line.get(key) {
+        Some(found) => found.as_u64(),
+        None => None,
     }
 }
 

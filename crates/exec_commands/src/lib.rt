@@ -14,6 +14,7 @@ mod params;
 mod read;
 mod reply;
 mod results;
+mod served;
 mod strict;
 mod texts;
 mod values;

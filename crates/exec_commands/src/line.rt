@@ -12,11 +12,14 @@ pub enum Line {
     Watch(u32),
     /// The whole state, written as the snapshot of the journal's other part.
     Tidy,
-    /// The metadata of an agent, which is given this many milliseconds at most: from 0 to 86,400,000. OCF Resource Agent
-    /// API 1.1, meta-data.
+    /// The end of the run, in order: no further command is taken, what runs ends within its timeouts and is recorded and
+    /// reported, and then the run ends. Only a run that serves reads it.
+    Leave,
+    /// The metadata of an agent, which is given this many milliseconds at most: from 0 to 86,400,000; as long as it takes where
+    /// there is no limit. OCF Resource Agent API 1.1, meta-data.
     Meta {
         provider: Provider,
         agent: AgentType,
-        limit: u32,
+        limit: Option<u32>,
     },
 }

@@ -1,20 +1,8 @@
 //! Names as texts.
 ghost use Rattle.std.specs.Prelude.{◌≡◌};
-ghost use Rattle.std.specs.Str.{IsAscii};
 
+use ocf_env::ascii;
 use ocf_types::{AgentType, ParamName, Provider, RscId};
-use std::str::from_utf8;
-
-#[tactic(auto, using(ocf_types::specs::NameLaws::texts))]
-fn ascii(bytes: &[u8]) -> &str
-    requires { IsAscii bytes.now }
-    ensures { result.now ≡ bytes.now }
-{
-    match from_utf8(bytes) {
-        Ok(text) => text,
-        Err(_) => unreachable!(),
-    }
-}
 
 /// The text of an id.
 #[tactic(auto, using(ocf_types::specs::NameLaws::ids))]

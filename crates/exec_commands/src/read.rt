@@ -7,10 +7,10 @@ ghost use Rattle.exec_commands.specs.Lines.{drain_in, watch_in, meta_in, line_fo
 use crate::commands::{
     cancel_in, exec_in, id_in, recur_in, register_in, set_params_in, withdraw_in,
 };
-use crate::keys::{number_at, number_or, text_at};
+use crate::keys::{number_at, number_or, number_there, text_at};
 use crate::line::Line;
 use crate::operation::{Operation, operation_named};
-use crate::values::{agent_type, limit, millis, provider};
+use crate::values::{agent_type, limit, limit_if_named, millis, provider};
 use ocf_types::{Command, LINE_LIMIT, Question, Refusal, Request};
 use serde_json::Value;
 use std::alloc::Global;
@@ -29,15 +29,15 @@ fn watch_in(line: &Value) -> Result<Line, Refusal>
     Ok(Line::Watch(millis(number)?.get()))
 }
 
+// It has no limit where the line names none.
 fn meta_in(line: &Value) -> Result<Line, Refusal>
     ensures { result ≡ meta_in (view line.now) }
 {
     let provider_text = text_at(line, "provider")?;
     let agent_text = text_at(line, "type")?;
-    let number = number_or(line, "limit", 30_000)?;
     let provider = provider(provider_text)?;
     let agent = agent_type(agent_text)?;
-    let limit = limit(number)?;
+    let limit = limit_if_named(number_there(line, "limit"))?;
     Ok(Line::Meta {
         provider,
         agent,
@@ -104,7 +104,8 @@ fn line_for(alloc: Global, operation: Operation, line: &Value) -> Result<Line, R
     }
 }
 
-fn line_of(alloc: Global, value: &Value) -> Result<Line, Refusal>
+/// What a JSON value asks for, or the first refusal.
+pub fn line_of(alloc: Global, value: &Value) -> Result<Line, Refusal>
     ensures ok { IfOk result (λ l. line_of (view value.now) ≡ Ok l) }
     ensures err { IfErr result (λ e. e ≢ Memory → line_of (view value.now) ≡ Err e) }
 {
@@ -114,8 +115,9 @@ fn line_of(alloc: Global, value: &Value) -> Result<Line, Refusal>
     }
 }
 
+/// The JSON value that a line is.
 #[tactic(auto, using(crate::proofs::ValueLemmas::too_long))]
-fn value_of(alloc: Global, bytes: &[u8]) -> Result<Value, Refusal>
+pub fn value_of(alloc: Global, bytes: &[u8]) -> Result<Value, Refusal>
     ensures ok { IfOk result (λ v. value_of bytes.now ≡ Some (view v)) }
     ensures err { IfErr result (λ e. e ≢ Memory → (value_of bytes.now ≡ None) × (e ≡ Syntax)) }
     ensures long { LINE_LIMIT < length bytes.now → result ≡ Err Syntax }
@@ -131,11 +133,13 @@ fn value_of(alloc: Global, bytes: &[u8]) -> Result<Value, Refusal>
 }
 
 /// What a line, without its newline, asks for, or why it is refused: the first of syntax, unknown-op, bad-name and
-/// bad-value that holds. Memory may stand in place of any answer but that to a line of more than 131,072 bytes.
+/// bad-value that holds. Memory may stand in place of any answer but that to a line of more than 131,072 bytes. No line asks the run
+/// to end, and a question for metadata has no limit but one that it names.
 pub fn read_command(alloc: Global, bytes: &[u8]) -> Result<Line, Refusal>
     ensures ok { IfOk result (λ l. line_read bytes.now ≡ Ok l) }
     ensures refused { IfErr result (λ e. e ≢ Memory → line_read bytes.now ≡ Err e) }
     ensures long { LINE_LIMIT < length bytes.now → result ≡ Err Syntax }
+    ensures stays { result ≢ Ok Line.Leave }
 {
     line_of(alloc, &value_of(alloc, bytes)?)
 }

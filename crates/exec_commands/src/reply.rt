@@ -23,6 +23,8 @@ pub enum LineReply {
     Drain(DrainEnd),
     /// How a tidy ended.
     Tidy(TidyEnd),
+    /// The run ends, as it was asked to.
+    Left,
     /// The metadata of an agent, or why it has none.
     Meta(Result<Vec<u8>, MetaFault>),
 }
@@ -100,6 +102,7 @@ fn reply_value(alloc: Global, reply: &LineReply) -> Result<Value, AllocError>
         LineReply::Request(reply) => request_value(alloc, reply),
         LineReply::Drain(end) => end_value(alloc, drain_word(*end)),
         LineReply::Tidy(end) => end_value(alloc, tidy_word(*end)),
+        LineReply::Left => end_value(alloc, "left"),
         LineReply::Meta(Ok(metadata)) => length_value(alloc, metadata.as_slice()),
         LineReply::Meta(Err(fault)) => fault_value(alloc, *fault),
     }

@@ -1,11 +1,11 @@
 //! Lines in which no key may come twice.
 ghost use Rattle.std.specs.Prelude.{◌≡◌, ◌≢◌, true, false, Err, Ok, IfOk, IfErr};
 ghost use Rattle.ocf_types.specs.declared.refusal.Refusal.TheVariants.{Memory, Syntax};
-ghost use Rattle.exec_commands.specs.Lines.{line_read};
+ghost use Rattle.exec_commands.specs.Lines.{served_line_read};
 ghost use Rattle.exec_commands.specs.Twice.{HasKeyTwice};
 
 use crate::line::Line;
-use crate::read::read_command;
+use crate::served::read_served;
 use json::{Error, Scratch, Value};
 use ocf_types::Refusal;
 use std::alloc::Global;
@@ -37,15 +37,15 @@ fn has_key_twice(alloc: Global, bytes: &[u8]) -> Result<bool, Refusal>
     }
 }
 
-/// What a line asks for as `read_command` says, or why it is refused, where a line in which an object has a key twice is refused as
-/// syntax. Memory may stand in place of any answer.
+/// What a line of a run that serves asks for, or why it is refused: as `read_served` says, but that a line in which an object
+/// has a key twice is refused as syntax. Memory may stand in place of any answer.
 pub fn read_strictly(alloc: Global, bytes: &[u8]) -> Result<Line, Refusal>
-    ensures ok { IfOk result (λ l. (line_read bytes.now ≡ Ok l) × ¬ (HasKeyTwice bytes.now)) }
+    ensures ok { IfOk result (λ l. (served_line_read bytes.now ≡ Ok l) × ¬ (HasKeyTwice bytes.now)) }
     ensures refused { IfErr result (λ e. e ≢ Memory
-        → (HasKeyTwice bytes.now → e ≡ Syntax) × (¬ (HasKeyTwice bytes.now) → line_read bytes.now ≡ Err e)) }
+        → (HasKeyTwice bytes.now → e ≡ Syntax) × (¬ (HasKeyTwice bytes.now) → served_line_read bytes.now ≡ Err e)) }
 {
     if has_key_twice(alloc, bytes)? {
         return Err(Refusal::Syntax);
     }
-    read_command(alloc, bytes)
+    read_served(alloc, bytes)
 }

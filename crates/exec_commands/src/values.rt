@@ -1,7 +1,7 @@
 //! Names and values of a line.
 ghost use Rattle.std.specs.Prelude.{◌≡◌};
 ghost use Rattle.ocf_types.specs.Names.{is_rsc_id, is_provider, is_agent_type};
-ghost use Rattle.exec_commands.specs.Values.{named, check_numbered, check_of, task_named, millis_of, call_of, limit_of};
+ghost use Rattle.exec_commands.specs.Values.{named, check_numbered, check_of, task_named, millis_of, call_of, limit_if_named, limit_of};
 
 use ocf_types::{
     Action, AgentType, CallId, Check, Expect, Level, Millis, Provider, Refusal, RscId, Task,
@@ -101,4 +101,14 @@ pub fn limit(number: u64) -> Result<u32, Refusal>
         return Err(Refusal::BadValue);
     }
     Ok(number as u32)
+}
+
+/// A limit, where one is named.
+pub fn limit_if_named(number: Option<u64>) -> Result<Option<u32>, Refusal>
+    ensures { result ≡ limit_if_named number }
+{
+    match number {
+        Some(number) => Ok(Some(limit(number)?)),
+        None => Ok(None),
+    }
 }

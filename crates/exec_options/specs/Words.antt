@@ -4,6 +4,7 @@ use Rattle.std.specs.Prelude.{codes, bytes_eq}
 use Rattle.std.specs.Str.Parse.{IsNumeral, digits_value, without_leading_plus}
 use Rattle.clap.specs.Words.{Row, Text, first_of, subcommand_of}
 use Rattle.ocf_types.specs.Limits.{part_limit}
+use Rattle.ocf_types.specs.declared.limits.TheConstants.{ORPHANS_LIMIT}
 use Rattle.exec_options.specs.declared.options.Options.{Options}
 use Rattle.exec_options.specs.declared.options.Subcommand.{Subcommand}
 use Rattle.exec_options.specs.declared.options.JournalPlace.{JournalPlace}
@@ -36,7 +37,7 @@ root_text rows = unwrap_or (first_of (codes "root") rows) default_root
 
 -- the longest wait that `--orphans` may name, in milliseconds: a day
 abbrev pub longest_wait : ℕ
-longest_wait = 86400000
+longest_wait = ORPHANS_LIMIT
 
 -- a text of decimal digits, a plus before them or not, is this number, and at most this limit
 abbrev pub IsNumberTo : ℕ → Text → ℕ → Type 0

@@ -68,7 +68,7 @@ fn with_journal_options<'a>(alloc: Global, command: Command<'a>) -> Result<Comma
         alloc,
         "journal",
         "DIR",
-        "Keep the journal in the files part-a and part-b of this folder, and make those that are missing",
+        "The folder of the journal, which is kept in its files part-a and part-b; run and serve make those that are missing",
     ))?;
     let command = command.arg(flag(
         alloc,

@@ -8,6 +8,6 @@ mod texts;
 mod words;
 
 pub use fault::WordsFault;
-pub use options::{JournalPlace, LONGEST_WAIT, Options, Subcommand};
+pub use options::{JournalPlace, Options, Subcommand};
 pub use texts::VERSION;
 pub use words::read_words;

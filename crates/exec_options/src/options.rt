@@ -3,9 +3,6 @@ ghost use Rattle.std.specs.Prelude.{◌≡◌, ◌≢◌, IfSome, IfNone};
 ghost use Rattle.exec_options.specs.declared.options.Subcommand.{Subcommand};
 ghost use Rattle.exec_options.specs.Subcommands.{subcommand_word};
 
-/// The longest wait that `--orphans` may name, in milliseconds: a day.
-pub const LONGEST_WAIT: u64 = 86_400_000;
-
 /// What the program does.
 #[derive(Clone, Copy, Debug, PartialEq, Eq)]
 pub enum Subcommand {

@@ -3,7 +3,7 @@
 /// The version of the program.
 pub const VERSION: &str = "0.1.0";
 
-/// What stands behind the help of the whole program: the commands that `run` and `serve` read, and where all is said.
+/// What follows the help of the whole program: the commands that `run` and `serve` read, and the manual that has all.
 pub const COMMANDS: &str =
     "Commands that run and serve read, a JSON object a line, and answer in a line each:
   op          needed keys         other keys              it
@@ -26,7 +26,7 @@ pub const COMMANDS: &str =
 Example:
   echo '{\"op\":\"list\"}' | ocfexec run --memory
 
-Manual: README.md. Commands, replies and refusals: docs/FORMAT.md.";
+Commands, replies, refusals, options and statuses: man ocfexec.";
 
 /// What stands behind the help of `run`.
 pub const RUN: &str = "Give just one of --journal and --memory. The commands: ocfexec --help.

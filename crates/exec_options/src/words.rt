@@ -9,9 +9,9 @@ ghost use Rattle.exec_options.specs.Faults.{HasFlaw, IsFault, OrphansFlaw, RootF
 
 use crate::app::{ORPHANS, PATH, ROOT, TIDY_AT, ocfexec};
 use crate::fault::WordsFault;
-use crate::options::{JournalPlace, LONGEST_WAIT, Options, Subcommand};
+use crate::options::{JournalPlace, Options, Subcommand};
 use clap::ArgMatches;
-use ocf_types::PART_LIMIT;
+use ocf_types::{ORPHANS_LIMIT, PART_LIMIT};
 use std::alloc::Global;
 
 fn text_of<'a>(matches: &ArgMatches<'a>, id: &str) -> Option<&'a str>
@@ -73,7 +73,10 @@ fn orphans(matches: &ArgMatches<'_>) -> Result<u64, WordsFault>
     ensures fault { IfErr result
         (λ f. (f ≡ WordsFault.Orphans) × OrphansFlaw (rows_of (found_of matches.now))) }
 {
-    match number_to(LONGEST_WAIT, text_of(matches, "orphans").unwrap_or(ORPHANS)) {
+    match number_to(
+        ORPHANS_LIMIT,
+        text_of(matches, "orphans").unwrap_or(ORPHANS),
+    ) {
         Some(millis) => Ok(millis),
         None => Err(WordsFault::Orphans),
     }

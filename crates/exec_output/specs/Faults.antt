@@ -28,6 +28,10 @@ status_of fault.InputOrOutput = 7
 status_of fault.ReplyMemory = 7
 status_of fault.ChildrenIgnored = 8
 
+-- the line of every fault that ends with status 7
+abbrev pub output_line : List ℕ
+output_line = codes "input or output"
+
 -- what a person can do about it, where there is more to say than its text
 abbrev pub fault_advice : Fault → Option (List ℕ)
 fault_advice fault.Usage = None
@@ -46,7 +50,7 @@ fault_advice fault.Full = Some (codes "Nothing was changed. See what it holds by
 fault_advice fault.InputOrOutput =
     Some (codes "Check what standard input and output are connected to. A command without a reply may be recorded.")
 fault_advice fault.ReplyMemory =
-    Some (codes "Free memory or raise the limit of the process. A command without a reply may be recorded.")
+    Some (codes "A reply or a notice found no memory. Free memory or raise the limit of the process. A command without a reply may be recorded.")
 fault_advice fault.ChildrenIgnored =
     Some (codes "Nothing was changed. Start it with SIGCHLD at its default: no end of an agent would be seen.")
 

@@ -15,6 +15,6 @@ mod table;
 pub use alone::show_one;
 pub use fault::Fault;
 pub use look::Look;
-pub use send::{IoFault, send_notices, send_replies, send_reply};
+pub use send::{IoFault, send_notice, send_notices, send_replies, send_reply};
 pub use shown::show;
 pub use statuses::status;

@@ -1,5 +1,5 @@
 //! Replies and notices, as they go out.
-ghost use Rattle.std.specs.Prelude.{◌≡◌, OnErr, OnOk, IfOk, IfErr, Err};
+ghost use Rattle.std.specs.Prelude.{◌≡◌, None, OnErr, OnOk, IfOk, IfErr, Err};
 ghost use Rattle.std.specs.Io.KnownBytes.{Appends};
 ghost use Rattle.std.specs.List.{flat_map};
 ghost use Rattle.std.specs.IoError.{error_kind};
@@ -113,22 +113,27 @@ pub fn send_replies<W: Write>(
     Ok(())
 }
 
-fn send_notice<W: Write>(
+/// Writes the line of a notice in this form, of an action whose agent this signal ended, if one did, and flushes it. After an error
+/// a front of it is written.
+pub fn send_notice<W: Write>(
     alloc: Global,
     writer: &mut W,
     form: NoticeForm,
     notice: &Notice,
+    signal: Option<u8>,
 ) -> Result<(), IoFault>
     ensures sent { OnOk result
-        (Appends (W.contents writer.old) (W.contents writer.new) (formed_line form.entry notice.now)) }
+        (Appends (W.contents writer.old) (W.contents writer.new)
+        (formed_line form.entry signal notice.now)) }
     ensures front { OnErr result
         (AppendsFront (W.contents writer.old) (W.contents writer.new)
-        (formed_line form.entry notice.now)) }
+        (formed_line form.entry signal notice.now)) }
 {
-    send_line(writer, write_notice(alloc, form, notice))
+    send_line(writer, write_notice(alloc, form, notice, signal))
 }
 
-/// Writes notices in this form, a line each, and flushes each line. After an error a front of the lines is written.
+/// Writes notices in this form, none of them with a signal, a line each, and flushes each line. After an error a front of the lines
+/// is written.
 pub fn send_notices<W: Write>(
     alloc: Global,
     writer: &mut W,
@@ -137,13 +142,13 @@ pub fn send_notices<W: Write>(
 ) -> Result<(), IoFault>
     ensures sent { OnOk result
         (Appends (W.contents writer.old) (W.contents writer.new)
-        (flat_map (formed_line form.entry) notices.now)) }
+        (flat_map (formed_line form.entry None) notices.now)) }
     ensures front { OnErr result
         (AppendsFront (W.contents writer.old) (W.contents writer.new)
-        (flat_map (formed_line form.entry) notices.now)) }
+        (flat_map (formed_line form.entry None) notices.now)) }
 {
     for notice in notices {
-        send_notice(alloc, writer, form, notice)?;
+        send_notice(alloc, writer, form, notice, None)?;
     }
     Ok(())
 }

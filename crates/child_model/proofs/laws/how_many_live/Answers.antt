@@ -8,14 +8,14 @@ use Rattle.child_model.proofs.laws.how_many_live.Goals as goal
 polled : (answer : Poll) (run : ℕ) (live : List ℕ) → length (live_polled answer run live) ≤ length live
 polled poll.Running run live = omega arith
 polled (poll.Exited code) run live = no_more run live
-polled poll.Signaled run live = no_more run live
+polled (poll.Signaled signal) run live = no_more run live
 polled poll.Fault run live = no_more run live
 
 ended : (answer : Poll) (run : ℕ) (live : List ℕ) → Contains live run → answer ≢ poll.Running
     → length (live_polled answer run live) + 1 ≤ length live
 ended poll.Running run live lives other = absurd (other refl)
 ended (poll.Exited code) run live lives other = fewer run live lives
-ended poll.Signaled run live lives other = fewer run live lives
+ended (poll.Signaled signal) run live lives other = fewer run live lives
 ended poll.Fault run live lives other = fewer run live lives
 
 pub returns-clause-poll : goal.returns-clause-poll

@@ -17,7 +17,7 @@ polled : (run r : ℕ) (live : List ℕ) (answer : Poll) → Contains (live_poll
     ↔ (Contains live r × ((answer ≡ poll.Running) ⊎ (r ≢ run)))
 polled run r live poll.Running = (λ lives. (lives, inl refl), λ lives. lives.0)
 polled run r live (poll.Exited code) = ended run r live (poll.Exited code) (λ e. cc)
-polled run r live poll.Signaled = ended run r live poll.Signaled (λ e. cc)
+polled run r live (poll.Signaled signal) = ended run r live (poll.Signaled signal) (λ e. cc)
 polled run r live poll.Fault = ended run r live poll.Fault (λ e. cc)
 
 pub returns-clause-poll : goal.returns-clause-poll

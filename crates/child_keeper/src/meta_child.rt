@@ -1,0 +1,248 @@
+//! An agent that is asked for its metadata.
+ghost use Rattle.std.specs.Prelude.{◌≡◌, ◌≢◌, ◌<◌, ◌≤◌, [], true, false, IfErr, IfOk, IfSome, None, Ok, vec_len};
+ghost use Rattle.std.specs.Io.KnownBytes.{IsAtEnd};
+ghost use Rattle.std.specs.Process.{child_status};
+ghost use Rattle.ocf_types.specs.Limits.{metadata_limit};
+ghost use Rattle.ocf_types.specs.declared.outcome.MetaFault.TheVariants.{Failed, TooLong};
+ghost use Rattle.child_keeper.specs.Codes.{CountsAs, EndedWith};
+ghost use Rattle.child_keeper.specs.MetaChildren.{IfAnswered, PollsTo, asked_of, left_of};
+ghost use Rattle.child_keeper.specs.MetaOutputs.{KeepsAll};
+
+use crate::Poll;
+use crate::command::command_of;
+use crate::ends::end_of;
+use crate::meta_output::{MetaOutput, Progress};
+use crate::refused::{name_text, refused};
+use crate::waited::Waited;
+use ocf_env::{Site, launch_meta};
+use ocf_types::{AgentType, MetaFault, Provider, StartFault};
+use proc_files::ProcFiles;
+use process_ends::{Deadline, Pauses, end_child, tell_alive};
+use std::alloc::{AllocError, Allocator};
+use std::io::{self, Eprint, Read};
+use std::process::{Child, Command, ExitStatus, OpenProcess, Processes, Stdio};
+use std::rt::Clock;
+
+/// An agent that was asked for its metadata and has not answered yet. It is polled until it answers, or given up: so it cannot be
+/// dropped.
+pub struct MetaChild<P: OpenProcess, A: Allocator> {
+    child: Child<P>,
+    stdout: Option<P::Stdout>,
+    output: MetaOutput<A>,
+    progress: Progress,
+    // Until when it may take; as long as it takes where there is none.
+    deadline: Option<Deadline>,
+}
+
+/// What a poll of an agent finds that is asked for its metadata.
+pub enum MetaPoll<P: OpenProcess, A: Allocator> {
+    /// It has not answered yet.
+    Waits(MetaChild<P, A>),
+    /// Its metadata, or why it has none.
+    Answered(Result<Vec<u8, A>, MetaFault>),
+}
+
+// The command that asks an agent for its metadata, with a pipe to write them to.
+fn meta_command<A: Allocator + Copy, S: Allocator>(
+    alloc: A,
+    site: &Site<S>,
+    provider: &Provider,
+    agent: &AgentType,
+) -> Result<Command<A>, AllocError> {
+    let invocation = launch_meta(alloc, site, provider, agent)?;
+    let mut command = command_of(alloc, &invocation)?;
+    command.stdout(Stdio::piped());
+    Ok(command)
+}
+
+// The fault of a question for metadata that the system does not start.
+fn refused_meta<R: Eprint>(
+    rt: &R,
+    provider: &Provider,
+    agent: &AgentType,
+    error: &io::Error,
+) -> StartFault {
+    let (provider, agent) = (name_text(provider.as_bytes()), name_text(agent.as_bytes()));
+    refused(rt, format_args!("meta-data of {provider}:{agent}"), error)
+}
+
+// The exit code that a child is taken to have ended with: 1 where a signal ended it.
+fn code_of(status: ExitStatus) -> u8
+    ensures { CountsAs status result }
+{
+    match end_of(status) {
+        Poll::Exited(code) => code,
+        _ => 1,
+    }
+}
+
+// The exit code of a child, if it has ended.
+fn exit_code<P: OpenProcess>(child: &mut Child<P>) -> Result<Option<u8>, MetaFault>
+    ensures ended { IfOk result
+        (λ ended. IfSome ended (λ code. EndedWith (child_status child.new) code)) }
+    ensures failed { IfErr result (λ fault. fault ≢ Failed 0) }
+{
+    match child.try_wait() {
+        Ok(None) => Ok(None),
+        Ok(Some(status)) => Ok(Some(code_of(status))),
+        Err(_) => Err(MetaFault::Read),
+    }
+}
+
+// The exit code of a child whose output was read this far, once both have ended, or why the child is waited for no more. It has this
+// many milliseconds left.
+fn code_now<P: OpenProcess>(
+    child: &mut Child<P>,
+    progress: Progress,
+    left: u32,
+) -> Result<Option<u8>, MetaFault>
+    ensures limit { result ≡ Ok None → 0 < left }
+    ensures ended { IfOk result (λ ended. IfSome ended
+        (λ code. (progress ≡ Progress.Ended) × EndedWith (child_status child.new) code)) }
+    ensures failed { IfErr result (λ fault. fault ≢ Failed 0) }
+{
+    let code = match progress {
+        Progress::Open => None,
+        Progress::Ended => exit_code(child)?,
+        Progress::Failed => return Err(MetaFault::Read),
+    };
+    if code.is_none() && left == 0 {
+        return Err(MetaFault::Limit);
+    }
+    Ok(code)
+}
+
+// The metadata of an agent that wrote this and ended with this code, or why it has none.
+fn answer_of<A: Allocator>(output: MetaOutput<A>, code: u8) -> Result<Vec<u8, A>, MetaFault>
+    ensures given { IfOk result (λ metadata. (code ≡ 0) × (output.is_whole ≡ true)
+        × (metadata.items ≡ output.bytes.items)) }
+    ensures code { 0 < code → result ≡ Err (Failed code) }
+    ensures too_long { code ≡ 0 → output.is_whole ≡ false → result ≡ Err TooLong }
+    ensures failed { IfErr result (λ fault. fault ≢ Failed 0) }
+{
+    match (code, output.is_whole) {
+        (1.., _) => Err(MetaFault::Failed(code)),
+        (0, true) => Ok(output.bytes),
+        (0, false) => Err(MetaFault::TooLong),
+    }
+}
+
+// Reads what a stream has by now, if there is one.
+fn read_from<S: Read + Waited, A: Allocator>(
+    stream: &mut Option<S>,
+    output: &mut MetaOutput<A>,
+) -> Progress
+    ensures kept { KeepsAll (left_of S.remaining stream.old) (left_of S.remaining stream.new)
+        output.old output.new }
+    ensures ended { result ≡ Progress.Ended → IsAtEnd (left_of S.remaining stream.new) }
+{
+    match stream {
+        Some(stream) => output.read_ready(stream),
+        None => Progress::Failed,
+    }
+}
+
+impl<P: OpenProcess + Drop, A: Allocator + Copy> MetaChild<P, A>
+where
+    P::Stdout: Waited,
+{
+    /// Starts an agent that is asked for its metadata, and has `limit` milliseconds for them, or as long as it takes. All memory for them is taken here.
+    /// Errors come in this order: memory is refused, for them or for the command; the system does not start the agent.
+    pub fn start<R: Processes<Started = P> + Clock + Eprint, S: Allocator>(
+        rt: &R,
+        alloc: A,
+        site: &Site<S>,
+        provider: &Provider,
+        agent: &AgentType,
+        limit: Option<u32>,
+    ) -> Result<MetaChild<P, A>, MetaFault>
+        ensures none { IfOk result (λ child. (asked_of P.Stdout.remaining child).kept ≡ []) }
+        ensures whole { IfOk result (λ child. (asked_of P.Stdout.remaining child).is_whole ≡ true) }
+        ensures failed { IfErr result (λ fault. fault ≢ Failed 0) }
+    {
+        let Ok(output) = MetaOutput::new(alloc) else {
+            return Err(MetaFault::Memory);
+        };
+        let Ok(mut command) = meta_command(alloc, site, provider, agent) else {
+            return Err(MetaFault::Memory);
+        };
+        let deadline = limit.map(|millis| Deadline::after(rt, millis));
+        match command.spawn(rt) {
+            Ok(mut child) => Ok(MetaChild {
+                stdout: child.stdout.take(),
+                child,
+                output,
+                progress: Progress::Open,
+                deadline,
+            }),
+            Err(error) => Err(MetaFault::NotStarted(refused_meta(rt, provider, agent, &error))),
+        }
+    }
+
+    /// Looks whether the agent has answered by now, without waiting for it: it has once it has ended and nobody else holds its
+    /// output. Errors come in this order: its output or its end cannot be read, or is not there in time, and then it was ended
+    /// with all that descends from it; it did not end with 0; it wrote too much.
+    pub fn poll<R: Processes + Clock + Eprint + ProcFiles>(
+        mut self,
+        rt: &R,
+        alloc: A,
+    ) -> MetaPoll<P, A>
+        ensures length { IfAnswered result
+            (λ answer. IfOk answer (λ metadata. vec_len metadata ≤ metadata_limit)) }
+        ensures failed { IfAnswered result (λ answer. IfErr answer (λ fault. fault ≢ Failed 0)) }
+        ensures polls { PollsTo P.Stdout.remaining self result }
+    {
+        self.progress = read_from(&mut self.stdout, &mut self.output);
+        let left = self.left(rt);
+        match code_now(&mut self.child, self.progress, left) {
+            Ok(None) => MetaPoll::Waits(self),
+            Ok(Some(code)) => MetaPoll::Answered(answer_of(self.into_output(), code)),
+            Err(fault) => {
+                self.give_up(rt, alloc);
+                MetaPoll::Answered(Err(fault))
+            }
+        }
+    }
+
+    // What was read of its output.
+    fn into_output(self) -> MetaOutput<A>
+        ensures { result ≡ self.output }
+    {
+        let MetaChild {
+            child: _,
+            stdout: _,
+            output,
+            progress: _,
+            deadline: _,
+        } = self;
+        output
+    }
+
+    // How many milliseconds it has left: as many as can be told where it has no limit.
+    fn left(&self, clock: &impl Clock) -> u32 {
+        match self.deadline {
+            Some(deadline) => deadline.left(clock),
+            None => u32::MAX,
+        }
+    }
+
+    /// Waits until a poll may find more: up to the limit for its output, and one pause once that is at its end.
+    pub fn wait(&self, clock: &impl Clock, pauses: &mut Pauses) {
+        match (&self.stdout, self.progress) {
+            (Some(stdout), Progress::Open) => {
+                stdout.is_ready(self.left(clock));
+            }
+            _ => {
+                pauses.pause(clock);
+            }
+        }
+    }
+
+    /// Ends an agent that is waited for no more, with all that descends from it. One that lives on is named on standard error.
+    pub fn give_up<R: Processes + Clock + Eprint + ProcFiles>(mut self, rt: &R, alloc: A) {
+        if end_child(rt, alloc, &mut self.child) {
+            tell_alive(rt, &self.child, "meta-data");
+        }
+        drop(self.into_output());
+    }
+}
