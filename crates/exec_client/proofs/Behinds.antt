@@ -18,13 +18,13 @@ use Rattle.exec_turn.specs.Actives.{notice_of, result_of}
 use Rattle.exec_turn.specs.Picks.{begins}
 use Rattle.exec_turn.specs.Polls.{Polled, ends_of, result_notices, results}
 use Rattle.exec_turn.specs.Starts.{Started, refusal_notices, refusals, refused_end}
-use Rattle.exec_turn.specs.Turn.{IsTurn, Whole}
+use Rattle.exec_turn.specs.Turn.{IsFinish, IsTurn, Whole}
 use Rattle.exec_ledger.specs.Scenes.{Scene}
 use Rattle.exec_ledger.specs.Replies.{IsReplyTo, KeepsRunning, recorded}
 use Rattle.exec_ledger.specs.Together.{Adds, Answered as RowAnswered, disk_each, failed}
 use Rattle.exec_ledger.proofs.Keeping.{command_keeps}
 use Rattle.exec_client.specs.Behind.{Behind, TellsOf, claims, nothing, says_else, tells, untold}
-use Rattle.exec_client.specs.Said.{Said, Noticed, answered}
+use Rattle.exec_client.specs.Said.{Said, answered, noticed_by}
 
 -- nothing told is behind any events
 pub none_told : (es : List Event) → Behind [] es
@@ -109,56 +109,69 @@ failed_behind (reply.Info info ∷ rs) = disk_behind (reply.Info info ∷ rs)
 failed_behind (reply.History results ∷ rs) = disk_behind (reply.History results ∷ rs)
 failed_behind (reply.Turn end ∷ rs) = disk_behind (reply.Turn end ∷ rs)
 
--- the ends of an action
-ends_behind : (at : ℕ) (a : Active) (ends : List RunEnd) → Behind (map Noticed (map (notice_of at a) ends)) (map (result_of at a) ends)
-ends_behind at a [] = nothing
-ends_behind at a (end ∷ ends) =
-    tells (Noticed (notice_of at a end)) (result_of at a end) _ _ (record { end = end; is = refl; ended = refl }) (ends_behind at a ends)
+-- with the signals of this book
+module _ (book : List Entry) where
+  -- the ends of an action
+  ends_behind : (at : ℕ) (a : Active) (ends : List RunEnd) → Behind (map (noticed_by book) (map (notice_of at a) ends)) (map (result_of at a) ends)
+  ends_behind at a [] = nothing
+  ends_behind at a (end ∷ ends) =
+      tells (noticed_by book (notice_of at a end)) (result_of at a end) _ _ (record { end = end; is = refl; ended = refl }) (ends_behind at a ends)
 
--- the ends of several
-all_behind : {X : Type 0} (at : ℕ) (who : X → Active) (ends : X → List RunEnd) (xs : List X)
-    → Behind (map Noticed (flat_map (λ x. map (notice_of at (who x)) (ends x)) xs)) (flat_map (λ x. map (result_of at (who x)) (ends x)) xs)
-all_behind at who ends [] = nothing
-all_behind at who ends (x ∷ xs) =
-    subst (λ (ss : List Said). Behind ss (flat_map (λ x. map (result_of at (who x)) (ends x)) (x ∷ xs)))
-    (sym (map-append Noticed (map (notice_of at (who x)) (ends x)) (flat_map (λ x. map (notice_of at (who x)) (ends x)) xs)))
-    (both_behind _ _ _ _ (ends_behind at (who x) (ends x)) (all_behind at who ends xs))
+  -- the ends of several
+  all_behind : {X : Type 0} (at : ℕ) (who : X → Active) (ends : X → List RunEnd) (xs : List X)
+      → Behind (map (noticed_by book) (flat_map (λ x. map (notice_of at (who x)) (ends x)) xs)) (flat_map (λ x. map (result_of at (who x)) (ends x)) xs)
+  all_behind at who ends [] = nothing
+  all_behind at who ends (x ∷ xs) =
+      subst (λ (ss : List Said). Behind ss (flat_map (λ x. map (result_of at (who x)) (ends x)) (x ∷ xs)))
+      (sym (map-append (noticed_by book) (map (notice_of at (who x)) (ends x)) (flat_map (λ x. map (notice_of at (who x)) (ends x)) xs)))
+      (both_behind _ _ _ _ (ends_behind at (who x) (ends x)) (all_behind at who ends xs))
 
-results_behind : (at : ℕ) (ps : List Polled) → Behind (map Noticed (result_notices at ps)) (results at ps)
-results_behind at ps = all_behind at (λ p. p.who) (λ p. ends_of at p) ps
+  results_behind : (at : ℕ) (ps : List Polled) → Behind (map (noticed_by book) (result_notices at ps)) (results at ps)
+  results_behind at ps = all_behind at (λ p. p.who) (λ p. ends_of at p) ps
 
-refusals_behind : (at : ℕ) (xs : List Started) → Behind (map Noticed (refusal_notices at xs)) (refusals at xs)
-refusals_behind at xs = all_behind at (λ x. x.what) (λ x. refused_end x.answer) xs
+  refusals_behind : (at : ℕ) (xs : List Started) → Behind (map (noticed_by book) (refusal_notices at xs)) (refusals at xs)
+  refusals_behind at xs = all_behind at (λ x. x.what) (λ x. refused_end x.answer) xs
 
--- results, then what was begun
-begun_behind : (at : ℕ) (ps : List Polled) (bs : List Active) → Behind (map Noticed (result_notices at ps)) (results at ps ++ begins at bs)
-begun_behind at ps bs =
-    behind_more (map Noticed (result_notices at ps)) (results at ps) (begins at bs) (results_behind at ps)
+  -- results, then what was begun
+  begun_behind : (at : ℕ) (ps : List Polled) (bs : List Active) → Behind (map (noticed_by book) (result_notices at ps)) (results at ps ++ begins at bs)
+  begun_behind at ps bs =
+      behind_more (map (noticed_by book) (result_notices at ps)) (results at ps) (begins at bs) (results_behind at ps)
 
--- these notices and events, by what they are
-moved : (told told2 : List Notice) (es es2 : List Event) → told ≡ told2 → es ≡ es2 → Behind (map Noticed told2) es2 → Behind (map Noticed told) es
-moved told told2 es es2 same same2 b =
-    subst (λ (ns : List Notice). Behind (map Noticed ns) es) (sym same) (subst (λ (fs : List Event). Behind (map Noticed told2) fs) (sym same2) b)
+  -- these notices and events, by what they are
+  moved : (told told2 : List Notice) (es es2 : List Event) → told ≡ told2 → es ≡ es2 → Behind (map (noticed_by book) told2) es2 → Behind (map (noticed_by book) told) es
+  moved told told2 es es2 same same2 b =
+      subst (λ (ns : List Notice). Behind (map (noticed_by book) ns) es) (sym same) (subst (λ (fs : List Event). Behind (map (noticed_by book) told2) fs) (sym same2) b)
 
-whole_behind : (end : TurnEnd) (x : Scene) (entries : List Entry) (events pending : List Event) (told : List Notice)
-    → Whole end x entries events pending told → Behind (map Noticed told) events
-whole_behind end x entries events pending told (t, _, es, _, ns) =
-    moved told _ events _ ns es
-    (subst (λ (ss : List Said). Behind ss (results x.at t.polled ++ begins x.at t.begun ++ refusals x.at t.started))
-    (sym (map-append Noticed (result_notices x.at t.polled) (refusal_notices x.at t.started)))
-    (both_behind _ _ _ _ (begun_behind x.at t.polled t.begun) (refusals_behind x.at t.started)))
+  whole_behind : (end : TurnEnd) (x : Scene) (entries : List Entry) (events pending : List Event) (told : List Notice)
+      → Whole end x entries events pending told → Behind (map (noticed_by book) told) events
+  whole_behind end x entries events pending told (t, _, es, _, ns) =
+      moved told _ events _ ns es
+      (subst (λ (ss : List Said). Behind ss (results x.at t.polled ++ begins x.at t.begun ++ refusals x.at t.started))
+      (sym (map-append (noticed_by book) (result_notices x.at t.polled) (refusal_notices x.at t.started)))
+      (both_behind _ _ _ _ (begun_behind x.at t.polled t.begun) (refusals_behind x.at t.started)))
 
--- a turn
-pub turn_behind : (end : TurnEnd) (x : Scene) (entries : List Entry) (events pending : List Event) (told : List Notice)
-    → IsTurn end x entries events pending told → Behind (map Noticed told) events
-turn_behind turn_end.Closed x entries events pending told none = absurd none
-turn_behind turn_end.BookFull x entries events pending told (_, es, _, ns) = moved told [] events [] ns es nothing
-turn_behind turn_end.Done x entries events pending told whole = whole_behind turn_end.Done x entries events pending told whole
-turn_behind turn_end.RunsSpent x entries events pending told whole = whole_behind turn_end.RunsSpent x entries events pending told whole
-turn_behind turn_end.Full x entries events pending told whole = whole_behind turn_end.Full x entries events pending told whole
-turn_behind turn_end.Memory x entries events pending told whole = whole_behind turn_end.Memory x entries events pending told whole
-turn_behind turn_end.Disk x entries events pending told (inl (ps, _, _, es, _, ns)) = moved told [] events [] ns es nothing
-turn_behind turn_end.Disk x entries events pending told (inr (inl (ps, end, bs, _, _, _, es, _, ns))) =
-    moved told _ events _ ns es (results_behind x.at ps)
-turn_behind turn_end.Disk x entries events pending told (inr (inr (end, t, _, es, _, ns))) =
-    moved told _ events _ ns es (begun_behind x.at t.polled t.begun)
+  -- a turn
+  pub turn_behind : (end : TurnEnd) (x : Scene) (entries : List Entry) (events pending : List Event) (told : List Notice)
+      → IsTurn end x entries events pending told → Behind (map (noticed_by book) told) events
+  turn_behind turn_end.Closed x entries events pending told none = absurd none
+  turn_behind turn_end.BookFull x entries events pending told (_, es, _, ns) = moved told [] events [] ns es nothing
+  turn_behind turn_end.Done x entries events pending told whole = whole_behind turn_end.Done x entries events pending told whole
+  turn_behind turn_end.RunsSpent x entries events pending told whole = whole_behind turn_end.RunsSpent x entries events pending told whole
+  turn_behind turn_end.Full x entries events pending told whole = whole_behind turn_end.Full x entries events pending told whole
+  turn_behind turn_end.Memory x entries events pending told whole = whole_behind turn_end.Memory x entries events pending told whole
+  turn_behind turn_end.Disk x entries events pending told (inl (ps, _, _, es, _, ns)) = moved told [] events [] ns es nothing
+  turn_behind turn_end.Disk x entries events pending told (inr (inl (ps, end, bs, _, _, _, es, _, ns))) =
+      moved told _ events _ ns es (results_behind x.at ps)
+  turn_behind turn_end.Disk x entries events pending told (inr (inr (end, t, _, es, _, ns))) =
+      moved told _ events _ ns es (begun_behind x.at t.polled t.begun)
+
+  -- one that begins nothing
+  pub finish_behind : (end : TurnEnd) (x : Scene) (entries : List Entry) (events pending : List Event) (told : List Notice)
+      → IsFinish end x entries events pending told → Behind (map (noticed_by book) told) events
+  finish_behind turn_end.Done x entries events pending told (ps, _, _, es, _, ns) = moved told _ events _ ns es (results_behind x.at ps)
+  finish_behind turn_end.BookFull x entries events pending told (_, es, _, ns) = moved told [] events [] ns es nothing
+  finish_behind turn_end.Disk x entries events pending told (ps, _, _, es, _, ns) = moved told [] events [] ns es nothing
+  finish_behind turn_end.Closed x entries events pending told none = absurd none
+  finish_behind turn_end.RunsSpent x entries events pending told none = absurd none
+  finish_behind turn_end.Full x entries events pending told none = absurd none
+  finish_behind turn_end.Memory x entries events pending told none = absurd none

@@ -14,24 +14,25 @@ use Rattle.disk_model.specs.View.{View}
 use Rattle.executor.specs.CallLaws.{followed_by_none, calls_behind}
 use Rattle.exec_ledger.specs.Commands.{Obeys}
 use Rattle.executor.specs.Commands.{Serves, ServesWhile}
-use Rattle.executor.specs.Lives.{Abandoned, Calls, Cleared, Does, Exchange, Row, Tidied, Took}
+use Rattle.executor.specs.Lives.{Abandoned, Calls, Cleared, Does, Exchange, Finished, Row, Tidied, Took}
+use Rattle.executor.specs.FinishCalls.{FinishedWhile}
 use Rattle.executor.specs.RowCalls.{TakesRow, row_effects}
 use Rattle.exec_ledger.specs.Together.{row_replies}
 use Rattle.executor.specs.Rows.{IsAt, TakesCommands, replies_of}
 use Rattle.executor.specs.Sessions.{Effects, TakesWhile, followed_by, command_effects, no_effects}
 use Rattle.executor.specs.Sights.{Sight, ledger_of}
 use Rattle.executor.specs.TidyCalls.{Tidies, TidiesWhile}
-use Rattle.executor.specs.TurnCalls.{TakesTurn, abandoned, with_empty_book}
+use Rattle.executor.specs.TurnCalls.{FinishesTurn, TakesTurn, abandoned, with_empty_book}
 use Rattle.executor.specs.declared.session.InputOf.TheVariants as input
 use Rattle.exec_ledger.proofs.Keeping.{command_keeps}
 use Rattle.exec_client.specs.Behind.{Behind, claims, nothing}
 use Rattle.exec_client.specs.Heard.{Heard}
 use Rattle.exec_client.specs.MayTell.{AllStand, MayBeReplied, MayReply, MaySay, MayTell, StandsBehind}
-use Rattle.exec_client.specs.Said.{Answered, Said, Noticed, answered, said_in}
-use Rattle.exec_client.specs.Tells.{Says, TellsCalls}
+use Rattle.exec_client.specs.Said.{Answered, Said, answered, said_in}
+use Rattle.exec_client.specs.Tells.{Says, TellsCalls, noticed}
 use Rattle.exec_client.specs.declared.told.Told.{Told}
 use Rattle.exec_commands.specs.declared.reply.LineReply.{LineReply}
-use Rattle.exec_client.proofs.Behinds.{both_behind, failed_behind, reply_behind, row_behind, says_none, turn_behind}
+use Rattle.exec_client.proofs.Behinds.{both_behind, failed_behind, finish_behind, reply_behind, row_behind, says_none, turn_behind}
 use Rattle.exec_client.proofs.Saying.{no_claim}
 use Rattle.exec_client.proofs.CallsTold.{both_tell, claims_nothing, commands_tell, one_tells}
 
@@ -138,6 +139,7 @@ module _ {D : Type 0} (look : D → View) where
   one_behind now (Took (input.Request at (asked.Question q)) r) x y d is does = absurd is
   one_behind now (Took (input.Turn at) r) x y d is does = absurd is
   one_behind now (Row at cs rs) x y d is does = row_stands at cs x y rs d does
+  one_behind now (Finished at end) x y d is does = absurd is
   one_behind now (Tidied end) x y d is does = absurd is
   one_behind now Cleared x y d is does = absurd is
   one_behind now Abandoned x y d is does = absurd is
@@ -163,15 +165,23 @@ module _ {D : Type 0} (look : D → View) where
         (calls_told now takes.exchanges x y takes.effects takes.at_once takes.calls);
   }
 
-  -- a turn, a tidy, and an emptied book
+  -- a turn, one that begins nothing, a tidy, and an emptied book
   pub turn_stands : (now : ℕ) (x y : Sight D) (end : TurnEnd) → x.is_open ≡ true → TakesTurn look now x y end
-      → StandsBehind look x y (map Noticed y.told)
+      → StandsBehind look x y (noticed y)
   turn_stands now x y end is_open takes =
       let d : Effects = record { entries = takes.turns.entries; events = takes.turns.events; pending = takes.turns.pending } in
-      one_stands x y (Took (input.Turn now) (reply.Turn end)) d (map Noticed y.told)
+      one_stands x y (Took (input.Turn now) (reply.Turn end)) d (noticed y)
       (subst (λ (o : Bool). TakesWhile o look (input.Turn now) x y (reply.Turn end) d) (sym is_open)
       (record { end = end; takes = takes; replies = refl; does = refl })) refl
-      (turn_behind end _ takes.turns.entries takes.turns.events takes.turns.pending y.told takes.turns.does)
+      (turn_behind y.children.book end _ takes.turns.entries takes.turns.events takes.turns.pending y.told takes.turns.does)
+
+  pub finish_stands : (now : ℕ) (x y : Sight D) (end : TurnEnd) → x.is_open ≡ true → FinishesTurn look now x y end
+      → StandsBehind look x y (noticed y)
+  finish_stands now x y end is_open takes =
+      let d : Effects = record { entries = takes.turns.entries; events = takes.turns.events; pending = takes.turns.pending } in
+      one_stands x y (Finished now end) d (noticed y)
+      (subst (λ (o : Bool). FinishedWhile o look now x y end d) (sym is_open) (record { takes = takes; does = refl })) refl
+      (finish_behind y.children.book end _ takes.turns.entries takes.turns.events takes.turns.pending y.told takes.turns.does)
 
   pub tidied_stands : (x y : Sight D) (end : TidyEnd) → TidiesWhile x.is_open look x y end → StandsBehind look x y []
   tidied_stands x y end tidies = one_stands x y (Tidied end) no_effects [] (tidies, refl) refl nothing
@@ -185,7 +195,7 @@ module _ {D : Type 0} (look : D → View) where
 
   -- what may be told now, of an executor that went on by calls
   pub may_tell : (heard : Heard D) (x y : Sight D) (what : Told) → AllStand look heard x → StandsBehind look x y (said_in what)
-      → MaySay look heard.opened y what → MayTell look heard y what
+      → MaySay y what → MayTell look heard y what
   may_tell heard x y what stands more says =
       record { stands = both_stand heard.opened x y heard.told (said_in what) stands more; says = says }
 

@@ -6,3 +6,4 @@ pub mod Growing
 pub mod Plain
 pub mod Lives
 pub mod Examples
+pub mod SignalLemmas

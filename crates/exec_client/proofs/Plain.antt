@@ -13,7 +13,7 @@ use Rattle.ocf_types.specs.declared.refusal.Refusal.TheVariants.{Disk}
 use Rattle.ocf_types.specs.declared.reply.ReplyOf.TheVariants as reply
 use Rattle.disk_model.specs.View.{View}
 use Rattle.exec_ledger.specs.Commands.{Obeys}
-use Rattle.executor.specs.Lives.{Abandoned, Calls, Cleared, Does, Exchange, Row, Tidied, Took}
+use Rattle.executor.specs.Lives.{Abandoned, Calls, Cleared, Does, Exchange, Finished, Row, Tidied, Took}
 use Rattle.exec_ledger.specs.Replies.{IsReplyTo, acknowledged}
 use Rattle.exec_ledger.specs.Together.{Adds, Answered, disk_each, failed, row_replies}
 use Rattle.executor.specs.Rows.{IsAt, TakesCommands, replies_of}
@@ -107,6 +107,7 @@ module _ {D : Type 0} (z : Sight D) where
     one_plain now (Row at cs rs) x y d is does =
         subst (λ (ts : List Reply). AllByRecursion Plain ts) (sym does.takes.told)
         (row_plain y.is_open at x.state cs does.takes.meant does.takes.events does.takes.answered)
+    one_plain now (Finished at end) x y d is does = absurd is
     one_plain now (Tidied end) x y d is does = absurd is
     one_plain now Cleared x y d is does = absurd is
     one_plain now Abandoned x y d is does = absurd is

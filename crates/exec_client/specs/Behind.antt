@@ -15,7 +15,7 @@ use Rattle.exec_client.specs.Said.{Said, Answered, Noticed}
 abbrev pub claims : Said → Bool
 claims (Answered (Request Done)) = true
 claims (Answered (Request (Accepted call key))) = true
-claims (Noticed notice) = true
+claims (Noticed notice signal) = true
 claims _ = false
 
 -- the notice is of the result that this event is: of that resource's run, which ended so at that moment
@@ -27,7 +27,7 @@ pub record IsOfResult (n : Notice) (e : Event) : Type 0 where
 -- it says that this event is recorded: a command's, which it acknowledges, or a result
 abbrev pub TellsOf : Said → Event → Type 0
 TellsOf (Answered (Request reply)) e = KeepsRunning e.change × (reply ≡ acknowledged e.change)
-TellsOf (Noticed notice) e = IsOfResult notice e
+TellsOf (Noticed notice signal) e = IsOfResult notice e
 TellsOf _ e = ⊥
 
 -- Whatever is told and says that something is recorded says it of one of these events: each of another, in their order.

@@ -1,3 +1,4 @@
+pub mod Signals
 pub mod Said
 pub mod Behind
 pub mod Tells

@@ -1,5 +1,5 @@
 -- When a client may be told something.
-use Rattle.std.specs.Prelude.{◌≡◌, ◌⊎◌, ℕ, true, ⊤, List, [], ◌∷◌, ◌++◌}
+use Rattle.std.specs.Prelude.{◌≡◌, ◌⊎◌, true, ⊤, List, [], ◌∷◌, ◌++◌}
 use Rattle.std.specs.List.{AllByRecursion}
 use Rattle.ocf_types.specs.Answer.{reply_to}
 use Rattle.ocf_types.specs.Kinds.{Reply}
@@ -7,9 +7,7 @@ use Rattle.ocf_types.specs.declared.command.Question.{Question}
 use Rattle.ocf_types.specs.declared.reply.Notice.{Notice}
 use Rattle.ocf_types.specs.declared.reply.ReplyOf.TheVariants as reply
 use Rattle.disk_model.specs.View.{View}
-use Rattle.child_model.specs.Children.{ChildrenView}
 use Rattle.executor.specs.Lives.{Calls, Exchange}
-use Rattle.executor.specs.Openings.{Opened}
 use Rattle.executor.specs.Sessions.{Effects}
 use Rattle.executor.specs.Sights.{Sight}
 use Rattle.exec_commands.specs.declared.reply.LineReply.{LineReply}
@@ -45,17 +43,16 @@ abbrev pub MayReply : {D : Type 0} → Sight D → LineReply → Type 0
 MayReply x (Request given) = MayAnswer x given
 MayReply x _ = ⊤
 
--- an opening that gave this executor reported these as interrupted, or as dropped
-abbrev pub IsReported : {D : Type 0} → (D → View) → Sight D → List Notice → Type 0
-IsReported {D} look x notices = (old : D) × (from : ChildrenView) × (now : ℕ) × (ran : List Notice) × (queued : List Notice)
-    × Opened look (look old) from now x ran queued × ((notices ≡ ran) ⊎ (notices ≡ queued))
+-- the opening of this executor reported these as interrupted, or as dropped
+abbrev pub IsReported : {D : Type 0} → Sight D → List Notice → Type 0
+IsReported x notices = (notices ≡ x.reported.interrupted) ⊎ (notices ≡ x.reported.dropped)
 
 -- answers are from the state at which the executor is settled, a report is that of its opening
-abbrev pub MaySay : {D : Type 0} → (D → View) → Sight D → Sight D → Told → Type 0
-MaySay look opened x (told.Reply given) = MayReply x given.now
-MaySay look opened x (told.Replies given) = AllByRecursion (MayAnswer x) given.now
-MaySay look opened x (told.Notices notices) = ⊤
-MaySay look opened x (told.Report notices) = IsReported look opened notices.now
+abbrev pub MaySay : {D : Type 0} → Sight D → Told → Type 0
+MaySay x (told.Reply given) = MayReply x given.now
+MaySay x (told.Replies given) = AllByRecursion (MayAnswer x) given.now
+MaySay x (told.Notices turn) = ⊤
+MaySay x (told.Report notices) = IsReported x notices.now
 
 -- all that was told stands behind what the executor recorded since it was opened
 abbrev pub AllStand : {D : Type 0} → (D → View) → Heard D → Sight D → Type 0
@@ -64,7 +61,7 @@ AllStand look heard x = StandsBehind look heard.opened x heard.told
 -- This may be told to a client of an executor that is seen so: all that was told stands, and this, too.
 pub record MayTell {D : Type 0} (look : D → View) (heard : Heard D) (x : Sight D) (what : Told) : Type 0 where
   pub stands : StandsBehind look heard.opened x (heard.told ++ said_in what)
-  pub says : MaySay look heard.opened x what
+  pub says : MaySay x what
 
 -- the same of a reply to a line
 abbrev pub MayBeReplied : {D : Type 0} → (D → View) → Heard D → Sight D → LineReply → Type 0

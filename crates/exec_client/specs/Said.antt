@@ -1,33 +1,39 @@
 -- What a client is told.
-use Rattle.std.specs.Prelude.{ℕ, List, [], ◌∷◌, map}
+use Rattle.std.specs.Prelude.{ℕ, List, [], ◌∷◌, map, Option, None}
 use Rattle.ocf_types.specs.Kinds.{Reply}
 use Rattle.ocf_types.specs.declared.reply.Notice.{Notice}
 use Rattle.exec_commands.specs.Replies.{formed_line, reply_line}
 use Rattle.exec_commands.specs.declared.notice.NoticeForm.{NoticeForm}
 use Rattle.exec_commands.specs.declared.reply.LineReply.{LineReply}
 use Rattle.exec_commands.specs.declared.reply.LineReply.TheVariants.{Request}
+use Rattle.child_model.specs.declared.answer.Entry.{Entry}
+use Rattle.exec_client.specs.Signals.{signal_of}
 use Rattle.exec_client.specs.declared.told.Told.{Told}
 use Rattle.exec_client.specs.declared.told.Told.TheVariants as told
 
--- the reply to a line, a notice of a turn, or a line of what the opening reports
+-- the reply to a line, a notice of a turn with the signal that ended its run, where one did, or a line of what the opening reports
 pub data Said : Type 0 where
   Answered : LineReply → Said
-  Noticed : Notice → Said
+  Noticed : Notice → Option ℕ → Said
   Reported : Notice → Said
 
 -- a reply to a request, as it is told
 abbrev pub answered : Reply → Said
 answered reply = Answered (Request reply)
 
+-- a notice of a turn, behind which children had answered so: the signal is that of its run
+abbrev pub noticed_by : List Entry → Notice → Said
+noticed_by book notice = Noticed notice (signal_of book notice.result.run)
+
 -- all that is told at once, in its order
 abbrev pub said_in : Told → List Said
 said_in (told.Reply reply) = Answered reply.now ∷ []
 said_in (told.Replies replies) = map answered replies.now
-said_in (told.Notices notices) = map Noticed notices.now
+said_in (told.Notices turn) = map (noticed_by turn.book.now) turn.notices.now
 said_in (told.Report notices) = map Reported notices.now
 
 -- the line that says it
 abbrev pub line_of : NoticeForm → Said → List ℕ
 line_of form (Answered reply) = reply_line reply
-line_of form (Noticed notice) = formed_line form notice
-line_of form (Reported notice) = formed_line form notice
+line_of form (Noticed notice signal) = formed_line form signal notice
+line_of form (Reported notice) = formed_line form None notice

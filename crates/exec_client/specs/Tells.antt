@@ -2,19 +2,24 @@
 use Rattle.std.specs.Prelude.{◌≡◌, false, List, [], ◌∷◌, ◌++◌, map}
 use Rattle.std.specs.List.{AllByRecursion}
 use Rattle.disk_model.specs.View.{View}
-use Rattle.executor.specs.Lives.{Does, Exchange, Row, Took}
+use Rattle.executor.specs.Lives.{Does, Exchange, Finished, Row, Took}
 use Rattle.executor.specs.Sessions.{Effects, followed_by, no_effects}
 use Rattle.executor.specs.Sights.{Sight}
 use Rattle.executor.specs.declared.session.InputOf.TheVariants as input
 use Rattle.exec_client.specs.Behind.{claims}
-use Rattle.exec_client.specs.Said.{Noticed, Said, answered}
+use Rattle.exec_client.specs.Said.{Said, answered, noticed_by}
+
+-- the notices of an executor's last turn, each with the signal that ended its run by what the children's book has of that turn
+abbrev pub noticed : {D : Type 0} → Sight D → List Said
+noticed x = map (noticed_by x.children.book) x.told
 
 -- this is what is told of a call that left the executor so: the reply to a request, those to the commands of a row, the notices
--- of a turn, and nothing of a tidy or an emptied book
+-- of a turn, also of one that begins nothing, and nothing of a tidy or an emptied book
 abbrev pub Says : {D : Type 0} → Exchange → Sight D → List Said → Type 0
 Says (Took (input.Request now request) reply) new said = said ≡ answered reply ∷ []
-Says (Took (input.Turn now) reply) new said = said ≡ map Noticed new.told
+Says (Took (input.Turn now) reply) new said = said ≡ noticed new
 Says (Row now commands replies) new said = said ≡ map answered replies
+Says (Finished now end) new said = said ≡ noticed new
 Says _ new said = said ≡ []
 
 -- none of this says that anything is recorded

@@ -1,13 +1,17 @@
-//! The law of what clients were told, the contract of a function that does nothing else.
-ghost use Rattle.std.specs.Prelude.{List};
+//! The laws of what clients were told, each the contract of a function that does nothing else.
+ghost use Rattle.std.specs.Prelude.{◌≡◌, ℕ, List, Some, Contains};
 ghost use Rattle.ocf_types.specs.Kinds.{Event};
 ghost use Rattle.ocf_types.specs.State.{State, after_all};
 ghost use Rattle.disk_model.specs.Image.{Image};
+ghost use Rattle.child_model.specs.Children.{poll_answer};
+ghost use Rattle.child_model.specs.declared.answer.Entry.{Entry};
+ghost use Rattle.child_model.specs.declared.answer.Poll.TheVariants.{Signaled};
 ghost use Rattle.exec_journal.specs.Found.{FoundAs};
 ghost use Rattle.executor.specs.Lives.{IsLife, LifeLeaves, Lived, Sitting};
 ghost use Rattle.exec_client.specs.Behind.{Behind};
 ghost use Rattle.exec_client.specs.Lives.{ToldOver};
 ghost use Rattle.exec_client.specs.Said.{Said};
+ghost use Rattle.exec_client.specs.Signals.{signal_of};
 
 use disk_model::Disk;
 use executor::laws::whole_life;
@@ -24,3 +28,13 @@ pub fn told_stands<D: Disk>()
 {
     whole_life::<D>();
 }
+
+/// A signal is told of a run exactly where a poll of it says that one ended it: that of such a poll.
+pub fn signals_are_polled()
+    ensures polled { (book : List Entry) (run signal : ℕ) → signal_of book run ≡ Some signal
+        → (at : ℕ) × Contains book
+        (record { run = run; at = at; answer = poll_answer (Signaled signal) }) }
+    ensures told { (book : List Entry) (run at signal : ℕ)
+        → Contains book (record { run = run; at = at; answer = poll_answer (Signaled signal) })
+        → (n : ℕ) × (signal_of book run ≡ Some n) }
+{}

@@ -4,10 +4,11 @@
 mod client;
 pub mod laws;
 mod seen;
+mod signals;
 mod teller;
 mod telling;
 mod told;
 
 pub use client::Client;
 pub use teller::Teller;
-pub use told::Told;
+pub use told::{Told, TurnNotices};

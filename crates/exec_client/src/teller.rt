@@ -4,19 +4,22 @@ ghost use Rattle.std.specs.Io.KnownBytes.{Appends};
 ghost use Rattle.std.specs.List.{flat_map};
 ghost use Rattle.exec_lines.specs.Fronts.{AppendsFront};
 ghost use Rattle.exec_client.specs.Heard.{Heard};
-ghost use Rattle.exec_client.specs.Said.{line_of, said_in};
+ghost use Rattle.exec_client.specs.Said.{line_of, noticed_by, said_in};
 
 use crate::client::Client;
 use crate::seen::Seen;
+use crate::signals::signal_of;
 use crate::telling::Telling;
 use crate::told::Told;
-use child_model::Children;
+use child_model::{Children, Entry};
 use disk_model::Disk;
 use exec_commands::NoticeForm;
 use exec_lines::Output;
-use exec_output::{IoFault, send_notices, send_replies, send_reply};
+use exec_output::{IoFault, send_notice, send_notices, send_replies, send_reply};
 use executor::Executor;
+use ocf_types::Notice;
 use std::alloc::Global;
+use std::io::Write;
 
 /// A client of an executor of this type that is told by lines. Nobody else holds the writer.
 #[derive(Drop)]
@@ -25,6 +28,47 @@ pub struct Teller<E, W> {
     pub(crate) writer: W,
     pub(crate) opened: Seen<E>,
     pub(crate) telling: Telling,
+}
+
+// Writes the line of a notice, with the signal that ended its run by this book, and flushes it. After an error a front of it is written.
+fn send_noticed<W: Write>(
+    alloc: Global,
+    writer: &mut W,
+    form: NoticeForm,
+    notice: &Notice,
+    book: &[Entry],
+) -> Result<(), IoFault>
+    ensures sent { OnOk result
+        (Appends (W.contents writer.old) (W.contents writer.new)
+        (line_of form.entry (noticed_by book.now notice.now))) }
+    ensures front { OnErr result
+        (AppendsFront (W.contents writer.old) (W.contents writer.new)
+        (line_of form.entry (noticed_by book.now notice.now))) }
+{
+    let signal = signal_of(book, notice.result.run);
+    send_notice(alloc, writer, form, notice, signal)
+}
+
+// Writes a turn's notices, a line each with the signal that ended its run by this book, and flushes each line. After an error a front
+// of the lines is written.
+fn send_turn<W: Write>(
+    alloc: Global,
+    writer: &mut W,
+    form: NoticeForm,
+    notices: &[Notice],
+    book: &[Entry],
+) -> Result<(), IoFault>
+    ensures sent { OnOk result
+        (Appends (W.contents writer.old) (W.contents writer.new)
+        (flat_map (λ n. line_of form.entry (noticed_by book.now n)) notices.now)) }
+    ensures front { OnErr result
+        (AppendsFront (W.contents writer.old) (W.contents writer.new)
+        (flat_map (λ n. line_of form.entry (noticed_by book.now n)) notices.now)) }
+{
+    for notice in notices {
+        send_noticed(alloc, writer, form, notice, book)?;
+    }
+    Ok(())
 }
 
 // Writes the lines of what is told, and flushes them. After an error a front of them is written.
@@ -44,7 +88,7 @@ fn write_told<W: Output>(
     match what {
         Told::Reply(reply) => send_reply(alloc, writer, reply),
         Told::Replies(replies) => send_replies(alloc, writer, replies),
-        Told::Notices(notices) => send_notices(alloc, writer, form, notices),
+        Told::Notices(turn) => send_turn(alloc, writer, form, turn.notices, turn.book),
         Told::Report(notices) => send_notices(alloc, writer, form, notices),
     }
 }

@@ -1,6 +1,36 @@
 //! What a client is told at once.
+ghost use Rattle.std.specs.Prelude.{◌≡◌};
+ghost use Rattle.exec_client.specs.Said.{said_in};
+ghost use Rattle.exec_client.specs.Tells.{noticed};
+ghost use Rattle.exec_client.specs.declared.told.Told.TheVariants.{Notices};
+
+use child_model::{Children, Entry};
+use disk_model::Disk;
 use exec_commands::LineReply;
+use executor::Executor;
 use ocf_types::{Notice, Reply};
+
+/// The notices of a turn, and what the children had answered behind it: the signal that ended a run is theirs, since the journal
+/// has none.
+#[derive(Clone, Copy)]
+pub struct TurnNotices<'a> {
+    pub notices: &'a [Notice],
+    pub book: &'a [Entry],
+}
+
+impl<'a> TurnNotices<'a> {
+    /// Those of an executor's last turn.
+    pub fn of_executor<D: Disk + Drop, C: Children + Drop>(
+        executor: &'a Executor<D, C>,
+    ) -> TurnNotices<'a>
+        ensures said { said_in (Notices result) ≡ noticed executor.now }
+    {
+        TurnNotices {
+            notices: executor.notices(),
+            book: executor.book(),
+        }
+    }
+}
 
 /// What a client is told at once.
 #[derive(Clone, Copy)]
@@ -10,7 +40,7 @@ pub enum Told<'a> {
     /// The replies to commands that arrived together.
     Replies(&'a [Reply]),
     /// A turn's notices.
-    Notices(&'a [Notice]),
+    Notices(TurnNotices<'a>),
     /// What the opening reports, or a part of that.
     Report(&'a [Notice]),
 }

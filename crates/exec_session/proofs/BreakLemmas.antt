@@ -1,6 +1,6 @@
 -- A run that breaks off.
 use Rattle.std.specs.List.{flat_map}
-use Rattle.std.proofs.Common.{◌≡◌, ◌≢◌, ℕ, true, List, [], ◌∷◌, Option, Result, Ok, Err, IsErr, OnErr, OnOk, inr, refl, sym, ap, subst, ◌∙◌}
+use Rattle.std.proofs.Common.{◌≡◌, ◌≢◌, ℕ, true, List, [], ◌∷◌, Option, None, Result, Ok, Err, IsErr, OnErr, OnOk, inl, inr, refl, sym, ap, subst, ◌∙◌}
 use Rattle.std.proofs.lemmas.List.{append-nil}
 use Rattle.ocf_types.specs.Kinds.{Command}
 use Rattle.ocf_types.specs.declared.reply.TurnEnd.{TurnEnd}
@@ -20,6 +20,7 @@ use Rattle.exec_session.specs.Runs.{ReachesFault, ended}
 use Rattle.exec_session.specs.Serving.{ComesMid, HasComeMid}
 use Rattle.exec_session.specs.Waiting.{Comes, HasCome}
 use Rattle.exec_session.specs.declared.context.Way.TheVariants.{Serve}
+use Rattle.exec_session.specs.declared.held.Held.{Held}
 use Rattle.exec_session.specs.declared.lines.Progress.{Progress}
 use Rattle.exec_session.specs.declared.lines.Taken.{Taken}
 use Rattle.exec_session.proofs.ServeLemmas.{mid_taken, turns_serve}
@@ -78,9 +79,9 @@ module _ {D : Type 0} (look : D → View) (source : Source) (rules : Rules) (p :
     breaks = between waits.goes_on refl;
   }
 
-  pub between_reads : (most : ℕ) (commands : List Command) (kept : List ℕ) (q : Position D)
-      → HasComeMid look source rules p own most commands kept q → BreaksSo (spot q.executor q.heard)
-  between_reads most commands kept q (left, mid, come) = between_lines most commands (position q.executor left q.heard) come
+  pub between_reads : (most : ℕ) (commands : List Command) (held : Option Held) (kept : List ℕ) (q : Position D)
+      → HasComeMid look source rules p own most commands held kept q → BreaksSo (spot q.executor q.heard)
+  between_reads most commands held kept q (left, mid, come) = between_lines most commands (position q.executor left q.heard) come
 
   -- it breaks off in the next thing that it does
   pub next_breaks : (most : ℕ) (q : Position D) (s : Spot D) → HasCome look source rules p own most [] q
@@ -103,10 +104,10 @@ module _ {D : Type 0} (look : D → View) (source : Source) (rules : Rules) (p :
   }
 
   -- in a turn of its own
-  pub turn_breaks : rules.way ≡ Serve → (most : ℕ) (kept : List ℕ) (q : Position D) (s : Spot D) (now : ℕ)
-      → HasComeMid look source rules p own most [] kept q → q.executor.is_open ≡ true
+  pub turn_breaks : rules.way ≡ Serve → (most : ℕ) (held : Option Held) (kept : List ℕ) (q : Position D) (s : Spot D) (now : ℕ)
+      → HasComeMid look source rules p own most [] held kept q → q.executor.is_open ≡ true
       → OwnTurnBreaks look rules now own (spot q.executor q.heard) s → BreaksSo s
-  turn_breaks way most kept q s now (left, mid, come) is_open breaks =
+  turn_breaks way most held kept q s now (left, mid, come) is_open breaks =
       next_breaks most (position q.executor left q.heard) s come (in_own_turn now (turns_serve rules.way way) is_open breaks)
 
 -- an error of a step is that of a run that broke off
@@ -126,22 +127,24 @@ module _ {D : Type 0} (look : D → View) (source : Source) (rules : Rules) (p :
   comes_err most commands (Ok x) bad breaks = let none : ⊥ = cc in absurd none
   comes_err most commands (Err e) bad breaks = breaks
 
-  pub mid_err : (most : ℕ) (commands : List Command) (kept : List ℕ) (r : Result Taken IoFault) → IsErr r
-      → BreaksOff look source rules p (spot q.executor q.heard) → ComesMid look source rules p own most commands kept q r
-  mid_err most commands kept (Ok x) bad breaks = let none : ⊥ = cc in absurd none
-  mid_err most commands kept (Err e) bad breaks = breaks
+  pub mid_err : (most : ℕ) (commands : List Command) (held : Option Held) (kept : List ℕ) (r : Result Taken IoFault) → IsErr r
+      → BreaksOff look source rules p (spot q.executor q.heard) → ComesMid look source rules p own most commands held kept q r
+  mid_err most commands held kept (Ok x) bad breaks = let none : ⊥ = cc in absurd none
+  mid_err most commands held kept (Err e) bad breaks = breaks
 
-  -- a line was taken, and the buffer is empty
-  pub comes_mid : (most : ℕ) (commands : List Command) (kept : List ℕ) (r : Result Taken IoFault) → kept ≡ []
-      → Comes look source rules p own most commands q r → ComesMid look source rules p own most commands kept q r
-  comes_mid most commands kept (Ok step) none come = mid_taken look source rules p own most commands kept q step none come
-  comes_mid most commands kept (Err e) none breaks = breaks
+  -- a line was taken, none is held, and the buffer is empty
+  pub comes_mid : (most : ℕ) (commands : List Command) (held : Option Held) (kept : List ℕ) (r : Result Taken IoFault) → held ≡ None
+      → kept ≡ [] → Comes look source rules p own most commands q r → ComesMid look source rules p own most commands held kept q r
+  comes_mid most commands held kept (Ok step) free none come =
+      mid_taken look source rules p own most commands held kept q step free none come
+  comes_mid most commands held kept (Err e) free none breaks = breaks
 
 -- that a disk fault ends the run was told, or broke off
 pub fault_told : {D : Type 0} (look : D → View) (source : Source) (rules : Rules) (p q : Position D) (heard : Heard D)
     (r : Result Unit IoFault) → ReachesFault look source rules p (spot q.executor heard)
     → OnOk r (Hears rules.form heard q.heard (ended Disk ∷ [])) → OnErr r (HearsPart rules.form heard q.heard (ended Disk ∷ []))
     → EndsOrBreaks look source rules p q r
-fault_told look source rules p q heard (Ok done) fault hears breaks = inr (record { heard = heard; fault = fault; hears = hears })
+fault_told look source rules p q heard (Ok done) fault hears breaks =
+    inr (inl (record { heard = heard; fault = fault; hears = hears }))
 fault_told look source rules p q heard (Err e) fault hears breaks =
     fault_breaks look source rules p (spot q.executor heard) (spot q.executor q.heard) fault refl breaks

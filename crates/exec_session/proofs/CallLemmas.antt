@@ -5,6 +5,7 @@ use Rattle.std.proofs.lemmas.List.{append-nil}
 use Rattle.ocf_types.specs.Boot.{any_busy}
 use Rattle.ocf_types.specs.Kinds.{Command, Reply, Request}
 use Rattle.ocf_types.specs.declared.refusal.Refusal.{Refusal}
+use Rattle.ocf_types.specs.declared.refusal.Refusal.TheVariants.{UnknownOp}
 use Rattle.ocf_types.specs.declared.reply.ReplyOf.TheVariants.{Refused}
 use Rattle.ocf_types.specs.declared.reply.TurnEnd.{TurnEnd}
 use Rattle.disk_model.specs.View.{View}
@@ -19,11 +20,13 @@ use Rattle.exec_commands.specs.declared.reply.LineReply.TheVariants as answer
 use Rattle.exec_client.specs.Behind.{nothing}
 use Rattle.exec_client.specs.Heard.{Heard, Hears, IsTold}
 use Rattle.exec_client.specs.MayTell.{StandsBehind}
-use Rattle.exec_client.specs.Said.{Answered, Noticed, Said, answered}
+use Rattle.exec_client.specs.Said.{Answered, Said, answered}
+use Rattle.exec_client.specs.Tells.{noticed}
 use Rattle.exec_client.proofs.Behinds.{says_none}
 use Rattle.exec_client.proofs.Growing.{both_stand, none_stands, tidy_stands}
 use Rattle.exec_session.specs.Answers.{IsOpenReply, IsReply, ServesNow, Source}
 use Rattle.exec_session.specs.Drains.{Drains, GoesOn, MakesTurn, Spot, at_start, further, spot}
+use Rattle.exec_session.specs.Leaving.{WindsDown, at_first, further as more_winding}
 use Rattle.exec_session.specs.Rules.{Rules, MakesRoom, is_tidy_due}
 use Rattle.exec_session.specs.Progress.{Position, Takes}
 use Rattle.exec_session.specs.Runs.{GoesByCalls, MakesOwnTurn, NewsHeard, Reaches, closed_line, here, line as one_line, news, no_news, row, turn as one_turn}
@@ -32,6 +35,7 @@ use Rattle.exec_session.specs.declared.drain.Terms.{Terms}
 use Rattle.exec_session.specs.declared.lines.Progress.{Progress}
 use Rattle.exec_session.specs.declared.lines.Progress.TheVariants as progress
 use Rattle.exec_session.proofs.DrainLemmas.{closes, still_open}
+use Rattle.exec_session.proofs.LeaveLemmas.{finish_told}
 use Rattle.exec_session.proofs.TellLemmas.{Plain, cleared_room, closed_plain, is_plain, refused_stand, request_stands}
 use Rattle.exec_session.proofs.TellLemmas.{together_stand, turn_behind_room}
 
@@ -135,7 +139,7 @@ module _ {D : Type 0} (look : D → View) where
 
         by : (b : Bool) → made.middle.is_open ≡ b → Goes p q
         by true open_still =
-            told_go p q (map Noticed q.executor.told) (made.hears open_still).told
+            told_go p q (noticed q.executor) (made.hears open_still).told
             (turn_behind_room look now p.executor made.middle q.executor end room open_still (made.takes open_still))
         by false closed =
             let (ended, same, heard) = made.fails closed in
@@ -175,6 +179,9 @@ module _ {D : Type 0} (look : D → View) where
     open_goes source p s h (Ok line.Tidy) reply is_open ((end, is, tidies), same) told =
         both_go p s (spot s.executor h) (quiet_go p s same (tidy_stands look p.executor s.executor end is_open tidies))
         (plain_go s h reply (is_plain s.executor reply (answer.Tidy end) is (refl, tt)) told)
+    open_goes source p s h (Ok line.Leave) reply is_open (is, same) told =
+        both_go p s (spot s.executor h) (stays p s same)
+        (plain_go s h reply (is_plain s.executor reply (answer.Request (Refused UnknownOp)) is (refl, tt)) told)
     open_goes source p s h (Ok (line.Meta provider agent limit)) reply is_open ((meta, gives, is), same) told =
         both_go p s (spot s.executor h) (stays p s same)
         (plain_go s h reply (is_plain s.executor reply (answer.Meta meta) is (refl, tt)) told)
@@ -233,3 +240,11 @@ module _ {D : Type 0} (look : D → View) where
         both_go _ (spot m.executor m.heard) _ (lines_go source p own n m reaches) (next_goes source m q s takes)
     lines_go source p _ _ _ (one_turn own n now m q end reaches may is_open made left) =
         both_go _ (spot m.executor m.heard) _ (lines_go source p own n m reaches) (own_turn_goes now own _ _ end is_open made)
+
+    -- turns that begin nothing
+    pub winds_go : (p : Spot D) (q : Spot D) → WindsDown look rules p q → Goes p q
+    winds_go p _ at_first = here_still p
+    winds_go p _ (more_winding now m q end winds is_open runs heard) =
+        both_go p m q (winds_go p m winds)
+        (told_go m q (noticed q.executor) heard.hears.told
+        (finish_told look now m.executor (with_empty_book m.executor) q.executor end refl is_open heard.takes))

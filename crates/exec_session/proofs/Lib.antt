@@ -4,5 +4,7 @@ pub mod ServeLemmas
 pub mod CallLemmas
 pub mod TellLemmas
 pub mod HeardLemmas
+pub mod HeldLemmas
+pub mod LeaveLemmas
 pub mod BreakLemmas
 pub mod RoomLemmas

@@ -22,7 +22,8 @@ use Rattle.exec_commands.specs.declared.reply.LineReply.TheVariants as answer
 use Rattle.exec_client.specs.Behind.{Behind, claims, nothing, says_else}
 use Rattle.exec_client.specs.Heard.{Heard, IsTold}
 use Rattle.exec_client.specs.MayTell.{AllStand, MayAnswer, MayReply, StandsBehind}
-use Rattle.exec_client.specs.Said.{Answered, Noticed, Reported, Said, answered}
+use Rattle.exec_client.specs.Said.{Answered, Reported, Said, answered}
+use Rattle.exec_client.specs.Tells.{noticed}
 use Rattle.exec_client.proofs.Behinds.{says_none}
 use Rattle.exec_client.proofs.Growing.{both_stand, cleared_stands, commands_stand, none_stands, serves_stands, turn_stands}
 use Rattle.exec_client.proofs.Plain.{commands_plain, obeys_plain, refused_plain}
@@ -49,6 +50,7 @@ closed_plain x source (Ok (line.Meta provider agent limit)) given (meta, gives, 
 closed_plain x source (Ok (line.Drain limit)) given is = is_plain x given _ is (refl, tt)
 closed_plain x source (Ok (line.Watch limit)) given is = is_plain x given _ is (refl, tt)
 closed_plain x source (Ok line.Tidy) given is = is_plain x given _ is (refl, tt)
+closed_plain x source (Ok line.Leave) given is = is_plain x given _ is (refl, tt)
 closed_plain x source (Ok (line.Request request)) given is = is_plain x given _ is (refl, tt)
 closed_plain x source (Err why) given is = is_plain x given _ is (refl, tt)
 
@@ -100,13 +102,13 @@ module _ {D : Type 0} (look : D → View) where
   cleared_room x c m cleared room = both_stand look x c m [] [] (cleared_stands look x c cleared) room
 
   pub turn_behind_room : (now : ℕ) (x m y : Sight D) (end : TurnEnd) → StandsBehind look x m [] → m.is_open ≡ true
-      → TakesTurn look now m y end → StandsBehind look x y (map Noticed y.told)
+      → TakesTurn look now m y end → StandsBehind look x y (noticed y)
   turn_behind_room now x m y end room is_open takes =
-      both_stand look x m y [] (map Noticed y.told) room (turn_stands look now m y end is_open takes)
+      both_stand look x m y [] (noticed y) room (turn_stands look now m y end is_open takes)
 
   -- nothing was told yet
   pub new_stands : (heard : Heard D) (x : Sight D) → IsNew heard x → AllStand look heard x
-  new_stands heard x (opened, untold) =
+  new_stands heard x (opened, untold, is_open) =
       subst (λ (o : Sight D). StandsBehind look o x heard.told) (sym opened)
       (subst (λ (ss : List Said). StandsBehind look x x ss) (sym untold) (none_stands look x x [] refl nothing))
 

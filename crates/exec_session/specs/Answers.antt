@@ -1,5 +1,5 @@
 -- What a line is answered.
-use Rattle.std.specs.Prelude.{◌≡◌, ◌≢◌, ◌↔◌, ℕ, ◌+◌, Bool, List, true, false, Result, Ok, Err}
+use Rattle.std.specs.Prelude.{◌≡◌, ◌≢◌, ◌↔◌, ℕ, ◌+◌, Bool, List, true, false, Option, Result, Ok, Err}
 use Rattle.std.specs.Global.{Vec}
 use Rattle.ocf_types.specs.Kinds.{Reply, Request}
 use Rattle.ocf_types.specs.declared.refusal.Refusal.{Refusal}
@@ -12,7 +12,7 @@ use Rattle.disk_model.specs.View.{View}
 use Rattle.executor.specs.Commands.{Serves}
 use Rattle.executor.specs.Sights.{Sight}
 use Rattle.executor.specs.TidyCalls.{Tidies}
-use Rattle.exec_commands.specs.Lines.{line_read}
+use Rattle.exec_commands.specs.Lines.{line_read, served_line_read}
 use Rattle.exec_commands.specs.Twice.{HasKeyTwice}
 use Rattle.exec_commands.specs.declared.ends.DrainEnd.{DrainEnd}
 use Rattle.exec_commands.specs.declared.ends.DrainEnd.TheVariants.{Turn}
@@ -26,19 +26,19 @@ use Rattle.exec_session.specs.Rules.{Rules, MakesRoom}
 use Rattle.exec_session.specs.declared.context.Way.{Way}
 use Rattle.exec_session.specs.declared.context.Way.TheVariants.{Run, Serve}
 
--- A line of these bytes is read as the definition says, but that memory may be refused in reading it; a run that serves refuses one in
--- which a key comes twice as syntax.
+-- A line of these bytes is read as the definition says, but that memory may be refused in reading it; a run that serves may also be
+-- asked to end, and refuses a line in which a key comes twice as syntax.
 abbrev pub IsReadAs : Way → List ℕ → Result Line Refusal → Type 0
 IsReadAs Run bytes (Ok found) = line_read bytes ≡ Ok found
 IsReadAs Run bytes (Err why) = why ≢ refusal.Memory → line_read bytes ≡ Err why
-IsReadAs Serve bytes (Ok found) = (line_read bytes ≡ Ok found) × ¬ (HasKeyTwice bytes)
+IsReadAs Serve bytes (Ok found) = (served_line_read bytes ≡ Ok found) × ¬ (HasKeyTwice bytes)
 IsReadAs Serve bytes (Err why) =
-    why ≢ refusal.Memory → (HasKeyTwice bytes → why ≡ refusal.Syntax) × (¬ (HasKeyTwice bytes) → line_read bytes ≡ Err why)
+    why ≢ refusal.Memory → (HasKeyTwice bytes → why ≡ refusal.Syntax) × (¬ (HasKeyTwice bytes) → served_line_read bytes ≡ Err why)
 
 -- a source of metadata: what it may answer for the agent of a provider and a type that is given so many milliseconds, its
 -- metadata or why it has none
 abbrev pub Source : Type 1
-Source = List ℕ → List ℕ → ℕ → Result (Vec ℕ) MetaFault → Type 0
+Source = List ℕ → List ℕ → Option ℕ → Result (Vec ℕ) MetaFault → Type 0
 
 abbrev pub refused : Refusal → LineReply
 refused why = answer.Request (Refused why)
@@ -50,7 +50,7 @@ abbrev pub closed_tidy : LineReply
 closed_tidy = answer.Tidy tidy_end.Closed
 
 -- the metadata that were asked for, or why there are none
-abbrev pub IsMetaReply : Source → List ℕ → List ℕ → ℕ → LineReply → Type 0
+abbrev pub IsMetaReply : Source → List ℕ → List ℕ → Option ℕ → LineReply → Type 0
 IsMetaReply source provider agent limit reply =
     (given : Result (Vec ℕ) MetaFault) × source provider agent limit given × (reply ≡ answer.Meta given)
 
@@ -61,6 +61,7 @@ IsClosedReply source (Ok (line.Meta provider agent limit)) reply = IsMetaReply s
 IsClosedReply source (Ok (line.Drain limit)) reply = reply ≡ closed_drain
 IsClosedReply source (Ok (line.Watch limit)) reply = reply ≡ closed_drain
 IsClosedReply source (Ok line.Tidy) reply = reply ≡ closed_tidy
+IsClosedReply source (Ok line.Leave) reply = reply ≡ refused refusal.Closed
 IsClosedReply source (Ok (line.Request request)) reply = reply ≡ refused refusal.Closed
 IsClosedReply source (Err why) reply = reply ≡ refused refusal.Closed
 
@@ -96,6 +97,7 @@ IsOpenReply look source rules p q (Ok (line.Request request)) reply =
 IsOpenReply look source rules p q (Ok (line.Drain limit)) reply = DrainsFor look true limit rules p q reply
 IsOpenReply look source rules p q (Ok (line.Watch limit)) reply = DrainsFor look false limit rules p q reply
 IsOpenReply look source rules p q (Ok line.Tidy) reply = TidiesNow look p.executor q.executor reply × (q.heard ≡ p.heard)
+IsOpenReply look source rules p q (Ok line.Leave) reply = (reply ≡ refused refusal.UnknownOp) × (q ≡ p)
 IsOpenReply look source rules p q (Ok (line.Meta provider agent limit)) reply =
     IsMetaReply source provider agent limit reply × (q ≡ p)
 IsOpenReply look source rules p q (Err why) reply = (reply ≡ refused why) × (q ≡ p)

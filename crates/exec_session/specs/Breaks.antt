@@ -15,6 +15,7 @@ use Rattle.exec_session.specs.declared.drain.Terms.{Terms}
 use Rattle.exec_session.specs.declared.lines.Progress.{Progress}
 use Rattle.exec_session.specs.Answers.{Source}
 use Rattle.exec_session.specs.Drains.{GoesOn, MakesTurn, Spot, TurnHeard, spot}
+use Rattle.exec_session.specs.Leaving.{LeaveBreaks}
 use Rattle.exec_session.specs.Rules.{Rules}
 use Rattle.exec_session.specs.Progress.{AnswersHeard, Position, ReadsLine, Takes, position}
 use Rattle.exec_session.specs.Runs.{Finishes, MakesTurns, MayGoOn, NewsHeard, Reaches, ended, report_told}
@@ -49,7 +50,8 @@ pub data OwnTurnBreaks {D : Type 0} (look : D → View) (rules : Rules) (now : �
       → NewsHeard (HearsPart rules.form) before end noticed q.heard → OwnTurnBreaks look rules now before p q
 
 -- Behind a place that a run has come to it did one thing more at most, of which the client heard a front: it answered the next line,
--- or a drain's turns up to one of them, or a row of commands, or it made a turn, or told that a disk fault ends it.
+-- or a drain's turns up to one of them, or a row of commands, or it made a turn, or told that a disk fault ends it, or made an
+-- orderly end.
 pub data BreaksIn {D : Type 0} (look : D → View) (source : Source) (rules : Rules) (own : TurnEnd) (m : Position D) (q : Spot D) : Type 0 where
   between : MayGoOn rules.way m.executor → q ≡ spot m.executor m.heard → BreaksIn look source rules own m q
   in_line : (left : Option (List ℕ)) → MayGoOn rules.way m.executor
@@ -63,6 +65,8 @@ pub data BreaksIn {D : Type 0} (look : D → View) (source : Source) (rules : Ru
       → OwnTurnBreaks look rules now own (spot m.executor m.heard) q → BreaksIn look source rules own m q
   in_fault : MakesTurns rules.way → m.executor.is_open ≡ false → q.executor ≡ m.executor
       → HearsPart rules.form m.heard q.heard (ended Disk ∷ []) → BreaksIn look source rules own m q
+  in_leave : (left : Option (List ℕ)) → MakesTurns rules.way → ReadsLine rules.way m.left left (Ok line.Leave)
+      → m.executor.is_open ≡ true → LeaveBreaks look rules (spot m.executor m.heard) q → BreaksIn look source rules own m q
 
 -- Line after line was answered as said, up to a place behind which the run broke off.
 pub record BreaksOff {D : Type 0} (look : D → View) (source : Source) (rules : Rules) (p : Position D) (q : Spot D) : Type 0 where

@@ -1,5 +1,5 @@
 -- What a drain does, turn by turn.
-use Rattle.std.specs.Prelude.{◌≡◌, ℕ, ◌+◌, Bool, true, false, not, ◌&&◌, nat_le, List, map, Option, Some, None, if◌then◌else◌}
+use Rattle.std.specs.Prelude.{◌≡◌, ℕ, ◌+◌, Bool, true, false, not, ◌&&◌, nat_le, List, Option, Some, None, if◌then◌else◌}
 use Rattle.ocf_types.specs.Boot.{any_busy}
 use Rattle.ocf_types.specs.declared.reply.TurnEnd.{TurnEnd}
 use Rattle.ocf_types.specs.declared.reply.TurnEnd.TheVariants.{Disk, Done}
@@ -9,7 +9,8 @@ use Rattle.executor.specs.TurnCalls.{TakesTurn, with_empty_book}
 use Rattle.exec_commands.specs.declared.ends.DrainEnd.{DrainEnd}
 use Rattle.exec_commands.specs.declared.ends.DrainEnd.TheVariants.{Idle, Limit, Turns, Turn}
 use Rattle.exec_client.specs.Heard.{Heard, Hears}
-use Rattle.exec_client.specs.Said.{Noticed, Said}
+use Rattle.exec_client.specs.Said.{Said}
+use Rattle.exec_client.specs.Tells.{noticed}
 use Rattle.exec_session.specs.Rules.{Rules, MakesRoom}
 use Rattle.exec_session.specs.declared.drain.Terms.{Terms}
 
@@ -32,7 +33,7 @@ pub record TurnHeard {D : Type 0} (hears_so : Hearing D) (look : D → View) (ru
   pub middle : Sight D
   pub room : MakesRoom look rules now (with_empty_book p.executor) middle
   pub takes : middle.is_open ≡ true → TakesTurn look now middle q.executor end
-  pub hears : middle.is_open ≡ true → hears_so p.heard q.heard (map Noticed q.executor.told)
+  pub hears : middle.is_open ≡ true → hears_so p.heard q.heard (noticed q.executor)
   pub fails : middle.is_open ≡ false → (end ≡ Disk) × (q.executor ≡ middle) × (q.heard ≡ p.heard)
 
 -- the client hears all of them

@@ -7,7 +7,7 @@ use Rattle.executor.specs.declared.report.Report.{Report}
 use Rattle.exec_client.specs.Heard.{Heard, Hears}
 use Rattle.exec_client.specs.MayTell.{StandsBehind}
 use Rattle.exec_output.specs.declared.fault.Fault.{Fault}
-use Rattle.exec_output.specs.declared.fault.Fault.TheVariants.{Disk, Memory, InputOrOutput, ReplyMemory}
+use Rattle.exec_output.specs.declared.fault.Fault.TheVariants.{Disk, InputOrOutput, ReplyMemory}
 use Rattle.exec_session.specs.declared.session.Run.{Run as RunResult}
 use Rattle.exec_session.specs.Answers.{Source}
 use Rattle.exec_session.specs.Breaks.{RunBreaks}
@@ -29,7 +29,6 @@ abbrev pub EndsAs : {D N T : Type 0} → (D → View) → Source → Rules → R
 EndsAs look source rules report p q (Ok done) = Runs look source rules report p q × (q.executor.is_open ≡ true)
 EndsAs look source rules report p q (Err Disk) =
     Runs look source rules report p q × (q.executor.is_open ≡ false)
-EndsAs look source rules report p q (Err Memory) = q ≡ p
 EndsAs look source rules report p q (Err InputOrOutput) = RunBreaks look source rules report p (spot q.executor q.heard)
 EndsAs look source rules report p q (Err ReplyMemory) = RunBreaks look source rules report p (spot q.executor q.heard)
 EndsAs look source rules report p q (Err _) = ⊥

@@ -3,6 +3,10 @@ pub mod Breaks
 pub mod Drains
 pub mod Ends
 pub mod Gathered
+pub mod Held
+pub mod Leaving
+pub mod Limits
+pub mod Pending
 pub mod Rules
 pub mod Progress
 pub mod Runs

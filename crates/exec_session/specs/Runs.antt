@@ -1,8 +1,7 @@
 -- Whole runs.
-use Rattle.std.specs.Prelude.{◌≡◌, ◌≢◌, ◌⊎◌, ℕ, ◌+◌, ◌<◌, ⊤, List, [], ◌∷◌, ◌++◌, length, map, true, false}
+use Rattle.std.specs.Prelude.{◌≡◌, ◌≢◌, ◌⊎◌, ℕ, ◌+◌, ◌<◌, ⊤, List, [], ◌∷◌, ◌++◌, length, map, true, false, Result, Ok}
 use Rattle.disk_model.specs.View.{View}
-use Rattle.child_model.specs.Children.{ChildrenView}
-use Rattle.executor.specs.Openings.{Opened}
+use Rattle.executor.specs.Reports.{report_of}
 use Rattle.executor.specs.Sights.{Sight}
 use Rattle.executor.specs.declared.report.Report.{Report}
 use Rattle.ocf_types.specs.Kinds.{Command}
@@ -17,10 +16,13 @@ use Rattle.exec_session.specs.declared.lines.Progress.{Progress}
 use Rattle.exec_session.specs.declared.lines.Progress.TheVariants.{End}
 use Rattle.exec_session.specs.declared.context.Way.{Way}
 use Rattle.exec_session.specs.declared.context.Way.TheVariants.{Run, Serve}
+use Rattle.exec_commands.specs.declared.line.Line.TheVariants.{Leave}
 use Rattle.exec_session.specs.Answers.{Source}
 use Rattle.exec_session.specs.Drains.{Hearing, MakesTurn, Spot, spot}
+use Rattle.exec_session.specs.Leaving.{LeavesFrom}
+use Rattle.exec_session.specs.Limits.{lines_a_turn}
 use Rattle.exec_session.specs.Rules.{Rules}
-use Rattle.exec_session.specs.Progress.{Position, Takes}
+use Rattle.exec_session.specs.Progress.{Position, ReadsLine, Takes}
 use Rattle.exec_session.specs.Together.{AnswersRow}
 
 -- what is told of the opening's report: what was interrupted, and then what was dropped
@@ -28,17 +30,12 @@ abbrev pub report_told : {M : Type 0} → Report M → List Said
 report_told r = map Reported r.interrupted.items ++ map Reported r.dropped.items
 
 -- the report is that of the opening that gave this executor
-abbrev pub IsReportOf : {D M : Type 0} → (D → View) → Sight D → Report M → Type 0
-IsReportOf {D} look x r =
-    (old : D) × (from : ChildrenView) × (now : ℕ) × Opened look (look old) from now x r.interrupted.items r.dropped.items
+abbrev pub IsReportOf : {D M : Type 0} → Sight D → Report M → Type 0
+IsReportOf x r = x.reported ≡ report_of r
 
--- a client of the executor that was just opened, who was told nothing yet
+-- a client of the executor that was just opened, and is open, who was told nothing yet
 abbrev pub IsNew : {D : Type 0} → Heard D → Sight D → Type 0
-IsNew heard x = (heard.opened ≡ x) × (heard.told ≡ [])
-
--- how many lines an open executor answers at most between two turns of a run that serves
-abbrev pub lines_a_turn : ℕ
-lines_a_turn = 64
+IsNew heard x = (heard.opened ≡ x) × (heard.told ≡ []) × (x.is_open ≡ true)
 
 -- a run may take a line behind so many since its last turn
 abbrev pub MayTake : Way → ℕ → Type 0
@@ -124,10 +121,23 @@ pub record EndsByFault {D : Type 0} (look : D → View) (source : Source) (rules
   pub fault : ReachesFault look source rules p (spot q.executor heard)
   pub hears : Hears rules.form heard q.heard (ended Disk ∷ [])
 
--- all lines were answered, or a disk fault ended a run that serves
+-- A run that serves was asked to end by the next line, and made an orderly end: no line behind that was taken.
+pub record EndsInOrder {D : Type 0} (look : D → View) (source : Source) (rules : Rules)
+    (p q : Position D) : Type 0 where
+  pub serves : MakesTurns rules.way
+  pub own : TurnEnd
+  pub count : ℕ
+  pub last : Position D
+  pub reached : Reaches look source rules p own count last
+  pub is_open : last.executor.is_open ≡ true
+  pub asked : ReadsLine rules.way last.left q.left (Ok Leave)
+  pub leaves : LeavesFrom look rules (spot last.executor last.heard) (spot q.executor q.heard)
+
+-- all lines were answered, or a disk fault ended a run that serves, or it was asked to end
 abbrev pub Finishes : {D : Type 0} → (D → View) → Source → Rules → Position D → Position D → Type 0
 Finishes look source rules p q =
-    ReachesEnd look source rules p q ⊎ EndsByFault look source rules p (spot q.executor q.heard)
+    ReachesEnd look source rules p q
+    ⊎ (EndsByFault look source rules p (spot q.executor q.heard) ⊎ EndsInOrder look source rules p q)
 
 -- Calls alone lead from one spot to another, with these exchanges, and what was told meanwhile stands behind what they recorded.
 pub record GoesByCalls {D : Type 0} (look : D → View) (p q : Spot D) : Type 0 where

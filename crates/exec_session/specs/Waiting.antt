@@ -8,6 +8,7 @@ use Rattle.exec_output.specs.declared.send.IoFault.{IoFault}
 use Rattle.exec_session.specs.Answers.{Source}
 use Rattle.exec_session.specs.Breaks.{BreaksOff}
 use Rattle.exec_session.specs.Drains.{spot}
+use Rattle.exec_session.specs.Limits.{most_together}
 use Rattle.exec_session.specs.Rules.{Rules}
 use Rattle.exec_session.specs.Progress.{Position, position}
 use Rattle.exec_session.specs.Runs.{MakesTurns, MayGoOn, MayTake, Reaches, ReachesEnd, ReachesFault}
@@ -15,10 +16,6 @@ use Rattle.exec_session.specs.Together.{ReadsCommands}
 use Rattle.exec_session.specs.declared.context.Way.{Way}
 use Rattle.exec_session.specs.declared.lines.Taken.{Taken}
 use Rattle.exec_session.specs.declared.lines.Taken.TheVariants.{Closed, End, More}
-
--- how many commands are answered together at most
-abbrev pub most_together : ℕ
-most_together = 64
 
 -- these commands may wait: there is room for one more, and none waits once the executor is closed
 pub record MayWait {D : Type 0} (x : Sight D) (commands : List Command) : Type 0 where

@@ -6,9 +6,10 @@ ghost use Rattle.exec_session.specs.Answers.{DrainsFor, IsClosedReply, IsMetaRep
 ghost use Rattle.exec_session.specs.Answers.{closed_tidy, refused};
 ghost use Rattle.exec_session.specs.Breaks.{DrainBreaksFor, ReplyBreaks};
 ghost use Rattle.exec_session.specs.Drains.{spot};
+ghost use Rattle.exec_session.specs.Held.{MayAnswerAtOnce};
 ghost use Rattle.exec_session.specs.Rules.{rules_of};
 
-use crate::context::RunContext;
+use crate::context::{RunContext, Way};
 use crate::drain::{Terms, drain};
 use crate::metadata::Metadata;
 use crate::room::{make_room, tidy_timed};
@@ -28,12 +29,14 @@ fn refused(refusal: Refusal) -> LineReply
     LineReply::Request(Reply::Refused(refusal))
 }
 
+// Waits for the metadata, which a run does that answers lines alone.
 fn meta_reply<K: Clock, M: Metadata>(
     context: &RunContext<K, M>,
     provider: &Provider,
     agent: &AgentType,
-    limit: u32,
+    limit: Option<u32>,
 ) -> LineReply
+    requires runs { context.now.way ≡ Way.Run }
     ensures { IsMetaReply (M.gives context.now.metadata.now) provider.now agent.now limit result }
 {
     let given = context
@@ -59,6 +62,7 @@ fn closed_reply<K: Clock, M: Metadata>(
     context: &RunContext<K, M>,
     line: &Result<Line, Refusal>,
 ) -> LineReply
+    requires at_once { MayAnswerAtOnce context.now.way line.now }
     ensures { IsClosedReply (M.gives context.now.metadata.now) line.now result }
 {
     match line {
@@ -71,7 +75,7 @@ fn closed_reply<K: Clock, M: Metadata>(
         ) => meta_reply(context, provider, agent, *limit),
         Ok(Line::Drain(_) | Line::Watch(_)) => closed_drain(),
         Ok(Line::Tidy) => closed_tidy(),
-        Ok(Line::Request(_)) | Err(_) => refused(Refusal::Closed),
+        Ok(Line::Request(_) | Line::Leave) | Err(_) => refused(Refusal::Closed),
     }
 }
 
@@ -130,6 +134,7 @@ fn open_reply<D: Disk + Drop, C: Children + Drop, T: Client<D, C>, K: Clock, M: 
     line: Result<Line, Refusal>,
 ) -> Result<LineReply, IoFault>
     requires open { executor.old.is_open ≡ true }
+    requires at_once { MayAnswerAtOnce context.now.way line }
     requires stands { AllStand D.view (T.heard client.old) executor.old }
     ensures stands { IfErr result (λ _. AllStand D.view (T.heard client.new) executor.new) }
     ensures opened { (T.heard client.new).opened ≡ (T.heard client.old).opened }
@@ -145,6 +150,7 @@ fn open_reply<D: Disk + Drop, C: Children + Drop, T: Client<D, C>, K: Clock, M: 
         Ok(Line::Drain(limit)) => drain_reply(context, client, executor, true, limit),
         Ok(Line::Watch(limit)) => drain_reply(context, client, executor, false, limit),
         Ok(Line::Tidy) => Ok(LineReply::Tidy(tidy_timed(context, executor))),
+        Ok(Line::Leave) => Ok(refused(Refusal::UnknownOp)),
         Ok(
             Line::Meta {
                 provider,
@@ -163,6 +169,7 @@ pub fn reply_to<D: Disk + Drop, C: Children + Drop, T: Client<D, C>, K: Clock, M
     executor: &mut Executor<D, C>,
     line: Result<Line, Refusal>,
 ) -> Result<LineReply, IoFault>
+    requires at_once { MayAnswerAtOnce context.now.way line }
     requires stands { AllStand D.view (T.heard client.old) executor.old }
     ensures stands { IfErr result (λ _. AllStand D.view (T.heard client.new) executor.new) }
     ensures opened { (T.heard client.new).opened ≡ (T.heard client.old).opened }

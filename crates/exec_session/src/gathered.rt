@@ -3,6 +3,7 @@ ghost use Rattle.std.specs.Prelude.{◌≡◌, ◌≤◌, ◌<◌, ◌==◌, [],
 ghost use Rattle.ocf_types.specs.declared.refusal.Refusal.TheVariants.{Disk};
 ghost use Rattle.ocf_types.specs.declared.reply.ReplyOf.TheVariants.{Refused};
 ghost use Rattle.executor.specs.Rows.{TakesCommands};
+ghost use Rattle.exec_session.specs.Limits.{most_together};
 
 use child_model::Children;
 use disk_model::Disk;
@@ -19,9 +20,9 @@ pub struct Gathered {
     commands: Vec<Command>,
     // What was replied last.
     replies: Vec<Reply>,
-    ghost few: { vec_len commands ≤ 64 },
-    ghost commands_room: { 64 ≤ vec_capacity commands },
-    ghost replies_room: { 64 ≤ vec_capacity replies },
+    ghost few: { vec_len commands ≤ most_together },
+    ghost commands_room: { most_together ≤ vec_capacity commands },
+    ghost replies_room: { most_together ≤ vec_capacity replies },
 }
 
 impl Gathered {
@@ -45,14 +46,14 @@ impl Gathered {
 
     /// Whether as many wait as are answered together at most.
     pub fn is_full(&self) -> bool
-        ensures { result ≡ (length (waiting self.now) == 64) }
+        ensures { result ≡ (length (waiting self.now) == most_together) }
     {
         self.commands.len() == MOST
     }
 
     /// Has a command wait behind the others.
     pub fn push(&mut self, command: Command)
-        requires { length (waiting self.old) < 64 }
+        requires { length (waiting self.old) < most_together }
         ensures { waiting self.new ≡ waiting self.old ++ command ∷ [] }
     {
         self.commands.push_reserved(command);

@@ -2,6 +2,7 @@
 ghost use Rattle.std.specs.Prelude.{◌≡◌, ℕ, true};
 ghost use Rattle.ocf_types.specs.declared.reply.TurnEnd.{TurnEnd};
 ghost use Rattle.exec_session.specs.Drains.{GoesOn, Spot, spot};
+ghost use Rattle.exec_session.specs.Leaving.{WindsDown};
 ghost use Rattle.exec_session.specs.Rules.{Rules};
 ghost use Rattle.exec_session.specs.Progress.{Position};
 ghost use Rattle.exec_session.specs.Runs.{GoesByCalls, Reaches};
@@ -24,4 +25,9 @@ pub fn turns_are_calls<D: Disk>()
     ensures { (rules : Rules) (terms : Terms) (start turns now : ℕ) (p q : Spot D)
         → p.executor.is_open ≡ true → GoesOn D.view rules terms start p turns now q
         → GoesByCalls D.view p q }
+{}
+
+/// And so does an orderly end, turn by turn, whose turns begin nothing.
+pub fn last_turns_are_calls<D: Disk>()
+    ensures { (rules : Rules) (p q : Spot D) → WindsDown D.view rules p q → GoesByCalls D.view p q }
 {}

@@ -7,6 +7,8 @@ ghost use Rattle.exec_client.specs.MayTell.{AllStand};
 ghost use Rattle.exec_session.specs.Answers.{IsReadAs};
 ghost use Rattle.exec_session.specs.Breaks.{TakesOrBreaks};
 ghost use Rattle.exec_session.specs.Gathered.{waiting};
+ghost use Rattle.exec_session.specs.Held.{MayTakeAtOnce};
+ghost use Rattle.exec_session.specs.Limits.{most_together};
 ghost use Rattle.exec_session.specs.Rules.{rules_of};
 ghost use Rattle.exec_session.specs.Progress.{Position, ReadsInput, position};
 ghost use Rattle.exec_session.specs.Together.{ReadsCommand};
@@ -76,7 +78,7 @@ pub fn next_step<D: Disk + Drop, C: Children + Drop, K, M>(
     }
 }
 
-// What a line asks for, or why it is refused: a run that serves refuses one in which a key comes twice.
+// What a line asks for, or why it is refused: a run that serves may be asked to end, and refuses a line in which a key comes twice.
 fn read_line(way: Way, alloc: Global, bytes: &[u8]) -> Result<Line, Refusal>
     ensures { IsReadAs way bytes.now result }
 {
@@ -110,6 +112,7 @@ fn answer_found<D: Disk + Drop, C: Children + Drop, T: Client<D, C>, K: Clock, M
     executor: &mut Executor<D, C>,
     found: Found,
 ) -> Result<Progress, IoFault>
+    requires at_once { MayTakeAtOnce context.now.way found }
     requires stands { AllStand D.view (T.heard client.old) executor.old }
     ensures stands { AllStand D.view (T.heard client.new) executor.new }
     ensures opened { (T.heard client.new).opened ≡ (T.heard client.old).opened }
@@ -139,7 +142,7 @@ fn take_command<D: Disk + Drop, C: Children + Drop, T: Client<D, C>, K: Clock, M
     has_next: bool,
 ) -> Result<Taken, IoFault>
     requires open { executor.old.is_open ≡ true }
-    requires few { length (waiting gathered.old) < 64 }
+    requires few { length (waiting gathered.old) < most_together }
     requires stands { AllStand D.view (T.heard client.old) executor.old }
     ensures waits { MayWait executor.new (waiting gathered.new) }
     ensures stands { AllStand D.view (T.heard client.new) executor.new }
@@ -169,6 +172,7 @@ fn take_other<D: Disk + Drop, C: Children + Drop, T: Client<D, C>, K: Clock, M: 
     gathered: &mut Gathered,
     found: Found,
 ) -> Result<Taken, IoFault>
+    requires at_once { MayTakeAtOnce context.now.way found }
     requires waits { MayWait executor.old (waiting gathered.old) }
     requires stands { AllStand D.view (T.heard client.old) executor.old }
     ensures none { waiting gathered.new ≡ [] }
@@ -203,6 +207,7 @@ pub fn take_found<D: Disk + Drop, C: Children + Drop, T: Client<D, C>, K: Clock,
     found: Found,
     has_next: bool,
 ) -> Result<Taken, IoFault>
+    requires at_once { MayTakeAtOnce context.now.way found }
     requires waits { MayWait executor.old (waiting gathered.old) }
     requires stands { AllStand D.view (T.heard client.old) executor.old }
     ensures waits { MayWait executor.new (waiting gathered.new) }

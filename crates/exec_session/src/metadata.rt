@@ -1,5 +1,5 @@
 //! Where agents' metadata come from.
-ghost use Rattle.std.specs.Prelude.{ℕ, List, Result};
+ghost use Rattle.std.specs.Prelude.{ℕ, List, Option, Result, IfSome};
 ghost use Rattle.std.specs.Global.{Vec};
 ghost use Rattle.ocf_types.specs.declared.outcome.MetaFault.{MetaFault};
 
@@ -8,16 +8,28 @@ use std::alloc::Global;
 
 /// Where agents' metadata come from. OCF Resource Agent API 1.1, meta-data.
 pub trait Metadata {
-    /// What may be answered for the agent of a provider and a type that is given so many milliseconds.
-    ghost gives: { Self → List ℕ → List ℕ → ℕ → Result (Vec ℕ) MetaFault → Type 0 };
+    /// What may be answered for the agent of a provider and a type that is given so many milliseconds, or as long as it takes.
+    ghost gives: { Self → List ℕ → List ℕ → Option ℕ → Result (Vec ℕ) MetaFault → Type 0 };
 
-    /// The metadata of an agent, which is given so many milliseconds, or why it has none.
+    /// The metadata of an agent, which is given so many milliseconds, or as long as it takes, or why it has none.
     fn metadata(
         &self,
         alloc: Global,
         provider: &Provider,
         agent: &AgentType,
-        limit: u32,
+        limit: Option<u32>,
     ) -> Result<Vec<u8>, MetaFault>
         ensures given { gives self.now provider.now agent.now limit result };
+
+    /// The same without a wait: the first call asks the agent, and each looks whether it has answered by now. `None`: it has not.
+    /// One agent is asked at a time, until its answer is given.
+    fn poll_metadata(
+        &self,
+        alloc: Global,
+        provider: &Provider,
+        agent: &AgentType,
+        limit: Option<u32>,
+    ) -> Option<Result<Vec<u8>, MetaFault>>
+        ensures given { IfSome result
+            (λ given. gives self.now provider.now agent.now limit given) };
 }

@@ -34,6 +34,8 @@ pub struct Pause {
     began: Option<Instant>,
     // When the turn began behind which nothing happened.
     quiet: Option<Instant>,
+    // Whether a line is held.
+    holds: bool,
 }
 
 // Whether nothing ended or began in a turn with these entries: each child that was asked still runs, and none was started.
@@ -55,6 +57,15 @@ impl Pause {
         Pause {
             began: None,
             quiet: None,
+            holds: false,
+        }
+    }
+
+    /// Whether a line is held from now on: pauses begin anew where that changes.
+    pub fn holds(&mut self, holds: bool) {
+        if self.holds != holds {
+            self.holds = holds;
+            self.quiet = None;
         }
     }
 

@@ -20,7 +20,7 @@ pub fn tell_report<D: Disk + Drop, C: Children + Drop, T: Client<D, C>>(
     report: &Report,
 ) -> Result<(), IoFault>
     requires stands { AllStand D.view (T.heard client.old) executor.now }
-    requires reported { IsReportOf D.view (T.heard client.old).opened report.now }
+    requires reported { IsReportOf executor.now report.now }
     ensures stands { AllStand D.view (T.heard client.new) executor.now }
     ensures opened { (T.heard client.new).opened ≡ (T.heard client.old).opened }
     ensures told { OnOk result

@@ -1,27 +1,27 @@
 //! Command lines answered one by one.
 ghost use Rattle.std.specs.Prelude.{◌≡◌, ℕ, ◌+◌, [], true, OnErr, OnOk};
 ghost use Rattle.ocf_types.specs.declared.reply.TurnEnd.{TurnEnd};
-ghost use Rattle.exec_lines.specs.Buffer.{line_bytes};
 ghost use Rattle.exec_client.specs.MayTell.{AllStand};
 ghost use Rattle.exec_session.specs.Breaks.{EndsOrBreaks, RunBreaks};
 ghost use Rattle.exec_session.specs.Drains.{spot};
 ghost use Rattle.exec_session.specs.Ends.{ClosesByCalls, Ended, EndsAs, Runs};
 ghost use Rattle.exec_session.specs.Gathered.{waiting};
+ghost use Rattle.exec_session.specs.Pending.{IsClear};
 ghost use Rattle.exec_session.specs.Rules.{rules_of};
 ghost use Rattle.exec_session.specs.Progress.{Position, position};
 ghost use Rattle.exec_session.specs.Runs.{IsNew, IsReportOf};
 ghost use Rattle.exec_session.specs.Waiting.{Comes, HasCome, MayTakeBehind, MayWait};
 
 use crate::context::{RunContext, Way};
-use crate::gathered::Gathered;
 use crate::lines::{Taken, found_in, take_found};
 use crate::metadata::Metadata;
+use crate::pending::{LineRoom, Pending};
 use crate::report::tell_report;
 use crate::serve::serve_all;
 use child_model::Children;
 use disk_model::Disk;
 use exec_client::Client;
-use exec_lines::{Input, LineBuffer, next_line};
+use exec_lines::{Input, next_line};
 use exec_output::{Fault, IoFault};
 use executor::{Executor, Report};
 use ocf_types::NUM_MAX;
@@ -43,40 +43,47 @@ fn take_next<R: Input, D: Disk + Drop, C: Children + Drop, T: Client<D, C>, K: C
     reader: &mut R,
     client: &mut T,
     executor: &mut Executor<D, C>,
-    buffer: &mut LineBuffer,
-    gathered: &mut Gathered,
+    pending: &mut Pending,
 ) -> Result<Taken, IoFault>
-    requires waits { MayWait executor.old (waiting gathered.old) }
+    requires way { context.now.way ≡ Way.Run }
+    requires waits { MayWait executor.old (waiting pending.old.gathered) }
     requires stands { AllStand D.view (T.heard client.old) executor.old }
-    ensures waits { MayWait executor.new (waiting gathered.new) }
+    ensures waits { MayWait executor.new (waiting pending.new.gathered) }
     ensures stands { AllStand D.view (T.heard client.new) executor.new }
     ensures opened { (T.heard client.new).opened ≡ (T.heard client.old).opened }
     ensures takes { (p : Position D) (own : TurnEnd) (most : ℕ)
         → MayTakeBehind context.now.way most
         → HasCome D.view (M.gives context.now.metadata.now) (rules_of context.now) p own
-        most (waiting gathered.old) (position executor.old (R.remaining reader.old) (T.heard client.old))
+        most (waiting pending.old.gathered)
+        (position executor.old (R.remaining reader.old) (T.heard client.old))
         → Comes D.view (M.gives context.now.metadata.now) (rules_of context.now) p own
         (most + 1)
-        (waiting gathered.new)
+        (waiting pending.new.gathered)
         (position executor.new (R.remaining reader.new) (T.heard client.new)) result }
 {
-    let next = next_line(reader, buffer)?;
-    let found = found_in(context.way, context.alloc, buffer, next);
+    let next = next_line(reader, &mut pending.buffer)?;
+    let found = found_in(context.way, context.alloc, &pending.buffer, next);
     let has_next = reader.has_line();
-    take_found(context, client, executor, gathered, found, has_next)
+    take_found(
+        context,
+        client,
+        executor,
+        &mut pending.gathered,
+        found,
+        has_next,
+    )
 }
 
-// Answers line after line, up to the end of the input. No command waits.
+// Answers line after line, up to the end of the input. Nothing was read that is not answered.
 fn answer_all<R: Input, D: Disk + Drop, C: Children + Drop, T: Client<D, C>, K: Clock, M: Metadata>(
     context: &RunContext<K, M>,
     reader: &mut R,
     client: &mut T,
     executor: &mut Executor<D, C>,
-    buffer: &mut LineBuffer,
-    gathered: &mut Gathered,
+    pending: &mut Pending,
 ) -> Result<(), IoFault>
     requires way { context.now.way ≡ Way.Run }
-    requires none { waiting gathered.old ≡ [] }
+    requires clear { IsClear pending.old }
     requires stands { AllStand D.view (T.heard client.old) executor.old }
     ensures stands { AllStand D.view (T.heard client.new) executor.new }
     ensures opened { (T.heard client.new).opened ≡ (T.heard client.old).opened }
@@ -85,15 +92,14 @@ fn answer_all<R: Input, D: Disk + Drop, C: Children + Drop, T: Client<D, C>, K: 
         (position executor.new (R.remaining reader.new) (T.heard client.new)) result }
 {
     for _ in 0..NUM_MAX {
-        if take_next(context, reader, client, executor, buffer, gathered)? != Taken::More {
+        if take_next(context, reader, client, executor, pending)? != Taken::More {
             return Ok(());
         }
     }
     Err(IoFault::InputOrOutput)
 }
 
-// Answers the lines of the input, up to its end, in the way that is set. The buffer is empty, and no command
-// waits.
+// Answers the lines of the input, up to its end, in the way that is set. Nothing was read that is not answered.
 fn answer_in_way<
     R: Input,
     D: Disk + Drop,
@@ -106,11 +112,9 @@ fn answer_in_way<
     reader: &mut R,
     client: &mut T,
     executor: &mut Executor<D, C>,
-    buffer: &mut LineBuffer,
-    gathered: &mut Gathered,
+    pending: &mut Pending,
 ) -> Result<(), IoFault>
-    requires empty { line_bytes buffer.old ≡ [] }
-    requires none { waiting gathered.old ≡ [] }
+    requires clear { IsClear pending.old }
     requires open { executor.old.is_open ≡ true }
     requires stands { AllStand D.view (T.heard client.old) executor.old }
     ensures stands { AllStand D.view (T.heard client.new) executor.new }
@@ -120,12 +124,12 @@ fn answer_in_way<
         (position executor.new (R.remaining reader.new) (T.heard client.new)) result }
 {
     match context.way {
-        Way::Run => answer_all(context, reader, client, executor, buffer, gathered),
-        Way::Serve => serve_all(context, reader, client, executor, buffer, gathered),
+        Way::Run => answer_all(context, reader, client, executor, pending),
+        Way::Serve => serve_all(context, reader, client, executor, pending),
     }
 }
 
-// Tells the report, and then answers all lines. The buffer is empty, and no command waits.
+// Tells the report, and then answers all lines. Nothing was read that is not answered.
 fn report_and_answer<
     R: Input,
     D: Disk + Drop,
@@ -139,12 +143,10 @@ fn report_and_answer<
     client: &mut T,
     executor: &mut Executor<D, C>,
     report: &Report,
-    buffer: &mut LineBuffer,
-    gathered: &mut Gathered,
+    pending: &mut Pending,
 ) -> Result<(), IoFault>
-    requires empty { line_bytes buffer.old ≡ [] }
-    requires none { waiting gathered.old ≡ [] }
-    requires reported { IsReportOf D.view (T.heard client.old).opened report.now }
+    requires clear { IsClear pending.old }
+    requires reported { IsReportOf executor.old report.now }
     requires open { executor.old.is_open ≡ true }
     requires stands { AllStand D.view (T.heard client.old) executor.old }
     ensures stands { AllStand D.view (T.heard client.new) executor.new }
@@ -159,7 +161,7 @@ fn report_and_answer<
         (spot executor.new (T.heard client.new))) }
 {
     tell_report(client, executor, context.form, report)?;
-    answer_in_way(context, reader, client, executor, buffer, gathered)?;
+    answer_in_way(context, reader, client, executor, pending)?;
     Ok(())
 }
 
@@ -177,8 +179,10 @@ fn answer_lines<
     client: &mut T,
     executor: &mut Executor<D, C>,
     report: &Report,
+    pending: &mut Pending,
 ) -> Result<(), Fault>
-    requires reported { IsReportOf D.view (T.heard client.old).opened report.now }
+    requires clear { IsClear pending.old }
+    requires reported { IsReportOf executor.old report.now }
     requires open { executor.old.is_open ≡ true }
     requires stands { AllStand D.view (T.heard client.old) executor.old }
     ensures stands { AllStand D.view (T.heard client.new) executor.new }
@@ -188,22 +192,7 @@ fn answer_lines<
         (position executor.old (R.remaining reader.old) (T.heard client.old))
         (position executor.new (R.remaining reader.new) (T.heard client.new)) result }
 {
-    let Ok(mut buffer) = LineBuffer::new(context.alloc) else {
-        return Err(Fault::Memory);
-    };
-    let Ok(mut gathered) = Gathered::new(context.alloc) else {
-        return Err(Fault::Memory);
-    };
-    let answered = report_and_answer(
-        context,
-        reader,
-        client,
-        executor,
-        report,
-        &mut buffer,
-        &mut gathered,
-    );
-    match answered {
+    match report_and_answer(context, reader, client, executor, report, pending) {
         Ok(()) if executor.is_open() => Ok(()),
         Ok(()) => Err(Fault::Disk),
         Err(IoFault::InputOrOutput) => Err(Fault::InputOrOutput),
@@ -216,7 +205,7 @@ fn answer_lines<
 /// and their replies flushed together; any other reply is flushed before the next line is answered, and a turn's notices before the
 /// next turn. Where the disk failed the end of the input is a fault, and a run that serves ends at once by it, with the line of a
 /// turn that ended so; input or output that fails is another, and so is a reply that finds no memory. In any case all children are
-/// given up then, and the executor closed.
+/// given up then, and the executor closed. The room for lines is handed in, so that none is refused between the opening and its report.
 pub fn run_lines<
     R: Input,
     D: Disk + Drop,
@@ -230,9 +219,10 @@ pub fn run_lines<
     client: &mut T,
     mut executor: Executor<D, C>,
     report: &Report,
+    room: LineRoom,
 ) -> Run<D, C>
     requires fresh { IsNew (T.heard client.old) executor }
-    requires reported { IsReportOf D.view executor report.now }
+    requires reported { IsReportOf executor report.now }
     ensures ends { Ended D.view C.view (M.gives context.now.metadata.now)
         (rules_of context.now) report.now
         (position executor (R.remaining reader.old) (T.heard client.old))
@@ -241,7 +231,8 @@ pub fn run_lines<
         (C.view result.children) }
     ensures none_lives { (C.view result.children).live ≡ [] }
 {
-    let ended = answer_lines(context, reader, client, &mut executor, report);
+    let mut pending = room.into_pending();
+    let ended = answer_lines(context, reader, client, &mut executor, report, &mut pending);
     executor.abandon();
     let (disk, children) = executor.close();
     Run {

@@ -10,7 +10,7 @@ use crate::context::RunContext;
 use crate::room::make_room;
 use child_model::Children;
 use disk_model::Disk;
-use exec_client::{Client, Told};
+use exec_client::{Client, Told, TurnNotices};
 use exec_output::IoFault;
 use executor::Executor;
 use ocf_types::TurnEnd;
@@ -38,6 +38,7 @@ pub fn make_turn<D: Disk + Drop, C: Children + Drop, T: Client<D, C>, K: Clock, 
         return Ok(TurnEnd::Disk);
     }
     let end = executor.turn(now);
-    client.tell(executor, context.form, &Told::Notices(executor.notices()))?;
+    let turn = TurnNotices::of_executor(executor);
+    client.tell(executor, context.form, &Told::Notices(turn))?;
     Ok(end)
 }

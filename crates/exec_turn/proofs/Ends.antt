@@ -23,23 +23,23 @@ use Rattle.exec_turn.specs.Picks.{begins}
 use Rattle.exec_ledger.specs.Pieces.{AskedOn, HasBegin, Leaves, Prefix}
 use Rattle.exec_turn.specs.Polls.{polls, results}
 use Rattle.exec_turn.specs.Starts.{Started, refusal_notices, refusals, starts}
-use Rattle.exec_turn.specs.Turn.{IsTurn, PickedAt, PicksBehind, Told, Whole}
+use Rattle.exec_turn.specs.Turn.{IsFinish, IsTurn, PickedAt, PicksBehind, Told, TurnKind, Whole}
 use Rattle.exec_ledger.specs.Scenes.{Scene, due_after_all, scene}
-use Rattle.exec_turn.specs.Turns.{BeginsRow, PollsRow, StartsRow, Turns, end_of}
+use Rattle.exec_turn.specs.Turns.{BeginsRow, Finishes, PollsRow, StartsRow, Turns, TurnsAs, end_of}
 use Rattle.exec_turn.proofs.Polling.{polls_ask_nothing}
 
 -- nothing was done
-pub book_full : {D : Type 0} (look : D → View) (k : D) (x : Scene) (from : ChildrenView)
-    → Leaves (look k) (look k) x.state x.state [] [] [] → CrashesTo (look k) (look k) Roomy
-    → Turns look k k x x.state x.due from from [] turn_end.BookFull
-book_full look k x from leaves roomy = record {
+pub book_full : {D : Type 0} (kind : TurnKind) (look : D → View) (k : D) (x : Scene) (from : ChildrenView)
+    → kind turn_end.BookFull x [] [] [] [] → Leaves (look k) (look k) x.state x.state [] [] [] → CrashesTo (look k) (look k) Roomy
+    → TurnsAs kind look k k x x.state x.due from from [] turn_end.BookFull
+book_full kind look k x from does leaves roomy = record {
   entries = [];
   events = [];
   pending = [];
   book = sym (append-nil from.book);
   log = sym (append-nil from.log);
   site = refl;
-  does = (refl, refl, refl, refl);
+  does = does;
   crash = leaves;
   asked = λ run u h. absurd (asked_none run u h);
   due_is = refl;
@@ -51,21 +51,41 @@ book_full look k x from leaves roomy = record {
 module _ {D : Type 0} (look : D → View) (at : ℕ) (k0 k1 : D) (s0 s1 : State) (d0 d1 : Due) (p0 p1 : Place) (from c1 : ChildrenView)
     (n1 : List Notice) where
   -- the row of results failed
-  results_failed : (f : DiskFault) → PollsRow look k0 k1 (scene s0 d0 p0 at) (scene s1 d1 p1 at) from c1 n1 (Err f)
-      → Turns look k0 k1 (scene s0 d0 p0 at) s1 d1 from c1 n1 turn_end.Disk
-  results_failed f p = record {
+  results_failed : (kind : TurnKind) (f : DiskFault) (p : PollsRow look k0 k1 (scene s0 d0 p0 at) (scene s1 d1 p1 at) from c1 n1 (Err f))
+      → kind turn_end.Disk (scene s0 d0 p0 at) (polls at p.answers) [] (results at p.answers) n1
+      → TurnsAs kind look k0 k1 (scene s0 d0 p0 at) s1 d1 from c1 n1 turn_end.Disk
+  results_failed kind f p does = record {
     entries = polls at p.answers;
     events = [];
     pending = results at p.answers;
     book = p.book;
     log = p.log;
     site = p.site;
-    does = inl (p.answers, p.each, refl, refl, refl, p.told_is);
+    does = does;
     crash = p.crash;
     asked = λ run u h. absurd (polls_ask_nothing at p.answers run u h);
     due_is = p.moves.1;
     whole = λ not. absurd (not refl);
     cause = λ _. p.cause;
+    roomy = p.roomy;
+  }
+
+  -- the row of results was recorded, and nothing begins
+  results_alone : (u : Unit) → PollsRow look k0 k1 (scene s0 d0 p0 at) (scene s1 d1 p1 at) from c1 n1 (Ok u)
+      → Finishes look k0 k1 (scene s0 d0 p0 at) s1 d1 from c1 n1 turn_end.Done
+  results_alone u p = record {
+    entries = polls at p.answers;
+    events = results at p.answers;
+    pending = [];
+    book = p.book;
+    log = p.log;
+    site = p.site;
+    does = (p.answers, p.each, refl, refl, refl, p.told_is);
+    crash = p.crash;
+    asked = λ run u h. absurd (polls_ask_nothing at p.answers run u h);
+    due_is = ap (λ (x : Scene). x.due) p.moves;
+    whole = λ _. refl;
+    cause = λ bad. let none : ⊥ = cc in absurd none;
     roomy = p.roomy;
   }
 
@@ -270,7 +290,19 @@ module _ {D : Type 0} (look : D → View) (at : ℕ) (k0 k1 : D) (s0 s1 : State)
 pub no_results : {D : Type 0} {look : D → View} {at : ℕ} {k0 k1 : D} {s0 s1 : State} {d0 d1 : Due} {p0 p1 : Place} {from c1 : ChildrenView}
     {n1 : List Notice} {f : DiskFault} → PollsRow look k0 k1 (scene s0 d0 p0 at) (scene s1 d1 p1 at) from c1 n1 (Err f)
     → Turns look k0 k1 (scene s0 d0 p0 at) s1 d1 from c1 n1 turn_end.Disk
-no_results polled = results_failed _ _ _ _ _ _ _ _ _ _ _ _ _ _ polled
+no_results polled =
+    results_failed _ _ _ _ _ _ _ _ _ _ _ _ _ IsTurn _ polled (inl (polled.answers, polled.each, refl, refl, refl, polled.told_is))
+
+pub finish_failed : {D : Type 0} {look : D → View} {at : ℕ} {k0 k1 : D} {s0 s1 : State} {d0 d1 : Due} {p0 p1 : Place} {from c1 : ChildrenView}
+    {n1 : List Notice} {f : DiskFault} → PollsRow look k0 k1 (scene s0 d0 p0 at) (scene s1 d1 p1 at) from c1 n1 (Err f)
+    → Finishes look k0 k1 (scene s0 d0 p0 at) s1 d1 from c1 n1 turn_end.Disk
+finish_failed polled =
+    results_failed _ _ _ _ _ _ _ _ _ _ _ _ _ IsFinish _ polled (polled.answers, polled.each, refl, refl, refl, polled.told_is)
+
+pub finish_done : {D : Type 0} {look : D → View} {at : ℕ} {k0 k1 : D} {s0 s1 : State} {d0 d1 : Due} {p0 p1 : Place} {from c1 : ChildrenView}
+    {n1 : List Notice} {u : Unit} → PollsRow look k0 k1 (scene s0 d0 p0 at) (scene s1 d1 p1 at) from c1 n1 (Ok u)
+    → Finishes look k0 k1 (scene s0 d0 p0 at) s1 d1 from c1 n1 turn_end.Done
+finish_done polled = results_alone _ _ _ _ _ _ _ _ _ _ _ _ _ _ polled
 
 pub no_begins : {D : Type 0} {look : D → View} {at : ℕ} {k0 k1 k2 : D} {s0 s1 s2 : State} {d0 d1 d2 : Due} {p0 p1 p2 : Place} {from c1 : ChildrenView}
     {n1 : List Notice} {begun : List Active} {f : DiskFault} {u : Unit}

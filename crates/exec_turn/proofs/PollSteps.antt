@@ -40,7 +40,7 @@ polled_live at x poll.Running kill v = by (is_late at x)
     by true = refl
     by false = refl
 polled_live at x (poll.Exited code) kill v = refl
-polled_live at x poll.Signaled kill v = refl
+polled_live at x (poll.Signaled signal) kill v = refl
 polled_live at x poll.Fault kill v = refl
 
 pub polled_room : (at : ℕ) (x : Running) (answer : Poll) (kill : Result Unit KillFault) (v : ChildrenView)
@@ -52,7 +52,7 @@ polled_room at x poll.Running kill v = by (is_late at x)
     by true = omega arith
     by false = omega arith
 polled_room at x (poll.Exited code) kill v = omega arith
-polled_room at x poll.Signaled kill v = omega arith
+polled_room at x (poll.Signaled signal) kill v = omega arith
 polled_room at x poll.Fault kill v = omega arith
 
 -- the children where an action that runs is late, and was killed

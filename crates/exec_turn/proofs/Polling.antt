@@ -47,7 +47,7 @@ polled_book at x poll.Running kill v = by (is_late at x)
     by true = append_assoc v.book (said x.run (poll_answer poll.Running) ∷ []) (said x.run (kill_answer kill) ∷ [])
     by false = refl
 polled_book at x (poll.Exited code) kill v = refl
-polled_book at x poll.Signaled kill v = refl
+polled_book at x (poll.Signaled signal) kill v = refl
 polled_book at x poll.Fault kill v = refl
 
 polled_last : (at : ℕ) (x : Running) (answer : Poll) (kill : Result Unit KillFault) (v : ChildrenView)
@@ -59,7 +59,7 @@ polled_last at x poll.Running kill v = by (is_late at x)
     by true = refl
     by false = refl
 polled_last at x (poll.Exited code) kill v = refl
-polled_last at x poll.Signaled kill v = refl
+polled_last at x (poll.Signaled signal) kill v = refl
 polled_last at x poll.Fault kill v = refl
 
 -- the book gets their entries, nothing is started, and each takes two places of the book at most
@@ -86,7 +86,7 @@ polled_log at x poll.Running kill v = by (is_late at x)
     by true = append_assoc v.log (said x.run (poll_answer poll.Running) ∷ []) (said x.run (kill_answer kill) ∷ [])
     by false = refl
 polled_log at x (poll.Exited code) kill v = refl
-polled_log at x poll.Signaled kill v = refl
+polled_log at x (poll.Signaled signal) kill v = refl
 polled_log at x poll.Fault kill v = refl
 
 pub polls_log : (at : ℕ) (v : ChildrenView) (ps : List Polled) → (after_polls at v ps).log ≡ v.log ++ polls at ps
@@ -106,7 +106,7 @@ polled_site at x poll.Running kill v = by (is_late at x)
     by true = refl
     by false = refl
 polled_site at x (poll.Exited code) kill v = refl
-polled_site at x poll.Signaled kill v = refl
+polled_site at x (poll.Signaled signal) kill v = refl
 polled_site at x poll.Fault kill v = refl
 
 pub polls_site : (at : ℕ) (v : ChildrenView) (ps : List Polled) → (after_polls at v ps).site ≡ v.site
@@ -132,7 +132,7 @@ entries_unasked at x poll.Running kill = (poll_unasked poll.Running, by (is_late
     by true = (kill_unasked kill, tt)
     by false = tt
 entries_unasked at x (poll.Exited code) kill = (poll_unasked (poll.Exited code), tt)
-entries_unasked at x poll.Signaled kill = (poll_unasked poll.Signaled, tt)
+entries_unasked at x (poll.Signaled signal) kill = (poll_unasked (poll.Signaled signal), tt)
 entries_unasked at x poll.Fault kill = (poll_unasked poll.Fault, tt)
 
 polls_unasked : (at : ℕ) (ps : List Polled) → AllByRecursion IsUnasked (polls at ps)
@@ -154,7 +154,7 @@ ending_lawful at x poll.Running end is byte = by (is_late at x) is
     by true is = let same : run_end.TimedOut ≡ end = cc in subst IsRunEnd same tt
     by false is = absurd cc
 ending_lawful at x (poll.Exited code) end is byte = let same : run_end.Done code ≡ end = cc in subst IsRunEnd same byte
-ending_lawful at x poll.Signaled end is byte = let same : run_end.Signaled ≡ end = cc in subst IsRunEnd same tt
+ending_lawful at x (poll.Signaled signal) end is byte = let same : run_end.Signaled ≡ end = cc in subst IsRunEnd same tt
 ending_lawful at x poll.Fault end is byte = let same : run_end.Lost ≡ end = cc in subst IsRunEnd same tt
 
 -- the results of one poll that ended so, or did not

@@ -34,7 +34,7 @@ abbrev pub entries_of : ℕ → Running → Poll → Result Unit KillFault → L
 entries_of at x poll.Running kill =
     said x.run (poll_answer poll.Running) ∷ (if is_late at x then said x.run (kill_answer kill) ∷ [] else [])
 entries_of at x (poll.Exited code) kill = said x.run (poll_answer (poll.Exited code)) ∷ []
-entries_of at x poll.Signaled kill = said x.run (poll_answer poll.Signaled) ∷ []
+entries_of at x (poll.Signaled signal) kill = said x.run (poll_answer (poll.Signaled signal)) ∷ []
 entries_of at x poll.Fault kill = said x.run (poll_answer poll.Fault) ∷ []
 
 -- the children after them
@@ -42,14 +42,14 @@ abbrev pub polled_on : ℕ → Running → Poll → Result Unit KillFault → Ch
 polled_on at x poll.Running kill v =
     if is_late at x then after_kill (after_poll v x.run poll.Running) x.run kill else after_poll v x.run poll.Running
 polled_on at x (poll.Exited code) kill v = after_poll v x.run (poll.Exited code)
-polled_on at x poll.Signaled kill v = after_poll v x.run poll.Signaled
+polled_on at x (poll.Signaled signal) kill v = after_poll v x.run (poll.Signaled signal)
 polled_on at x poll.Fault kill v = after_poll v x.run poll.Fault
 
 -- how the run ended, if it did: whatever the kill answered, what runs past its timeout has timed out
 abbrev pub ending : ℕ → Running → Poll → Option RunEnd
 ending at x poll.Running = if is_late at x then Some run_end.TimedOut else None
 ending at x (poll.Exited code) = Some (run_end.Done code)
-ending at x poll.Signaled = Some run_end.Signaled
+ending at x (poll.Signaled signal) = Some run_end.Signaled
 ending at x poll.Fault = Some run_end.Lost
 
 abbrev pub ends_of : ℕ → Polled → List RunEnd
@@ -69,11 +69,11 @@ results at ps = flat_map (λ p. map (result_of at p.who) (ends_of at p)) ps
 abbrev pub result_notices : ℕ → List Polled → List Notice
 result_notices at ps = flat_map (λ p. map (notice_of at p.who) (ends_of at p)) ps
 
--- an exit code is a byte
+-- an exit code is a byte, and so is the number of a signal
 abbrev pub IsPoll : Poll → Type 0
 IsPoll (poll.Exited code) = code < 256
 IsPoll poll.Running = ⊤
-IsPoll poll.Signaled = ⊤
+IsPoll (poll.Signaled signal) = signal < 256
 IsPoll poll.Fault = ⊤
 
 -- These actions were polled once each, in this order: from one view of the children to another, with this row of results

@@ -1,4 +1,4 @@
--- A turn: from what the children answered, its entries in their book, its events, the row that a
+-- A turn, and one that begins nothing: from what the children answered, its entries in their book, its events, the row that a
 -- disk fault left pending, and what is told.
 use Rattle.std.specs.Prelude.{◌≡◌, ◌⊎◌, ℕ, List, [], ◌++◌, map}
 use Rattle.std.specs.List.{AllByRecursion}
@@ -12,6 +12,10 @@ use Rattle.exec_ledger.specs.Actives.{Active, active}
 use Rattle.exec_turn.specs.Picks.{Picked, begins}
 use Rattle.exec_turn.specs.Polls.{IsPoll, Polled, polls, result_notices, results}
 use Rattle.exec_turn.specs.Starts.{Started, refusal_notices, refusals, starts}
+
+-- what a turn of a kind did, by its end: from what it found, its entries, its events, those pending, and what is told
+abbrev pub TurnKind : Type 1
+TurnKind = TurnEnd → Scene → List Entry → List Event → List Event → List Notice → Type 0
 
 -- one answer to a poll of each action that runs, in order of registration
 pub record EachPolled (x : Scene) (ps : List Polled) : Type 0 where
@@ -44,6 +48,15 @@ Whole end x entries events pending told = (t : Told end x)
     × (events ≡ results x.at t.polled ++ begins x.at t.begun ++ refusals x.at t.started)
     × (pending ≡ []) × (told ≡ result_notices x.at t.polled ++ refusal_notices x.at t.started)
 
+-- one that did nothing
+abbrev pub Nothing : List Entry → List Event → List Event → List Notice → Type 0
+Nothing entries events pending told = (entries ≡ []) × (events ≡ []) × (pending ≡ []) × (told ≡ [])
+
+-- one that was polled and whose row of results was recorded: nothing began
+abbrev pub OnlyResults : Scene → List Entry → List Event → List Event → List Notice → Type 0
+OnlyResults x entries events pending told = (ps : List Polled) × EachPolled x ps
+    × (entries ≡ polls x.at ps) × (events ≡ results x.at ps) × (pending ≡ []) × (told ≡ result_notices x.at ps)
+
 -- one whose row of results failed: it was polled, and no more
 abbrev pub NoResults : Scene → List Entry → List Event → List Event → List Notice → Type 0
 NoResults x entries events pending told = (ps : List Polled) × EachPolled x ps
@@ -63,12 +76,19 @@ NoRefusals x entries events pending told = (end : TurnEnd) × (t : Told end x)
     × (pending ≡ refusals x.at t.started) × (told ≡ result_notices x.at t.polled)
 
 -- a turn of an open executor, by its end
-abbrev pub IsTurn : TurnEnd → Scene → List Entry → List Event → List Event → List Notice → Type 0
+abbrev pub IsTurn : TurnKind
 IsTurn turn_end.Closed x entries events pending told = ⊥
-IsTurn turn_end.BookFull x entries events pending told = (entries ≡ []) × (events ≡ []) × (pending ≡ []) × (told ≡ [])
+IsTurn turn_end.BookFull x entries events pending told = Nothing entries events pending told
 IsTurn turn_end.Done x entries events pending told = Whole turn_end.Done x entries events pending told
 IsTurn turn_end.RunsSpent x entries events pending told = Whole turn_end.RunsSpent x entries events pending told
 IsTurn turn_end.Full x entries events pending told = Whole turn_end.Full x entries events pending told
 IsTurn turn_end.Memory x entries events pending told = Whole turn_end.Memory x entries events pending told
 IsTurn turn_end.Disk x entries events pending told =
     NoResults x entries events pending told ⊎ (NoBegins x entries events pending told ⊎ NoRefusals x entries events pending told)
+
+-- one that begins nothing, by its end
+abbrev pub IsFinish : TurnKind
+IsFinish turn_end.Done x entries events pending told = OnlyResults x entries events pending told
+IsFinish turn_end.BookFull x entries events pending told = Nothing entries events pending told
+IsFinish turn_end.Disk x entries events pending told = NoResults x entries events pending told
+IsFinish _ x entries events pending told = ⊥

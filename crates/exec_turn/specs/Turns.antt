@@ -21,7 +21,7 @@ use Rattle.exec_turn.specs.Picks.{begins}
 use Rattle.exec_ledger.specs.Pieces.{AskedOn, Leaves}
 use Rattle.exec_turn.specs.Polls.{Polled, polls, result_notices, results}
 use Rattle.exec_turn.specs.Starts.{AllRun, Rising, Started, refusal_notices, refusals, starts}
-use Rattle.exec_turn.specs.Turn.{EachPolled, IsTurn, PickedAt}
+use Rattle.exec_turn.specs.Turn.{EachPolled, IsFinish, IsTurn, PickedAt, TurnKind}
 use Rattle.exec_ledger.specs.Scenes.{LeavesRow, Moves, RecordsRow, Scene, due_after_all}
 use Rattle.exec_turn.specs.declared.buffers.TurnBuffers.{TurnBuffers}
 use Rattle.exec_turn.specs.declared.picks.StartOf.{StartOf}
@@ -79,8 +79,8 @@ abbrev pub end_of : Result TurnEnd DiskFault → TurnEnd
 end_of (Ok end) = end
 end_of (Err fault) = turn_end.Disk
 
--- A turn of an open executor: from what it finds to a state, due moments and children, with what is told.
-pub record Turns {D : Type 0} (look : D → View) (old new : D) (x : Scene) (t : State) (due : Due) (from to : ChildrenView)
+-- A turn of a kind, of an open executor: from what it finds to a state, due moments and children, with what is told.
+pub record TurnsAs {D : Type 0} (kind : TurnKind) (look : D → View) (old new : D) (x : Scene) (t : State) (due : Due) (from to : ChildrenView)
     (told : List Notice) (end : TurnEnd) : Type 0 where
   -- its entries in the children's book, its events, and those that a disk fault left pending
   pub entries : List Entry
@@ -91,7 +91,7 @@ pub record Turns {D : Type 0} (look : D → View) (old new : D) (x : Scene) (t :
   pub log : to.log ≡ from.log ++ entries
   -- the site that its children insist on stays
   pub site : to.site ≡ from.site
-  pub does : IsTurn end x entries events pending told
+  pub does : kind end x entries events pending told
   -- what it recorded, what a stop at any moment of it leaves, and that no agent was started without its synced begin
   pub crash : Leaves (look old) (look new) x.state t entries events pending
   -- each start was asked in the turn, behind its begin: its entry counts the calls of the disk as it was then
@@ -102,6 +102,13 @@ pub record Turns {D : Type 0} (look : D → View) (old new : D) (x : Scene) (t :
   pub cause : end ≡ turn_end.Disk → Increased (look old).failures (look new).failures
   -- what a stop leaves since its start has room for its boot
   pub roomy : CrashesTo (look old) (look new) Roomy
+
+-- a turn that begins what has to begin, and one that begins nothing
+abbrev pub Turns : {D : Type 0} → (D → View) → D → D → Scene → State → Due → ChildrenView → ChildrenView → List Notice → TurnEnd → Type 0
+Turns look old new x t due from to told end = TurnsAs IsTurn look old new x t due from to told end
+
+abbrev pub Finishes : {D : Type 0} → (D → View) → D → D → Scene → State → Due → ChildrenView → ChildrenView → List Notice → TurnEnd → Type 0
+Finishes look old new x t due from to told end = TurnsAs IsFinish look old new x t due from to told end
 
 -- what is told of the last turn
 abbrev pub told_of : {M : Type 0} → TurnBuffers M → List Notice

@@ -37,7 +37,7 @@ fn ask<C: Children>(children: &mut C, running: &Running, at: Moment) -> Option<R
 {
     match children.poll(running.run) {
         Poll::Exited(code) => Some(RunEnd::Done(code)),
-        Poll::Signaled => Some(RunEnd::Signaled),
+        Poll::Signaled(_) => Some(RunEnd::Signaled),
         Poll::Fault => Some(RunEnd::Lost),
         Poll::Running => {
             if !is_late(running, at) {

@@ -12,6 +12,7 @@ use Rattle.ocf_types.specs.declared.reply.Notice.{Notice}
 use Rattle.ocf_env.specs.Places.{SiteView}
 use Rattle.exec_ledger.specs.Held.{Held}
 use Rattle.exec_turn.specs.Turns.{ChildrenMatch}
+use Rattle.executor.specs.Reports.{ReportView}
 use Rattle.executor.specs.Sights.{Tends, sight}
 
 -- where what runs is as it was, its agents still live
@@ -29,9 +30,9 @@ kept_matched s t v keeps matched =
     }
 
 -- so what stands beside a ledger is kept with it
-pub kept_tends : {D : Type 0} (h k : Held D) (v : ChildrenView) (w : SiteView) (n m : List Notice) → KeepsRuns h.state k.state
-    → Tends (sight h v w n) → Tends (sight k v w m)
-kept_tends h k v w n m keeps tends = record { matched = kept_matched h.state k.state v keeps tends.matched; admits = tends.admits }
+pub kept_tends : {D : Type 0} (h k : Held D) (v : ChildrenView) (w : SiteView) (n m : List Notice) (r : ReportView)
+    → KeepsRuns h.state k.state → Tends (sight h v w n r) → Tends (sight k v w m r)
+kept_tends h k v w n m r keeps tends = record { matched = kept_matched h.state k.state v keeps tends.matched; admits = tends.admits }
 
 -- what is not busy runs nothing
 quiet_runs : (q : Bool) (o : Option Running) → (q || is_some o) ≡ false → o ≡ None

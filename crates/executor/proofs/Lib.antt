@@ -6,3 +6,4 @@ pub mod Lives
 pub mod History
 pub mod Machines
 pub mod Sharing
+pub mod Reports

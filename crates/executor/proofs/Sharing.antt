@@ -23,10 +23,10 @@ use Rattle.executor.specs.declared.session.InputOf.TheVariants as input
 
 -- an executor with another ledger, all beside it as it was
 abbrev pub with_ledger : {D : Type 0} → Sight D → Held D → Sight D
-with_ledger x h = sight h x.children x.site x.told
+with_ledger x h = sight h x.children x.site x.told x.reported
 
 pub still_beside : {D : Type 0} (x : Sight D) (h : Held D) → Beside x (with_ledger x h)
-still_beside x h = record { children = refl; site = refl; told = refl }
+still_beside x h = record { children = refl; site = refl; told = refl; reported = refl }
 
 -- a share as an exchange
 abbrev exchange_of : ℕ → Share → Exchange
@@ -110,6 +110,6 @@ tidy_taken look false x h end tidies = (tidies.0, same_sight x (with_ledger x h)
 pub tidied_tends : {D : Type 0} (look : D → View) (b : Bool) (x : Sight D) (h : Held D) (end : TidyEnd) → x.is_open ≡ b
     → LedgerTidiesWhile b look (ledger_of x) h end → IsTended x → IsTended (with_ledger x h)
 tidied_tends look true x h end was tidies tended is =
-    kept_tends (ledger_of x) h x.children x.site x.told x.told (same_runs x.state h.state (ap (λ (y : Held _). y.state) tidies.same)) (tended was)
+    kept_tends (ledger_of x) h x.children x.site x.told x.told x.reported (same_runs x.state h.state (ap (λ (y : Held _). y.state) tidies.same)) (tended was)
 tidied_tends look false x h end was tidies tended is =
     absurd (true≢false (sym is ∙ ap (λ (y : Held _). y.is_open) tidies.1 ∙ was))

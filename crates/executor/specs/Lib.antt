@@ -6,6 +6,7 @@ pub mod TurnCalls
 pub mod TidyCalls
 pub mod Sessions
 pub mod RowCalls
+pub mod FinishCalls
 pub mod Isolated
 pub mod Parts
 pub mod Lives

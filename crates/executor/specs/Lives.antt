@@ -6,6 +6,7 @@ use Rattle.ocf_types.specs.Kinds.{Command, Event, Reply}
 use Rattle.ocf_types.specs.State.{State, after_all}
 use Rattle.ocf_types.specs.declared.reply.Notice.{Notice}
 use Rattle.ocf_types.specs.declared.reply.TidyEnd.{TidyEnd}
+use Rattle.ocf_types.specs.declared.reply.TurnEnd.{TurnEnd}
 use Rattle.disk_model.specs.Image.{Image}
 use Rattle.disk_model.specs.Runs.{CrashesTo}
 use Rattle.disk_model.specs.View.{View}
@@ -19,6 +20,7 @@ use Rattle.exec_ledger.specs.Boots.{booted}
 use Rattle.executor.specs.declared.opening.OpenError.{OpenError}
 use Rattle.executor.specs.declared.opening.OpenError.TheVariants.{Disk}
 use Rattle.executor.specs.Reports.{dropped, interrupted}
+use Rattle.executor.specs.FinishCalls.{FinishedWhile}
 use Rattle.executor.specs.RowCalls.{TakesRow}
 use Rattle.executor.specs.Sessions.{Effects, Input, Takes, followed_by, no_effects}
 use Rattle.executor.specs.Sights.{Sight}
@@ -26,10 +28,12 @@ use Rattle.executor.specs.TidyCalls.{TidiesWhile}
 use Rattle.executor.specs.TurnCalls.{abandoned, with_empty_book}
 
 -- what an executor was asked and what it answered: an input with its reply, commands in a row at one moment with their
--- replies, or a tidy with its end; or it was told to empty its children's book, or to give up its children
+-- replies, a turn that begins nothing at a moment with its end, or a tidy with its end; or it was told to empty its children's
+-- book, or to give up its children
 pub data Exchange : Type 0 where
   Took : Input → Reply → Exchange
   Row : ℕ → List Command → List Reply → Exchange
+  Finished : ℕ → TurnEnd → Exchange
   Tidied : TidyEnd → Exchange
   Cleared : Exchange
   Abandoned : Exchange
@@ -38,6 +42,7 @@ pub data Exchange : Type 0 where
 abbrev pub Does : {D : Type 0} → (D → View) → Exchange → Sight D → Sight D → Effects → Type 0
 Does look (Took i reply) old new effects = Takes look i old new reply effects
 Does look (Row now commands replies) old new effects = TakesRow look now commands old new replies effects
+Does look (Finished now end) old new effects = FinishedWhile old.is_open look now old new end effects
 Does look (Tidied end) old new effects = TidiesWhile old.is_open look old new end × (effects ≡ no_effects)
 Does look Cleared old new effects = (new ≡ with_empty_book old) × (effects ≡ no_effects)
 Does look Abandoned old new effects = (new ≡ abandoned old) × (effects ≡ no_effects)

@@ -19,7 +19,7 @@ use Rattle.exec_turn.specs.Picks.{ArePicks, begins}
 use Rattle.exec_turn.specs.Polls.{Polled, result_notices, results}
 use Rattle.exec_turn.specs.Starts.{Started, refusal_notices, refusals}
 use Rattle.exec_ledger.specs.Scenes.{due_after_all}
-use Rattle.executor.specs.Lives.{Abandoned, Cleared, Exchange, Row, Tidied, Took}
+use Rattle.executor.specs.Lives.{Abandoned, Cleared, Exchange, Finished, Row, Tidied, Took}
 use Rattle.exec_ledger.specs.Together.{Answered, failed}
 use Rattle.executor.specs.Sessions.{closed_reply}
 use Rattle.executor.specs.declared.session.InputOf.TheVariants as input
@@ -85,12 +85,20 @@ TurnEnds turn_end.BookFull at m n left = GoesOn [] (record m { told = [] }) n le
 TurnEnds turn_end.Disk at m n left = (n.is_open ≡ false) × TurnFails at m left
 TurnEnds end at m n left = TurnsWhole end at m n left
 
+-- one that begins nothing: what runs is polled, and the results of these polls stand or fail together
+abbrev pub FinishEnds : TurnEnd → ℕ → Machine → Machine → Left → Type 0
+FinishEnds turn_end.Done at m n left = (ps : List Polled) × PollsAll m ps × GoesOn (results at ps) (record m { told = result_notices at ps }) n left
+FinishEnds turn_end.BookFull at m n left = GoesOn [] (record m { told = [] }) n left
+FinishEnds turn_end.Disk at m n left = (ps : List Polled) × PollsAll m ps × Fails (results at ps) n left
+FinishEnds _ at m n left = ⊥
+
 -- what a call does: of an open machine, and of a closed one
 abbrev pub MovesOpen : Exchange → Machine → Machine → Left → Type 0
 MovesOpen (Took (input.Request now (asked.Question q)) reply) m n left = IsReplyOrMemory (reply_to m.state q) reply × GoesOn [] m n left
 MovesOpen (Took (input.Request now (asked.Command c)) reply) m n left = TakesOne now c reply m n left
 MovesOpen (Took (input.Turn now) reply) m n left = (end : TurnEnd) × (reply ≡ Turn end) × TurnEnds end (moment m.state now) m n left
 MovesOpen (Row now commands replies) m n left = TakesAll now commands replies m n left
+MovesOpen (Finished now end) m n left = FinishEnds end (moment m.state now) m n left
 MovesOpen (Tidied end) m n left = ((end ≡ tidy.Disk) × Fails [] n left) ⊎ ((end ≢ tidy.Disk) × GoesOn [] m n left)
 MovesOpen Cleared m n left = GoesOn [] m n left
 MovesOpen Abandoned m n left = Fails [] n left
@@ -98,6 +106,7 @@ MovesOpen Abandoned m n left = Fails [] n left
 abbrev pub AnswersClosed : Exchange → Type 0
 AnswersClosed (Took i reply) = reply ≡ closed_reply i
 AnswersClosed (Row now commands replies) = ⊥
+AnswersClosed (Finished now end) = end ≡ turn_end.Closed
 AnswersClosed (Tidied end) = end ≡ tidy.Closed
 AnswersClosed _ = ⊤
 

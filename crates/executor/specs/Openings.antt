@@ -72,12 +72,13 @@ pub record IsUnready (from to : ChildrenView) (s : State) (fault : OpenError) : 
   pub foreign : fault ≡ why.Foreign → (to ≡ from) × (s.next_run ≤ from.last_run)
   pub memory : fault ≡ why.Memory → (to ≡ given_up from) × (from.last_run < s.next_run)
 
--- The executor was opened: from one view of the disk and these children, and with these notices.
+-- The executor was opened: from one view of the disk and these children, and with these notices, which it remembers.
 pub record Opened {D : Type 0} (look : D → View) (old : View) (from : ChildrenView) (now : ℕ) (x : Sight D)
     (was_running was_queued : List Notice) : Type 0 where
   pub over : IsOver from x
   pub sound : IsSound look x
   pub starts : (look x.disk).honest → Starts old.reads now x.state (due_in x) was_running was_queued
+  pub reported : x.reported ≡ record { interrupted = was_running; dropped = was_queued }
   pub did : OpensDisk old (look x.disk) now
   -- the boot had room
   pub fits : (look x.disk).honest → LacksRoom old.reads → ⊥
@@ -88,6 +89,12 @@ pub record IsForeign (c : Image) (from : ChildrenView) : Type 0 where
   pub found : FoundAs state c
   pub later : state.next_run ≤ from.last_run
 
+-- the children were started for the journal that is found: the last run is below its next one
+pub record IsOwn (c : Image) (from : ChildrenView) : Type 0 where
+  pub state : State
+  pub found : FoundAs state c
+  pub earlier : from.last_run < state.next_run
+
 -- The executor was not opened: from one view of the disk and of the children to another.
 pub record NotOpened (old new : View) (from to : ChildrenView) (now : ℕ) (fault : OpenError) : Type 0 where
   pub did : OpensDisk old new now
@@ -96,6 +103,11 @@ pub record NotOpened (old new : View) (from to : ChildrenView) (now : ℕ) (faul
   pub untouched : (d : Damage) → fault ≡ why.Damaged d → to ≡ from
   pub foreign : fault ≡ why.Foreign → (to ≡ from) × (new.honest → IsForeign old.reads from)
   pub spared : new.honest → IsForeign old.reads from → to ≡ from
+  -- they were given up where a boot did not fit
+  pub full_given_up : fault ≡ why.Full → to ≡ given_up from
+  -- they are as they were, and no boot was recorded, or they were given up as those of the journal that is found
+  pub kept_unbooted :
+      ((to ≡ from) × CrashesTo old new (OpensLike old)) ⊎ ((to ≡ given_up from) × (new.honest → IsOwn old.reads from))
   -- damage is what was found, and a disk fault has a cause
   pub damaged : new.honest → (d : Damage) → fault ≡ why.Damaged d → IsFound old.reads (Damaged d)
   pub cause : fault ≡ why.Disk → Increased old.failures new.failures

@@ -7,6 +7,8 @@ use Rattle.ocf_types.specs.declared.operation.Op.{Op}
 use Rattle.ocf_types.specs.declared.operation.Running.{Running}
 use Rattle.ocf_types.specs.declared.outcome.Outcome.TheVariants.{Interrupted}
 use Rattle.ocf_types.specs.declared.reply.Notice.{Notice}
+use Rattle.executor.specs.declared.report.Report.{Report}
+use Rattle.executor.specs.declared.report.Reported.{Reported}
 
 -- a resource's action that ran is interrupted
 abbrev pub interruption : List ℕ → ℕ → Running → Notice
@@ -29,3 +31,15 @@ interrupted s at = flat_map (interrupted_in at) s.resources
 -- what was queued, by registration and then by call
 abbrev pub dropped : State → ℕ → List Notice
 dropped s at = flat_map (dropped_in at) s.resources
+
+-- what an opening reported: what it interrupted, and what it dropped
+pub record ReportView : Type 0 where
+  pub interrupted : List Notice
+  pub dropped : List Notice
+
+-- the two lists of a report, and of what an executor remembers of one
+abbrev pub report_of : {M : Type 0} → Report M → ReportView
+report_of r = record { interrupted = r.interrupted.items; dropped = r.dropped.items }
+
+abbrev pub reported_of : Reported → ReportView
+reported_of r = record { interrupted = r.interrupted.items; dropped = r.dropped.items }

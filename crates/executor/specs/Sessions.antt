@@ -95,8 +95,9 @@ pub record Leads {D : Type 0} (look : D → View) (old new : Sight D) (effects :
   pub book : new.children.book ≡ old.children.book ++ effects.entries
   -- these are all that its children were asked
   pub log : new.children.log ≡ old.children.log ++ effects.entries
-  -- agents are started at the site at which they were
+  -- agents are started at the site at which they were, and what the opening reported stays
   pub site : new.site ≡ old.site
+  pub reported : new.reported ≡ old.reported
   pub due : due_in new ≡ due_after_all old.state (due_in old) effects.events
   -- what a stop leaves since its start has room for its boot
   pub roomy : CrashesTo (look old.disk) (look new.disk) Roomy

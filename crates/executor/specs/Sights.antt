@@ -12,9 +12,11 @@ use Rattle.exec_journal.specs.Settled.{IsSettled}
 use Rattle.exec_state.specs.Store.{Monitors, due_of}
 use Rattle.exec_turn.specs.Turns.{ChildrenMatch}
 use Rattle.exec_ledger.specs.Held.{Held}
+use Rattle.executor.specs.Reports.{ReportView}
 
 -- whether it takes requests, its state, its recurring monitors with their due moments, the disk that it works on, where the
--- journal's next record goes, its children, the site at which it starts agents, and what the last turn told
+-- journal's next record goes, its children, the site at which it starts agents, what the last turn told, and what its opening
+-- reported
 pub record Sight (D : Type 0) : Type 0 where
   pub is_open : Bool
   pub state : State
@@ -24,9 +26,10 @@ pub record Sight (D : Type 0) : Type 0 where
   pub children : ChildrenView
   pub site : SiteView
   pub told : List Notice
+  pub reported : ReportView
 
-abbrev pub sight : {D : Type 0} → Held D → ChildrenView → SiteView → List Notice → Sight D
-sight h children site told = record {
+abbrev pub sight : {D : Type 0} → Held D → ChildrenView → SiteView → List Notice → ReportView → Sight D
+sight h children site told reported = record {
   is_open = h.is_open;
   state = h.state;
   monitors = h.monitors;
@@ -35,6 +38,7 @@ sight h children site told = record {
   children = children;
   site = site;
   told = told;
+  reported = reported;
 }
 
 -- what its ledger holds
@@ -46,6 +50,7 @@ pub record Beside {D : Type 0} (old new : Sight D) : Type 0 where
   pub children : new.children ≡ old.children
   pub site : new.site ≡ old.site
   pub told : new.told ≡ old.told
+  pub reported : new.reported ≡ old.reported
 
 -- when each of its recurring monitors is due
 abbrev pub due_in : {D : Type 0} → Sight D → Due

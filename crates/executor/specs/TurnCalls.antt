@@ -1,4 +1,4 @@
--- What an executor does in a turn, and as it gives its children up.
+-- What an executor does in a turn, in one that begins nothing, and as it gives its children up.
 use Rattle.std.specs.Prelude.{◌≡◌, ◌↔◌, ◌*◌, ◌<◌, ℕ, Bool, true, false, [], length}
 use Rattle.ocf_types.specs.Answer.{moment}
 use Rattle.ocf_types.specs.declared.reply.TurnEnd.{TurnEnd}
@@ -6,25 +6,40 @@ use Rattle.ocf_types.specs.declared.reply.TurnEnd.TheVariants.{BookFull, Closed,
 use Rattle.disk_model.specs.View.{View}
 use Rattle.child_model.specs.Children.{emptied, given_up}
 use Rattle.exec_ledger.specs.Scenes.{scene}
-use Rattle.exec_turn.specs.Turns.{Turns}
+use Rattle.exec_turn.specs.Turn.{IsFinish, IsTurn, TurnKind}
+use Rattle.exec_turn.specs.Turns.{TurnsAs}
 use Rattle.executor.specs.Sights.{Sight, due_in}
 
--- An open executor makes a turn at this moment: from one sight of it to another.
-pub record TakesTurn {D : Type 0} (look : D → View) (now : ℕ) (old new : Sight D) (end : TurnEnd) : Type 0 where
-  pub turns : Turns look old.disk new.disk
+-- An open executor makes a turn of a kind at this moment, for which the book needs room for so many entries a resource: from one
+-- sight of it to another.
+pub record MakesTurn {D : Type 0} (kind : TurnKind) (entries : ℕ) (look : D → View) (now : ℕ) (old new : Sight D) (end : TurnEnd) : Type 0 where
+  pub turns : TurnsAs kind look old.disk new.disk
       (scene old.state (due_in old) old.place (moment old.state now)) new.state (due_in new) old.children new.children new.told end
-  -- what it starts is started at its site, which stays
+  -- what it starts is started at its site, which stays; so does what its opening reported
   pub site : new.site ≡ old.site
-  -- nothing is done just where the book takes less than three entries a resource
-  pub full : (end ≡ BookFull) ↔ (old.children.room < 3 * length old.state.resources)
+  pub reported : new.reported ≡ old.reported
+  -- nothing is done just where the book takes less than these entries
+  pub full : (end ≡ BookFull) ↔ (old.children.room < entries * length old.state.resources)
   pub unchanged : end ≡ BookFull → new ≡ record old { told = [] }
   -- a disk fault closes it, and nothing else
   pub closes : (new.is_open ≡ false) ↔ (end ≡ Disk)
 
--- the same while it is open or closed: a closed one does nothing
+-- a turn that begins what has to begin: a poll, a kill and a start are three entries
+abbrev pub TakesTurn : {D : Type 0} → (D → View) → ℕ → Sight D → Sight D → TurnEnd → Type 0
+TakesTurn look now old new end = MakesTurn IsTurn 3 look now old new end
+
+-- one that begins nothing: a poll and a kill are two
+abbrev pub FinishesTurn : {D : Type 0} → (D → View) → ℕ → Sight D → Sight D → TurnEnd → Type 0
+FinishesTurn look now old new end = MakesTurn IsFinish 2 look now old new end
+
+-- both while it is open or closed: a closed one does nothing
 abbrev pub TurnsWhile : Bool → {D : Type 0} → (D → View) → ℕ → Sight D → Sight D → TurnEnd → Type 0
 TurnsWhile true look now old new end = TakesTurn look now old new end
 TurnsWhile false look now old new end = (end ≡ Closed) × (new ≡ old)
+
+abbrev pub FinishesWhile : Bool → {D : Type 0} → (D → View) → ℕ → Sight D → Sight D → TurnEnd → Type 0
+FinishesWhile true look now old new end = FinishesTurn look now old new end
+FinishesWhile false look now old new end = (end ≡ Closed) × (new ≡ old)
 
 -- the executor with its book emptied, and closed with all of its children given up
 abbrev pub with_empty_book : {D : Type 0} → Sight D → Sight D

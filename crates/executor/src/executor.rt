@@ -1,4 +1,5 @@
 //! The executor.
+use crate::report::Reported;
 use child_model::Children;
 use disk_model::Disk;
 use exec_ledger::Ledger;
@@ -18,16 +19,18 @@ pub struct Executor<D: Disk + Drop, C: Children + Drop, A: Allocator + Copy = Gl
     pub(crate) children: C,
     pub(crate) site: Site<A>,
     pub(crate) rows: TurnBuffers<A>,
+    pub(crate) reported: Reported,
     pub(crate) alloc: A,
 }
 
 impl<D: Disk + Drop, C: Children + Drop, A: Allocator + Copy> Model for Executor<D, C, A> {
     ghost use Rattle.exec_turn.specs.Turns.{told_of};
+    ghost use Rattle.executor.specs.Reports.{reported_of};
     ghost use Rattle.executor.specs.Sights.{IsTended, Sight, sight};
 
     ghost Value = { Sight D };
 
-    ghost view = { λ e. sight e.ledger (C.view e.children) e.site (told_of e.rows) };
+    ghost view = { λ e. sight e.ledger (C.view e.children) e.site (told_of e.rows) (reported_of e.reported) };
 
-    ghost invariant = { λ e. IsTended (sight e.ledger (C.view e.children) e.site (told_of e.rows)) };
+    ghost invariant = { λ e. IsTended (sight e.ledger (C.view e.children) e.site (told_of e.rows) (reported_of e.reported)) };
 }

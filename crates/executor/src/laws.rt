@@ -1,5 +1,5 @@
 //! Laws of sessions and of whole lives, each the contract of a function that does nothing.
-ghost use Rattle.std.specs.Prelude.{◌≢◌, ◌≤◌, ◌++◌, ℕ, List, Option, [], Some};
+ghost use Rattle.std.specs.Prelude.{◌≡◌, ◌≢◌, ◌≤◌, ◌++◌, ℕ, List, Option, [], Some};
 ghost use Rattle.std.specs.List.{AllByRecursion};
 ghost use Rattle.ocf_types.specs.Kinds.{Command, Event, Reply};
 ghost use Rattle.ocf_types.specs.LawfulState.{IsLawfulState};
@@ -14,7 +14,7 @@ ghost use Rattle.exec_journal.specs.Opening.{Opens};
 ghost use Rattle.exec_journal.specs.Room.{Roomy};
 ghost use Rattle.exec_turn.specs.AgentsLive.{AgentsLive};
 ghost use Rattle.executor.specs.Joins.{StandsAt, as_calls};
-ghost use Rattle.executor.specs.Lives.{BeginsAs, Calls, GoesOnFrom, InOpening, IsLife, LifeLeaves, Lived, OpensBehind, Sat, Sitting};
+ghost use Rattle.executor.specs.Lives.{BeginsAs, Calls, Exchange, GoesOnFrom, InOpening, IsLife, LifeLeaves, Lived, OpensBehind, Sat, Sitting};
 ghost use Rattle.executor.specs.Openings.{NotOpened, Opened};
 ghost use Rattle.executor.specs.Parts.{DistinctKeys, AreRising, IsPlain, entries_of_runs, events_of, inputs_at, own_runs, part};
 ghost use Rattle.exec_ledger.specs.Together.{Answered};
@@ -73,6 +73,12 @@ pub fn session_is_calls<D: Disk>()
     ensures { (x z : Sight D) (inputs : List Input) (replies : List Reply) (d : Effects)
         → Session D.view x inputs replies z d
         → Calls D.view x (as_calls inputs replies) z d }
+{}
+
+/// What its opening reported stays with an executor, whatever is called.
+pub fn report_stays<D: Disk>()
+    ensures { (x y : Sight D) (calls : List Exchange) (d : Effects) → Calls D.view x calls y d
+        → y.reported ≡ x.reported }
 {}
 
 /// A state is apart that is lawful and whose running actions each have an agent of their own: so is each state of an open

@@ -6,6 +6,7 @@ ghost use Rattle.executor.specs.Reports.{dropped, dropped_in, interrupted, inter
 use exec_state::State;
 use ocf_types::{Moment, Notice, Outcome, StateView};
 use op_history::{dropped_of, ended_of};
+use past::Past;
 use std::alloc::{AllocError, Allocator, Global};
 
 /// The actions that a stopped executor left: those that ran, and those that were queued, each by registration and then by
@@ -14,6 +15,24 @@ use std::alloc::{AllocError, Allocator, Global};
 pub struct Report<A: Allocator = Global> {
     pub interrupted: Vec<Notice, A>,
     pub dropped: Vec<Notice, A>,
+}
+
+/// What an opening reported, for contracts alone: no memory holds it.
+#[derive(Drop)]
+pub(crate) struct Reported {
+    pub interrupted: Past<Notice>,
+    pub dropped: Past<Notice>,
+}
+
+// These notices, for contracts alone.
+fn noted(notices: &[Notice]) -> Past<Notice>
+    ensures value { result.items ≡ notices.now }
+{
+    let mut past = Past::new();
+    for notice in notices {
+        past.note(notice);
+    }
+    past
 }
 
 // A notice of what runs in the resource at a place.
@@ -73,5 +92,16 @@ impl<A: Allocator + Copy> Report<A> {
             interrupted,
             dropped,
         })
+    }
+
+    /// Both lists, for contracts alone.
+    pub(crate) fn remembered(&self) -> Reported
+        ensures interrupted { result.interrupted.items ≡ self.now.interrupted.items }
+        ensures dropped { result.dropped.items ≡ self.now.dropped.items }
+    {
+        Reported {
+            interrupted: noted(self.interrupted.as_slice()),
+            dropped: noted(self.dropped.as_slice()),
+        }
     }
 }

@@ -1,11 +1,12 @@
 //! Turns, and what becomes of the children.
 ghost use Rattle.std.specs.Prelude.{◌≡◌};
-ghost use Rattle.executor.specs.TurnCalls.{TurnsWhile, abandoned, with_empty_book};
+ghost use Rattle.exec_turn.specs.Actives.{any_running};
+ghost use Rattle.executor.specs.TurnCalls.{FinishesWhile, TurnsWhile, abandoned, with_empty_book};
 
 use crate::Executor;
 use child_model::{Children, Entry};
 use disk_model::Disk;
-use exec_turn::take_turn;
+use exec_turn::{finish_turn, runs_any, take_turn};
 use ocf_types::{Notice, TurnEnd};
 use std::alloc::Allocator;
 
@@ -27,6 +28,26 @@ impl<D: Disk + Drop, C: Children + Drop, A: Allocator + Copy> Executor<D, C, A> 
             &mut self.rows,
             now,
         )
+    }
+
+    /// A turn that begins nothing, at a moment in milliseconds since 1970: polls what runs, kills what runs past its timeout, and
+    /// records what ended. What is queued stays queued, and what is due stays due.
+    ///
+    /// What ends is recorded before it is told. A disk fault closes the executor. A closed one does nothing.
+    pub fn finish(&mut self, now: u64) -> TurnEnd
+        ensures finishes { FinishesWhile self.old.is_open D.view now self.old self.new result }
+    {
+        if !self.ledger.is_open() {
+            return TurnEnd::Closed;
+        }
+        finish_turn(&mut self.ledger, &mut self.children, &mut self.rows, now)
+    }
+
+    /// Whether an action of any resource runs.
+    pub fn runs_any(&self) -> bool
+        ensures value { result ≡ any_running self.now.state }
+    {
+        runs_any(self.ledger.state())
     }
 
     /// The results that the last turn recorded, in their order.

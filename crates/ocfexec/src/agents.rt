@@ -1,13 +1,10 @@
 //! What the executor is given to start agents with.
-ghost use Rattle.std.specs.Prelude.{◌≡◌, ◌≤◌, length, IfOk};
-ghost use Rattle.ocf_types.specs.Limits.{metadata_limit};
+ghost use Rattle.std.specs.Prelude.{◌≡◌, IfOk};
 ghost use Rattle.ocfexec.specs.Starts.{site_of};
 
-use child_keeper::{System, run_meta};
 use exec_options::Options;
-use exec_session::Metadata;
 use ocf_env::{Site, Text};
-use ocf_types::{AgentType, MetaFault, Provider, RESOURCES_LIMIT};
+use ocf_types::RESOURCES_LIMIT;
 use std::alloc::{AllocError, Global};
 
 /// How many answers the children's book takes: three for each resource that can be registered, as a turn wants.
@@ -30,25 +27,4 @@ pub fn site_of(alloc: Global, options: Options) -> Result<Site, AllocError>
         None => None,
     };
     Ok(Site::new(root, path, via).with_meta(options.meta_variables))
-}
-
-/// The metadata of a site's agents, each of which is asked for it.
-#[derive(Drop)]
-pub struct SiteMetadata<'a> {
-    pub system: &'a System<'a>,
-    pub site: Site,
-}
-
-impl Metadata for SiteMetadata<'_> {
-    ghost gives = { λ source provider agent limit given. IfOk given (λ bytes. length bytes.items ≤ metadata_limit) };
-
-    fn metadata(
-        &self,
-        alloc: Global,
-        provider: &Provider,
-        agent: &AgentType,
-        limit: u32,
-    ) -> Result<Vec<u8>, MetaFault> {
-        run_meta(self.system, alloc, &self.site, provider, agent, limit)
-    }
 }

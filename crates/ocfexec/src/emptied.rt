@@ -3,8 +3,8 @@ ghost use Rattle.std.specs.Prelude.{◌≡◌, IfOk, IsErr};
 ghost use Rattle.disk_model.specs.View.{OnlyReads};
 ghost use Rattle.ocfexec.specs.Emptied.{emptied_part};
 
-use disk_model::{Disk, DiskFault};
-use file_disk::{OpenFault, other_part};
+use disk_model::{Disk, DiskFault, other_part};
+use file_disk::OpenFault;
 use ocf_types::Part;
 use two_parts::{Choice, choose};
 

@@ -2,10 +2,11 @@
 ghost use Rattle.std.specs.Prelude.{◌≡◌};
 ghost use Rattle.ocfexec.specs.Starts.{IsNotOpened};
 
+use crate::report::{explain, report, report_cause};
+use child_keeper::System;
 use exec_options::{JournalPlace, Options};
 use exec_output::Fault;
 use file_disk::{FileDisk, FileError, OpenFault, Owners, TellsError};
-use std::io::Eprint;
 use std::thread::sleep;
 use std::time::Duration;
 
@@ -39,9 +40,9 @@ pub fn open_files(
     FileDisk::open(rt, rt.alloc(), folder, owners)
 }
 
-/// The disk of a journal in this directory. Why there is none is said here, after the line of the fault.
+/// The disk of a journal in this directory. Why there is none is said here.
 pub fn found<D: Drop>(
-    out: &impl Eprint,
+    system: &System<'_>,
     folder: &str,
     disk: Result<D, OpenFault>,
 ) -> Result<D, Fault>
@@ -51,10 +52,9 @@ pub fn found<D: Drop>(
         Ok(disk) => Ok(disk),
         Err(OpenFault::Memory) => Err(Fault::Memory),
         Err(why) => {
-            let _ = out.eprintln(format_args!("ocfexec: {}", Fault::NotOpened));
-            let _ = out.eprintln(format_args!("{}", why.located(folder)));
+            report_cause(system, Fault::NotOpened, why.located(folder));
             if why.is_distrust() {
-                let _ = out.eprintln(OWNER_ADVICE);
+                explain(system, OWNER_ADVICE);
             }
             Err(Fault::NotOpened)
         }
@@ -62,19 +62,18 @@ pub fn found<D: Drop>(
 }
 
 /// Says that the journal's device failed, and what it answered.
-pub fn tell_device(out: &impl Eprint, options: Options, error: Option<FileError>) {
-    let _ = out.eprintln(format_args!("ocfexec: {}", Fault::Disk));
-    if let (JournalPlace::Folder(folder), Some(met)) = (options.journal, error) {
-        let _ = out.eprintln(format_args!("{}", met.located(folder)));
-    }
-    if let Some(advice) = Fault::Disk.advice() {
-        let _ = out.eprintln(advice);
+pub fn tell_device(system: &System<'_>, options: Options, error: Option<FileError>) {
+    match (options.journal, error) {
+        (JournalPlace::Folder(folder), Some(met)) => {
+            report_cause(system, Fault::Disk, met.located(folder));
+        }
+        _ => report(system, Fault::Disk),
     }
 }
 
 /// How it ended on this disk. A fault of the device is said here, since the disk knows more of it than the fault says.
 pub fn told<D: TellsError>(
-    out: &impl Eprint,
+    system: &System<'_>,
     options: Options,
     disk: &D,
     ended: Result<(), Fault>,
@@ -82,7 +81,7 @@ pub fn told<D: TellsError>(
     ensures { result ≡ ended }
 {
     if let Err(Fault::Disk) = ended {
-        tell_device(out, options, disk.first_error());
+        tell_device(system, options, disk.first_error());
     }
     ended
 }

@@ -1,12 +1,13 @@
 //! Where agents write.
 ghost use Rattle.std.specs.Prelude.{◌≡◌, true, IfErr, is_some};
 
+use crate::report::report_cause;
 use child_keeper::{Log, System};
 use exec_options::{Options, Subcommand};
 use exec_output::Fault;
 use file_disk::OWNER_ONLY;
 use std::fs::{self, OpenOptions};
-use std::io::{self, Eprint, ErrorKind};
+use std::io::{self, ErrorKind};
 use std::os::unix::fs::{FileTypeExt, OpenOptionsExt};
 
 // What is said of a named pipe.
@@ -33,7 +34,7 @@ fn opened(rt: &HostRuntime, name: &str) -> io::Result<Log> {
     Log::to(&options.open(rt, name)?)
 }
 
-/// Where the options say that agents write; a show and a status start none. Why a file was not opened is told here, behind the line of the fault.
+/// Where the options say that agents write; a show and a status start none. Why a file was not opened is told here.
 pub fn log_of(system: &System<'_>, options: Options) -> Result<Log, Fault>
     ensures { IfErr result (λ f. (f ≡ Fault.Log) × (is_some options.entry.log ≡ true)) }
 {
@@ -46,11 +47,7 @@ pub fn log_of(system: &System<'_>, options: Options) -> Result<Log, Fault>
     match opened(system.host(), name) {
         Ok(log) => Ok(log),
         Err(error) => {
-            let _ = system.eprintln(format_args!("ocfexec: {}", Fault::Log));
-            let _ = system.eprintln(format_args!("{name}: {error}"));
-            if let Some(advice) = Fault::Log.advice() {
-                let _ = system.eprintln(advice);
-            }
+            report_cause(system, Fault::Log, format_args!("{name}: {error}"));
             Err(Fault::Log)
         }
     }

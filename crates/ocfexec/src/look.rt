@@ -1,7 +1,7 @@
 //! How a journal is looked at for a status.
-use crate::holder::{read_holder, uptime};
 use exec_lines::moment_now;
 use exec_options::{JournalPlace, Options};
+use exec_orphans::{read_holder, uptime};
 use exec_output::Look;
 use ocf_types::Moment;
 use std::path::Path;

@@ -8,22 +8,19 @@ ghost use Rattle.ocfexec.specs.Starts.{status_of_end};
 mod agents;
 mod emptied;
 mod guarded;
-mod holder;
-mod interrupted;
 mod journal;
 mod log;
 mod look;
-mod orphans;
+mod metadata;
+mod report;
 mod run;
 mod show;
 mod signals;
 mod start;
 mod streams;
-mod times;
 
 use child_keeper::System;
 use exec_output::Fault;
-use std::io::Eprint;
 use std::process::ExitCode;
 
 fn main(rt: HostRuntime) -> ExitCode {
@@ -35,18 +32,13 @@ fn main(rt: HostRuntime) -> ExitCode {
     exit_code(ended)
 }
 
-// Says on standard error what ended the program, and what can be done about it in a line behind.
-fn tell(out: &impl Eprint, fault: Fault) {
-    if matches!(
-        fault,
-        Fault::Usage | Fault::Log | Fault::NotOpened | Fault::Disk | Fault::InputOrOutput
-    ) {
+// Says on standard error what ended the program.
+fn tell(system: &System<'_>, fault: Fault) {
+    match fault {
         // it was told where it happened
-        return;
-    }
-    let _ = out.eprintln(format_args!("ocfexec: {fault}"));
-    if let Some(advice) = fault.advice() {
-        let _ = out.eprintln(advice);
+        Fault::Usage | Fault::Log | Fault::NotOpened | Fault::Disk | Fault::InputOrOutput => {}
+        Fault::Damaged(damage) => report::report_cause(system, fault, damage.cause),
+        _ => report::report(system, fault),
     }
 }
 

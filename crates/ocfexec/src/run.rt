@@ -3,11 +3,10 @@ ghost use Rattle.std.specs.Prelude.{◌≡◌, IfErr};
 ghost use Rattle.exec_output.specs.Faults.{IsRunEnd};
 ghost use Rattle.ocfexec.specs.Starts.{opening_fault};
 
-use crate::agents::{BOOK_ROOM, SiteMetadata, site_of};
+use crate::agents::{BOOK_ROOM, site_of};
 use crate::guarded::{Guarded, served_paths};
-use crate::holder::leave_word;
 use crate::journal::{tell_device, told};
-use crate::orphans::{Orphans, await_orphans};
+use crate::metadata::SiteMetadata;
 use crate::streams::{FirstError, tell_run, tell_shown};
 use child_keeper::{Log, Processes, System};
 use disk_model::Disk;
@@ -16,13 +15,15 @@ use exec_commands::{Left, NoticeForm};
 use exec_journal::Journal;
 use exec_lines::{RunClock, moment_now, write_flushed};
 use exec_options::{JournalPlace, Options};
+use exec_orphans::{Orphans, await_orphans, leave_word};
 use exec_output::Fault;
-use exec_session::{Pace, RunContext, Way, run_lines};
+use exec_session::{LineRoom, Pace, RunContext, Way, run_lines};
 use executor::{Executor, OpenError};
 use file_disk::{JournalPaths, TellsError};
 use ocf_env::Site;
 use std::alloc::AllocError;
 use std::io::{self, BufReader};
+use std::rt::Clock;
 
 // How many bytes of the input are read at once.
 const READ_SIZE: usize = 65_536;
@@ -118,6 +119,13 @@ fn prepared<'a>(
     Ok((children, own, site))
 }
 
+// Leaves word of this executor beside its journal, if that is in files, with the moment that its clock shows.
+fn leave_own_word(system: &System<'_>, options: Options, clock: &impl Clock) {
+    if let JournalPlace::Folder(folder) = options.journal {
+        leave_word(system, folder, moment_now(clock).get());
+    }
+}
+
 /// Opens the executor on this disk and answers the lines of standard input.
 #[tactic(auto, using(crate::proofs::StartLemmas::run_ends, crate::proofs::StartLemmas::same_ends, crate::proofs::StartLemmas::unheard_ends))]
 pub fn run_agents<'a, D: Disk + TellsError + Drop>(
@@ -139,19 +147,21 @@ pub fn run_agents<'a, D: Disk + TellsError + Drop>(
     let Ok((children, own, site)) = prepared(system, options, log) else {
         return Err(Fault::Memory);
     };
+    let Ok(room) = LineRoom::new(alloc) else {
+        return Err(Fault::Memory);
+    };
     let paths = served_paths(rt, options);
     let (disk, left) = await_interrupted(system, options, &site, disk)?;
     match Executor::open(alloc, disk, children, own, moment_now(rt).get()) {
         Ok((executor, report)) => {
             let clock = RunClock::new(rt, executor.clock());
-            if let JournalPlace::Folder(folder) = options.journal {
-                leave_word(system, folder, moment_now(&clock).get());
-            }
+            leave_own_word(system, options, &clock);
             let form = form_of(way, left.as_slice());
+            let metadata = SiteMetadata::new(system, site);
             let context = RunContext {
                 alloc,
                 clock: &clock,
-                metadata: &SiteMetadata { system, site },
+                metadata: &metadata,
                 way,
                 form,
                 most_turns: MOST_TURNS,
@@ -161,7 +171,8 @@ pub fn run_agents<'a, D: Disk + TellsError + Drop>(
             let output = unwritten.output(rt.stdout());
             let output = Guarded::new(*rt, output, served_paths(rt, options));
             let mut client = Teller::new(alloc, output, &executor);
-            let run = run_lines(&context, &mut reader, &mut client, executor, &report);
+            let run = run_lines(&context, &mut reader, &mut client, executor, &report, room);
+            metadata.give_up();
             let ended = told(system, options, &run.disk, run.ended);
             let ended = ended_over(system, options, &paths, ended);
             tell_run(system, &unread, &unwritten, ended);

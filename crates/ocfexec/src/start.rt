@@ -35,20 +35,20 @@ pub fn start(system: &System<'_>) -> Result<(), Fault> {
 }
 
 // What words end with that give no options. A text that was asked for is printed, and so is `clap`'s text of a usage fault.
-fn refuse(rt: &HostRuntime, fault: &WordsFault) -> Result<(), Fault>
+fn refuse(system: &System<'_>, fault: &WordsFault) -> Result<(), Fault>
     ensures { IsToldAs fault.now result }
 {
     match fault {
-        WordsFault::Help(text) => match text.print(rt) {
+        WordsFault::Help(text) => match text.print(system.host()) {
             Ok(()) => Ok(()),
             Err(error) => {
                 let ended = Err(Fault::InputOrOutput);
-                tell_shown(rt, &FirstError::of(error), ended);
+                tell_shown(system, &FirstError::of(error), ended);
                 ended
             }
         },
         WordsFault::Usage(text) => {
-            let _ = text.print(rt);
+            let _ = text.print(system.host());
             Err(Fault::Usage)
         }
         WordsFault::Choice => Err(Fault::Choice),
@@ -67,7 +67,7 @@ fn run(system: &System<'_>, words: &[String]) -> Result<(), Fault>
     let rt = system.host();
     let options = match read_words(rt.alloc(), words) {
         Ok(options) => options,
-        Err(fault) => return refuse(rt, &fault),
+        Err(fault) => return refuse(system, &fault),
     };
     let starts_agents = matches!(options.subcommand, Subcommand::Run | Subcommand::Serve);
     if starts_agents && children_ignored(rt) {

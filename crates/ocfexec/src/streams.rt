@@ -1,8 +1,10 @@
 //! Standard input and output: which of them failed, and why.
+use crate::report::{advise, explain, name};
+use child_keeper::System;
 use exec_lines::Patient;
 use exec_output::Fault;
 use std::cell::Cell;
-use std::io::{self, Eprint, ErrorKind, Read, Write};
+use std::io::{self, ErrorKind, Read, Write};
 
 /// The first error that a stream met, or none.
 #[derive(Drop)]
@@ -80,39 +82,43 @@ impl FirstError {
     }
 }
 
-// Says which stream failed, and why. Where neither met an error the program stopped since nobody reads what it writes.
-fn tell(out: &impl Eprint, input: &FirstError, output: &FirstError) {
-    let _ = out.eprintln(format_args!("ocfexec: {}", Fault::InputOrOutput));
-    let _ = match (input.met.get(), output.met.get()) {
+// Says that input or output failed, and to a person which of them and why. Where neither met an error the program stopped since
+// nobody reads what it writes.
+fn tell(system: &System<'_>, input: &FirstError, output: &FirstError) {
+    name(system, Fault::InputOrOutput);
+    match (input.met.get(), output.met.get()) {
         (Some(error), _) => {
-            out.eprintln(format_args!("standard input could not be read: {error}"))
+            explain(
+                system,
+                format_args!("standard input could not be read: {error}"),
+            );
         }
         (None, Some(error)) => {
-            out.eprintln(format_args!("standard output could not be written: {error}"))
+            explain(
+                system,
+                format_args!("standard output could not be written: {error}"),
+            );
         }
-        (None, None) => out.eprintln("nobody reads standard output any more"),
-    };
+        (None, None) => explain(system, "nobody reads standard output any more"),
+    }
 }
 
 /// Says why what was to be shown or reported is not all written, where output failed. No command was read by then.
-pub fn tell_shown(out: &impl Eprint, output: &FirstError, ended: Result<(), Fault>) {
+pub fn tell_shown(system: &System<'_>, output: &FirstError, ended: Result<(), Fault>) {
     if let Err(Fault::InputOrOutput) = ended {
-        tell(out, &FirstError::none(), output);
+        tell(system, &FirstError::none(), output);
     }
 }
 
 /// Says why a run stopped before its input ended, where input or output failed, and what can be done about it.
 pub fn tell_run(
-    out: &impl Eprint,
+    system: &System<'_>,
     input: &FirstError,
     output: &FirstError,
     ended: Result<(), Fault>,
 ) {
-    let Err(Fault::InputOrOutput) = ended else {
-        return;
-    };
-    tell(out, input, output);
-    if let Some(advice) = Fault::InputOrOutput.advice() {
-        let _ = out.eprintln(advice);
+    if let Err(Fault::InputOrOutput) = ended {
+        tell(system, input, output);
+        advise(system, Fault::InputOrOutput);
     }
 }

@@ -83,7 +83,7 @@ poll_runs mine at x poll.Running kill b h = (h, by (is_late at x))
     by true = (h, tt)
     by false = tt
 poll_runs mine at x (poll.Exited code) kill b h = (h, tt)
-poll_runs mine at x poll.Signaled kill b h = (h, tt)
+poll_runs mine at x (poll.Signaled signal) kill b h = (h, tt)
 poll_runs mine at x poll.Fault kill b h = (h, tt)
 
 -- the polls that an id has, and what they make

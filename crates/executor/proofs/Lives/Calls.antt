@@ -3,18 +3,20 @@ use Rattle.std.proofs.Common.{◌≡◌, ℕ, Bool, true, false, List, [], ◌�
 use Rattle.std.proofs.lemmas.Bool.{false≢true}
 use Rattle.ocf_types.specs.Kinds.{Command, Event, Reply}
 use Rattle.ocf_types.specs.State.{after_all}
+use Rattle.ocf_types.specs.declared.reply.TurnEnd.{TurnEnd}
 use Rattle.disk_model.specs.Runs.{CrashesTo}
 use Rattle.disk_model.specs.View.{Lawful, View}
 use Rattle.exec_journal.specs.Room.{Roomy}
 use Rattle.exec_ledger.specs.Pieces.{Leaves}
 use Rattle.executor.specs.CallLaws.{followed_by_assoc, followed_by_none}
-use Rattle.executor.specs.Lives.{Abandoned, Calls, Cleared, Does, Exchange, Row, Took, Tidied}
+use Rattle.executor.specs.Lives.{Abandoned, Calls, Cleared, Does, Exchange, Finished, Row, Took, Tidied}
+use Rattle.executor.specs.FinishCalls.{FinishedWhile, FinishesATurn}
 use Rattle.executor.specs.RowCalls.{TakesRow, row_effects}
 use Rattle.executor.specs.Sessions.{Effects, TakesWhile, followed_by, no_effects}
 use Rattle.executor.specs.Sights.{Sight}
 use Rattle.exec_ledger.specs.Held.{Held}
 use Rattle.executor.specs.TidyCalls.{TidiesWhile}
-use Rattle.executor.proofs.Sessions.Growing.{Onward, leads_open, leads_still, onward, onward_at, onward_joined}
+use Rattle.executor.proofs.Sessions.Growing.{Onward, leads_open, leads_still, leads_turn, onward, onward_at, onward_joined}
 
 module _ {D : Type 0} (look : D → View) where
   -- what a closed executor is asked leaves it closed, over the same disk, and does nothing
@@ -35,6 +37,9 @@ module _ {D : Type 0} (look : D → View) where
       let none = subst (λ (b : Bool). TakesWhile b look i x y reply d) closed does in
       stays_closed x y d closed none.1 none.2
   does_nothing (Row now commands replies) x y d closed does = absurd (false≢true (sym closed ∙ does.takes.was_open))
+  does_nothing (Finished now end) x y d closed does =
+      let none = subst (λ (b : Bool). FinishedWhile b look now x y end d) closed does in
+      stays_closed x y d closed none.1 none.2
   does_nothing (Tidied end) x y d closed does =
       let none = subst (λ (b : Bool). TidiesWhile b look x y end) closed does.0 in
       stays_closed x y d closed none.1 does.1
@@ -80,6 +85,11 @@ module _ {D : Type 0} (look : D → View) where
       subst (λ (e : Effects). Onward look x y e) (sym takes.does)
       (row_going y.is_open x y takes.takes.events refl row.crash (ap (λ (h : Held D). h.state) row.went.same) row.roomy)
 
+  -- so does a turn that begins nothing
+  finish_onward : (x y : Sight D) (now : ℕ) (end : TurnEnd) (d : Effects) → FinishesATurn look now x y end d → Onward look x y d
+  finish_onward x y now end d finishes =
+      subst (λ (e : Effects). Onward look x y e) (sym finishes.does) (onward look x y _ (leads_turn look now x y end finishes.takes))
+
   module _ (lawful : (d : D) → (look d).honest → Lawful (look d)) where
     -- one call more, of an open executor
     taken_more : (o : Bool) (w x y : Sight D) (e : Exchange) (a d : Effects) → x.is_open ≡ o → Does look e x y d → Onward look w x a
@@ -90,6 +100,9 @@ module _ {D : Type 0} (look : D → View) where
         (subst (λ (b : Bool). TakesWhile b look i x y reply d) is_open does)))
     taken_more true w x y (Row now commands replies) a d is_open does so_far =
         onward_joined look w x y a d is_open so_far (row_onward x y now commands replies d does)
+    taken_more true w x y (Finished now end) a d is_open does so_far =
+        let finishes = subst (λ (b : Bool). FinishedWhile b look now x y end d) is_open does in
+        onward_joined look w x y a d is_open so_far (finish_onward x y now end d finishes)
     taken_more true w x y (Tidied end) a d is_open does so_far =
         let tidies = (subst (λ (b : Bool). TidiesWhile b look x y end) is_open does.0).0 in
         subst (λ (b : Effects). Onward look w y (followed_by a b)) (sym does.1)
@@ -107,6 +120,10 @@ module _ {D : Type 0} (look : D → View) where
         subst (λ (b : Effects). Onward look w y b) (sym (followed_by_none a) ∙ ap (followed_by a) (sym none.2))
         (subst (λ (z : Sight D). Onward look w z a) (sym none.1) so_far)
     taken_more false w x y (Row now commands replies) a d closed does so_far = absurd (false≢true (sym closed ∙ does.takes.was_open))
+    taken_more false w x y (Finished now end) a d closed does so_far =
+        let none = subst (λ (b : Bool). FinishedWhile b look now x y end d) closed does in
+        subst (λ (b : Effects). Onward look w y b) (sym (followed_by_none a) ∙ ap (followed_by a) (sym none.2))
+        (subst (λ (z : Sight D). Onward look w z a) (sym none.1) so_far)
     taken_more false w x y (Tidied end) a d closed does so_far =
         let none = subst (λ (b : Bool). TidiesWhile b look x y end) closed does.0 in
         subst (λ (b : Effects). Onward look w y b) (sym (followed_by_none a) ∙ ap (followed_by a) (sym does.1))

@@ -21,13 +21,14 @@ use Rattle.child_model.specs.declared.answer.Entry.{Entry}
 use Rattle.exec_ledger.specs.Actives.{Active}
 use Rattle.exec_turn.specs.Picks.{ArePicks}
 use Rattle.exec_turn.specs.Polls.{results}
-use Rattle.exec_turn.specs.Turn.{IsTurn, PickedAt, Whole}
+use Rattle.exec_turn.specs.Turn.{IsFinish, IsTurn, PickedAt, Whole}
 use Rattle.exec_ledger.specs.Scenes.{behind, Scene, due_after_all, scene}
 use Rattle.exec_ledger.specs.Commands.{Obeys, Records}
-use Rattle.executor.specs.Lives.{Abandoned, Calls, Cleared, Does, Exchange, Row, Tidied, Took}
-use Rattle.executor.specs.Machine.{AnswersClosed, Fails, GoesOn, Left, Machine, MovesAll, MovesOpen, MovesWhile, TakesAll, TakesOne, TurnEnds, TurnsWhole}
+use Rattle.executor.specs.Lives.{Abandoned, Calls, Cleared, Does, Exchange, Finished, Row, Tidied, Took}
+use Rattle.executor.specs.Machine.{AnswersClosed, Fails, FinishEnds, GoesOn, Left, Machine, MovesAll, MovesOpen, MovesWhile, TakesAll, TakesOne, TurnEnds, TurnsWhole}
 use Rattle.exec_ledger.specs.Replies.{acknowledged, due_left, pending, recorded}
 use Rattle.exec_ledger.specs.Together.{Adds, Answered, failed, row_replies}
+use Rattle.executor.specs.FinishCalls.{FinishedWhile, FinishesATurn}
 use Rattle.executor.specs.RowCalls.{TakesRow, row_effects}
 use Rattle.executor.specs.Sessions.{Effects, TakesATurn, TakesRequest, TakesWhile, command_effects, no_effects}
 use Rattle.exec_ledger.specs.Held.{Held, due_in as held_due}
@@ -248,6 +249,34 @@ module _ {D : Type 0} (look : D → View) where
           ),
         )
 
+    -- one that begins nothing
+    finish_so : (end : TurnEnd) → (y.is_open ≡ false → end ≡ turn_end.Disk) → (end ≡ turn_end.Disk → y.is_open ≡ false)
+        → IsFinish end here entries events pending y.told → FinishEnds end (moment x.state now) (machine_of x) (machine_of y) left
+    finish_so turn_end.Done closes closed (ps, each, entries_are, events_are, none, told_is) = (
+      ps,
+      each.each,
+      (
+        same_machine (machine_of y) _ (is_true y.is_open (λ bad. let no : turn_end.Done ≡ turn_end.Disk = closes bad in cc) ∙ sym was)
+            (state_is ∙ ap (after_all x.state) events_are) (due_is ∙ ap (due_after_all x.state (due_in x)) events_are) told_is,
+        same_left left _ events_are none,
+      ),
+    )
+    finish_so turn_end.BookFull closes closed does = turn_so turn_end.BookFull closes closed does
+    finish_so turn_end.Disk closes closed (ps, each, entries_are, events_are, pending_is, told_is) =
+        (ps, each.each, (closed refl, same_left left _ events_are pending_is))
+    finish_so turn_end.Closed closes closed does = absurd does
+    finish_so turn_end.RunsSpent closes closed does = absurd does
+    finish_so turn_end.Full closes closed does = absurd does
+    finish_so turn_end.Memory closes closed does = absurd does
+
+  one_finish : (now : ℕ) (x y : Sight D) (end : TurnEnd) (d : Effects) → FinishesATurn look now x y end d → x.is_open ≡ true
+      → MovesOpen (Finished now end) (machine_of x) (machine_of y) (left_of d)
+  one_finish now x y end d finishes was =
+      let turns = finishes.takes.turns in
+      subst (λ (k : Effects). FinishEnds end (moment x.state now) (machine_of x) (machine_of y) (left_of k)) (sym finishes.does)
+      (finish_so now x y turns.entries turns.events turns.pending turns.crash.state turns.due_is was end finishes.takes.closes.0
+      finishes.takes.closes.1 turns.does)
+
   one_turn : (now : ℕ) (x y : Sight D) (reply : Reply) (d : Effects) → TakesATurn look now x y reply d → x.is_open ≡ true
       → MovesOpen (Took (input.Turn now) reply) (machine_of x) (machine_of y) (left_of d)
   one_turn now x y reply d takes was =
@@ -284,6 +313,8 @@ module _ {D : Type 0} (look : D → View) where
   moves_open (Took (input.Turn now) reply) x y d was does =
       one_turn now x y reply d (subst (λ (b : Bool). TakesWhile b look (input.Turn now) x y reply d) was does) was
   moves_open (Row now cs rs) x y d was does = one_row now cs rs x y d does
+  moves_open (Finished now end) x y d was does =
+      one_finish now x y end d (subst (λ (b : Bool). FinishedWhile b look now x y end d) was does) was
   moves_open (Tidied end) x y d was does =
       let t = subst (λ (b : Bool). TidiesWhile b look x y end) was does.0 in
       one_tidy y.is_open end x y d refl t.0 t.1 does.1 was
@@ -299,6 +330,8 @@ module _ {D : Type 0} (look : D → View) where
   moves_closed (Took i reply) x y d was does =
       let t = subst (λ (b : Bool). TakesWhile b look i x y reply d) was does in (t.0, closed_still x y d was t.1 t.2)
   moves_closed (Row now cs rs) x y d was does = absurd (false≢true (sym was ∙ does.takes.was_open))
+  moves_closed (Finished now end) x y d was does =
+      let t = subst (λ (b : Bool). FinishedWhile b look now x y end d) was does in (t.0, closed_still x y d was t.1 t.2)
   moves_closed (Tidied end) x y d was does =
       let t = subst (λ (b : Bool). TidiesWhile b look x y end) was does.0 in (t.0, closed_still x y d was t.1 does.1)
   moves_closed Cleared x y d was does = (tt, (ap (λ (z : Sight D). z.is_open) does.0 ∙ was, ap left_of does.1))

@@ -25,8 +25,8 @@ use Rattle.exec_turn.specs.Picks.{begins}
 use Rattle.exec_turn.specs.Polls.{Polled, ending, ends_of, results}
 use Rattle.exec_turn.specs.Starts.{Started, refusals, refused_end}
 use Rattle.executor.specs.Histories.{Follow, IsInOrder}
-use Rattle.executor.specs.Lives.{Abandoned, Cleared, Exchange, Row, Tidied, Took, boots}
-use Rattle.executor.specs.Machine.{BeginsNext, GoesOn, Left, Machine, MovesAll, MovesOpen, MovesWhile, PollsAll, TakesAll, TurnEnds, TurnFails, TurnsWhole, and_then, behind}
+use Rattle.executor.specs.Lives.{Abandoned, Cleared, Exchange, Finished, Row, Tidied, Took, boots}
+use Rattle.executor.specs.Machine.{BeginsNext, FinishEnds, GoesOn, Left, Machine, MovesAll, MovesOpen, MovesWhile, PollsAll, TakesAll, TurnEnds, TurnFails, TurnsWhole, and_then, behind}
 use Rattle.executor.specs.Runs.{Opening, Runs, Seen, Serving, Sits, opened_on}
 use Rattle.exec_ledger.specs.Boots.{booted}
 use Rattle.exec_ledger.specs.Together.{Adds, Answered}
@@ -176,6 +176,18 @@ turn_ends turn_end.RunsSpent at m n left opened turns = turns_whole turn_end.Run
 turn_ends turn_end.Full at m n left opened turns = turns_whole turn_end.Full at m n left opened turns
 turn_ends turn_end.Memory at m n left opened turns = turns_whole turn_end.Memory at m n left opened turns
 
+-- one that begins nothing
+finish_ends : (end : TurnEnd) (at : ℕ) (m n : Machine) (left : Left) → m.is_open ≡ true → FinishEnds end at m n left → Went m n left
+finish_ends turn_end.Done at m n left opened (ps, each, crash) =
+    went_on m n (results at ps) left opened (ap (λ (k : Machine). k.state) crash.0) crash.1 (λ fine. results_follow at m ps each fine)
+finish_ends turn_end.BookFull at m n left opened crash = went_on m n [] left opened (ap (λ (k : Machine). k.state) crash.0) crash.1 (λ fine. tt)
+finish_ends turn_end.Disk at m n left opened (ps, each, fails) =
+    went_wrong m n [] (results at ps) left opened fails.0 fails.1 (λ fine. results_follow at m ps each fine)
+finish_ends turn_end.Closed at m n left opened bad = absurd bad
+finish_ends turn_end.RunsSpent at m n left opened bad = absurd bad
+finish_ends turn_end.Full at m n left opened bad = absurd bad
+finish_ends turn_end.Memory at m n left opened bad = absurd bad
+
 moves_open : (e : Exchange) (m n : Machine) (left : Left) → m.is_open ≡ true → MovesOpen e m n left → Went m n left
 moves_open (Took (input.Request now (asked.Question q)) reply) m n left opened h = goes_on m n [] left opened h.1 (λ fine. tt)
 moves_open (Took (input.Request now (asked.Command c)) reply) m n left opened (inl takes) =
@@ -183,6 +195,7 @@ moves_open (Took (input.Request now (asked.Command c)) reply) m n left opened (i
 moves_open (Took (input.Request now (asked.Command c)) reply) m n left opened (inr full) = goes_on m n [] left opened full.3 (λ fine. tt)
 moves_open (Took (input.Turn now) reply) m n left opened (end, replies, turns) = turn_ends end (moment m.state now) m n left opened turns
 moves_open (Row now cs rs) m n left opened takes = takes_all m n now cs rs left opened takes
+moves_open (Finished now end) m n left opened finishes = finish_ends end (moment m.state now) m n left opened finishes
 moves_open (Tidied end) m n left opened (inl (disk, fails)) = went_wrong m n [] [] left opened fails.0 fails.1 (λ fine. tt)
 moves_open (Tidied end) m n left opened (inr (done, crash)) = goes_on m n [] left opened crash (λ fine. tt)
 moves_open Cleared m n left opened crash = goes_on m n [] left opened crash (λ fine. tt)

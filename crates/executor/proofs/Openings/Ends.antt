@@ -25,7 +25,7 @@ use Rattle.exec_journal.specs.declared.fault.JournalFault.TheVariants as journal
 use Rattle.executor.specs.declared.opening.OpenError.{OpenError}
 use Rattle.executor.specs.declared.opening.OpenError.TheVariants as why
 use Rattle.exec_ledger.specs.Boots.{Boots, BootsFrom, LacksBoot, booted}
-use Rattle.executor.specs.Openings.{IsQuiet, LacksRoom, NotOpened, Opened, OpensDisk, StartsLike, told_fault, told_slot, IsForeign, IsOver, IsUnready}
+use Rattle.executor.specs.Openings.{IsQuiet, LacksRoom, NotOpened, Opened, OpensDisk, StartsLike, told_fault, told_slot, IsForeign, IsOver, IsOwn, IsUnready}
 use Rattle.executor.specs.Reports.{dropped, interrupted}
 use Rattle.exec_ledger.specs.Held.{Held}
 use Rattle.executor.specs.Sights.{Sight, due_in, ledger_of}
@@ -59,6 +59,8 @@ module _ (old new : View) (from : ChildrenView) (now : ℕ) where
     untouched = λ d is. refl;
     foreign = λ is. absurd (never_foreign fault is);
     spared = λ h other. refl;
+    full_given_up = λ is. absurd (never_full fault is);
+    kept_unbooted = inl (refl, fails.opens.crash);
     damaged = λ h d is. fails.damaged h d (as_damaged fault d is);
     cause = λ is. fails.cause (as_disk fault is);
     full = λ h is. absurd (never_full fault is);
@@ -91,10 +93,12 @@ module _ (old new : View) (from : ChildrenView) (now : ℕ) where
 
 -- memory was refused once the journal was opened, and the children were given up
 pub unready_memory : (old new : View) (from to : ChildrenView) (now : ℕ) → Opens old new → to ≡ given_up from
-    → (new.honest → IsForeign old.reads from → ⊥) → NotOpened old new from to now why.Memory
-unready_memory old new from to now opens kids own = record {
+    → (new.honest → IsOwn old.reads from) → (new.honest → IsForeign old.reads from → ⊥) → NotOpened old new from to now why.Memory
+unready_memory old new from to now opens kids theirs own = record {
   did = read_only old new now opens.crash opens.roomy opens.unwritten;
   children = inr kids;
+  full_given_up = λ is. kids;
+  kept_unbooted = inr (kids, theirs);
   untouched = λ d is. let none : ⊥ = cc in absurd none;
   foreign = λ is. let none : ⊥ = cc in absurd none;
   damaged = λ h x is. let none : ⊥ = cc in absurd none;
@@ -114,6 +118,8 @@ unready_foreign : (old new : View) (p : Place) (s : State) (from to : ChildrenVi
 unready_foreign old new p s from to now opens kids later = record {
   did = read_only old new now opens.opens.crash opens.opens.roomy opens.opens.unwritten;
   children = inl kids;
+  full_given_up = λ is. let none : ⊥ = cc in absurd none;
+  kept_unbooted = inl (kids, opens.opens.crash);
   untouched = λ d is. kids;
   foreign = λ is. (kids, λ h. record { state = s; found = opens.found h; later = later });
   damaged = λ h x is. let none : ⊥ = cc in absurd none;
@@ -144,6 +150,7 @@ unready once old new p s from to now fault opens is = elim is.either [
       (unready_foreign old new p s from to now opens kids.0 kids.1))
   | inr memory ↦ subst (λ (w : OpenError). NotOpened old new from to now w) (sym memory)
       (let kids = is.memory memory in unready_memory old new from to now opens.opens kids.0
+      (λ h. record { state = s; found = opens.found h; earlier = kids.1 })
       (λ h. own_children once old.reads s from (opens.found h) kids.1))
 ]
 
@@ -155,6 +162,7 @@ module _ {D : Type 0} (look : D → View) (law : WhatStands) (once : (c : Image)
   report_refused d to same kids =
       subst (λ (x : D). NotOpened old (look x) from to now why.Memory) (sym same)
       (unready_memory old (look mid.disk) from to now opens.opens (kids ∙ over.children)
+      (λ h. record { state = mid.state; found = opens.found h; earlier = over.rising })
       (λ h. own_children once old.reads mid.state from (opens.found h) over.rising))
 
   module _ (new : Held D) where
@@ -215,9 +223,10 @@ module _ {D : Type 0} (look : D → View) (law : WhatStands) (once : (c : Image)
     pub opened : (x : Unit) (final : Sight D) (ran queued : List Notice) → Boots look now (ledger_of mid) new (Ok x) → final.is_open ≡ true
         → final.state ≡ new.state → final.disk ≡ new.disk → final.place ≡ new.place
         → due_in final ≡ due_at final.state (moment mid.state now) → final.children ≡ mid.children → final.told ≡ mid.told
+        → final.reported ≡ record { interrupted = ran; dropped = queued }
         → ran ≡ interrupted mid.state (moment mid.state now) → queued ≡ dropped mid.state (moment mid.state now)
         → Admits from.site final.site → Opened look old from now final ran queued
-    opened x final ran queued boots is_open state disk place due kids tells ran_is queued_is admits =
+    opened x final ran queued boots is_open state disk place due kids tells remembers ran_is queued_is admits =
         let honest_new : (look final.disk).honest → (look new.disk).honest = λ h. subst (λ (d : D). (look d).honest) disk h in
         let done : final.state ≡ booted mid.state now = state ∙ boots.state in
         let quiet_now : any_busy final.state ≡ false = ap any_busy done ∙ boot_quiet mid.state (moment mid.state now) in
@@ -243,6 +252,7 @@ module _ {D : Type 0} (look : D → View) (law : WhatStands) (once : (c : Image)
             ran = ran_is;
             queued = queued_is;
           };
+          reported = remembers;
           did = subst (λ (d : D). OpensDisk old (look d) now) (sym disk) (did_both boots.crash boots.roomy boots.quiet);
           fits = λ h lacks. let bad = boots.full.1 (lacks_boot (boots.crash.passed.honest (honest_new h)) lacks) in let none : ⊥ = cc in
               none;
@@ -254,6 +264,12 @@ module _ {D : Type 0} (look : D → View) (law : WhatStands) (once : (c : Image)
     boot_refused fault d to boots same kids = subst (λ (x : D). NotOpened old (look x) from to now (told_slot fault)) (sym same) (record {
       did = did_both boots.crash boots.roomy boots.quiet;
       children = inr (kids ∙ over.children);
+      full_given_up = λ is. kids ∙ over.children;
+      kept_unbooted = inr (
+        kids ∙ over.children,
+        λ h.
+            record { state = mid.state; found = opens.found (boots.crash.passed.honest h); earlier = over.rising },
+      );
       untouched = λ x is. absurd (no_damage fault x is);
       foreign = λ is. absurd (no_foreign fault is);
       damaged = λ h x is. absurd (no_damage fault x is);

@@ -27,7 +27,8 @@ use Rattle.exec_ledger.specs.Commands.{Obeys}
 use Rattle.executor.specs.Commands.{ServesOpen}
 use Rattle.exec_ledger.specs.Replies.{due_left, pending, recorded}
 use Rattle.executor.specs.CallLaws.{followed_by_assoc, followed_by_none, same_sight}
-use Rattle.executor.specs.TurnCalls.{TakesTurn}
+use Rattle.exec_turn.specs.Turn.{TurnKind}
+use Rattle.executor.specs.TurnCalls.{MakesTurn}
 use Rattle.exec_ledger.specs.Laws.{WhatStands, settled_found, settled_roomy}
 use Rattle.executor.specs.declared.session.InputOf.TheVariants as input
 
@@ -64,6 +65,7 @@ leads_start look law x lawful keeps = record {
   book = sym (append-nil x.children.book);
   log = sym (append-nil x.children.log);
   site = refl;
+  reported = refl;
   due = refl;
   roomy = settled_roomy law.once x.place x.state (look x.disk) lawful keeps.journal keeps.room;
   whole = λ is_open. refl;
@@ -102,6 +104,7 @@ leads_still look w x a lawful is_open so_far = record {
   book = sym (append-nil x.children.book);
   log = sym (append-nil x.children.log);
   site = refl;
+  reported = refl;
   due = refl;
   roomy = started (look x.disk) Roomy (left_now (look w.disk) (look x.disk) Roomy so_far.roomy lawful) lawful;
   whole = λ is_open. refl;
@@ -129,6 +132,7 @@ leads_command look x y (Ok e) reply still records beside closes = record {
   book = ap (λ (c : ChildrenView). c.book) beside.children ∙ sym (append-nil x.children.book);
   log = ap (λ (c : ChildrenView). c.log) beside.children ∙ sym (append-nil x.children.log);
   site = beside.site;
+  reported = beside.reported;
   due = records.due ∙ due_of_reply x.state (due_in x) e reply;
   roomy = records.roomy;
   whole = λ is_open. no_pending e reply (λ disk. absurd (true≢false (sym is_open ∙ closes.1 disk)));
@@ -142,13 +146,16 @@ leads_request look now (asked.Question question) x y reply still serves closes =
 leads_request look now (asked.Command command) x y reply still serves closes =
     leads_command look x y (event_of x.state now command) reply still serves.0 serves.1 closes
 
-leads_turn : {D : Type 0} (look : D → View) (now : ℕ) (x y : Sight D) (end : TurnEnd) (takes : TakesTurn look now x y end)
+-- what a turn of any kind leaves
+pub leads_turn : {D : Type 0} {kind : TurnKind} {most : ℕ} (look : D → View) (now : ℕ) (x y : Sight D) (end : TurnEnd)
+    (takes : MakesTurn kind most look now x y end)
     → Leads look x y (record { entries = takes.turns.entries; events = takes.turns.events; pending = takes.turns.pending })
 leads_turn look now x y end takes = record {
   crash = takes.turns.crash;
   book = takes.turns.book;
   log = takes.turns.log;
   site = takes.site;
+  reported = takes.reported;
   due = takes.turns.due_is;
   roomy = takes.turns.roomy;
   whole = λ is_open. takes.turns.whole (λ disk. absurd (true≢false (sym is_open ∙ takes.closes.1 disk)));
@@ -198,6 +205,7 @@ leads_joined look x y z a b is_open one two =
       book = two.book ∙ ap (λ (es : List Entry). es ++ b.entries) one.book ∙ append_assoc x.children.book a.entries b.entries;
       log = two.log ∙ ap (λ (es : List Entry). es ++ b.entries) one.log ∙ append_assoc x.children.log a.entries b.entries;
       site = two.site ∙ one.site;
+      reported = two.reported ∙ one.reported;
       due =
           two.due ∙ ap (λ (s : State). due_after_all s (due_in y) b.events) one.crash.state
           ∙ ap (λ (d : Due). due_after_all (after_all x.state a.events) d b.events) one.due

@@ -1,5 +1,5 @@
 use Rattle.std.proofs.Common.{ap}
-use Rattle.exec_client.specs.Said.{Noticed, Reported, answered, said_in}
+use Rattle.exec_client.specs.Said.{Reported, answered, noticed_by, said_in}
 use Rattle.exec_client.proofs.Lines.{breaks_off, writes_all}
 use Rattle.exec_client.proofs.teller.write_told.Goals as goal
 
@@ -14,15 +14,16 @@ returns-in-Replies g c =
 pub returns-in-Notices : goal.returns-in-Notices
 returns-in-Notices g c =
     let is = ap said_in c.in-Notices.is in
+    let turn = c.in-Notices.turn in
     record {
-      sent = writes_all c.args.form Noticed c.in-Notices.notices.now (said_in c.args.what.now) c.send_notices.result _ _ is c.send_notices.ensures.sent;
-      front = breaks_off c.args.form Noticed c.in-Notices.notices.now (said_in c.args.what.now) c.send_notices.result _ _ is c.send_notices.ensures.front;
+      sent = writes_all c.args.form (noticed_by turn.book.now) turn.notices.now (said_in c.args.what.now) c.send_turn.result _ _ is c.send_turn.ensures.sent;
+      front = breaks_off c.args.form (noticed_by turn.book.now) turn.notices.now (said_in c.args.what.now) c.send_turn.result _ _ is c.send_turn.ensures.front;
     }
 
 pub returns-in-Report : goal.returns-in-Report
 returns-in-Report g c =
     let is = ap said_in c.in-Report.is in
-    let sent = c.send_notices-in-Report in
+    let sent = c.send_notices in
     record {
       sent = writes_all c.args.form Reported c.in-Report.notices.now (said_in c.args.what.now) sent.result _ _ is sent.ensures.sent;
       front = breaks_off c.args.form Reported c.in-Report.notices.now (said_in c.args.what.now) sent.result _ _ is sent.ensures.front;

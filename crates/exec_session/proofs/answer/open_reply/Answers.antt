@@ -43,8 +43,14 @@ returns-in-Ok-Meta-clause-may_tell g c =
     may_reply_none g.D.Disk.view (g.T.Client.heard c.args.client.now) c.args.executor.now c.meta_reply.result c.requires.stands
     plain.0 plain.1
 
-pub returns-in-Err-clause-may_tell : goal.returns-in-Err-clause-may_tell
-returns-in-Err-clause-may_tell g c =
+pub returns-in-Ok-Leave-clause-may_tell : goal.returns-in-Ok-Leave-clause-may_tell
+returns-in-Ok-Leave-clause-may_tell g c =
     let plain = is_plain c.args.executor.now c.refused.result _ c.refused.ensures (refl, tt) in
     may_reply_none g.D.Disk.view (g.T.Client.heard c.args.client.now) c.args.executor.now c.refused.result c.requires.stands
+    plain.0 plain.1
+
+pub returns-in-Err-clause-may_tell : goal.returns-in-Err-clause-may_tell
+returns-in-Err-clause-may_tell g c =
+    let plain = is_plain c.args.executor.now c.refused-in-Err.result _ c.refused-in-Err.ensures (refl, tt) in
+    may_reply_none g.D.Disk.view (g.T.Client.heard c.args.client.now) c.args.executor.now c.refused-in-Err.result c.requires.stands
     plain.0 plain.1

@@ -1,9 +1,8 @@
-use Rattle.std.proofs.Common.{inl, inr, List, map, refl, sym, subst}
+use Rattle.std.proofs.Common.{◌≡◌, inl, inr, List, map, refl, sym, ap, subst, ◌∙◌}
 use Rattle.ocf_types.specs.declared.reply.Notice.{Notice}
-use Rattle.executor.specs.Sights.{Sight}
+use Rattle.executor.specs.Reports.{ReportView}
 use Rattle.exec_lines.proofs.PieceLemmas.{on_err}
 use Rattle.exec_client.specs.Said.{Reported}
-use Rattle.exec_client.specs.MayTell.{IsReported}
 use Rattle.exec_client.specs.Heard.{HearsPart}
 use Rattle.exec_client.proofs.Growing.{may_tell}
 use Rattle.exec_session.proofs.HeardLemmas.{breaks_both, hears_both}
@@ -13,11 +12,13 @@ use Rattle.exec_session.proofs.report.tell_report.Goals as goal
 pub tell-requires : goal.tell-requires
 tell-requires g c =
     let look = g.D.Disk.view in
-    let (old, from, now, opens) = c.requires.reported in
-    let ns = c.as_slice.result.now in record {
+    let x = c.args.executor.now in
+    let ns = c.as_slice.result.now in
+    let same : x.reported.interrupted ≡ c.args.report.now.interrupted.items = ap (λ (r : ReportView). r.interrupted) c.requires.reported in
+    record {
       may_tell =
-          may_tell look (g.T.Client.heard c.args.client.now) c.args.executor.now c.args.executor.now _ c.requires.stands
-          (reported_stand look c.args.executor.now ns) (old, from, now, _, _, opens, inl c.as_slice.ensures.value);
+          may_tell look (g.T.Client.heard c.args.client.now) x x _ c.requires.stands (reported_stand look x ns)
+          (inl (c.as_slice.ensures.value ∙ sym same));
     }
 
 pub returns-in_err-tell-clause-stands : goal.returns-in_err-tell-clause-stands
@@ -32,12 +33,11 @@ tell-requires-2 g c =
     let heard = g.T.Client.heard c.tell.new.self in
     let x = c.args.executor.now in
     let stands = after_told look before heard x x _ c.requires.stands (reported_stand look x c.as_slice.result.now) c.tell.ensures.told in
-    let (old, from, now, opens) = c.requires.reported in
-    let says : IsReported look before.opened c.as_slice-2.result.now = (old, from, now, _, _, opens, inr c.as_slice-2.ensures.value) in
+    let same : x.reported.dropped ≡ c.args.report.now.dropped.items = ap (λ (r : ReportView). r.dropped) c.requires.reported in
     record {
       may_tell =
           may_tell look heard x x _ stands (reported_stand look x c.as_slice-2.result.now)
-          (subst (λ (o : Sight g.row.D.Denot). IsReported look o c.as_slice-2.result.now) (sym c.tell.ensures.told.0) says);
+          (inr (c.as_slice-2.ensures.value ∙ sym same));
     }
 
 pub returns-clause-stands : goal.returns-clause-stands

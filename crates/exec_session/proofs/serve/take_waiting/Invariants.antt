@@ -13,13 +13,13 @@ use Rattle.exec_session.proofs.serve.take_waiting.Given as goal
 abbrev pub invariant-loop-reads : goal.invariant-loop-reads
 invariant-loop-reads g l = record {
   way : l.context.way ≡ Serve;
-  waits : MayWait l.executor (waiting l.gathered);
+  waits : MayWait l.executor (waiting l.pending.gathered);
   stands : AllStand g.D.Disk.view (g.T.Client.heard l.client) l.executor;
   opened : (g.T.Client.heard l.client).opened ≡ (g.T.Client.heard l.fn.client).opened;
   come : (p : Position g.row.D.Denot) (own : TurnEnd)
       → HasComeMid g.D.Disk.view (g.M.Metadata.gives l.context.metadata.now) (rules_of l.context) p own 0 []
-      (line_bytes l.fn.buffer) (position l.fn.executor (g.R.Read.remaining l.fn.reader) (g.T.Client.heard l.fn.client))
+      l.fn.pending.held (line_bytes l.fn.pending.buffer) (position l.fn.executor (g.R.Read.remaining l.fn.reader) (g.T.Client.heard l.fn.client))
       → HasComeMid g.D.Disk.view (g.M.Metadata.gives l.context.metadata.now) (rules_of l.context) p own l._reads
-      (waiting l.gathered) (line_bytes l.buffer)
+      (waiting l.pending.gathered) l.pending.held (line_bytes l.pending.buffer)
       (position l.executor (g.R.Read.remaining l.reader) (g.T.Client.heard l.client));
 }

@@ -16,12 +16,12 @@ loop-init g c =
     let rules = rules_of c.args.context.now in
     record {
       way = c.requires.way;
-      waits = none_waits c.args.executor.now (waiting c.args.gathered.now) c.requires.none;
+      waits = none_waits c.args.executor.now (waiting c.args.pending.now.gathered) c.requires.clear.none;
       stands = c.requires.stands;
       opened = refl;
       come = (
         0,
-        come_none g.D.Disk.view source rules p Done 0 (waiting c.args.gathered.now) p c.requires.none
+        come_none g.D.Disk.view source rules p Done 0 (waiting c.args.pending.now.gathered) p c.requires.clear.none
             (at_first g.D.Disk.view source rules p (go_run c.args.context.now.way c.args.executor.now c.requires.way)),
       );
     }
@@ -33,7 +33,7 @@ returns-then-ne-clause-lines g c =
     let q = position c.take_next.new.executor (g.R.Read.remaining c.take_next.new.reader) (g.T.Client.heard c.take_next.new.client) in
     let most = c.loop.invariant.come.0 in
     inl (run_ends g.D.Disk.view source (rules_of c.args.context.now) p Done c.loop.invariant.way (most + 1)
-    (waiting c.take_next.new.gathered) q c.in_ok-take_next.field-0 (search (rules, c.ne.ensures, c.if-ne.true))
+    (waiting c.take_next.new.pending.gathered) q c.in_ok-take_next.field-0 (search (rules, c.ne.ensures, c.if-ne.true))
     (c.in_ok-take_next.ensures.takes p Done most (may_run c.args.context.now.way most c.loop.invariant.way) c.loop.invariant.come.1))
 
 pub loop-preserved : goal.loop-preserved
@@ -50,7 +50,7 @@ loop-preserved g c =
       come = (
         most + 1,
         subst (ComesOrEnds g.D.Disk.view (g.M.Metadata.gives c.args.context.now.metadata.now) (rules_of c.args.context.now)
-            p Done (most + 1) (waiting c.take_next.new.gathered) q) more
+            p Done (most + 1) (waiting c.take_next.new.pending.gathered) q) more
             (c.in_ok-take_next.ensures.takes p Done most (may_run c.args.context.now.way most c.loop.invariant.way) c.loop.invariant.come.1),
       );
     }
@@ -66,5 +66,5 @@ pub returns-clause-lines : goal.returns-clause-lines
 returns-clause-lines g c =
     let p = position c.args.executor.now (g.R.Read.remaining c.args.reader.now) (g.T.Client.heard c.args.client.now) in
     between_lines g.D.Disk.view (g.M.Metadata.gives c.args.context.now.metadata.now) (rules_of c.args.context.now) p Done
-    c.loop.invariant.come.0 (waiting c.loop.gathered)
+    c.loop.invariant.come.0 (waiting c.loop.pending.gathered)
     (position c.loop.executor (g.R.Read.remaining c.loop.reader) (g.T.Client.heard c.loop.client)) c.loop.invariant.come.1

@@ -36,6 +36,4 @@ returns-clause-told g c =
     }
 
 pub answer_lines-ended-requires-clause-open : goal.answer_lines-ended-requires-clause-open
-answer_lines-ended-requires-clause-open g c =
-    let (old, from, now, opens) = c.requires.reported in
-    opens.over.is_open
+answer_lines-ended-requires-clause-open g c = c.requires.fresh.2

@@ -1,11 +1,10 @@
-use Rattle.std.proofs.Common.{true≢false, List, map, refl, sym, ◌∙◌, subst}
-use Rattle.ocf_types.specs.declared.reply.Notice.{Notice}
+use Rattle.std.proofs.Common.{true≢false, List, refl, sym, ◌∙◌, subst}
 use Rattle.executor.specs.Sights.{Sight}
 use Rattle.executor.specs.TurnCalls.{TurnsWhile}
 use Rattle.exec_lines.proofs.PieceLemmas.{on_err}
 use Rattle.exec_client.specs.Heard.{Hears}
 use Rattle.exec_client.specs.MayTell.{StandsBehind}
-use Rattle.exec_client.specs.Said.{Noticed}
+use Rattle.exec_client.specs.Said.{Said}
 use Rattle.exec_client.specs.Heard.{HearsPart}
 use Rattle.exec_client.proofs.Growing.{all_still_stand, may_tell}
 use Rattle.exec_session.specs.Rules.{MakesRoom, rules_of}
@@ -44,7 +43,7 @@ tell-requires g c =
     let told = turn_behind_room look c.args.now old middle last c.turn-end.result room is_open takes in record {
       may_tell =
           may_tell look (g.T.Client.heard c.args.client.now) old last _ c.requires.stands
-          (subst (λ (told : List Notice). StandsBehind look old last (map Noticed told)) (sym c.notices.ensures.value) told) tt;
+          (subst (λ (said : List Said). StandsBehind look old last said) (sym c.of_executor-turn.ensures.said) told) tt;
     }
 
 pub returns-clause-made : goal.returns-clause-made
@@ -58,8 +57,8 @@ returns-clause-made g c =
           (rules_of c.args.context.now) c.args.now x middle) c.clear_book.ensures.cleared c.make_room.ensures.makes;
       takes = λ _. subst (λ b. TurnsWhile b g.D.Disk.view c.args.now middle last c.turn-end.result) is_open c.turn-end.ensures.turns;
       hears =
-          λ _. subst (λ (told : List Notice). Hears c.args.context.now.form (g.T.Client.heard c.args.client.now)
-          (g.T.Client.heard c.tell.new.self) (map Noticed told)) c.notices.ensures.value c.in_ok-tell.ensures.hears;
+          λ _. subst (λ (said : List Said). Hears c.args.context.now.form (g.T.Client.heard c.args.client.now)
+          (g.T.Client.heard c.tell.new.self) said) c.of_executor-turn.ensures.said c.in_ok-tell.ensures.hears;
       fails = λ closed. absurd (true≢false (sym is_open ∙ closed));
     }
 
@@ -74,7 +73,7 @@ returns-in_err-tell-clause-stands g c =
     let room = cleared_room look old c.clear_book.new.self middle c.clear_book.ensures.cleared c.make_room.ensures.stands in
     let told = turn_behind_room look c.args.now old middle last c.turn-end.result room is_open takes in
     after_told look (g.T.Client.heard c.args.client.now) (g.T.Client.heard c.tell.new.self) old last _ c.requires.stands
-    (subst (λ (told : List Notice). StandsBehind look old last (map Noticed told)) (sym c.notices.ensures.value) told)
+    (subst (λ (said : List Said). StandsBehind look old last said) (sym c.of_executor-turn.ensures.said) told)
     c.tell.ensures.told
 
 pub returns-clause-stands : goal.returns-clause-stands
@@ -88,7 +87,7 @@ returns-clause-stands g c =
     let room = cleared_room look old c.clear_book.new.self middle c.clear_book.ensures.cleared c.make_room.ensures.stands in
     let told = turn_behind_room look c.args.now old middle last c.turn-end.result room is_open takes in
     after_told look (g.T.Client.heard c.args.client.now) (g.T.Client.heard c.tell.new.self) old last _ c.requires.stands
-    (subst (λ (told : List Notice). StandsBehind look old last (map Noticed told)) (sym c.notices.ensures.value) told)
+    (subst (λ (said : List Said). StandsBehind look old last said) (sym c.of_executor-turn.ensures.said) told)
     c.tell.ensures.told
 
 pub returns-in_err-tell-clause-breaks : goal.returns-in_err-tell-clause-breaks
@@ -105,8 +104,8 @@ returns-in_err-tell-clause-breaks g c =
             (rules_of c.args.context.now) c.args.now x middle) c.clear_book.ensures.cleared c.make_room.ensures.makes;
         takes = λ _. subst (λ b. TurnsWhile b g.D.Disk.view c.args.now middle last c.turn-end.result) is_open c.turn-end.ensures.turns;
         hears =
-            λ _. subst (λ (told : List Notice). HearsPart c.args.context.now.form (g.T.Client.heard c.args.client.now)
-            (g.T.Client.heard c.tell.new.self) (map Noticed told)) c.notices.ensures.value c.in_err-tell.ensures.breaks;
+            λ _. subst (λ (said : List Said). HearsPart c.args.context.now.form (g.T.Client.heard c.args.client.now)
+            (g.T.Client.heard c.tell.new.self) said) c.of_executor-turn.ensures.said c.in_err-tell.ensures.breaks;
         fails = λ closed. absurd (true≢false (sym is_open ∙ closed));
       },
     )

@@ -5,6 +5,7 @@ use Rattle.child_model.specs.Children.{Admits}
 use Rattle.exec_ledger.specs.Scenes.{scene_of}
 use Rattle.exec_turn.specs.Turn.{IsTurn}
 use Rattle.exec_turn.specs.Turns.{told_of}
+use Rattle.executor.specs.Reports.{reported_of}
 use Rattle.executor.specs.Sights.{Sight, sight}
 use Rattle.executor.specs.TurnCalls.{TakesTurn, TurnsWhile}
 use Rattle.executor.proofs.executor.Executor.turn.Goals as goal
@@ -27,19 +28,20 @@ invariant_of-self g c is_open =
 pub returns : goal.returns
 returns g c =
     let e = c.self.inside in
-    let x = sight e.ledger (g.C.Children.view e.children) e.site (told_of e.rows) in
-    let y = sight c.take_turn.new.ledger (g.C.Children.view c.take_turn.new.children) e.site (told_of c.take_turn.new.rows) in
+    let x = sight e.ledger (g.C.Children.view e.children) e.site (told_of e.rows) (reported_of e.reported) in
+    let y = sight c.take_turn.new.ledger (g.C.Children.view c.take_turn.new.children) e.site (told_of c.take_turn.new.rows) (reported_of e.reported) in
     let was : x.is_open ≡ true = sym c.is_open.ensures.value ∙ c.if-not-is_open.false in
     let turn = c.take_turn.ensures in
     let takes : TakesTurn g.D.Disk.view c.args.now x y c.take_turn.result = record {
       turns = turn.turns;
       site = refl;
+      reported = refl;
       full = turn.full;
       unchanged = λ is.
           let same = turn.unchanged is in
           let none = (subst (λ (end : TurnEnd). IsTurn end (scene_of e.ledger (moment e.ledger.state c.args.now)) turn.turns.entries
           turn.turns.events turn.turns.pending y.told) is turn.turns.does).3 in
-          λ i. sight (same.0 i) (g.C.Children.view (same.1 i)) e.site (none i);
+          λ i. sight (same.0 i) (g.C.Children.view (same.1 i)) e.site (none i) (reported_of e.reported);
       closes = turn.closes;
     } in
     record {

@@ -3,7 +3,7 @@ use Rattle.exec_client.proofs.Behinds.{says_none}
 use Rattle.exec_client.proofs.Growing.{may_tell, none_stands}
 use Rattle.exec_session.specs.Runs.{ended}
 use Rattle.exec_session.proofs.TellLemmas.{after_told}
-use Rattle.exec_session.proofs.serve.tell_end.Goals as goal
+use Rattle.exec_session.proofs.leave.tell_end.Goals as goal
 
 pub tell-requires : goal.tell-requires
 tell-requires g c =

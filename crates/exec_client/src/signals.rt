@@ -1,0 +1,40 @@
+//! With which signal a run ended.
+ghost use Rattle.std.specs.Prelude.{◌≡◌};
+ghost use Rattle.exec_client.specs.Signals.{ending_answer, signal_in, signal_of, tells_signal};
+
+use child_model::{Answer, Entry, Poll};
+
+// The number of the signal, where the answer says that one ended the run.
+fn signal_in(answer: Answer) -> Option<u8>
+    ensures value { result ≡ signal_in answer }
+{
+    match answer {
+        Answer::Poll(Poll::Signaled(signal)) => Some(signal),
+        _ => None,
+    }
+}
+
+// Whether the answer says that a signal ended this run.
+fn tells_signal(entry: &Entry, run: u64) -> bool
+    ensures value { result ≡ tells_signal run entry.now }
+{
+    entry.run.get() == run && signal_in(entry.answer).is_some()
+}
+
+// The answer that says that a signal ended this run, where one does.
+fn ending_answer(book: &[Entry], run: u64) -> Option<Answer>
+    ensures value { result ≡ ending_answer book.now run }
+{
+    let entry = book.iter().find(|entry| tells_signal(entry, run))?;
+    Some(entry.answer)
+}
+
+/// The number of the signal that ended a run, as signal(7) numbers them, where these answers of children say that one did.
+pub fn signal_of(book: &[Entry], run: u64) -> Option<u8>
+    ensures value { result ≡ signal_of book.now run }
+{
+    match ending_answer(book, run) {
+        Some(answer) => signal_in(answer),
+        None => None,
+    }
+}

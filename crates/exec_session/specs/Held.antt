@@ -1,0 +1,42 @@
+-- A line that a run holds which serves: it asks for metadata, or for the end of the run.
+use Rattle.std.specs.Prelude.{◌≡◌, ⊤, Bool, true, false, Result, Ok, Err}
+use Rattle.ocf_types.specs.declared.refusal.Refusal.{Refusal}
+use Rattle.ocf_types.specs.declared.reply.TurnEnd.{TurnEnd}
+use Rattle.disk_model.specs.View.{View}
+use Rattle.exec_commands.specs.declared.line.Line.{Line}
+use Rattle.exec_commands.specs.declared.line.Line.TheVariants as line
+use Rattle.exec_output.specs.declared.send.IoFault.{IoFault}
+use Rattle.exec_session.specs.Answers.{Source}
+use Rattle.exec_session.specs.Breaks.{BreaksIn}
+use Rattle.exec_session.specs.Drains.{spot}
+use Rattle.exec_session.specs.Progress.{Answers, Position, Stays}
+use Rattle.exec_session.specs.Rules.{Rules}
+use Rattle.exec_session.specs.declared.context.Way.{Way}
+use Rattle.exec_session.specs.declared.context.Way.TheVariants.{Run}
+use Rattle.exec_session.specs.declared.held.Held.{Held}
+use Rattle.exec_session.specs.declared.held.Held.TheVariants as held
+use Rattle.exec_session.specs.declared.lines.Found.{Found}
+use Rattle.exec_session.specs.declared.lines.Found.TheVariants as found
+
+-- what it asks for
+abbrev pub asks : Held → Line
+asks (held.Metadata provider agent limit) = line.Meta provider agent limit
+asks held.Leave = line.Leave
+
+-- A run that goes so may answer this line as soon as it is read: a run that answers lines alone answers each so, and one that serves
+-- each but a question for metadata, and the one that asks it to end.
+abbrev pub MayAnswerAtOnce : Way → Result Line Refusal → Type 0
+MayAnswerAtOnce way (Ok (line.Meta provider agent limit)) = way ≡ Run
+MayAnswerAtOnce way (Ok line.Leave) = way ≡ Run
+MayAnswerAtOnce way _ = ⊤
+
+-- the same of what stands next in the input
+abbrev pub MayTakeAtOnce : Way → Found → Type 0
+MayTakeAtOnce way (found.Line line) = MayAnswerAtOnce way line
+MayTakeAtOnce way _ = ⊤
+
+-- the held line was answered, or its agent has not answered by now and nothing was done, or the run broke off in the reply
+abbrev pub AnswersHeld : {D : Type 0} → (D → View) → Source → Rules → TurnEnd → Position D → Position D → Result Bool IoFault → Type 0
+AnswersHeld look source rules own p q (Ok true) = Answers look source rules p q
+AnswersHeld look source rules own p q (Ok false) = Stays p q
+AnswersHeld look source rules own p q (Err fault) = BreaksIn look source rules own p (spot q.executor q.heard)

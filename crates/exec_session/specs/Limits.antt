@@ -1,0 +1,10 @@
+-- How much a run answers at once.
+use Rattle.std.specs.Prelude.{ℕ}
+
+-- how many lines an open executor answers at most between two turns of a run that serves
+abbrev pub lines_a_turn : ℕ
+lines_a_turn = 64
+
+-- how many commands are answered together at most
+abbrev pub most_together : ℕ
+most_together = 64

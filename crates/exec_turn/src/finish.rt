@@ -1,0 +1,68 @@
+//! A turn that begins nothing, step by step.
+ghost use Rattle.std.specs.Prelude.{◌≡◌, ◌≢◌, ◌↔◌, ◌<◌, ◌*◌, true, false, length};
+ghost use Rattle.ocf_types.specs.Answer.{moment};
+ghost use Rattle.exec_ledger.specs.Held.{due_in};
+ghost use Rattle.exec_ledger.specs.Scenes.{scene_of};
+ghost use Rattle.exec_turn.specs.Actives.{any_running};
+ghost use Rattle.exec_turn.specs.Turns.{ChildrenMatch, Finishes, told_of};
+
+use crate::buffers::TurnBuffers;
+use crate::turn::record_polls;
+use child_model::Children;
+use disk_model::{Disk, DiskFault};
+use exec_journal::laws::what_stands;
+use exec_ledger::Ledger;
+use exec_state::State;
+use ocf_types::{StateView, TurnEnd};
+use std::alloc::Allocator;
+
+/// Whether an action of any resource runs.
+pub fn runs_any<A: Allocator + Copy>(state: &State<A>) -> bool
+    ensures value { result ≡ any_running state.now.state }
+{
+    for place in 0..state.len() {
+        if state.running_at(place).is_some() {
+            return true;
+        }
+    }
+    false
+}
+
+/// A turn over an open ledger at a moment in milliseconds since 1970 that begins nothing: every action that runs is polled, in
+/// order of registration, and killed where it runs past its timeout. What is queued stays queued, and what is due stays due.
+///
+/// What ends is recorded before it is told. It ends with `BookFull`, having done nothing, where the children's book takes less
+/// than two entries a resource; with `Disk` where the journal's device failed, which closes the ledger; and else with `Done`. It
+/// takes no memory.
+pub fn finish_turn<D: Disk + Drop, C: Children, A: Allocator + Copy>(
+    ledger: &mut Ledger<D, A>,
+    children: &mut C,
+    rows: &mut TurnBuffers<A>,
+    now: u64,
+) -> TurnEnd
+    requires open { ledger.old.is_open ≡ true }
+    requires matched { ChildrenMatch ledger.old.state (C.view children.old) }
+    ensures finishes { Finishes D.view ledger.old.disk ledger.new.disk
+        (scene_of ledger.old (moment ledger.old.state now)) ledger.new.state
+        (due_in ledger.new)
+        (C.view children.old) (C.view children.new) (told_of rows.new) result }
+    ensures full { result ≡ TurnEnd.BookFull
+        ↔ (C.view children.old).room < 2 * length ledger.old.state.resources }
+    ensures unchanged { result ≡ TurnEnd.BookFull
+        → (ledger.new ≡ ledger.old) × (children.new ≡ children.old) }
+    ensures closes { ledger.new.is_open ≡ false ↔ (result ≡ TurnEnd.Disk) }
+    ensures matched { result ≢ TurnEnd.Disk → ChildrenMatch ledger.new.state (C.view children.new) }
+{
+    what_stands();
+    ledger.known();
+    let state = ledger.state();
+    if children.room() / 2 < state.len() {
+        rows.notices.clear();
+        return TurnEnd::BookFull;
+    }
+    let at = state.moment(now);
+    match record_polls(ledger, children, rows, at) {
+        Ok(()) => TurnEnd::Done,
+        Err(DiskFault) => TurnEnd::Disk,
+    }
+}

@@ -1,0 +1,47 @@
+use Rattle.std.proofs.Common.{◌≡◌, Bool, true, true≢false, refl, sym, subst, ◌∙◌}
+use Rattle.ocf_types.specs.declared.reply.TurnEnd.{TurnEnd}
+use Rattle.ocf_types.specs.Answer.{moment}
+use Rattle.child_model.specs.Children.{Admits}
+use Rattle.exec_ledger.specs.Scenes.{scene_of}
+use Rattle.exec_turn.specs.Turn.{IsFinish}
+use Rattle.exec_turn.specs.Turns.{told_of}
+use Rattle.executor.specs.Reports.{reported_of}
+use Rattle.executor.specs.Sights.{Sight, sight}
+use Rattle.executor.specs.TurnCalls.{FinishesTurn, FinishesWhile}
+use Rattle.executor.proofs.executor.Executor.finish.Goals as goal
+
+pub finish_turn-requires-clause-matched : goal.finish_turn-requires-clause-matched
+finish_turn-requires-clause-matched g c = (c.self.invariant (sym c.is_open.ensures.value ∙ c.if-not-is_open.false)).matched
+
+pub invariant_of-self : goal.invariant_of-self
+invariant_of-self g c is_open =
+    let tends = c.self.invariant (sym c.is_open.ensures.value ∙ c.if-not-is_open.false) in
+    let turn = c.finish_turn.ensures in
+    record {
+      matched = turn.matched (λ disk. true≢false (sym is_open ∙ turn.closes.1 disk));
+      admits = subst (λ w. Admits w c.self.inside.site) (sym turn.finishes.site) tends.admits;
+    }
+
+pub returns : goal.returns
+returns g c =
+    let e = c.self.inside in
+    let x = sight e.ledger (g.C.Children.view e.children) e.site (told_of e.rows) (reported_of e.reported) in
+    let y = sight c.finish_turn.new.ledger (g.C.Children.view c.finish_turn.new.children) e.site (told_of c.finish_turn.new.rows) (reported_of e.reported) in
+    let was : x.is_open ≡ true = sym c.is_open.ensures.value ∙ c.if-not-is_open.false in
+    let turn = c.finish_turn.ensures in
+    let takes : FinishesTurn g.D.Disk.view c.args.now x y c.finish_turn.result = record {
+      turns = turn.finishes;
+      site = refl;
+      reported = refl;
+      full = turn.full;
+      unchanged = λ is.
+          let same = turn.unchanged is in
+          let none = (subst (λ (end : TurnEnd). IsFinish end (scene_of e.ledger (moment e.ledger.state c.args.now)) turn.finishes.entries
+          turn.finishes.events turn.finishes.pending y.told) is turn.finishes.does).3 in
+          λ i. sight (same.0 i) (g.C.Children.view (same.1 i)) e.site (none i) (reported_of e.reported);
+      closes = turn.closes;
+    } in
+    record {
+      finishes = subst (λ (z : Sight _). FinishesWhile z.is_open g.D.Disk.view c.args.now z y c.finish_turn.result) c.self.view_is
+          (subst (λ (b : Bool). FinishesWhile b g.D.Disk.view c.args.now x y c.finish_turn.result) (sym was) takes);
+    }

@@ -1,0 +1,74 @@
+//! What standard error says of the fault that ends the program: one line, for a program that reads it. A person, at a terminal or in the
+//! system's journal, is also told what brought it about and what can be done about it.
+use child_keeper::System;
+use exec_output::Fault;
+use std::fmt::Display;
+use std::io::{Eprint, IsTerminal};
+use std::os::unix::fs::MetadataExt;
+use std::rt::Env;
+use std::{fs, str};
+
+// A path that leads to standard error. Linux, proc(5).
+const STANDARD_ERROR: &str = "/proc/self/fd/2";
+
+// How many bytes two numbers of 64 bits have at most in decimals, with a colon between them.
+const STREAM_LIMIT: usize = 41;
+
+// The device and the inode that a text names, as `66306:1234`. systemd.exec(5), JOURNAL_STREAM.
+fn device_and_inode(text: &str) -> Option<(u64, u64)> {
+    let (device, inode) = text.split_once(':')?;
+    Some((device.parse().ok()?, inode.parse().ok()?))
+}
+
+// Whether standard error is the stream to the system's journal that the environment names. It takes no memory, of which there may be
+// none.
+fn is_journal(rt: &HostRuntime) -> bool {
+    let mut room = [0u8; STREAM_LIMIT];
+    let Ok(length) = rt.var("JOURNAL_STREAM", &mut room) else {
+        return false;
+    };
+    let (Ok(stream), Ok(found)) = (
+        str::from_utf8(&room[..length]),
+        fs::metadata(rt, STANDARD_ERROR),
+    ) else {
+        return false;
+    };
+    device_and_inode(stream) == Some((found.dev(), found.ino()))
+}
+
+// Whether a person reads standard error: it is a terminal, or goes to the system's journal.
+fn is_for_a_person(rt: &HostRuntime) -> bool {
+    rt.stderr().is_terminal() || is_journal(rt)
+}
+
+/// Names a fault, in its one line.
+pub fn name(system: &System<'_>, fault: Fault) {
+    let _ = system.eprintln(format_args!("ocfexec: {fault}"));
+}
+
+/// Adds a line for a person, and none where a program reads standard error.
+pub fn explain<W: Display + Drop>(system: &System<'_>, text: W) {
+    if is_for_a_person(system.host()) {
+        let _ = system.eprintln(text);
+    }
+}
+
+/// Adds for a person what can be done about a fault, where there is more to say than its line.
+pub fn advise(system: &System<'_>, fault: Fault) {
+    if let Some(advice) = fault.advice() {
+        explain(system, advice);
+    }
+}
+
+/// Names a fault, and tells a person what can be done about it.
+pub fn report(system: &System<'_>, fault: Fault) {
+    name(system, fault);
+    advise(system, fault);
+}
+
+/// Names a fault, and tells a person what brought it about and what can be done about it.
+pub fn report_cause<W: Display + Drop>(system: &System<'_>, fault: Fault, cause: W) {
+    name(system, fault);
+    explain(system, cause);
+    advise(system, fault);
+}
