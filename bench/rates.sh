@@ -32,10 +32,8 @@ lines_of_bench() {
 copy_crates() {
     lines_of_bench > "$copy/crates.txt"
     cp HANDLES "$copy"
-    sed -n 's/^\([a-z0-9_]*\):.*/crates\/\1/p' "$copy/crates.txt" | grep -v -x crates/bench | xargs git ls-files -co --exclude-standard -- |
-        while IFS= read -r file; do
-            if [ -f "$file" ]; then printf '%s\0' "$file"; fi
-        done | tar --exclude must-fail --null -T - -cf - | tar -xf - -C "$copy"
+    sed -n 's/^\([a-z0-9_]*\):.*/crates\/\1/p' "$copy/crates.txt" | grep -v -x crates/bench |
+        tar --exclude=must-fail --exclude=out -T - -cf - | tar -xf - -C "$copy"
     (cd bench/rates && find . -name '*.txt') | while IFS= read -r file; do
         install -D -m 644 "bench/rates/$file" "$copy/crates/bench/${file%.txt}"
     done

@@ -200,7 +200,7 @@ fn a_notice_that_is_not_written_ends_the_run(rt: HostRuntime) {
         ended_in(
             alloc,
             MemDisk::new(alloc),
-            &[Poll::Signaled],
+            &[Poll::Signaled(9)],
             DRAIN,
             &mut [0; 80],
         ),

@@ -1,6 +1,4 @@
 // Runs over whole inputs, over a disk in memory and scripted children, by a clock that stands still.
-ghost use Rattle.std.specs.Prelude.{⊤};
-
 use child_keeper::{Script, Scripted};
 use child_model::Poll;
 use disk_model::MemDisk;
@@ -8,15 +6,14 @@ use exec_client::Teller;
 use exec_commands::NoticeForm;
 use exec_lines::{Input, Output};
 use exec_output::Fault;
-use exec_session::{Metadata, Pace, RunContext, Way, run_lines};
+use exec_session::{LineRoom, Pace, RunContext, Way, run_lines};
 use executor::Executor;
-use ocf_env::{Site, Text};
-use ocf_types::{AgentType, MetaFault, Provider, StartFault};
 use std::alloc::Global;
 use std::collections::VecDeque;
 use std::io;
 use std::rt::Clock;
 use std::time::Duration;
+use trial_parts::{NoMetadata, nowhere};
 
 // A clock that stands still.
 struct Standing;
@@ -31,23 +28,6 @@ impl Clock for Standing {
     }
 }
 
-// Every agent is missing.
-struct NoMetadata;
-
-impl Metadata for NoMetadata {
-    ghost gives = { λ source provider agent limit given. ⊤ };
-
-    fn metadata(
-        &self,
-        _alloc: Global,
-        _provider: &Provider,
-        _agent: &AgentType,
-        _limit: u32,
-    ) -> Result<Vec<u8>, MetaFault> {
-        Err(MetaFault::NotStarted(StartFault::Missing))
-    }
-}
-
 // Children that answer these polls, and then run on.
 fn children(alloc: Global, polls: &[Poll]) -> Option<Scripted> {
     let mut script = Script {
@@ -59,12 +39,6 @@ fn children(alloc: Global, polls: &[Poll]) -> Option<Scripted> {
         script.polls.push_back(*poll).ok()?;
     }
     Scripted::new(alloc, script, 768).ok()
-}
-
-/// A site without words: no agent is there.
-pub fn nowhere(alloc: Global) -> Site {
-    let (root, path) = (String::new(alloc), String::new(alloc));
-    Site::new(Text::new(root), Text::new(path), None)
 }
 
 /// How a run ends over a journal that is opened at moment 5,000. Its drains make at most three turns.
@@ -101,7 +75,11 @@ fn ended_in_way<R: Input, W: Output>(
     match Executor::open(alloc, disk, children, nowhere(alloc), 5_000) {
         Ok((executor, report)) => {
             let mut client = Teller::new(alloc, writer, &executor);
-            Some(run_lines(&context, reader, &mut client, executor, &report).ended)
+            let Ok(room) = LineRoom::new(alloc) else {
+                return None;
+            };
+            let run = run_lines(&context, reader, &mut client, executor, &report, room);
+            Some(run.ended)
         }
         Err(_) => None,
     }

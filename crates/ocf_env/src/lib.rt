@@ -14,4 +14,4 @@ pub use invocation::{Invocation, agent_file};
 pub use key::op_key;
 pub use launches::{Instance, Launch, LaunchOf, launch, launch_meta};
 pub use site::Site;
-pub use text::Text;
+pub use text::{Text, ascii};

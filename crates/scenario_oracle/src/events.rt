@@ -16,7 +16,7 @@ pub fn fold(state: &mut State, event: Event) -> Result<()> {
 pub fn polled_end(answer: Answer) -> Option<RunEnd> {
     match answer {
         Answer::Poll(Poll::Exited(code)) => Some(RunEnd::Done(code)),
-        Answer::Poll(Poll::Signaled) => Some(RunEnd::Signaled),
+        Answer::Poll(Poll::Signaled(_)) => Some(RunEnd::Signaled),
         Answer::Poll(Poll::Fault) => Some(RunEnd::Lost),
         Answer::Kill(_) => Some(RunEnd::TimedOut),
         Answer::Poll(Poll::Running) | Answer::Start(_) => None,

@@ -22,7 +22,7 @@ pub const KILLS: [(&str, Result<(), KillFault>); 2] = [
 // The answers to polls, but for `exited-N`.
 const POLLS: [(&str, Poll); 3] = [
     ("running", Poll::Running),
-    ("signaled", Poll::Signaled),
+    ("signaled", Poll::Signaled(9)),
     ("fault", Poll::Fault),
 ];
 

@@ -1,21 +1,32 @@
 //! Calls of a world's executor, of each of which the oracle is told.
 use crate::fate::with_fate;
-use crate::print::{
-    print_entries, print_line, print_open_error, print_opened, print_tidy, print_turn, push_reply,
-};
 use crate::session::Session;
 use crate::together::Together;
 use crate::world::World;
 use anyhow::Result;
+use exec_commands::LineReply;
+use exec_output::Fault;
 use executor::{OpenError, Report};
 use ocf_types::Command;
-use scenario_devices::{PlannedChildren, SharedDisk};
+use scenario_devices::SharedDisk;
 use scenario_oracle::{Fate, SeenTurn, Span};
+use scenario_texts::{
+    print_entries, print_line, print_not_opened, print_opened, print_reply, print_request_reply,
+    print_tidy, print_turn,
+};
 use std::io::Write;
 use std::mem;
 
-// Why an executor was not opened, and the children.
-type NotOpened = (OpenError, PlannedChildren);
+// The fault that a program ends with where the executor is not opened. A program has no foreign children.
+fn fault_of(why: OpenError) -> Option<Fault> {
+    match why {
+        OpenError::Disk => Some(Fault::Disk),
+        OpenError::Memory => Some(Fault::Memory),
+        OpenError::Foreign => None,
+        OpenError::Full => Some(Fault::Full),
+        OpenError::Damaged(damage) => Some(Fault::Damaged(damage)),
+    }
+}
 
 impl World {
     // The calls of the disk from there on, of what is acknowledged now.
@@ -24,33 +35,62 @@ impl World {
         Ok(Span { begun, told })
     }
 
-    fn open_session(&mut self, now: u64) -> Result<Result<(Session, Report), NotOpened>> {
+    // Opens an executor, and keeps it, or its children where it is not opened: what it reports, or why it is not.
+    fn open_session(&mut self, now: u64) -> Result<Result<Report, OpenError>> {
         let site = self.site.site(self.alloc)?;
         let words = self.site.copied()?;
         let disk = SharedDisk::new(&self.device)?;
         let children = self.children.take()?;
-        Ok(Session::open(self.alloc, disk, children, site, words, now))
+        match Session::open(self.alloc, disk, children, site, words, now) {
+            Ok((session, report)) => {
+                self.session = Some(session);
+                Ok(Ok(report))
+            }
+            Err((why, children)) => {
+                self.children.keep(children);
+                Ok(Err(why))
+            }
+        }
+    }
+
+    // Tells the oracle of an opening that is about to be made.
+    fn meet(&mut self) -> Result<()> {
+        let copy = self.copied()?;
+        self.oracle.meet(copy)
+    }
+
+    // An opening was made when the disk had had so many calls.
+    fn note_opened(&mut self, now: u64, begun: u64) -> Result<()> {
+        let span = self.span_from(begun)?;
+        self.oracle.open(now, span)
+    }
+
+    // An opening failed when the disk had had so many calls.
+    fn note_not_opened(&mut self, now: u64, begun: u64, why: OpenError) -> Result<()> {
+        if !matches!(why, OpenError::Disk) {
+            return Ok(());
+        }
+        self.oracle.open(now, Span { begun, told: None })
     }
 
     pub(crate) fn open<W: Write>(&mut self, now: u64, writer: &mut W) -> Result<()> {
         self.end_session();
         let begun = self.call_count()?;
-        let copy = self.copied()?;
-        self.oracle.meet(copy)?;
-        let opened = self.open_session(now)?;
-        let span = self.span_from(begun)?;
-        match opened {
-            Ok((session, report)) => {
-                self.session = Some(session);
-                self.oracle.open(now, span)?;
-                print_opened(self.alloc, writer, &report)
+        self.meet()?;
+        match self.open_session(now)? {
+            Ok(report) => {
+                self.note_opened(now, begun)?;
+                let (interrupted, dropped) = (&report.interrupted, &report.dropped);
+                print_opened(
+                    self.alloc,
+                    writer,
+                    interrupted.as_slice(),
+                    dropped.as_slice(),
+                )
             }
-            Err((why, children)) => {
-                self.children.keep(children);
-                if matches!(why, OpenError::Disk) {
-                    self.oracle.open(now, span.untold())?;
-                }
-                print_open_error(writer, &why)
+            Err(why) => {
+                self.note_not_opened(now, begun, why)?;
+                print_not_opened(writer, fault_of(why))
             }
         }
     }
@@ -123,21 +163,28 @@ impl World {
         let Some(session) = &mut self.session else {
             return print_line(writer, "no executor");
         };
-        let Some(reply) = session.answer(self.alloc, now, line) else {
-            return print_line(writer, "no step");
-        };
-        let mut answered = Vec::new(self.alloc);
-        if let Some(command) = with_fate(self.alloc, line, &reply) {
-            answered.push(command)?;
+        match session.answer(self.alloc, now, line) {
+            None => print_line(writer, "no step"),
+            Some(LineReply::Request(reply)) => {
+                self.note_one(now, begun, with_fate(self.alloc, line, &reply))?;
+                print_request_reply(self.alloc, writer, &reply)
+            }
+            Some(reply) => print_reply(self.alloc, writer, &reply),
         }
-        self.note(now, answered, begun)?;
-        push_reply(self.alloc, writer, &reply)
     }
 
     // This became of commands that were handed over when the disk had had so many calls.
-    fn note(&mut self, now: u64, answered: Vec<(Command, Fate)>, begun: u64) -> Result<()> {
+    fn note(&mut self, now: u64, begun: u64, answered: Vec<(Command, Fate)>) -> Result<()> {
         let span = self.span_from(begun)?;
         self.oracle.commands(now, answered, span)
+    }
+
+    // The same of one line, if it asked for a command.
+    fn note_one(&mut self, now: u64, begun: u64, answered: Option<(Command, Fate)>) -> Result<()> {
+        match answered {
+            Some(answered) => self.note(now, begun, vec![in self.alloc; answered]?),
+            None => Ok(()),
+        }
     }
 
     pub(crate) fn wait(&mut self, line: &[u8]) -> Result<()> {
@@ -154,10 +201,8 @@ impl World {
             return print_line(writer, "no executor");
         };
         let mut together = Together::new(self.alloc, session, now);
-        for line in lines.iter() {
-            together.take_line(line.as_slice(), writer)?;
-        }
-        let answered = together.end(writer)?;
-        self.note(now, answered, begun)
+        together.take_lines(lines.as_slice(), writer)?;
+        let answered = together.end();
+        self.note(now, begun, answered)
     }
 }

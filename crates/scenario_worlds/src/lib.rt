@@ -4,13 +4,9 @@
 
 mod calls;
 mod fate;
-mod finding;
 mod look;
-mod print;
 mod session;
-mod tables;
 mod together;
 mod world;
 
-pub use print::{print_checked, print_rows};
 pub use world::World;

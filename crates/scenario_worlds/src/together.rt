@@ -1,11 +1,11 @@
 //! Command lines that are handed over at once.
 use crate::fate::with_fate;
-use crate::print::{print_line, push_reply};
 use crate::session::Session;
 use anyhow::Result;
-use exec_commands::{Line, LineReply, read_command};
-use ocf_types::{Command, RequestOf};
+use exec_commands::{Line, read_command};
+use ocf_types::{Command, Reply, RequestOf};
 use scenario_oracle::Fate;
+use scenario_texts::{print_line, print_reply, print_request_reply};
 use std::alloc::Global;
 use std::io::Write;
 use std::mem;
@@ -37,11 +37,24 @@ impl<'a> Together<'a> {
     }
 
     // Prints what a command is answered, and keeps what became of it.
-    fn answer<W: Write>(&mut self, line: &[u8], reply: &LineReply, writer: &mut W) -> Result<()> {
+    fn answer<W: Write>(&mut self, line: &[u8], reply: &Reply, writer: &mut W) -> Result<()> {
         if let Some(answered) = with_fate(self.alloc, line, reply) {
             self.answered.push(answered)?;
         }
-        push_reply(self.alloc, writer, reply)
+        print_request_reply(self.alloc, writer, reply)
+    }
+
+    // The same for each command of a row.
+    fn answer_all<W: Write>(
+        &mut self,
+        lines: &[&[u8]],
+        replies: &[Reply],
+        writer: &mut W,
+    ) -> Result<()> {
+        for (line, reply) in lines.iter().zip(replies.iter()) {
+            self.answer(line, reply, writer)?;
+        }
+        Ok(())
     }
 
     // Has the executor take the commands that stand in a row, and prints what each is answered.
@@ -49,29 +62,42 @@ impl<'a> Together<'a> {
         let mut replies = Vec::with_capacity(self.alloc, self.row.len())?;
         self.session.take_row(self.now, &mut self.row, &mut replies);
         let lines = mem::replace(&mut self.lines, Vec::new(self.alloc));
-        for (line, reply) in lines.into_iter().zip(replies) {
-            self.answer(line, &LineReply::Request(reply), writer)?;
-        }
+        self.answer_all(lines.as_slice(), replies.as_slice(), writer)
+    }
+
+    fn add(&mut self, command: Command, line: &'a [u8]) -> Result<()> {
+        self.row.push(command)?;
+        self.lines.push(line)?;
         Ok(())
     }
 
-    /// Takes one line more: a command stands in the row, and anything else is answered behind it.
-    pub fn take_line<W: Write>(&mut self, line: &'a [u8], writer: &mut W) -> Result<()> {
-        if let Ok(Line::Request(RequestOf::Command(command))) = read_command(self.alloc, line) {
-            self.row.push(command)?;
-            self.lines.push(line)?;
-            return Ok(());
-        }
+    // Answers the row, and then a line that has no place in one.
+    fn answer_alone<W: Write>(&mut self, line: &[u8], writer: &mut W) -> Result<()> {
         self.answer_row(writer)?;
         match self.session.answer(self.alloc, self.now, line) {
-            Some(reply) => push_reply(self.alloc, writer, &reply),
+            Some(reply) => print_reply(self.alloc, writer, &reply),
             None => print_line(writer, "no step"),
         }
     }
 
-    /// Answers the commands that stand in the row still. What became of each command.
-    pub fn end<W: Write>(mut self, writer: &mut W) -> Result<Vec<(Command, Fate)>> {
-        self.answer_row(writer)?;
-        Ok(self.answered)
+    // Takes one line more: a command stands in the row, and anything else is answered behind it.
+    fn take_line<W: Write>(&mut self, line: &'a [u8], writer: &mut W) -> Result<()> {
+        match read_command(self.alloc, line) {
+            Ok(Line::Request(RequestOf::Command(command))) => self.add(command, line),
+            _ => self.answer_alone(line, writer),
+        }
+    }
+
+    /// Takes these lines, the last ones, and answers each.
+    pub fn take_lines<W: Write>(&mut self, lines: &'a [Vec<u8>], writer: &mut W) -> Result<()> {
+        for line in lines {
+            self.take_line(line.as_slice(), writer)?;
+        }
+        self.answer_row(writer)
+    }
+
+    /// What became of each command.
+    pub fn end(self) -> Vec<(Command, Fate)> {
+        self.answered
     }
 }

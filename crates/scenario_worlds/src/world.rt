@@ -1,5 +1,4 @@
 //! The world of a scenario.
-use crate::finding::{digest_of, found_on};
 use crate::session::Session;
 use anyhow::Result;
 use disk_model::MemDisk;
@@ -7,6 +6,7 @@ use ocf_types::Part;
 use scenario_devices::{Device, WorldChildren};
 use scenario_oracle::Oracle;
 use scenario_steps::{Act, Filling, SiteWords};
+use scenario_texts::{digest_of, found_on};
 use std::alloc::{AllocError, Global};
 use std::cell::{Ref, RefCell};
 use std::io::Write;
@@ -36,9 +36,10 @@ fn shared(alloc: Global, disk: MemDisk) -> Result<Rc<RefCell<Device>>, AllocErro
 impl World {
     /// The world in which a scenario begins: an empty pair, fresh children, and no executor.
     pub fn new(alloc: Global) -> Result<World> {
-        let site = SiteWords::usual(alloc)?;
         let device = shared(alloc, MemDisk::new(alloc))?;
         let children = WorldChildren::new(alloc)?;
+        let site = SiteWords::usual(alloc)?;
+        let oracle = Oracle::new(alloc)?;
         Ok(World {
             alloc,
             a: Vec::new(alloc),
@@ -48,7 +49,7 @@ impl World {
             site,
             waiting: Vec::new(alloc),
             session: None,
-            oracle: Oracle::new(alloc)?,
+            oracle,
         })
     }
 

@@ -1,7 +1,8 @@
 //! Sweeps: a scenario played again and again, each time with another call planned to fail.
 use anyhow::{Context, Result};
 use scenario_steps::{Act, Filling, Sweep};
-use scenario_worlds::{World, print_checked, print_rows};
+use scenario_texts::{print_checked, print_rows};
+use scenario_worlds::World;
 use std::alloc::Global;
 use std::fmt::Display;
 use std::io::{self, Write};

@@ -1,9 +1,9 @@
 //! What a client writes in a sitting.
-use crate::clock::MovedClock;
 use exec_lines::Input;
 use std::cell::Cell;
 use std::collections::VecDeque;
 use std::io::{self, BufRead, Read};
+use trial_parts::MovedClock;
 
 /// A line, and when it comes, in microseconds behind the sitting's begin.
 #[derive(Drop)]

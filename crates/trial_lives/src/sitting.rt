@@ -1,39 +1,18 @@
 //! One sitting.
-ghost use Rattle.std.specs.Prelude.{⊤};
-
 use crate::client::Client;
-use crate::clock::MovedClock;
 use crate::kept::Kept;
 use crate::plan::Plan;
-use crate::scripted::{agents, nowhere};
 use crate::watched::WatchedDisk;
 use anyhow::{Result, bail};
 use disk_model::{Disk, MemDisk};
 use exec_client::Teller;
 use exec_commands::NoticeForm;
 use exec_lines::{RunClock, moment_now};
-use exec_session::{Metadata, Pace, RunContext, run_lines};
+use exec_session::{LineRoom, Pace, RunContext, run_lines};
 use executor::{Executor, OpenError};
-use ocf_types::{AgentType, MetaFault, Provider, StartFault};
 use std::alloc::Global;
 use std::cell::Cell;
-
-/// Every agent is missing.
-pub struct NoMetadata;
-
-impl Metadata for NoMetadata {
-    ghost gives = { λ source provider agent limit given. ⊤ };
-
-    fn metadata(
-        &self,
-        _alloc: Global,
-        _provider: &Provider,
-        _agent: &AgentType,
-        _limit: u32,
-    ) -> Result<Vec<u8>, MetaFault> {
-        Err(MetaFault::NotStarted(StartFault::Missing))
-    }
-}
+use trial_parts::{MovedClock, NoMetadata, agents, nowhere};
 
 /// Opens an executor on a disk on which all is synced, and answers the plan's client: how many device calls there were, and what the
 /// disk kept. What the program writes goes into the output.
@@ -67,7 +46,8 @@ pub fn sit(alloc: Global, disk: MemDisk, plan: Plan, output: &mut Vec<u8>) -> Re
                 until: plan.length,
             };
             let mut teller = Teller::new(alloc, output, &executor);
-            let run = run_lines(&context, &mut client, &mut teller, executor, &report);
+            let room = LineRoom::new(alloc)?;
+            let run = run_lines(&context, &mut client, &mut teller, executor, &report, room);
             Ok((run.disk.clock(), run.disk.kept))
         }
         Err(fault) => match fault.why {

@@ -1,7 +1,6 @@
 //! Trials. With the name of a reader, `command`, `event`, `state`, `pair`, `words` or `lines`, it hands that reader the bytes of
 //! standard input, and fails where what was read does not spell them again, where a damaged pair of parts was written, or where
-//! what a run left does not open. With `life` it plays the sittings that standard input plans, one behind the other, over a disk
-//! in memory, scripted children and a clock that it moves itself, and prints what each of them says.
+//! what a run left does not open.
 #![tactic(auto)]
 
 mod commands;
@@ -16,9 +15,8 @@ use crate::spellings::{event, state};
 use anyhow::{Context, Result, bail};
 use std::alloc::Global;
 use std::env;
-use std::io::{self, BufReader, BufWriter, Read, Write};
+use std::io::{BufReader, Read};
 use std::rt::Env;
-use trial_lives::live;
 
 const READ_SIZE: usize = 65_536;
 
@@ -35,16 +33,12 @@ fn read(alloc: Global, name: &str, bytes: &[u8]) -> Result<()> {
     }
 }
 
-fn run(rt: &(impl AllocGlobal + Input + Print + Env)) -> Result<()> {
+fn run(rt: &(impl AllocGlobal + Input + Env)) -> Result<()> {
     let alloc = rt.alloc();
     let mut words = env::args(rt)?;
     let _program = words.next();
     let name = words.next().context("the name of a trial is wanted")?;
     let mut reader = BufReader::with_capacity(alloc, READ_SIZE, rt.reader())?;
-    if name.as_str() == "life" {
-        let mut writer = BufWriter::with_capacity(alloc, READ_SIZE, io::writer(rt))?;
-        return live(alloc, &mut reader, &mut writer);
-    }
     let mut bytes = Vec::new(alloc);
     reader.read_to_end(&mut bytes)?;
     read(alloc, name.as_str(), bytes.as_slice())

@@ -4,7 +4,7 @@ use disk_model::MemDisk;
 use executor::{Executor, OpenError};
 use ocf_types::Part;
 use std::alloc::Global;
-use trial_lives::{no_agents, nowhere};
+use trial_parts::{no_agents, nowhere};
 
 fn disk_with(alloc: Global, a: &[u8], b: &[u8]) -> Result<MemDisk> {
     Ok(MemDisk::from_parts(alloc, a.to_vec(alloc)?, b.to_vec(alloc)?)?)

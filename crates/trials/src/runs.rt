@@ -4,11 +4,11 @@ use anyhow::{Result, bail, ensure};
 use disk_model::MemDisk;
 use exec_client::Teller;
 use exec_commands::NoticeForm;
-use exec_session::{Pace, RunContext, Way, run_lines};
+use exec_session::{LineRoom, Pace, RunContext, Way, run_lines};
 use executor::Executor;
 use ocf_types::Part;
 use std::alloc::Global;
-use trial_lives::{MovedClock, NoMetadata, agents, nowhere};
+use trial_parts::{MovedClock, NoMetadata, agents, nowhere};
 
 // How many turns a drain or a watch makes at most.
 const TURNS: u64 = 64;
@@ -34,7 +34,8 @@ fn answered(alloc: Global, lines: &[u8], output: &mut Vec<u8>) -> Result<MemDisk
     match Executor::open(alloc, disk, agents(alloc, 1)?, nowhere(alloc), 1_000) {
         Ok((executor, report)) => {
             let mut client = Teller::new(alloc, output, &executor);
-            let run = run_lines(&context, &mut reader, &mut client, executor, &report);
+            let room = LineRoom::new(alloc)?;
+            let run = run_lines(&context, &mut reader, &mut client, executor, &report, room);
             match run.ended {
                 Ok(()) => Ok(run.disk),
                 Err(_) => bail!("a run over a good disk ended with a fault"),

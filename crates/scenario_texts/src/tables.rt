@@ -1,4 +1,5 @@
 //! The tables of exit codes.
+use crate::print::written;
 use anyhow::Result;
 use ocf_codes::{code_of, expected, failed, name, read_code};
 use ocf_types::{Action, Expect, Outcome, RunEnd, StartFault};
@@ -34,7 +35,7 @@ const OUTCOMES: [Outcome; 12] = [
 pub fn print_codes<W: Write>(writer: &mut W) -> Result<()> {
     for number in 0..=255u8 {
         let word = name(read_code(number));
-        writeln!(writer, "{number} {word}")?;
+        written(writeln!(writer, "{number} {word}"))?;
     }
     Ok(())
 }
@@ -43,7 +44,7 @@ pub fn print_codes<W: Write>(writer: &mut W) -> Result<()> {
 fn print_expected_codes<W: Write>(writer: &mut W, action: Action, expect: Expect) -> Result<()> {
     for code in 0..=255u8 {
         if expected(action, expect, code) {
-            write!(writer, " {code}")?;
+            written(write!(writer, " {code}"))?;
         }
     }
     Ok(())
@@ -55,22 +56,26 @@ fn print_failed_ends<W: Write>(writer: &mut W, action: Action, expect: Expect) -
         if failed(action, expect, outcome) {
             let word = outcome.word();
             let code = code_of(outcome);
-            write!(writer, " {word}-{code}")?;
+            written(write!(writer, " {word}-{code}"))?;
         }
     }
     Ok(())
+}
+
+fn print_action<W: Write>(writer: &mut W, action: Action, expect: Expect) -> Result<()> {
+    let word = action.word();
+    written(write!(writer, "{word}:"))?;
+    print_expected_codes(writer, action, expect)?;
+    written(write!(writer, "\n{word} failed:"))?;
+    print_failed_ends(writer, action, expect)?;
+    written(writeln!(writer))
 }
 
 /// Writes two lines for each action, where this is expected of a monitor: all codes that are expected of it, and the ends
 /// by which it has failed.
 pub fn print_expected<W: Write>(writer: &mut W, expect: Expect) -> Result<()> {
     for action in ACTIONS {
-        let word = action.word();
-        write!(writer, "{word}:")?;
-        print_expected_codes(writer, action, expect)?;
-        write!(writer, "\n{word} failed:")?;
-        print_failed_ends(writer, action, expect)?;
-        writeln!(writer)?;
+        print_action(writer, action, expect)?;
     }
     Ok(())
 }

@@ -57,7 +57,7 @@ fn poll_of(roll: u8) -> (Poll, usize) {
         2..=40 => (Poll::Running, 1),
         41..=50 => (Poll::Exited(7), 1),
         51..=53 => (Poll::Exited(1), 1),
-        54 => (Poll::Signaled, 1),
+        54 => (Poll::Signaled(9), 1),
         55 => (Poll::Fault, 1),
         _ => (Poll::Exited(0), 1),
     }

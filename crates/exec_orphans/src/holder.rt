@@ -1,0 +1,113 @@
+//! Which executor held a journal last: it leaves word of itself in the journal's folder.
+use file_disk::OWNER_ONLY;
+use proc_files::{ProcFiles, read_head};
+use process_ends::System;
+use std::alloc::Global;
+use std::fs::{self, OpenOptions};
+use std::io::{self, Eprint, ErrorKind, Write};
+use std::os::unix::fs::OpenOptionsExt;
+use std::str;
+
+// How many bytes are read of such a file, and of the system's own.
+const LIMIT: usize = 256;
+
+/// What an executor leaves word of: the session that its agents are in, and which moment of its clock was at which time after
+/// the system's boot. So a later executor knows the processes of its agents, and since when each of them runs.
+#[derive(Clone, Copy)]
+pub struct Holder {
+    /// POSIX, getsid.
+    pub session: u32,
+    /// In milliseconds, as in the journal.
+    pub moment: u64,
+    /// How long after the system's boot that was, in milliseconds.
+    pub uptime: u64,
+}
+
+impl Holder {
+    /// The moment that its clock shows so long after the system's boot, in milliseconds.
+    pub fn moment_at(self, uptime: u64) -> u64 {
+        self.moment
+            .saturating_add(uptime.saturating_sub(self.uptime))
+    }
+}
+
+// The first words of a small file of the system.
+fn text_in<'a>(rt: &HostRuntime, path: &str, room: &'a mut [u8]) -> Option<&'a str> {
+    let length = read_head(rt, path, room).ok()?;
+    str::from_utf8(&room[..length]).ok()
+}
+
+// The milliseconds of seconds with two decimals.
+fn millis_of(text: &str) -> Option<u64> {
+    let (seconds, hundredths) = text.split_once('.')?;
+    let seconds = seconds.parse::<u64>().ok()?.checked_mul(1_000)?;
+    let hundredths = hundredths.parse::<u8>().ok()?;
+    seconds.checked_add(u64::from(hundredths) * 10)
+}
+
+/// How long ago the system was booted, in milliseconds. Linux, proc(5), uptime.
+pub fn uptime(rt: &HostRuntime) -> Option<u64> {
+    let mut room = [0u8; LIMIT];
+    let (uptime, _) = text_in(rt, "/proc/uptime", &mut room)?.split_once(' ')?;
+    millis_of(uptime)
+}
+
+// Which boot of the system this is, by its name. Linux, random(4).
+fn boot_id<'a>(rt: &HostRuntime, room: &'a mut [u8]) -> Option<&'a str> {
+    Some(text_in(rt, "/proc/sys/kernel/random/boot_id", room)?.trim_end())
+}
+
+// What a text says of an executor of this boot.
+fn holder_in(text: &str, boot: &str) -> Option<Holder> {
+    let (found, rest) = text.split_once(' ')?;
+    if found != boot {
+        return None;
+    }
+    let (session, rest) = rest.split_once(' ')?;
+    let (moment, uptime) = rest.trim_end().split_once(' ')?;
+    Some(Holder {
+        session: session.parse().ok()?,
+        moment: moment.parse().ok()?,
+        uptime: uptime.parse().ok()?,
+    })
+}
+
+/// What the last executor of this boot left in this folder, if it did.
+pub fn read_holder(rt: &HostRuntime, folder: &str) -> Option<Holder> {
+    let (mut room, mut name) = ([0u8; LIMIT], [0u8; LIMIT]);
+    let path = format!(in rt.alloc(); "{folder}/executor").ok()?;
+    holder_in(
+        text_in(rt, path.as_str(), &mut room)?,
+        boot_id(rt, &mut name)?,
+    )
+}
+
+// Writes the file anew beside the old one, and puts it in its place.
+fn put(rt: &HostRuntime, folder: &str, moment: u64) -> io::Result<()> {
+    let mut room = [0u8; LIMIT];
+    let (Some(boot), Some(uptime)) = (boot_id(rt, &mut room), uptime(rt)) else {
+        return Err(io::Error::from(ErrorKind::NotFound));
+    };
+    let session = rt.own()?.session;
+    let alloc = rt.alloc();
+    let path = format!(in alloc; "{folder}/executor")?;
+    let new = format!(in alloc; "{folder}/executor.new")?;
+    let text = format!(in alloc; "{boot} {session} {moment} {uptime}\n")?;
+    let mut options = OpenOptions::new();
+    options
+        .write(true)
+        .create(true)
+        .truncate(true)
+        .mode(OWNER_ONLY);
+    options.open(rt, new.as_str())?.write_all(text.as_bytes())?;
+    fs::rename(rt, new.as_str(), path.as_str())
+}
+
+/// Leaves word of this executor, whose clock shows this moment. What is not left is said on standard error.
+pub fn leave_word(system: &System<'_>, folder: &str, moment: u64) {
+    if let Err(error) = put(system.host(), folder, moment) {
+        let _ = system.eprintln(format_args!(
+            "ocfexec: {folder}/executor cannot be written, so a later executor may not know all processes of this one: {error}"
+        ));
+    }
+}

@@ -1,0 +1,104 @@
+//! Actions that were interrupted.
+ghost use Rattle.std.specs.Prelude.{◌<◌, ◌↔◌, IsTrue, length};
+ghost use Rattle.ocf_types.specs.Actions.{action_word};
+ghost use Rattle.proc_files.specs.Orphans.{Calls, IsOrphan};
+
+use crate::times::Times;
+use exec_state::State;
+use ocf_env::{Site, Text, agent_file};
+use ocf_types::{Action, RscId, RunId, Running, StateView};
+use proc_files::{ActionMark, calls, is_orphan};
+use process_ends::Deadline;
+use std::alloc::{AllocError, Global};
+use std::fmt::{self, Display, Formatter};
+use std::str;
+
+/// An action that was interrupted, of the agent in this file.
+#[derive(Drop)]
+pub struct Interrupted {
+    id: RscId,
+    file: Text,
+    action: Action,
+    /// Its run.
+    pub run: RunId,
+    /// When it began, in clock ticks after the system's boot; no process of it started before.
+    since: u64,
+    /// How long it may still go on.
+    pub deadline: Deadline,
+}
+
+impl Interrupted {
+    /// What its background jobs are known by, in these sessions.
+    pub fn mark<'a>(&'a self, sessions: &'a [u32]) -> ActionMark<'a> {
+        ActionMark {
+            instance: self.id.as_bytes(),
+            since: self.since,
+            agent: 0,
+            sessions,
+        }
+    }
+
+    /// Whether a command line is that of the action.
+    pub fn is_called_by(&self, cmdline: &[u8]) -> bool
+        ensures { IsTrue result ↔ Calls cmdline.now self.now.file (action_word self.now.action) }
+    {
+        let file = self.file.as_str().as_bytes();
+        calls(cmdline, file, self.action.word().as_bytes())
+    }
+
+    /// Whether a process with this command line and this environment is the action's agent.
+    pub fn is_agent(&self, cmdline: &[u8], environ: &[u8]) -> bool
+        ensures { IsTrue result
+            ↔ IsOrphan cmdline.now environ.now self.now.file
+            (action_word self.now.action) self.now.id }
+    {
+        let file = self.file.as_str().as_bytes();
+        let action = self.action.word().as_bytes();
+        is_orphan(cmdline, environ, file, action, self.id.as_bytes())
+    }
+}
+
+impl Display for Interrupted {
+    fn fmt<W: fmt::Write>(&self, f: &mut Formatter<W>) -> fmt::Result {
+        // names are ASCII
+        let id = str::from_utf8(self.id.as_bytes()).unwrap_or_default();
+        write!(f, "{} of {id}", self.action.word())
+    }
+}
+
+// What runs in the resource at a place of a state, as an action that was interrupted.
+fn interrupted_at(
+    alloc: Global,
+    site: &Site,
+    state: &State,
+    place: usize,
+    running: Running,
+    times: &Times<'_>,
+) -> Result<Interrupted, AllocError>
+    requires { place < length state.now.state.resources }
+{
+    Ok(Interrupted {
+        id: state.id_at(place).copied(),
+        file: agent_file(alloc, site, state.provider_at(place), state.agent_at(place))?,
+        action: running.task.action(),
+        run: running.run,
+        since: times.ticks_at(running.since),
+        deadline: times.deadline_of(running),
+    })
+}
+
+/// The actions that run at a state, which its executor left.
+pub fn all_interrupted(
+    alloc: Global,
+    site: &Site,
+    state: &State,
+    times: &Times<'_>,
+) -> Result<Vec<Interrupted>, AllocError> {
+    let mut found = Vec::new(alloc);
+    for place in 0..state.len() {
+        if let Some(running) = state.running_at(place) {
+            found.push(interrupted_at(alloc, site, state, place, running, times)?)?;
+        }
+    }
+    Ok(found)
+}
