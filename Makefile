@@ -3,7 +3,7 @@ PREFIX ?= /usr/local
 PROGRAM := crates/ocfexec/out/ocfexec
 AGENTS := crates/ocf_agents/out/ocf_agents
 
-.PHONY: run test check mutants bench costs soak fuzz sanitize install deb guide clean
+.PHONY: run test check mutants bench costs statement soak fuzz sanitize install deb guide clean
 
 # Compiles every crate, proves nothing, and answers the example's commands, with the example's agent.
 run:
@@ -13,9 +13,10 @@ run:
 test:
 	@tests/gate.sh
 
-# The checks of the built programs alone.
+# The checks of the built programs alone: all of them, or those that are named, as make check NAMES="serve cli"; a name is that of a
+# script or of a folder. FAST=1 leaves out what is slow, and JOBS=n runs n at once, where it is else as many as there are processors.
 check:
-	@tests/check.sh
+	@tests/check.sh $(if $(FAST),--fast) $(NAME) $(NAMES)
 
 # Tries the wrong bodies of one crate, make mutants NAME=recurring; without a name or with NAME=gate all those under a stamp.
 mutants:
@@ -29,9 +30,13 @@ bench:
 costs:
 	@bench/costs.py --into docs/ARCHITECTURE.md -- rt ci --anew
 
+# Writes the laws of whole lives, and each definition behind them, into docs/STATEMENT.antt.txt.
+statement:
+	@docs/statement.py
+
 # A life of thirty days on a simulated clock; `make check` has one of a day.
 soak:
-	@DAYS=30 tests/soak.py
+	@DAYS=30 tests/crash/soak.py
 
 # Fuzzes each reader of bytes from outside for five minutes, two at a time. It needs the package afl++.
 fuzz:
@@ -58,7 +63,7 @@ deb:
 
 # The first hour in one go, on this machine: builds that package, installs it, runs each command of docs/GUIDE.md, and removes it.
 guide:
-	@tests/guide.sh $(PROGRAM) /
+	@tests/system/guide.sh $(PROGRAM) /
 
 $(PROGRAM): $(shell find crates -name out -prune -o -type f -print)
 	cd crates/ocfexec && rt run -- --help > /dev/null
@@ -69,4 +74,4 @@ $(AGENTS): $(shell find crates/ocf_types crates/ocf_codes crates/ocf_agents -nam
 	touch $@
 
 clean:
-	rm -rf crates/*/out
+	rm -rf crates/*/out tests/failed

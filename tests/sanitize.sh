@@ -1,6 +1,6 @@
 #!/usr/bin/env bash
 # Builds the program once more, from what its check keeps, with AddressSanitizer in it, and refuses each growth of memory of it
-# (tests/growths.py): no access to memory that is not there or was given back, nothing given back twice, and at the end nothing left.
+# (tests/crash/growths.py): no access to memory that is not there or was given back, nothing given back twice, and at the end nothing left.
 # Use: sanitize.sh, with WORK in the environment for a folder that is kept; it needs a C compiler with AddressSanitizer's library
 set -eu
 top=$(cd "$(dirname "$0")/.." && pwd)
@@ -9,12 +9,12 @@ work=${WORK:-$(mktemp -d)}
 [ -n "${WORK:-}" ] || trap 'rm -rf "$work"' EXIT
 mkdir -p "$work"
 
-"$top/tests/module.sh" ocfexec "$work" --help < /dev/null
+"$top/tests/lib/module.sh" ocfexec "$work" --help < /dev/null
 mapfile -t flags < <(sed -e 's/^module\.o$/ocfexec.o/' "$work/flags")
 (cd "$work" && "$kit/toolchain/bin/clang" "${flags[@]}" -fsanitize=address -mllvm -force-attribute=sanitize_address)
-cc -c -O1 -DLINKED -o "$work/growths.o" "$top/tests/growths.c"
+cc -c -O1 -DLINKED -o "$work/growths.o" "$top/tests/shims/growths.c"
 cc -fsanitize=address -static-libasan -Wl,--wrap=malloc,--wrap=calloc,--wrap=realloc -o "$work/ocfexec" "$work/ocfexec.o" \
     "$work/growths.o" "$kit/c/libos_c.a" "$kit/c/liblibc_c.a"
 # each access is looked at
 nm "$work/ocfexec.o" | grep -q -e __asan_report_load -e __asan_load
-LINKED=1 "$top/tests/growths.py" "$work/ocfexec"
+LINKED=1 "$top/tests/crash/growths.py" "$work/ocfexec"

@@ -10,7 +10,7 @@ top=$(cd "$here/../.." && pwd)
 kit=$(dirname "$(rt doc)")
 counters=/usr/lib/afl/afl-compiler-rt.o
 
-"$top/tests/module.sh" trials "$work" life < "$top/crates/trials/stdin"
+"$top/tests/lib/module.sh" trials "$work" lines < "$top/crates/trials/stdin"
 mapfile -t flags < <(sed -e 's/^module\.o$/trials.o/' "$work/flags")
 (cd "$work" && "$kit/toolchain/bin/clang" "${flags[@]}" -fsanitize-coverage=trace-pc-guard)
 objcopy --redefine-sym main=trial_main "$work/trials.o"

@@ -12,7 +12,7 @@
 # is 77.
 # Use: run.sh PROGRAM [PART..]
 set -u
-. "$(dirname "$0")/../common.sh" "$@"
+. "$(dirname "$0")/../lib/common.sh" "$@"
 folder=$(cd "$(dirname "$0")" && pwd)
 parts=${*:2}
 parts=${parts:-suite two slow timeout}

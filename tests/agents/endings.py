@@ -1,0 +1,283 @@
+#!/usr/bin/env python3
+# check: slow alone
+"""What ends with an action, with real processes. Wanted: behind a timeout, at the end of the input and after a signal the agent has ended
+with all its descendants, in whatever session they are, and with its background jobs; daemons, and services of earlier starts, live.
+The agent whose `start` is slow, and comes up late where only the agent is killed, stays down in `run` and in `serve`, after SIGTERM,
+and after its executor was killed.
+Use: endings.py PROGRAM"""
+import json
+import os
+import pwd
+import shutil
+import signal
+import subprocess
+import sys
+import time
+import unittest
+
+sys.path[0] += "/../lib"
+import helper  # noqa: E402
+
+# An agent whose start does what the parameter `does` says, in the shell; each process that is up writes its number to a file of `up`.
+ACTS = """case $1 in
+start) eval "$OCF_RESKEY_does" ;;
+monitor) eval "${OCF_RESKEY_monitor:-:}" ;;
+stop) rm -f "$OCF_RESKEY_up"/service ;;
+esac
+"""
+
+# Notes its own number under a name, and then goes on for a minute. Use: NOTE NAME
+NOTE = """#!/bin/sh
+echo $$ > "$OCF_RESKEY_up/$1.new" && mv "$OCF_RESKEY_up/$1.new" "$OCF_RESKEY_up/$1"
+trap '' TERM
+i=0
+while [ $i -lt 600 ]; do sleep 0.1; i=$((i + 1)); done
+"""
+
+
+def user():
+    """A user that is not root, by its name."""
+    return next((name for name in ("nobody", "daemon") if name in [entry.pw_name for entry in pwd.getpwall()]), None)
+
+
+def can(*command):
+    """Whether a command can be run here."""
+    return shutil.which(command[0]) is not None and subprocess.run(command, capture_output=True, check=False).returncode == 0
+
+
+# What the sleeps of this run have behind the point, so that no other run finds them.
+MINE = f"{os.getpid():07}"
+
+
+class Endings(helper.Check):
+    def setUp(self):
+        super().setUp()
+        os.chmod(self.here, 0o755)
+        self.agent("Acts", ACTS)
+        self.up, self.err = self.place("up"), self.place("err")
+        os.mkdir(self.up)
+        os.chmod(self.up, 0o777)
+        self.note = self.place("note")
+        with open(self.note, "w", encoding="ascii") as script:
+            script.write(NOTE)
+        os.chmod(self.note, 0o755)
+        self.addCleanup(self.end_all)
+
+    def end_all(self):
+        for name in os.listdir(self.up):
+            pid = self.pid(name)
+            if pid and helper.is_alive(pid):
+                os.kill(pid, signal.SIGKILL)
+
+    def pid(self, name):
+        """The number that a process left under a name, if it did."""
+        try:
+            with open(os.path.join(self.up, name), encoding="ascii") as file:
+                return int(file.read())
+        except (OSError, ValueError):
+            return None
+
+    def awaits_pid(self, name):
+        until = time.monotonic() + 10
+        while self.pid(name) is None:
+            self.assertLess(time.monotonic(), until, f"{name} is up")
+            time.sleep(0.005)
+        return self.pid(name)
+
+    def register(self, does, name="r1", **params):
+        texts = {key: text.replace("NOTE", self.note) for key, text in {"does": does, **params}.items()}
+        return helper.register(name, "Acts", up=self.up, **texts)
+
+    def opened(self, way="serve", **how):
+        return self.heard(way, "--memory", "--root", self.here, err=self.err, **how)
+
+    def said(self):
+        with open(self.err, encoding="utf-8") as err:
+            return err.read()
+
+    def timed_out(self, does, timeout=500, way="serve", names=("child",), **params):
+        """Lets a start time out that leaves processes under these names; gives their numbers once it was told."""
+        run = self.opened(way)
+        run.tell(self.register(does, **params), helper.action("r1", "start", timeout=timeout))
+        if way == "run":
+            run.tell({"op": "drain"})
+        pids = [self.awaits_pid(name) for name in names]
+        _, notice = run.awaits(helper.is_notice)
+        self.assertIsNotNone(notice, "a notice")
+        self.assertEqual((notice["outcome"], notice["code"]), ("timed-out", 1))
+        return run, pids
+
+    def ended(self, pids):
+        self.assertEqual([pid for pid in pids if helper.is_alive(pid)], [], f"all has ended when the notice comes: {self.said()}")
+
+    def slow(self, way):
+        # the agent that comes up after the stop where it alone is killed
+        does = f"sh -c 'sleep 1.5; : > {self.up}/service'"
+        run = self.opened(way)
+        run.tell(self.register(does), helper.action("r1", "start", timeout=400), helper.action("r1", "stop"))
+        if way == "run":
+            run.tell({"op": "drain"})
+        run.awaits(lambda value: helper.is_notice(value, action="stop"))
+        self.assertEqual([(end["action"], end["outcome"]) for end in run.told()], [("start", "timed-out"), ("stop", "done")])
+        time.sleep(2)
+        self.assertFalse(os.path.exists(os.path.join(self.up, "service")), "the service stays down")
+
+    def test_slow_run(self):
+        """a start that timed out does not come up after the stop, in run"""
+        self.slow("run")
+
+    def test_slow_serve(self):
+        """a start that timed out does not come up after the stop, in serve"""
+        self.slow("serve")
+
+    def test_child(self):
+        """a child that the agent waits for ends on its timeout, and one that ignores SIGTERM"""
+        for way in ("run", "serve"):
+            with self.subTest(way):
+                _, pids = self.timed_out("NOTE child; :", way=way)
+                self.ended(pids)
+                self.assertEqual(self.said(), "")
+                os.remove(os.path.join(self.up, "child"))
+
+    def test_grandchild(self):
+        """a grandchild ends on the timeout"""
+        _, pids = self.timed_out("sh -c 'NOTE grandchild; :'; :", names=["grandchild"])
+        self.ended(pids)
+
+    def test_own_session(self):
+        """a child that made a session of its own ends with the agent that waits for it"""
+        _, pids = self.timed_out("setsid -w NOTE child; :")
+        self.ended(pids)
+
+    @unittest.skipUnless(os.getuid() == 0 and user() and can("su", "-s", "/bin/sh", user(), "-c", "true"), "run as root, with su")
+    def test_su(self):
+        """what su started as another user ends on the timeout"""
+        _, pids = self.timed_out(f"su -s /bin/sh -c 'OCF_RESKEY_up={self.up} NOTE child' {user()}; :")
+        self.assertNotEqual(os.stat(os.path.join(self.up, "child")).st_uid, 0, "another user's")
+        self.ended(pids)
+
+    @unittest.skipUnless(os.getuid() == 0 and user() and can("su", "-l", "-s", "/bin/sh", user(), "-c", "true"), "run as root, with su")
+    def test_su_login(self):
+        """what su -l started, with another environment and in a session of its own, ends on the timeout"""
+        _, pids = self.timed_out(f"su -l -s /bin/sh -c 'OCF_RESKEY_up={self.up} NOTE child' {user()}; :")
+        self.ended(pids)
+
+    def test_background_job(self):
+        """a background job whose parent has ended ends on the timeout"""
+        _, pids = self.timed_out("sh -c 'NOTE child &'; sleep 60")
+        self.ended(pids)
+
+    def test_forks(self):
+        """an agent that starts a process each millisecond ends with all of them"""
+        does = f"while :; do sleep 61.{MINE} & sleep 0.001; done"
+        self.timed_out(f"echo $$ > {self.up}/child; {does}", timeout=700)
+        found = subprocess.run(["pgrep", "-f", f"^sleep 61[.]{MINE}"], capture_output=True, check=False).stdout.split()
+        self.ended([int(pid) for pid in found])
+
+    def test_daemon(self):
+        """a daemon, which made a session of its own and whose parent has ended, lives on"""
+        _, pids = self.timed_out("(setsid NOTE child &) ; sleep 60")
+        self.assertTrue(helper.is_alive(pids[0]), "the daemon lives")
+        self.assertEqual(self.said(), "")
+
+    def test_earlier_service(self):
+        """the service of an earlier start lives on where a monitor times out, also as a background job of that start"""
+        run = self.opened()
+        run.tell(self.register("NOTE child & :", monitor="sh -c 'NOTE other; :'"), helper.action("r1", "start", timeout=5000))
+        run.awaits(lambda value: helper.is_notice(value, action="start"))
+        run.tell(helper.action("r1", "monitor", timeout=500))
+        service, other = self.awaits_pid("child"), self.awaits_pid("other")
+        _, notice = run.awaits(lambda value: helper.is_notice(value, action="monitor"))
+        self.assertEqual(notice["outcome"], "timed-out")
+        self.ended([other])
+        self.assertTrue(helper.is_alive(service), "the service lives")
+
+    def test_other_resource(self):
+        """what another resource runs lives on"""
+        run = self.opened()
+        run.tell(self.register("NOTE second; :", name="r2"), helper.action("r2", "start", timeout=60000))
+        second = self.awaits_pid("second")
+        run.tell(self.register("NOTE child; :"), helper.action("r1", "start", timeout=400))
+        child = self.awaits_pid("child")
+        run.awaits(lambda value: helper.is_notice(value, id="r1"))
+        self.ended([child])
+        self.assertTrue(helper.is_alive(second))
+
+    def test_end_of_input(self):
+        """what an agent started ends with the run's input"""
+        run = self.opened()
+        run.tell(self.register("NOTE child; :"), helper.action("r1", "start", timeout=60000))
+        child = self.awaits_pid("child")
+        self.assertEqual(run.ends(), 0)
+        self.ended([child])
+
+    def test_256(self):
+        """256 timeouts in one turn, each agent with a child"""
+        run = self.opened()
+        for n in range(256):
+            run.tell(self.register(f"sleep 62.{MINE}{n:03}; :", name=f"r{n}"))
+        run.tell(*[helper.action(f"r{n}", "start", timeout=4000) for n in range(256)])
+        first, _ = run.awaits(helper.is_notice, 60)
+        until = time.monotonic() + 20
+        while len(run.told()) < 256 and time.monotonic() < until:
+            time.sleep(0.01)
+        self.assertEqual([end["outcome"] for end in run.told()], ["timed-out"] * 256)
+        found = subprocess.run(["pgrep", "-f", f"^sleep 62[.]{MINE}"], capture_output=True, check=False).stdout.split()
+        self.ended([int(pid) for pid in found])
+        last = [moment for moment, line in run.lines if "outcome" in json.loads(line)][-1]
+        at = [end["at"] for end in run.told()]
+        self.assertLess(max(at) - min(at) + (last - first) * 1000, 6000, "in time")
+
+    @unittest.skipUnless(shutil.which("cc"), "install a C compiler")
+    def test_stuck(self):
+        """agents that do not end delay a reply by a fifth of a second, and hold up their own resources alone, but for a stop"""
+        self.agent("Stuck", "case $1 in start) sleep 600 ;; esac\n")
+        shim = helper.shim("stuck.c", self.here)
+        run = self.opened(env={**os.environ, "LD_PRELOAD": shim})
+        run.tell(*[helper.register(f"r{n}", "Stuck") for n in range(60)], self.register(":", name="other"))
+        run.tell(*[helper.action(f"r{n}", "start", timeout=1500) for n in range(60)])
+        slowest = 0
+        while len(run.told()) < 60:
+            before, began = len(run.values()), time.monotonic()
+            run.tell({"op": "list"})
+            moment, _ = run.awaits(lambda value: "resources" in value, after=before)
+            slowest = max(slowest, moment - began)
+            self.assertLess(moment - began, 5, "a reply")
+        self.assertLess(slowest, helper.number("STUCK_MILLIS", 300) / 1000, "the latest reply")
+        run.tell(helper.action("r0", "monitor"), helper.action("r0", "stop", timeout=500), helper.action("other", "start"))
+        ends = [run.awaits(lambda value, name=name, what=what: helper.is_notice(value, id=name, action=what))[1]
+                for name, what in (("r0", "monitor"), ("r0", "stop"), ("other", "start"))]
+        self.assertEqual([end["outcome"] for end in ends], ["not-started", "timed-out", "done"])
+        self.assertEqual(self.said().count("until it ends this executor starts no action of r0 but a stop\n"), 2, "for the start, and for the stop")
+
+    def behind(self, mount):
+        """A run that serves behind a mount of its own, with a copy of the shell to run agents."""
+        shell = self.place("sh")
+        shutil.copy("/bin/sh", shell)
+        os.makedirs(self.place("resource.d/test"), exist_ok=True)
+        with open(self.place("resource.d/test/Direct"), "w", encoding="ascii") as script:
+            script.write(f"#!{shell}\n{shell} {self.note} child\n:\n")
+        os.chmod(self.place("resource.d/test/Direct"), 0o755)
+        words = f"{mount} && exec {helper.PROGRAM} serve --memory --root {self.here}"
+        run = self.heard("-m", shell, "-c", words, err=self.err, program="unshare")
+        run.tell(helper.register("r1", "Direct", up=self.up), helper.action("r1", "start", timeout=500))
+        child = self.awaits_pid("child")
+        _, notice = run.awaits(helper.is_notice)
+        self.assertEqual(notice["outcome"], "timed-out")
+        return child
+
+    @unittest.skipUnless(os.getuid() == 0 and can("unshare", "-m", "true"), "run as root, with unshare")
+    def test_no_shell(self):
+        """where there is no shell the agent itself is killed, and what it started is named"""
+        child = self.behind("mount --bind /dev/null /bin/sh")
+        self.assertRegex(self.said(), rf"pid {child} \(\w+\), which an action started, was killed and still lives\n")
+
+    @unittest.skipUnless(os.getuid() == 0 and can("unshare", "-m", "true"), "run as root, with unshare")
+    def test_no_proc(self):
+        """where /proc lists nothing the agent itself is killed, and that what it started cannot be found is said"""
+        self.behind("mount -t tmpfs none /proc")
+        self.assertIn("ocfexec: what a killed action started cannot all be found in /proc and stopped: ", self.said())
+
+
+if __name__ == "__main__":
+    helper.main()

@@ -1,0 +1,200 @@
+#!/usr/bin/env python3
+"""Metadata: while a run serves, turns go on and the reply comes before those of the lines after it; a limit ends an agent with all that
+it started, and so do a client that goes away and a journal that is removed. A run of commands alone waits for its agent, without a limit
+where the line names none, and both give the same replies.
+Use: metadata.py PROGRAM"""
+import os
+import shutil
+import subprocess
+import sys
+import time
+
+sys.path[0] += "/../lib"
+import helper  # noqa: E402
+from helper import PROGRAM, action  # noqa: E402
+
+# An agent that gives its metadata after n seconds, n being in the file `takes`; the file `pids` has its number and its child's.
+SLOW = """here={here}
+sleep "$(cat "$here/takes")" & echo $$ $! > "$here/pids.new"
+mv "$here/pids.new" "$here/pids"
+wait
+printf '{{"of":"%s"}}' "$(basename "$0")"
+"""
+LIST = {"op": "list"}
+
+
+def meta(kind, **more):
+    return {"op": "meta", "provider": "test", "type": kind, **more}
+
+
+class Metadata(helper.Check):
+    def setUp(self):
+        super().setUp()
+        for kind in ("Slow", "Other"):
+            self.agent(kind, SLOW.format(here=self.here))
+        self.agent("Works", '[ "$1" = start ] && exec sleep 30\nexit 0\n')
+        self.takes(3)
+
+    def takes(self, seconds):
+        with open(self.place("takes"), "w", encoding="ascii") as file:
+            file.write(str(seconds))
+
+    def heard_with(self, *words):
+        return self.heard(*words, "--root", self.here)
+
+    def monitored(self, word="serve", interval=100):
+        # a run in which a monitor is due each n milliseconds, and a resource more is registered
+        run = self.heard_with(word, "--memory")
+        run.tell(helper.register("m", "Works"), helper.register("s", "Works"), {"op": "recur", "id": "m", "interval": interval})
+        self.assertIsNotNone(run.awaits(lambda value: "key" in value)[0], "a monitor")
+        return run
+
+    def pids(self):
+        # the numbers of the agent that is asked and of its child
+        for _ in range(500):
+            if os.path.exists(self.place("pids")):
+                with open(self.place("pids"), encoding="ascii") as file:
+                    return [int(word) for word in file.read().split()]
+            time.sleep(0.02)
+        return self.fail("no agent is asked")
+
+    def gone(self, pids):
+        time.sleep(0.1)
+        self.assertEqual([pid for pid in pids if helper.is_alive(pid)], [], "processes that live on")
+
+    def monitors(self, run, began, ended):
+        # how many notices of a monitor came between two moments
+        with run.came:
+            return sum(began < at < ended and '"monitor"' in line for at, line in run.lines)
+
+    def after(self, run, began, least, most, holds, seconds=10):
+        # the moment of a line that comes so many seconds after another moment
+        at, value = run.awaits(holds, seconds)
+        self.assertIsNotNone(at, f"no such line among {run.lines}")
+        self.assertTrue(least <= at - began <= most, f"{value} after {at - began:.2f} s")
+        return at
+
+    def replies(self, run):
+        # what came but for notices and replies to commands
+        return [value for value in run.values() if value.keys() & {"meta", "of", "resources"}]
+
+    def test_turns(self):
+        """while an agent takes three seconds for its metadata monitors go on and a start times out; then it is answered, and the next line"""
+        run = self.monitored(interval=500)
+        began = time.monotonic()
+        run.tell(action("s", "start", timeout=1000), meta("Slow"), LIST)
+        self.after(run, began, 0.9, 1.5, lambda value: helper.is_notice(value, id="s", outcome="timed-out"))
+        at = self.after(run, began, 2.9, 4, lambda value: "meta" in value)
+        self.after(run, at, 0, 0.5, lambda value: "resources" in value)
+        self.assertGreaterEqual(self.monitors(run, began, at), 4)
+        self.assertEqual(self.replies(run), [{"meta": 13}, {"of": "Slow"}, {"ok": True, "resources": ["m", "s"]}])
+        self.assertEqual(run.ends(), 0)
+
+    def test_limit(self):
+        """an agent that is past its limit is ended with its child, and monitors go on until then"""
+        run = self.monitored()
+        began = time.monotonic()
+        run.tell(meta("Slow", limit=1000), LIST)
+        pids = self.pids()
+        at = self.after(run, began, 1, 1.5, lambda value: value.get("end") == "limit")
+        self.assertGreaterEqual(self.monitors(run, began, at), 5)
+        self.gone(pids)
+        self.after(run, at, 0, 0.5, lambda value: "resources" in value)
+        self.assertEqual(run.ends(), 0)
+
+    def test_client(self):
+        """a client that goes away while an agent is asked ends the run within a second, and the agent with its child"""
+        run = subprocess.Popen([PROGRAM, "serve", "--memory", "--root", self.here],
+                               stdin=subprocess.PIPE, stdout=subprocess.PIPE, stderr=subprocess.DEVNULL)
+        self.addCleanup(run.kill)
+        run.stdin.write(helper.lines(meta("Slow")))
+        run.stdin.flush()
+        pids, began = self.pids(), time.monotonic()
+        run.stdout.close()
+        run.stdin.close()
+        self.assertEqual(run.wait(5), 7)
+        self.assertLess(time.monotonic() - began, 1.5)
+        self.gone(pids)
+
+    def test_journal(self):
+        """a journal that is removed while an agent is asked ends the run within a second, and the agent with its child"""
+        folder = self.journal()
+        run = self.heard_with("serve", "--journal", folder)
+        run.tell(meta("Slow"))
+        pids, began = self.pids(), time.monotonic()
+        shutil.rmtree(folder)
+        self.assertEqual(run.run.wait(5), 5)
+        self.assertLess(time.monotonic() - began, 1.5)
+        self.gone(pids)
+
+    def test_two(self):
+        """two questions one after the other are answered in that order, also where the input ends behind them"""
+        self.takes(1)
+        began = time.monotonic()
+        done = helper.run("serve", "--memory", "--root", self.here, told=helper.lines(meta("Slow"), meta("Other"), LIST))
+        self.assertTrue(2 <= time.monotonic() - began < 4)
+        wanted = [{"meta": 13}, {"of": "Slow"}, {"meta": 14}, {"of": "Other"}, {"ok": True, "resources": []}]
+        self.assertEqual((done.returncode, helper.replies(done.stdout)), (0, wanted))
+
+    def test_run(self):
+        """a run of commands alone waits for its agent, and makes no turn"""
+        run = self.monitored("run")
+        began = time.monotonic()
+        run.tell(meta("Slow"), LIST)
+        at = self.after(run, began, 2.9, 4, lambda value: "meta" in value)
+        self.after(run, at, 0, 0.5, lambda value: "resources" in value)
+        self.assertEqual(run.told(), [])
+        self.assertEqual(run.ends(), 0)
+
+    def answers(self, word, *lines):
+        """What a run of these lines answers, in its own words."""
+        done = helper.run(word, "--memory", "--root", self.here, told=helper.lines(*lines))
+        self.assertEqual(done.returncode, 0)
+        return done.stdout.decode().splitlines()
+
+    @helper.slow
+    def test_no_limit(self):
+        """without a limit run waits as long as its agent takes, and serve half a minute"""
+        self.takes(33)
+        run, serve = self.heard_with("run", "--memory"), self.heard_with("serve", "--memory")
+        began = time.monotonic()
+        for one in (run, serve):
+            one.tell(meta("Slow"))
+        self.after(serve, began, 29.5, 31.5, lambda value: value == {"end": "limit"}, seconds=33)
+        self.after(run, began, 32.5, 36, lambda value: value == {"meta": 13}, seconds=10)
+        self.assertEqual((run.ends(), serve.ends()), (0, 0))
+
+    def test_limits(self):
+        """what is no number as a limit is passed over by run and refused by serve, and a number out of range is refused by both"""
+        self.agent("Brief", "sleep 0.5\nprintf brief\n")
+        for limit in ("5", "", None, True, -1, 1.5, 1e3, [5], {"limit": 5}, 2 ** 64):
+            with self.subTest(limit):
+                self.assertEqual(self.answers("run", meta("Brief", limit=limit)), ['{"meta":5}', "brief"])
+                self.assertEqual(self.answers("serve", meta("Brief", limit=limit)), ['{"error":"syntax","number":1}'])
+        for limit in (86_400_001, 2 ** 64 - 1):
+            for word in ("run", "serve"):
+                with self.subTest(limit=limit, word=word):
+                    self.assertEqual(self.answers(word, meta("Brief", limit=limit)), ['{"error":"bad-value","number":4}'])
+        for word in ("run", "serve"):
+            self.assertEqual(self.answers(word, meta("Brief", limit=86_400_000)), ['{"meta":5}', "brief"])
+            self.assertEqual(self.answers(word, meta("Brief", limit=100)), ['{"end":"limit"}'])
+            self.assertEqual(self.answers(word, {"op": "watch"}), ['{"error":"syntax","number":1}'])
+
+    def test_same(self):
+        """a run that serves gives the replies of one of commands alone, whatever an agent answers"""
+        many = "n=0; while [ $n -lt 4096 ]; do echo 123456789012345; n=$((n+1)); done\n"
+        kinds = {"Long": many, "Longer": many + "echo\n", "Fails": "echo half; exit 5\n", "Dies": "kill -9 $$\n",
+                 "Closes": "exec sleep 5 > /dev/null\n", "Leaves": "sleep 2 &\n", "Nothing": "exit 0\n", "Hangs": "exec sleep 5\n"}
+        for kind, body in kinds.items():
+            self.agent(kind, body)
+        told = helper.lines(*[meta(kind, limit=500) for kind in [*kinds, "None"]])
+        served, done = [helper.run(word, "--memory", "--root", self.here, told=told) for word in ("serve", "run")]
+        long = b"123456789012345\n" * 4096
+        ends = ['{"end":"too-long"}', '{"code":5,"end":"failed"}', '{"code":1,"end":"failed"}', '{"end":"limit"}', '{"end":"limit"}',
+                '{"meta":0}', "", '{"end":"limit"}', '{"end":"missing"}', ""]
+        self.assertEqual(done.stdout, b'{"meta":65536}\n' + long + b"\n" + "\n".join(ends).encode())
+        self.assertEqual((served.returncode, served.stdout), (0, done.stdout))
+
+
+if __name__ == "__main__":
+    helper.main()

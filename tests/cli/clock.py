@@ -1,0 +1,163 @@
+#!/usr/bin/env python3
+"""Steps of the wall clock, by a shim over clock_gettime (clock.c): an action's timeout, a watch's limit and recurring monitors keep
+their length while the clock is set back or forward, a journal that was written ten years ahead goes on, and a status counts ages by the
+clock of the executor, or says that a moment is in the future.
+Use: clock.py PROGRAM"""
+import os
+import re
+import shutil
+import sys
+import time
+import unittest
+
+sys.path[0] += "/../lib"
+import helper  # noqa: E402
+
+YEARS = 315360000  # ten of them, in seconds
+DRAIN = {"op": "drain"}
+UNITS = {"ms": 1, "s": 1000, "min": 60000, "h": 3600000, "days": 86400000}
+
+
+@unittest.skipUnless(shutil.which("cc"), "install a C compiler (apt-get install gcc)")
+class Clock(helper.Check):
+    def setUp(self):
+        super().setUp()
+        self.agent("Sleeper", '[ "$1" = monitor ] && exit 0\nexec sleep "$OCF_RESKEY_for"\n')
+        self.shim = helper.shim("clock.c", self.here)
+        self.set_ahead(0)
+
+    def set_ahead(self, seconds):
+        with open(self.place("ahead.new"), "w", encoding="ascii") as ahead:
+            ahead.write(str(seconds))
+        os.rename(self.place("ahead.new"), self.place("ahead"))
+
+    def environment(self):
+        return {**os.environ, "AHEAD": self.place("ahead"), "LD_PRELOAD": self.shim}
+
+    def shimmed(self, *journal, word="run"):
+        return self.heard(word, *(journal or ["--memory"]), "--root", self.here, env=self.environment())
+
+    def registered(self):
+        return helper.register("r1", "Sleeper", **{"for": "4"})
+
+    def start(self, timeout):
+        return helper.action("r1", "start", timeout=timeout)
+
+    def takes(self, run, word, began, least, most):
+        # the end of a drain or a watch, of this word, so many milliseconds behind a moment
+        at, end = run.awaits(lambda value: value.get("end") == word)
+        self.assertIsNotNone(at, f"an end as {word}, not {run.values()}")
+        self.assertTrue(least <= (at - began) * 1000 <= most, f"{word} after {(at - began) * 1000:.0f} ms")
+
+    def ended(self, run, action):
+        return [(value["outcome"], value["code"]) for value in run.told() if value["action"] == action]
+
+    def test_ahead(self):
+        """a journal of ten years ahead"""
+        folder = self.journal()
+        self.set_ahead(YEARS)
+        run = self.shimmed("--journal", folder)
+        run.tell(self.registered())
+        self.assertEqual(run.awaits(lambda value: True)[1], {"ok": True})
+        self.assertEqual(run.ends(), 0)
+        self.set_ahead(0)
+        run, began = self.shimmed("--journal", folder), time.monotonic()
+        run.tell(self.start(1000), DRAIN)
+        self.takes(run, "idle", began, 900, 2500)
+        self.assertEqual(self.ended(run, "start"), [("timed-out", 1)])
+        run.tell({"op": "recur", "id": "r1", "interval": 200}, {"op": "watch", "limit": 1500})
+        self.assertIsNotNone(run.awaits(lambda value: value.get("end") == "limit")[0], "the end of a watch")
+        self.assertGreaterEqual(len(self.ended(run, "monitor")), 3, "monitors of 200 ms in 1.5 s")
+        self.assertEqual(run.ends(), 0)
+
+    def test_back(self):
+        """a timeout and a watch, the clock set back"""
+        run, began = self.shimmed(), time.monotonic()
+        run.tell(self.registered(), self.start(1000), DRAIN)
+        time.sleep(0.3)
+        self.set_ahead(-30)
+        self.takes(run, "idle", began, 700, 2500)
+        began = time.monotonic()
+        run.tell({"op": "watch", "limit": 1500})
+        time.sleep(0.3)
+        self.set_ahead(-60)
+        self.takes(run, "limit", began, 1200, 3000)
+        self.assertEqual(run.ends(), 0)
+
+    def test_forward(self):
+        """a start, the clock set forward"""
+        run = self.shimmed()
+        run.tell(self.registered(), self.start(20000), DRAIN)
+        time.sleep(0.8)
+        self.set_ahead(3600)
+        self.assertIsNotNone(run.awaits(lambda value: value.get("end") == "idle")[0], "the end of a drain")
+        self.assertEqual(self.ended(run, "start"), [("done", 0)])
+        self.assertEqual(run.ends(), 0)
+
+    def monitored(self):
+        # an executor with a start that runs and a monitor of 2 s with a result
+        run = self.shimmed("--journal", self.journal(), word="serve")
+        run.tell(helper.register("r1", "Sleeper", **{"for": "30"}), helper.action("r1", "start", timeout=90000),
+                 helper.register("r2", "Sleeper"), {"op": "recur", "id": "r2", "interval": 2000})
+        self.assertIsNotNone(run.awaits(lambda value: helper.is_notice(value, action="monitor"))[0], "a monitor's result")
+        return run
+
+    def status(self, seconds, name="journal", *words):
+        # the table, while the wall clock is so many seconds ahead, with one space in place of each gap
+        self.set_ahead(seconds)
+        done = helper.run("status", "--journal", self.place(name), *words, env=self.environment())
+        self.assertEqual((done.returncode, done.stderr), (0, b""))
+        return re.sub(" +", " ", done.stdout.decode())
+
+    def copied(self, name, executor=None):
+        # the parts alone, and what the file of the executor is to be
+        shutil.copytree(self.place("journal"), self.place(name), ignore=shutil.ignore_patterns("executor*"))
+        if executor is not None:
+            with open(os.path.join(self.place(name), "executor"), "w", encoding="ascii") as file:
+                file.write(executor)
+        return name
+
+    def is_true_to(self, table, seconds):
+        # no length of time is longer, and no moment is in the future
+        spans = [int(count) * UNITS[unit] for count, unit in re.findall(r"(\d+) (ms|s|min|h|days)\b", table)]
+        self.assertGreaterEqual(len(spans), 4, table)
+        self.assertLess(max(spans), seconds * 1000, table)
+        self.assertNotIn("future", table)
+        self.assertNotIn("within", table)
+        for due in re.findall(r"due in (\d+) (ms|s)", table):
+            self.assertLessEqual(int(due[0]) * UNITS[due[1]], 2000, table)
+
+    def test_status(self):
+        """a status of a journal in use, the clock set back and forward"""
+        run, began = self.monitored(), time.monotonic()
+        for seconds in (0, -3600, 3600, -YEARS, YEARS):
+            table = self.status(seconds)
+            self.is_true_to(table, 5 + time.monotonic() - began)
+            self.assertRegex(table, r"r1 test:Sleeper start since \d+ (ms|s)\n")
+            self.assertRegex(table, r"\n every 2 s running, \d+ (ms|s) ago; due (in )?\d+ (ms|s)")
+        self.is_true_to(self.status(YEARS, "journal", "r2"), 5 + time.monotonic() - began)
+        run.run.kill()
+        run.run.wait()
+        self.is_true_to(self.status(-3600), 5 + time.monotonic() - began)
+
+    def test_status_alone(self):
+        """a status of the parts alone, the clock set back and forward"""
+        run, began = self.monitored(), time.monotonic()
+        run.run.kill()
+        run.run.wait()
+        with open(os.path.join(self.place("journal"), "executor"), encoding="ascii") as file:
+            values = file.read().split()
+        files = [None, "", "no executor\n", " ".join(["0" * 36, *values[1:]]) + "\n", " ".join(values[:3]) + "\n"]
+        for place, executor in enumerate(files):
+            name = self.copied(f"copy{place}", executor)
+            self.is_true_to(self.status(0, name), 5 + time.monotonic() - began)
+            table = self.status(-3600, name)
+            self.assertIn("r1 test:Sleeper start since a moment in the future by the clock\n", table)
+            self.assertIn("\n every 2 s running, in the future by the clock; due within 2 s\n", table)
+            table = self.status(YEARS, name)
+            self.assertIn("r1 test:Sleeper start since 3650 days\n", table)
+            self.assertRegex(table, r"\n every 2 s running, 3650 days ago; due 36(49|50) days ago\n")
+
+
+if __name__ == "__main__":
+    helper.main()

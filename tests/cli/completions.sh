@@ -1,0 +1,71 @@
+#!/usr/bin/env bash
+# The completions of the program's words, each asked for in the shell itself: bash, zsh and fish, where they are there.
+# Use: completions.sh PROGRAM
+set -u
+. "$(dirname "$0")/../lib/common.sh" "$@"
+mkdir -p "$here/zsh" "$here/lib" "$here/libexec"
+"$top/package/completions.sh" "$program" bash > "$here/bash" || exit 1
+"$top/package/completions.sh" "$program" zsh > "$here/zsh/_ocfexec" || exit 1
+"$top/package/completions.sh" "$program" fish > "$here/fish" || exit 1
+
+# Says that a shell is not there. Use: missing SHELL
+missing() {
+    printf 'skipped    0.00 s  completions: %s: it is not there (apt-get install %s)\n' "$1" "$1"
+}
+
+# What bash offers for words, the last of them being completed, each behind a space. Use: in_bash WORD..
+in_bash() {
+    bash --norc -c '. "$1"; shift; complete -p ocfexec > /dev/null || exit 1
+        COMP_WORDS=("$@"); COMP_CWORD=$(($# - 1)); _ocfexec; printf "%s\n" "${COMPREPLY[@]}"' bash "$here/bash" "$@" | sort | xargs
+}
+same "bash, subcommands" "--help --version run serve show status" "$(in_bash ocfexec '')"
+same "bash, an option" "--journal" "$(in_bash ocfexec serve --jo)"
+same "bash, a flag" "--leave-orphans" "$(in_bash ocfexec serve --le)"
+same "bash, a flag of a journal" "--any-owner" "$(in_bash ocfexec serve --an)"
+same "bash, an option of status" "--json" "$(in_bash ocfexec status --js)"
+same "bash, a folder" "$here/lib $here/libexec" "$(in_bash ocfexec serve --journal "$here/li")"
+checked "bash"
+
+# What fish offers for a line. Use: in_fish LINE
+in_fish() {
+    HOME=$here fish --no-config -c 'source $argv[1]; complete -C $argv[2]' "$here/fish" "$1" | cut -f 1 | sort | xargs
+}
+if command -v fish > /dev/null; then
+    same "fish, subcommands" "run serve show status" "$(in_fish 'ocfexec s' | tr ' ' '\n' | cat - <(in_fish 'ocfexec r' | tr ' ' '\n') | sort | xargs)"
+    same "fish, an option" "--journal" "$(in_fish 'ocfexec serve --jo')"
+    same "fish, an option of status" "--json" "$(in_fish 'ocfexec status --js')"
+    same "fish, a folder" "$here/lib/ $here/libexec/" "$(in_fish "ocfexec serve --journal $here/li")"
+    checked "fish"
+else
+    missing fish
+fi
+
+# What zsh makes of lines that are typed and completed, on a terminal of its own: the words of each. Use: in_zsh LINE..
+in_zsh() {
+    cat > "$here/typed" <<'ZSH'
+zmodload zsh/zpty
+zpty shell zsh -f -i
+zpty -w shell "fpath=($1/zsh \$fpath); autoload -U compinit; compinit -u -d $1/dump; ocfexec() { print -r -- \$argv >> $1/words }; : > $1/ready"
+until [[ -e $1/ready ]]; do sleep 0.1; done
+for line in "${@:2}"; do
+    sleep 0.3
+    zpty -w -n shell "$line"$'\t'
+    sleep 0.7
+    zpty -w -n shell $'\n'
+done
+sleep 0.5
+zpty -d shell
+ZSH
+    HOME=$here timeout 30 zsh -f "$here/typed" "$here" "$@" > /dev/null 2>&1
+    sed 's/ *$//' "$here/words"
+}
+if command -v zsh > /dev/null; then
+    same "zsh" "serve
+serve --journal
+status --json
+serve --journal $here/libexec" "$(in_zsh 'ocfexec se' 'ocfexec serve --jo' 'ocfexec status --js' "ocfexec serve --journal $here/libe")"
+    checked "zsh"
+else
+    missing zsh
+fi
+[ "$any_failed" -eq 0 ]

@@ -1,0 +1,203 @@
+#!/usr/bin/env python3
+"""The two ends of a run: a reader that goes away ends a drain, a watch, a run that waits for a line and one that serves within a
+second, with its agents, and an opening that waits for what is left; descriptors that do not block are waited for; behind a device that
+fails a run waits, too; starts with signals ignored, which are named; and starts that are refused: with SIGCHLD ignored, and with a root
+that is not absolute.
+Use: ends.py PROGRAM"""
+import fcntl
+import json
+import os
+import resource
+import shutil
+import signal
+import subprocess
+import sys
+import time
+
+sys.path[0] += "/../lib"
+import helper  # noqa: E402
+from helper import PROGRAM  # noqa: E402
+
+
+class Ends(helper.Check):
+    def pid_in(self, path):
+        while not os.path.exists(path) or not os.path.getsize(path):
+            time.sleep(0.02)
+        with open(path, encoding="ascii") as file:
+            return int(file.read())
+
+    def ends_unheard(self, run):
+        # its status and its first word, within a second after nobody reads any more
+        run.stdout.close()
+        began = time.monotonic()
+        self.assertEqual(run.wait(5), 7)
+        self.assertLess(time.monotonic() - began, 1.5)
+        self.assertEqual(run.stderr.read().decode(), "ocfexec: input or output\n")
+        run.stderr.close()
+        run.stdin.close()
+
+    def gone(self, word, *last, until=None):
+        self.agent("Sleeper", 'echo $$ > "$OCF_RESKEY_pid"\nexec sleep 60\n')
+        pid_file = self.place("pid")
+        run = subprocess.Popen([PROGRAM, word, "--memory", "--root", self.here],
+                               stdin=subprocess.PIPE, stdout=subprocess.PIPE, stderr=subprocess.PIPE)
+        self.addCleanup(run.kill)
+        run.stdin.write(helper.lines(helper.register("r1", "Sleeper", pid=pid_file), helper.action("r1", "start"), *last))
+        run.stdin.flush()
+        pid = self.pid_in(pid_file)
+        while until and run.stdout.readline() != until:
+            pass
+        self.ends_unheard(run)
+        time.sleep(0.1)
+        self.assertFalse(helper.is_alive(pid), "its agent lives on")
+
+    def test_drain(self):
+        """a reader that goes away amid a drain"""
+        self.gone("run", {"op": "drain"})
+
+    def test_watch(self):
+        """a reader that goes away amid a watch"""
+        self.gone("run", {"op": "watch", "limit": 43200000})
+
+    def test_serve(self):
+        """a reader that goes away while it is served"""
+        self.gone("serve")
+
+    def test_line(self):
+        """a reader that goes away while a run waits for a line"""
+        self.gone("run", {"op": "drain", "limit": 300}, until=b'{"end":"limit"}\n')
+
+    def test_orphans(self):
+        """a reader that goes away while an opening waits for what is left: nothing is recorded, and what is left goes on"""
+        self.agent("Sleeper", 'echo $$ > "$OCF_RESKEY_pid"\nsleep 60\n')
+        folder, pid_file = self.journal(), self.place("pid")
+        words = ["run", "--journal", folder, "--root", self.here, "--orphans"]
+        first = self.heard(*words, "0")
+        first.tell(helper.register("r1", "Sleeper", pid=pid_file), helper.action("r1", "start", timeout=60000), {"op": "drain"})
+        pid = self.pid_in(pid_file)
+        first.killed()
+        before = helper.parts(folder)
+        waiting = subprocess.Popen([PROGRAM, *words, "60000"], stdin=subprocess.PIPE, stdout=subprocess.PIPE, stderr=subprocess.PIPE)
+        self.addCleanup(waiting.kill)
+        time.sleep(1)
+        self.ends_unheard(waiting)
+        self.assertEqual(helper.parts(folder), before)
+        self.assertTrue(helper.is_alive(pid), "what is left goes on")
+        last = helper.run(*words, "0")
+        self.assertEqual([value["outcome"] for value in helper.replies(last.stdout)], ["interrupted"])
+        self.assertFalse(helper.is_alive(pid), "what is left is ended")
+
+    def not_blocking(self, word):
+        # two thousand lines come in pieces, and their replies are read late
+        read_in, write_in = os.pipe()
+        read_out, write_out = os.pipe()
+        for descriptor in (read_in, write_out):
+            fcntl.fcntl(descriptor, fcntl.F_SETFL, fcntl.fcntl(descriptor, fcntl.F_GETFL) | os.O_NONBLOCK)
+        run = subprocess.Popen([PROGRAM, word, "--memory"], stdin=read_in, stdout=write_out)
+        os.close(read_in), os.close(write_out)
+        line = b'{"op":"info","id":"' + b"x" * 2000 + b'"}\n'
+        writer = os.fork()
+        if writer == 0:
+            for count in (200, 1800):
+                for _ in range(count):
+                    os.write(write_in, line)
+                time.sleep(0.2)
+            os._exit(0)
+        os.close(write_in)
+        time.sleep(0.5)
+        found = b""
+        while part := os.read(read_out, 65536):
+            found += part
+        os.waitpid(writer, 0)
+        os.close(read_out)
+        self.assertEqual(run.wait(10), 0)
+        self.assertEqual(found.count(b"bad-name"), 2000)
+
+    def test_run_not_blocking(self):
+        """run where neither end blocks"""
+        self.not_blocking("run")
+
+    def test_serve_not_blocking(self):
+        """serve where neither end blocks"""
+        self.not_blocking("serve")
+
+    def test_children_ignored(self):
+        """a program that was started with SIGCHLD ignored says so, and makes no journal"""
+        folder = self.journal()
+        done = helper.run("run", "--journal", folder, preexec_fn=lambda: signal.signal(signal.SIGCHLD, signal.SIG_IGN))
+        self.assertEqual((done.returncode, done.stderr), (8, b"ocfexec: SIGCHLD is ignored\n"))
+        self.assertEqual(os.listdir(folder), [])
+
+    def test_ignored(self):
+        """signals that are ignored at the start are named once, by run and by serve, and agents inherit them"""
+        def ignore():
+            for number in (signal.SIGHUP, signal.SIGTERM):
+                signal.signal(number, signal.SIG_IGN)
+        shown = self.place("shown")
+        self.agent("Shows", 'grep SigIgn /proc/$$/status > "$OCF_RESKEY_to"\n')
+        told = helper.lines(helper.register("r1", "Shows", to=shown), helper.action("r1", "start"), {"op": "drain"})
+        for word in ("run", "serve"):
+            done = helper.run(word, "--memory", "--root", self.here, told=told, preexec_fn=ignore)
+            self.assertEqual(done.stderr, b"ocfexec: started with ignored signals, which agents inherit: SIGHUP, SIGTERM\n")
+            with open(shown, encoding="ascii") as file:
+                mask = int(file.read().split()[1], 16)
+            self.assertEqual([number for number in (1, 2, 13, 15) if mask >> (number - 1) & 1], [1, 15])
+        self.assertEqual(helper.run("show", "--memory", preexec_fn=ignore).stderr, b"")
+        self.assertEqual(helper.run("run", "--memory").stderr, b"")
+
+    def lost(self, lose, why):
+        folder, err = self.journal(), self.place("err")
+        with open(err, "wb") as file:
+            stream = helper.journal_stream(file.fileno())
+        run = self.heard("serve", "--journal", folder, err=err, env={**os.environ, **stream})
+        run.tell(helper.register("r1", "None"))
+        self.assertEqual(run.awaits(lambda value: True)[1], {"ok": True})
+        time.sleep(0.5)
+        lose(folder)
+        began = time.monotonic()
+        self.assertEqual(run.run.wait(5), 5)
+        self.assertLess(time.monotonic() - began, 1.5)
+        run.reader.join()
+        self.assertEqual(run.values()[1:], [{"end": "disk"}])
+        with open(err, encoding="utf-8") as file:
+            self.assertEqual(file.read().splitlines()[:2], ["ocfexec: disk", f"{folder}/part-a: {why}"])
+
+    def test_removed(self):
+        """a journal that is removed under a run that serves and rests ends it within a second"""
+        self.lost(shutil.rmtree, "No such file or directory (os error 2)")
+
+    def test_replaced(self):
+        """a directory that is replaced under a run that serves and rests ends it within a second"""
+        def replace(folder):
+            os.rename(folder, self.place("away"))
+            shutil.copytree(self.place("away"), folder)
+        self.lost(replace, "replaced while in use")
+
+    def test_fault(self):
+        """a device that fails in a turn ends a run that is served, while its input is open"""
+        self.agent("Brief", "sleep 1\n")
+        folder = self.journal()
+        run = subprocess.Popen([PROGRAM, "serve", "--journal", folder, "--root", self.here], restore_signals=False,
+                               stdin=subprocess.PIPE, stdout=subprocess.PIPE, stderr=subprocess.PIPE)
+        self.addCleanup(run.kill)
+        run.stdin.write(helper.lines(helper.register("r1", "Brief"), helper.action("r1", "start")))
+        run.stdin.flush()
+        run.stdout.readline(), run.stdout.readline()
+        time.sleep(0.5)
+        # no file of it may grow any more, so the record of the agent's end is refused
+        size = os.path.getsize(os.path.join(folder, "part-a"))
+        resource.prlimit(run.pid, resource.RLIMIT_FSIZE, (size, size))
+        self.assertEqual(json.loads(run.stdout.readline()), {"end": "disk"})
+        self.assertEqual(run.wait(5), 5)
+        self.assertEqual(run.stdout.read(), b"")
+        run.stdin.close()
+        run.stdout.close(), run.stderr.close()
+
+    def test_root(self):
+        """a root that is not absolute"""
+        done = subprocess.run([PROGRAM, "run", "--memory", "--root", "some/folder"], stdin=subprocess.DEVNULL, capture_output=True)
+        self.assertEqual((done.returncode, done.stderr), (2, b"ocfexec: give --root an absolute path\n"))
+
+
+if __name__ == "__main__":
+    helper.main()

@@ -1,0 +1,113 @@
+#!/usr/bin/env python3
+"""An orderly end: a run that serves and reads `leave` begins nothing more, waits for what runs within its timeout, records and tells
+it, replies, and ends with 0. What was queued is dropped by the next opening, and monitors are kept.
+Use: leave.py PROGRAM"""
+import os
+import subprocess
+import sys
+import time
+
+sys.path[0] += "/../lib"
+import helper  # noqa: E402
+from helper import action  # noqa: E402
+
+LEAVE = {"op": "leave"}
+LIST = {"op": "list"}
+LEFT = {"end": "left"}
+
+
+class Leave(helper.Check):
+    def setUp(self):
+        super().setUp()
+        self.agent("Works", f'echo "$1" >> {self.here}/calls\n[ "$1" = start ] && sleep 1\nexit 0\n')
+        self.agent("Hangs", f"sleep 30 & echo $$ $! > {self.here}/pids\nwait\n")
+
+    def serves(self, *words):
+        return self.heard("serve", *words, "--root", self.here)
+
+    def hangs(self):
+        # the agent that hangs has begun
+        for _ in range(500):
+            if os.path.exists(self.place("pids")):
+                return
+            time.sleep(0.02)
+        self.fail("no agent began")
+
+    def leaves(self, run, began, least, most):
+        # the reply comes in so many seconds, is the last line, and the run ends with 0 without the end of its input
+        at, _ = run.awaits(lambda value: value == LEFT)
+        self.assertIsNotNone(at, f"no reply among {run.lines}")
+        self.assertTrue(least <= at - began <= most, f"after {at - began:.2f} s")
+        self.assertEqual(run.run.wait(2), 0)
+        run.reader.join()
+        self.assertEqual(run.values()[-1], LEFT)
+
+    def test_nothing(self):
+        """where nothing runs a run ends at once, and the lines behind are not read"""
+        run = self.serves("--memory")
+        began = time.monotonic()
+        run.tell(helper.register("a", "Works"), LEAVE, LIST)
+        self.leaves(run, began, 0, 0.5)
+        self.assertEqual(run.values(), [{"ok": True}, LEFT])
+
+    def test_runs(self):
+        """what runs ends, is recorded and told; what is queued and a monitor that is due do not begin"""
+        folder = self.journal()
+        run = self.serves("--journal", folder)
+        run.tell(helper.register("a", "Works"), action("a", "start"), action("a", "stop"), helper.register("b", "Works"),
+                 {"op": "recur", "id": "b", "interval": 200})
+        self.assertIsNotNone(run.awaits(lambda value: helper.is_notice(value, id="b", outcome="done"))[0])
+        began = time.monotonic()
+        run.tell(LEAVE)
+        self.leaves(run, began, 0.2, 1.5)
+        told = [(value["id"], value["action"], value["outcome"]) for value in run.told() if value["id"] == "a"]
+        self.assertEqual(told, [("a", "start", "done")])
+        with open(self.place("calls"), encoding="ascii") as file:
+            self.assertNotIn("stop\n", file.read())
+        before = len(run.told())
+        time.sleep(0.5)
+        self.assertEqual(len(run.told()), before)
+        again = self.serves("--journal", folder)
+        self.assertIsNotNone(again.awaits(lambda value: helper.is_notice(value, id="a", action="stop", outcome="dropped"))[0])
+        self.assertIsNotNone(again.awaits(lambda value: helper.is_notice(value, id="b", outcome="done"))[0], "the monitor goes on")
+        self.assertEqual([value for value in again.told() if value["outcome"] == "interrupted"], [])
+        self.assertEqual(again.ends(), 0)
+
+    def test_timeout(self):
+        """an action that hangs is ended at its timeout with its child, and told; then the run ends"""
+        run = self.serves("--memory")
+        began = time.monotonic()
+        run.tell(helper.register("h", "Hangs"), action("h", "start", timeout=1000))
+        self.hangs()
+        run.tell(LEAVE)
+        self.leaves(run, began, 0.9, 2)
+        self.assertEqual([value["outcome"] for value in run.told()], ["timed-out"])
+        with open(self.place("pids"), encoding="ascii") as file:
+            self.assertEqual([pid for pid in map(int, file.read().split()) if helper.is_alive(pid)], [], "processes that live on")
+
+    def test_run(self):
+        """a run of commands alone does not know the line, and goes on"""
+        done = helper.run("run", "--memory", "--root", self.here, told=helper.lines(LEAVE, LIST))
+        self.assertEqual((done.returncode, helper.replies(done.stdout)),
+                         (0, [{"error": "unknown-op", "number": 2}, {"ok": True, "resources": []}]))
+
+    def test_client(self):
+        """a client that goes away meanwhile ends the run within a second, with 7"""
+        run = subprocess.Popen([helper.PROGRAM, "serve", "--memory", "--root", self.here],
+                               stdin=subprocess.PIPE, stdout=subprocess.PIPE, stderr=subprocess.DEVNULL)
+        self.addCleanup(run.kill)
+        run.stdin.write(helper.lines(helper.register("h", "Hangs"), action("h", "start", timeout=20000)))
+        run.stdin.flush()
+        self.hangs()
+        run.stdin.write(helper.lines(LEAVE))
+        run.stdin.flush()
+        time.sleep(0.3)
+        began = time.monotonic()
+        run.stdout.close()
+        self.assertEqual(run.wait(5), 7)
+        self.assertLess(time.monotonic() - began, 1.5)
+        run.stdin.close()
+
+
+if __name__ == "__main__":
+    helper.main()

@@ -1,0 +1,112 @@
+#!/usr/bin/env bash
+# A journal as a table for a person: of nothing, of what has ended or was withdrawn, of what runs and is queued under an executor that holds the
+# journal, of one resource, as JSON of all and of one, and in colour on a terminal alone. Nothing is changed by a look.
+# Use: status.sh PROGRAM
+set -u
+. "$(dirname "$0")/../lib/common.sh" "$@"
+mkdir -p "$here/resource.d/test" "$here/journal" "$here/empty"
+cat > "$here/resource.d/test/Slow" <<'AGENT'
+#!/bin/sh
+case $1 in
+start) [ -z "$OCF_RESKEY_time" ] || exec sleep "$OCF_RESKEY_time" ;;
+monitor) exit 7 ;;
+promote) kill -9 $$ ;;
+esac
+AGENT
+chmod +x "$here/resource.d/test/Slow"
+
+# A status in which each length of time is TIME. Sets $status. Use: tells WORD..
+tells() {
+    status=0
+    "$program" status "$@" > "$here/told" 2> "$here/err" || status=$?
+    sed -E 's/ [0-9]+ (ms|s|min|h|days)\b/ TIME/g; s/due (in TIME|TIME ago)/due/; s/ +$//' "$here/told" > "$here/out"
+}
+
+tells --memory
+same "no resource" "RESOURCE  AGENT  NOW" "$(cat "$here/out")"
+tells --journal "$here/empty"
+same "a folder without a journal" "RESOURCE  AGENT  NOW" "$(cat "$here/out")"
+same "a folder without a journal, made" "" "$(ls "$here/empty")"
+checked "nothing"
+
+run "$here/journal" '{"op":"register","id":"a-longer-name","provider":"test","type":"Slow","params":{"time":""}}' \
+    '{"op":"register","id":"b","provider":"test","type":"None"}' '{"op":"exec","id":"b","action":"start"}' \
+    '{"op":"exec","id":"a-longer-name","action":"start"}' '{"op":"exec","id":"a-longer-name","action":"monitor"}' \
+    '{"op":"exec","id":"a-longer-name","action":"promote"}' '{"op":"exec","id":"b","action":"stop"}' \
+    '{"op":"withdraw","id":"b","call":5}' '{"op":"drain"}'
+feed "$here/replies" serve --journal "$here/journal" --root "$here"
+printf '%s\n' '{"op":"params","id":"a-longer-name","params":{"time":"60"}}' '{"op":"recur","id":"b","interval":90001}' \
+    '{"op":"exec","id":"a-longer-name","action":"monitor"}' '{"op":"exec","id":"a-longer-name","action":"promote"}' >&3
+awaits 1 '"outcome":"signaled"' "$here/replies"
+awaits 1 '"interval":90001' "$here/replies"
+printf '%s\n' '{"op":"exec","id":"a-longer-name","action":"start","timeout":90000}' '{"op":"exec","id":"a-longer-name","action":"stop"}' >&3
+until "$program" show --journal "$here/journal" | grep '_start_0"' > "$here/running"; do sleep 0.05; done
+cp -r "$here/journal" "$here/before"
+tells --journal "$here/journal"
+cat > "$here/wanted" <<'TABLE'
+RESOURCE       AGENT      NOW
+a-longer-name  test:Slow  start since TIME, 1 queued
+  monitor       not running, TIME ago
+  start         failed: the agent's file is missing, TIME ago
+  promote       failed: a signal ended the agent, TIME ago
+  last failure  promote: failed: a signal ended the agent, TIME ago
+b              test:None  idle
+  start         failed: the agent's file is missing, TIME ago
+  stop          cancelled: it was withdrawn before it began, TIME ago
+  every TIME failed: the agent's file is missing, TIME ago; due
+  last failure  monitor: failed: the agent's file is missing, TIME ago
+TABLE
+sed -E -i 's/  +/  /g' "$here/wanted" "$here/out"
+is_wanted "a journal in use" "$here/out"
+checked "a journal in use"
+
+tells --journal "$here/journal" b
+sed -E -i 's/call [0-9]+/call N/; s/  +/  /g' "$here/out"
+cat > "$here/wanted" <<'TABLE'
+RESOURCE  AGENT  NOW
+b  test:None  idle
+  start  failed: the agent's file is missing, TIME ago
+  stop  cancelled: it was withdrawn before it began, TIME ago
+  every TIME failed: the agent's file is missing, TIME ago; due
+  last failure  monitor: failed: the agent's file is missing, TIME ago
+  history, oldest first:
+  call N, stop of TIME: cancelled: it was withdrawn before it began, TIME ago
+  call N, start of TIME: failed: the agent's file is missing, TIME ago
+  call N, monitor of TIME: failed: the agent's file is missing, TIME ago
+TABLE
+is_wanted "one resource" "$here/out"
+checked "one resource"
+
+tells --journal "$here/journal" nobody
+same "no such resource, status" 2 "$status"
+same "no such resource, text" "ocfexec: no resource of this id" "$(cat "$here/err")"
+same "no such resource, output" "" "$(cat "$here/told")"
+checked "no such resource"
+
+"$program" status --json --journal "$here/journal" > "$here/json"
+"$program" show --journal "$here/journal" | cmp -s - "$here/json" || differs "status --json" "what show prints" "$(cat "$here/json")"
+"$program" status --json --journal "$here/journal" b > "$here/one"
+tail -n 2 "$here/json" | cmp -s - "$here/one" || differs "status --json b" "the last two lines of show" "$(cat "$here/one")"
+"$program" status --journal "$here/journal" a-longer-name --json > "$here/one"
+sed -n '2,3p' "$here/json" | cmp -s - "$here/one" || differs "status a-longer-name --json" "the second and third line of show" "$(cat "$here/one")"
+checked "as JSON"
+
+for name in nobody a-longer-nam B ''; do
+    tells --json --journal "$here/journal" "$name"
+    same "no resource '$name' as JSON, status" 2 "$status"
+    same "no resource '$name' as JSON, text" "ocfexec: no resource of this id" "$(cat "$here/err")"
+    same "no resource '$name' as JSON, output" "" "$(cat "$here/told")"
+done
+checked "no such resource as JSON"
+
+if command -v script > /dev/null; then
+    script -qec "$program status --journal $here/journal" /dev/null < /dev/null > "$here/terminal"
+    grep -q "$(printf '\033\\[31mfailed')" "$here/terminal" || differs "a terminal" "red failures" "$(cat "$here/terminal")"
+    ! grep -q "$(printf '\033')" "$here/told" "$here/out" || differs "a file" "no colours" "$(cat "$here/out")"
+    checked "colours"
+fi
+
+diff -r "$here/before" "$here/journal" > /dev/null || differs "the journal" "the same bytes" "others"
+exec 3>&-
+wait "$pid"
+finish "a look changes nothing"

@@ -1,0 +1,168 @@
+#!/usr/bin/env python3
+"""A device that fails under a program that serves, at a turn of its own and at a command, a drain and a tidy: it sends the line of the
+fault and ends at once, its agents are gone, and the next opening reports what ran. A run answers on, to the end of its input. A
+journal that is full: a serving program says so once, and again once it was not.
+Use: faults.py PROGRAM"""
+import errno
+import os
+import sys
+import time
+
+sys.path[0] += "/../lib"
+import helper  # noqa: E402
+from helper import action, register  # noqa: E402
+
+LINE = {"end": "disk"}
+
+
+class Faults(helper.Check):
+    def setUp(self):
+        super().setUp()
+        self.shim = helper.shim("faults.c", self.here)
+        self.agent("Sleeper", 'if [ "$1" = start ]; then echo $$ > "$OCF_RESKEY_pid"; exec sleep 60; fi\nexit 0\n')
+        self.agent("Quick", "exit 0\n")
+
+    def place_of_pid(self, name):
+        return self.place(f"{name}.pid")
+
+    def begun(self, word, journal):
+        # a program over this journal, under which the device fails from `fault` on
+        self.flag, self.err = journal + ".fault", journal + ".err"
+        return self.heard(word, "--journal", journal, "--root", self.here, err=self.err,
+                          env={**os.environ, "LD_PRELOAD": self.shim, "FAULT": self.flag})
+
+    def fault(self, number=errno.EIO):
+        with open(self.flag + ".new", "w", encoding="ascii") as file:
+            file.write(f"{number}\n")
+        os.rename(self.flag + ".new", self.flag)
+
+    def asleep(self, run):
+        # the process of an agent whose start lasts
+        run.tell(register("slow", "Sleeper", pid=self.place_of_pid("slow")), action("slow", "start", timeout=60000))
+        until = time.monotonic() + 10
+        while time.monotonic() < until:
+            if os.path.exists(self.place_of_pid("slow")):
+                with open(self.place_of_pid("slow"), encoding="ascii") as file:
+                    text = file.read()
+                if text.endswith("\n"):
+                    return int(text)
+            time.sleep(0.01)
+        self.fail("no agent began")
+
+    def ends_by_fault(self, run, began):
+        # the program ends by itself while its input is open, and says why
+        status = run.run.wait(5)
+        self.assertLess(time.monotonic() - began, 1, "seconds to the end")
+        run.reader.join()
+        self.assertEqual(status, 5)
+        self.assertEqual(run.values()[-1], LINE, "the last line")
+        with open(self.err, encoding="utf-8") as file:
+            told = file.read().splitlines()
+        self.assertTrue(told and told[0].startswith("ocfexec: disk"), told)
+
+    def interrupted(self, journal):
+        # what the next opening reports
+        done = helper.run("run", "--journal", journal, "--root", self.here)
+        self.assertEqual(done.returncode, 0, done.stderr)
+        return {(value["id"], value["action"]) for value in helper.replies(done.stdout) if value["outcome"] == "interrupted"}
+
+    def test_own_turn(self):
+        """the device fails as a monitor is recorded: the line, status 5, no agent left, what ran is reported"""
+        for name, number in (("io", errno.EIO), ("space", errno.ENOSPC)):
+            with self.subTest(name):
+                journal = self.journal(name)
+                run = self.begun("serve", journal)
+                agent = self.asleep(run)
+                run.tell(register("quick", "Quick"), {"op": "recur", "id": "quick", "interval": 50})
+                run.awaits(lambda value: helper.is_notice(value, id="quick"))
+                began = time.monotonic()
+                self.fault(number)
+                self.ends_by_fault(run, began)
+                self.assertEqual([value for value in run.values() if "end" in value], [LINE], "the line, once")
+                self.assertFalse(helper.is_alive(agent), "an agent that is left")
+                self.assertIn(("slow", "start"), self.interrupted(journal))
+                os.remove(self.place_of_pid("slow"))
+
+    def test_command(self):
+        """at a command: refused with 16, then the line, and no further line is answered"""
+        for name, more in (("alone", []), ("together", [register("b", "Quick")])):
+            with self.subTest(name):
+                journal = self.journal(name)
+                run = self.begun("serve", journal)
+                agent = self.asleep(run)
+                before, began = len(run.values()), time.monotonic()
+                self.fault()
+                run.tell(register("a", "Quick"), *more, {"op": "list"}, {"op": "drain"})
+                self.ends_by_fault(run, began)
+                refused = {"error": "disk", "number": 16}
+                self.assertEqual(run.values()[before:], [refused] * (1 + len(more)) + [LINE])
+                self.assertFalse(helper.is_alive(agent), "an agent that is left")
+                self.assertEqual(self.interrupted(journal), {("slow", "start")})
+                os.remove(self.place_of_pid("slow"))
+
+    def test_asked(self):
+        """at a drain's turn and at a tidy: their replies, then the line"""
+        for name, commands in (("drain", [{"op": "drain"}]), ("tidy", [{"op": "tidy"}])):
+            with self.subTest(name):
+                run = self.begun("serve", self.journal(name))
+                run.tell(register("quick", "Quick"), {"op": "list"})
+                run.awaits(lambda value: "resources" in value)
+                if name == "drain":
+                    run.tell({"op": "recur", "id": "quick", "interval": 1}, {"op": "watch", "limit": 86400000})
+                    run.awaits(lambda value: helper.is_notice(value, id="quick"))
+                    commands = []
+                began = time.monotonic()
+                self.fault()
+                run.tell(*commands)
+                self.ends_by_fault(run, began)
+                self.assertEqual([value for value in run.values() if "end" in value], [LINE, LINE])
+
+    def test_run(self):
+        """a run answers that it is closed, to the end of its input"""
+        run = self.begun("run", self.journal())
+        run.tell({"op": "list"})
+        run.awaits(lambda value: "resources" in value)
+        self.fault()
+        run.tell(register("a", "Quick"))
+        run.awaits(lambda value: value.get("number") == 16)
+        run.tell({"op": "list"}, {"op": "drain"})
+        self.assertEqual(run.ends(), 5)
+        self.assertEqual(run.values()[1:], [{"error": "disk", "number": 16}, {"error": "closed", "number": 17}, {"end": "closed"}])
+
+    def told(self, run, before, text):
+        return sum(text in line for _, line in run.lines[before:])
+
+    def asks(self, run, command, many):
+        # asks it so often, waits for all replies, and says whether one is that the journal is full
+        before, until = len(run.lines), time.monotonic() + 30
+        run.tell(*[command] * many, {"op": "list"})
+        while not self.told(run, before, '"resources"') and time.monotonic() < until:
+            time.sleep(0.005)
+        return self.told(run, before, '"number":14') > 0
+
+    def fill(self, run):
+        # long commands until none fits, and then short ones; how many lines have told that the journal is full then
+        params = {f"p{place}": "x" * 1000 for place in range(15)}
+        while not self.asks(run, {"op": "params", "id": "full", "params": params}, 20):
+            pass
+        while not self.asks(run, {"op": "forget", "id": "full"}, 200):
+            pass
+        time.sleep(0.5)
+        return self.told(run, 0, '{"end":"full"}')
+
+    def test_full(self):
+        """a full journal is told once by a program that serves, and again once it was not full"""
+        run = self.heard("serve", "--memory", "--tidy-at", "0", "--root", self.here)
+        run.tell(register("full", "Quick"), register("quick", "Quick"), {"op": "recur", "id": "quick", "interval": 20})
+        self.assertEqual(self.fill(run), 1)
+        seen = len(run.told())
+        run.tell({"op": "tidy"})
+        run.awaits(lambda value: value == {"end": "done"})
+        time.sleep(0.3)
+        self.assertGreater(len(run.told()), seen, "monitors go on")
+        self.assertEqual(self.fill(run), 2)
+        self.assertEqual(run.ends(), 0)
+
+
+if __name__ == "__main__":
+    helper.main()

@@ -1,0 +1,454 @@
+#!/usr/bin/env python3
+# check: slow
+"""Refuses each growth of memory of whole runs, one in each run: the K-th malloc, calloc or realloc of the program answers that there
+is no memory (tests/shims/growths.c, loaded before the C library), for K = 1, 2, .. until a run has none; of the opening of a full journal only one in 199.
+Wanted of each: no signal; an opening that finds no memory ends with status 4, has answered nothing and leaves the files as they were, but for a creation; a command is refused with
+`memory`, and all else is that of a run without it; a turn ends as `memory`, or an agent is not started, and nothing that was asked
+for is lost; a reply or a notice ends the run with status 7, and what was told stands in the journal; else the run is as any other.
+Use: growths.py PROGRAM, with LINKED in the environment where tests/shims/growths.c is linked into the program"""
+import collections
+import json
+import os
+import shutil
+import struct
+import subprocess
+import sys
+import tempfile
+import threading
+import time
+
+sys.path[0] += "/../lib"
+import helper  # noqa: E402
+from helper import PROGRAM  # noqa: E402
+
+MEMORY = {"error": "memory", "number": 15}
+# How standard error begins with each status, where it goes to the system's journal.
+ENDS = {0: b"", 4: b"ocfexec: memory\nFree memory ", 7: b"ocfexec: input or output\nA reply or a notice found no memory."}
+# where files are kept in memory: thousands of runs sync theirs
+SHARED = "/dev/shm"
+DRAIN, LIST = {"op": "drain"}, {"op": "list"}
+
+
+class Step:
+    """A command, how long is waited before it, in seconds, whether what it asked for is awaited where turns make themselves, and
+    whether the next one is written with it."""
+
+    def __init__(self, command, pause=0.0, awaits=False, joins=False):
+        self.command, self.pause, self.awaits, self.joins = command, pause, awaits, joins
+
+
+def batches(steps):
+    """The steps that are written at once."""
+    batch = []
+    for step in steps:
+        batch.append(step)
+        if not step.joins:
+            yield batch
+            batch = []
+    if batch:
+        yield batch
+
+
+class Played:
+    """A run: its values for each step, how it ended, and how many growths it made and how many were refused."""
+
+    def __init__(self):
+        self.answers, self.status, self.err, self.made, self.refused = [], None, b"", 0, 0
+
+    def told(self):
+        return [value for values in self.answers for value in values if helper.is_notice(value)]
+
+    def seen(self):
+        """The replies, step by step, and all notices in one order: when one comes is a matter of time."""
+        return [[value for value in values if not helper.is_notice(value)] for values in self.answers], loose(self.told(), ())
+
+
+def plain(value):
+    """A value without its moments."""
+    if isinstance(value, dict):
+        return {key: plain(part) for key, part in value.items() if key not in ("since", "at")}
+    return [plain(part) for part in value] if isinstance(value, list) else value
+
+
+def loose(value, but):
+    """A value without some keys, in its parts too, and with its parts in one order."""
+    if isinstance(value, dict):
+        return {key: loose(part, but) for key, part in value.items() if key not in but}
+    if isinstance(value, list):
+        return sorted((loose(part, but) for part in value), key=lambda part: json.dumps(part, sort_keys=True))
+    return value
+
+
+def files_of(folder):
+    """The bytes of a journal's parts; a file that is not there has none."""
+    found = []
+    for name in ("part-a", "part-b"):
+        path = os.path.join(folder, name)
+        found.append(b"")
+        if os.path.exists(path):
+            with open(path, "rb") as part:
+                found[-1] = part.read()
+    return found
+
+
+def state(folder):
+    """What `show` tells of a journal, without moments: a pair of replies for each id."""
+    values = plain(helper.replies(helper.shown(folder)))
+    return {name: values[1 + 2 * place:3 + 2 * place] for place, name in enumerate(values[0]["resources"])}
+
+
+class Growths(helper.Check):
+    def setUp(self):
+        super().setUp()
+        self.counts, self.gate = self.place("counts"), self.place("gate")
+        # a sanitized program has the counts in it
+        self.shim = {} if helper.number("LINKED", 0) else {"LD_PRELOAD": helper.shim("growths.c", self.here)}
+
+    # A run.
+
+    def environment(self, refuse):
+        with open(self.counts, "wb") as file:
+            file.write(bytes(16))
+        return {**self.shim, "GROWTHS": self.counts, "REFUSE": str(refuse)}
+
+    def value(self, run):
+        # the next value that is answered; None at the end of the output
+        line = run.stdout.readline()
+        if not line.endswith(b"\n"):
+            return None
+        value = json.loads(line)
+        if "meta" in value:
+            value["text"] = run.stdout.read(value["meta"] + 1).decode()
+        if "error" in value or value.get("id") == "r2" and helper.is_notice(value):
+            self.open_gate()
+        return plain(value)
+
+    def open_gate(self):
+        # what the first of two agents waits for
+        with open(self.gate, "w", encoding="ascii"):
+            pass
+
+    def values(self, run, step, open_calls):
+        # all values of a step, and whether the output has not ended
+        values, replied = [], False
+        while not replied or step.awaits and open_calls:
+            value = self.value(run)
+            if value is None:
+                return values, False
+            values.append(value)
+            replied = replied or not helper.is_notice(value)
+            if helper.is_notice(value):
+                open_calls.discard(value["call"])
+            elif "call" in value:
+                open_calls.add(value["call"])
+        return values, True
+
+    def talk(self, run, steps, played, serves):
+        open_calls = set()
+        for batch in batches(steps):
+            if serves and batch[0].command == DRAIN:
+                played.answers.append([])
+                continue
+            time.sleep(batch[0].pause)
+            try:
+                run.stdin.write(helper.lines(*[step.command for step in batch]))
+                run.stdin.flush()
+            except BrokenPipeError:
+                return
+            for step in batch:
+                values, goes_on = self.values(run, step if serves else Step(None), open_calls)
+                if values or goes_on:
+                    played.answers.append(values)
+                if not goes_on:
+                    return
+
+    def play(self, words, steps, refuse=0):
+        """A run of these words, whose steps are asked one after another."""
+        if os.path.exists(self.gate):
+            os.remove(self.gate)
+        if helper.action("r2", "start") not in [step.command for step in steps]:
+            self.open_gate()
+        played = Played()
+        reader, writer = os.pipe()
+        run = subprocess.Popen([PROGRAM, *words], stdin=subprocess.PIPE, stdout=subprocess.PIPE, stderr=writer,
+                               env={**self.environment(refuse), **helper.journal_stream(writer)})
+        os.close(writer)
+        guard = threading.Timer(15, run.kill)
+        guard.start()
+        self.talk(run, steps, played, words[0] == "serve")
+        try:
+            run.stdin.close()
+        except BrokenPipeError:
+            pass
+        with os.fdopen(reader, "rb") as err:
+            rest, played.err = run.stdout.read(), err.read()
+        run.stdout.close()
+        played.status = run.wait()
+        guard.cancel()
+        if not steps and rest:
+            played.answers = [plain(helper.replies(rest))]
+        with open(self.counts, "rb") as file:
+            played.made, played.refused = struct.unpack("ll", file.read())
+        return played
+
+    # What is wanted of it.
+
+    def is_told(self, found):
+        self.assertIn(found.status, ENDS, found.err)
+        self.assertTrue(found.err.startswith(ENDS[found.status]) or found.status == 0, found.err)
+
+    def stands(self, steps, found, folder):
+        # what was acknowledged and told is in the journal; what was written at once may be there before it is acknowledged
+        end = len(found.answers) + 1
+        while end < len(steps) and steps[end - 1].joins:
+            end += 1
+        shown, last = state(folder), steps[len(found.answers) - 1:end]
+        for step, values in zip(steps, found.answers):
+            command, accepted = step.command, any(value.get("ok") for value in values)
+            if not accepted or command["op"] not in ("register", "exec", "params"):
+                continue
+            self.assertIn(command["id"], shown)
+            info, history = shown[command["id"]]
+            if command["op"] == "params" and command not in [step.command for step in last]:
+                self.assertEqual(info["params"], command["params"])
+            call = next((value["call"] for value in values if "call" in value and "key" in value), None)
+            calls = info["queued"] + [(info["running"] or {}).get("call")] + [end["call"] for end in history["results"]]
+            self.assertTrue(call is None or call in calls, f"call {call}")
+        for notice in found.told():
+            result = {key: part for key, part in notice.items() if key != "id"}
+            self.assertIn(result, shown[notice["id"]][1]["results"], "a notice that was told")
+
+    def ended_early(self, steps, base, found, folder, before):
+        if found.status == 4:
+            self.assertEqual(found.answers, [], "nothing answered with status 4")
+            created = before[0] == b"" and state(folder) == {}
+            self.assertTrue(files_of(folder) == before or created, "files as they were with status 4")
+            return "opening"
+        replies, wanted = found.seen()[0][:-1], base.seen()[0]
+        self.assertEqual(replies, wanted[:len(replies)], "before a reply without memory")
+        self.stands(steps, found, folder)
+        return "reply"
+
+    def turned(self, base, found, lost):
+        # a turn that ended as memory, or an agent that was not started: all else is done
+        starts = sum(value["outcome"] == "not-started" for value in found.told())
+        ends = sum(value == {"end": "memory"} for values in found.answers for value in values)
+        self.assertEqual(starts + ends, 1, "one turn that found no memory")
+        but = ("run", "outcome", "code", "name")
+        told, wanted = loose(found.told(), but), loose(base.told(), but)
+        missing = len(wanted) - len(told)
+        self.assertTrue(0 <= missing <= lost and all(value in wanted for value in told), "what is told")
+        runs = [value["run"] for value in found.told()]
+        self.assertEqual(len(set(runs)), len(runs), "runs of their own")
+        codes = [(value["outcome"], value["code"]) for value in found.told() if value["outcome"] != "done"]
+        self.assertEqual(codes, [("not-started", 1)] * starts)
+        return "not started" if starts else "turn"
+
+    def judge(self, words, steps, base, found, folder, before, lost):
+        """How a run with one refused growth ended, in a word."""
+        self.is_told(found)
+        if found.status:
+            return self.ended_early(steps, base, found, folder, before)
+        self.assertEqual(len(found.answers), len(steps))
+        refused = [place for place, values in enumerate(found.answers) if MEMORY in values]
+        if refused:
+            self.places.update(refused)
+            left = self.without(words, steps, refused[0])
+            (replies, notices), (wanted, told) = found.seen(), left.seen()
+            self.assertEqual((len(refused), replies.pop(refused[0])), (1, [MEMORY]))
+            self.assertEqual((replies, notices), (wanted, told), "as without this command")
+            return "refused"
+        metas = [values for step, values in zip(steps, found.answers) if step.command["op"] == "meta"]
+        if metas and metas[0] in ([{"end": "memory"}], [{"end": "other"}], [{"end": "read"}]):
+            return "meta " + metas[0][0]["end"]
+        if found.seen() == base.seen():
+            return "as any"
+        return self.turned(base, found, lost)
+
+    def without(self, words, steps, place):
+        # a run without one of its steps
+        if place not in self.known:
+            self.fresh()
+            self.known[place] = self.play(words, steps[:place] + steps[place + 1:])
+            self.assertEqual(self.known[place].status, 0)
+        return self.known[place]
+
+    def fresh(self):
+        # the journal of a run, as it was before
+        shutil.rmtree(self.place("journal"), ignore_errors=True)
+        if self.before is None:
+            return self.journal()
+        return shutil.copytree(self.before, self.place("journal"))
+
+    def sweep(self, words, steps, lost=0, before=None, opens=True, stride=1):
+        """Each growth of a run refused, or only those from shortly before the first line on, or one of so many, and how each ended."""
+        self.known, self.places, self.before, ends = {}, set(), before, collections.Counter()
+        folder = self.fresh()
+        words = [word.replace("JOURNAL", folder) for word in words]
+        refuse = 1 if opens else self.play(words, []).made - 5
+        self.fresh()
+        base = self.play(words, steps)
+        self.assertEqual((base.status, base.err, base.refused), (0, b"", 0))
+        while True:
+            self.fresh()
+            files = files_of(folder)
+            found = self.play(words, steps, refuse)
+            if not found.refused:
+                break
+            with self.subTest(refused=refuse):
+                ends[self.judge(words, steps, base, found, folder, files, lost)] += 1
+            refuse += stride
+        print(f"growths: {' '.join(words[:1])} {self._testMethodName}: {base.made} growths: "
+              + ", ".join(f"{count} {end}" for end, count in sorted(ends.items())), flush=True)
+        return base
+
+    # The scripts.
+
+    def words(self, word, *more):
+        return [word, "--journal", "JOURNAL", "--root", self.here, "--path", "/usr/bin:/bin", "--orphans", "0", *more]
+
+    def listed(self):
+        return [Step(helper.register("r1", "Dummy", a="b")), Step(LIST)]
+
+    def started(self):
+        return [Step(helper.register("r1", "Dummy")), Step(helper.action("r1", "start"), awaits=True), Step(DRAIN), Step(DRAIN),
+                Step({"op": "history", "id": "r1"})]
+
+    def beside(self):
+        self.agent("Wait", f'[ "$OCF_RESOURCE_INSTANCE" = r2 ] || while [ ! -e {self.gate} ]; do sleep 0.002; done\n')
+        return [Step(helper.register("r1", "Wait")), Step(helper.register("r2", "Wait")), Step(helper.action("r1", "start")),
+                Step(helper.action("r2", "start")), Step(helper.action("r1", "stop")), *[Step(LIST, awaits=True)] * 2,
+                Step(DRAIN), Step(DRAIN)]
+
+    def recurs(self):
+        monitor = {"id": "r1", "interval": 1}
+        limited = Step({"op": "drain", "limit": 0}, pause=0.002)
+        return [Step(helper.register("r1", "Dummy")), Step({"op": "recur", **monitor}), Step(DRAIN), limited,
+                Step({"op": "cancel", **monitor}), Step(DRAIN), Step({"op": "cancel", **monitor}), Step(DRAIN)]
+
+    def together(self):
+        # registrations, of which the last one but one is refused, with other commands and questions between them, all written at once
+        names = ["r1", "r2", "r3", "r4"]
+        commands = [*[helper.register(name, "Dummy", a="b") for name in names], LIST, {"op": "params", "id": "r2", "params": {"a": "c"}},
+                    helper.register("r5", "Dummy"), {"op": "recur", "id": "r5", "interval": 3_600_000}, {"op": "cancel", "id": "r1", "interval": 1},
+                    helper.register("r1", "Dummy"), helper.register("r6", "Dummy", **{f"a{n}": "x" * 500 for n in range(20)})]
+        return [*[Step(command, joins=True) for command in commands], Step({"op": "info", "id": "r2"})]
+
+    def prepared(self, *commands):
+        # a journal that was left by a killed run behind these commands
+        folder = self.journal("prepared")
+        run = helper.Heard("run", "--journal", folder, "--root", self.here, "--via", "sleep", "--tidy-at", "0")
+        run.tell(*commands, LIST)
+        self.holds(run.awaits(lambda value: "resources" in value, 60)[0], "a journal is prepared")
+        run.killed()
+        return folder
+
+    def test_list(self):
+        """a registration and a list"""
+        self.sweep(self.words("run"), self.listed())
+        self.sweep(self.words("serve"), self.listed(), opens=False)
+
+    def test_together(self):
+        """commands that come together: one of them is refused, and the others go on"""
+        for word in ("run", "serve"):
+            steps = self.together()
+            if word == "run":
+                steps += [Step(DRAIN), Step(DRAIN), Step({"op": "history", "id": "r5"})]
+            base = self.sweep(self.words(word, "--via", "echo"), steps, opens=False)
+            accepted = {place for place, values in enumerate(base.answers) if {"ok": True} in values}
+            self.assertLessEqual({place for place in accepted if steps[place].command["op"] == "register"}, self.places, "each is refused once")
+
+    def test_start(self):
+        """a start"""
+        self.sweep(self.words("run", "--via", "echo", "--log", self.place("log")), self.started())
+        self.sweep(self.words("serve", "--via", "echo"), self.started(), opens=False)
+
+    def test_beside(self):
+        """two resources side by side"""
+        for word in ("run", "serve"):
+            self.sweep(self.words(word), self.beside(), opens=False)
+
+    def test_recurs(self):
+        """a monitor up to its cancel"""
+        self.sweep(self.words("run", "--via", "echo"), self.recurs(), lost=1, opens=False)
+        monitor = {"id": "r1", "interval": 60000}
+        steps = [Step(helper.register("r1", "Dummy")), Step({"op": "recur", **monitor}, awaits=True), Step({"op": "cancel", **monitor}),
+                 Step({"op": "cancel", **monitor}), Step({"op": "history", "id": "r1"})]
+        self.sweep(self.words("serve", "--via", "echo"), steps, opens=False)
+
+    def test_withdraw(self):
+        """an action that is withdrawn"""
+        withdraw = Step({"op": "withdraw", "id": "r1", "call": 2})
+        steps = [Step(helper.register("r1", "Dummy")), Step(helper.action("r1", "start")), Step(helper.action("r1", "stop")), withdraw,
+                 withdraw, Step({"op": "history", "id": "r1"})]
+        base = self.sweep(self.words("run"), steps, opens=False)
+        self.assertEqual([values[0] for values in base.answers[3:5]], [{"ok": True}, {"error": "not-queued", "number": 18}])
+
+    def test_meta(self):
+        """metadata"""
+        for word in ("run", "serve"):
+            self.sweep(self.words(word, "--via", "echo"), [Step({"op": "meta", "provider": "p", "type": "t"}), Step(LIST)], opens=False)
+
+    def test_full(self):
+        """a full journal and its tidy"""
+        full = {"op": "params", "id": "r1", "params": {chr(97 + place): "x" * 1024 for place in range(15)}}
+        before = self.prepared(helper.register("r1", "Dummy", "pacemaker"), *[full] * 541)
+        steps = [Step(full), Step({"op": "forget", "id": "r1"}), Step({"op": "tidy"}), Step(full), Step(LIST)]
+        self.sweep(self.words("run", "--tidy-at", "0"), [Step(LIST)] * 2, before=before, stride=199)
+        base = self.sweep(self.words("run", "--tidy-at", "0"), steps, before=before, opens=False)
+        self.assertEqual([values[0] for values in base.answers],
+                         [{"error": "journal-full", "number": 14}, {"ok": True}, {"end": "done"}, {"ok": True},
+                          {"ok": True, "resources": ["r1"]}])
+
+    def test_opening(self):
+        """an opening of what was queued"""
+        before = self.prepared(helper.register("r1", "Dummy", a="b"), helper.action("r1", "start"), helper.action("r1", "stop"))
+        self.sweep(self.words("run"), [Step(LIST), Step(LIST)], before=before)
+
+    def shows(self, folder, words, ended):
+        # each growth of a show refused
+        files, base = files_of(folder), self.play(words, [])
+        ends, refuse = collections.Counter(), 1
+        while (found := self.play(words, [], refuse)).refused:
+            with self.subTest(refused=refuse):
+                ends[found.status] += 1
+                self.assertIn(found.status, ended, found.err)
+                values = found.answers[0] if found.answers else []
+                self.assertEqual(values, base.answers[0][:len(values)])
+                self.assertTrue(found.status or found.answers == base.answers, "all with status 0")
+                self.assertTrue(found.status != 4 or not values, "nothing with status 4")
+                self.assertEqual(files_of(folder), files)
+            refuse += 1
+        print(f"growths: {' '.join(words[:2])}: {base.made} growths, by status: {dict(sorted(ends.items()))}", flush=True)
+
+    def test_show(self):
+        """what is shown"""
+        folder = self.prepared(helper.register("r1", "Dummy", a="b"), helper.action("r1", "start"))
+        self.shows(folder, ["show", "--journal", folder], (0, 4, 7))
+        # a part in memory that can't grow is a device that failed
+        self.shows(folder, ["show", "--memory"], (0, 4, 5, 7))
+
+    def test_memory(self):
+        """a journal in memory: a part that can't grow is a device that failed"""
+        base, ends, refuse = self.play(["run", "--memory"], self.listed()), collections.Counter(), 1
+        while (found := self.play(["run", "--memory"], self.listed(), refuse)).refused:
+            with self.subTest(refused=refuse):
+                ends[found.status] += 1
+                if found.status == 5:
+                    self.assertTrue(found.err.startswith(b"ocfexec: disk\n"))
+                    closed = [[{"error": "disk", "number": 16}], [{"error": "closed", "number": 17}]]
+                    self.assertIn(found.answers, ([], closed))
+                else:
+                    self.is_told(found)
+                    self.assertTrue(found.status != 4 or not found.answers, "nothing with status 4")
+            refuse += 1
+        print(f"growths: run --memory: {base.made} growths, by status: {dict(sorted(ends.items()))}", flush=True)
+
+
+if __name__ == "__main__":
+    if not shutil.which("cc"):
+        print("growths.py: skipped: install a C compiler (apt-get install gcc)")
+        sys.exit(77)
+    if os.access(SHARED, os.W_OK) and not os.statvfs(SHARED).f_flag & os.ST_NOEXEC:
+        tempfile.tempdir = SHARED
+    helper.main()

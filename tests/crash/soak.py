@@ -1,0 +1,353 @@
+#!/usr/bin/env python3
+"""A long life: hours over one journal, on a simulated clock. The program crates/trial_lives plays them through the program's own run,
+with a disk in memory and scripted agents; this plans them, and looks at all that is said. 64 resources have four recurring monitors
+each, a client starts, stops, withdraws and asks by chance, at times a hundred lines at once, the wall clock jumps at each opening, and
+journals are tidied by the run itself. In each hour the disk stops in a random device call behind its opening, and half of the openings
+behind that are stopped, too; an hour that ends before its stop is one more. Of what was not synced a stop leaves nothing, all, or other bytes.
+Wanted: what an opening finds holds every acknowledged command and every result that was told, in order, and beyond that at most the
+command that was refused for the disk and a result of each resource that was not told; each action that was queued or ran is told,
+withdrawn, or found as dropped or interrupted, and an opening reports just what it found so; the parts stay below their limit and are
+tidied; the memory does not grow with the days; at the end, behind a close, each history is just what was told.
+Use: soak.py [PROGRAM], with TRIAL_LIVES, DAYS and SEED in the environment"""
+import collections
+import json
+import os
+import random
+import subprocess
+import sys
+import time
+
+sys.path[0] += "/../lib"
+import helper  # noqa: E402
+
+TRIAL_LIVES = os.environ.get("TRIAL_LIVES", os.path.join(helper.TOP, "crates/trial_lives/out/trial_lives"))
+HOUR = 3_600_000
+PART_LIMIT = 8_388_608
+# the tail past which a run tidies by itself, as soon as that gains two megabytes
+TIDY_AT = 1_048_576
+KEPT = 64
+IDS = [f"r{n:02}" for n in range(64)]
+INTERVALS = [120_000, 300_000, 600_000, 1_800_000]
+QUESTIONS = [{"op": "list"}] + [{"op": op, "id": name} for name in IDS for op in ("info", "history")]
+
+
+class Resource:
+    """What is known of a resource, by what was acknowledged and told."""
+
+    def __init__(self, there=False, params=None):
+        self.there = there
+        self.params = params
+        self.told = []  # the last results; what was withdrawn has no moments here before it is found, since no reply tells them
+        self.newest = 0  # the greatest run that was told
+        self.queued = {}  # the actions that were acknowledged and not told, by their calls
+        self.monitors = {}  # the calls of its monitors, by their intervals
+
+
+def as_result(notice):
+    """A notice as a result of its resource: a serving run names a signal too, which no journal keeps."""
+    return {key: value for key, value in notice.items() if key not in ("id", "signal")}
+
+
+def withdrawn(command, action):
+    """The result of an action that was withdrawn, in the order of a result's keys."""
+    return {"action": action, "at": None, "call": command["call"], "code": 1, "interval": 0, "name": "OCF_ERR_GENERIC",
+            "outcome": "cancelled", "run": 0, "since": None}
+
+
+def is_booted(result):
+    return result["outcome"] in ("interrupted", "dropped")
+
+
+class Life:
+    """A life by chance. What the program is given is noted, and plays it again."""
+
+    def __init__(self, seed, note):
+        self.dice, self.note = random.Random(seed), note
+        self.all = {name: Resource() for name in IDS}
+        self.doubt = {}  # the command that was refused for the disk: it may have been recorded
+        self.next_call = 1  # above each call that was told or found
+        self.opening = 13  # how many device calls an opening makes; each record costs four, and four more when it is read
+        self.hourly = 4_000  # how many an hour makes behind that
+        self.counts = collections.Counter()
+        self.wall = 1_700_000_000_000
+        self.program = subprocess.Popen([TRIAL_LIVES], stdin=subprocess.PIPE, stdout=subprocess.PIPE)
+
+    # what a client sends
+
+    def missing_lines(self):
+        """Registers what is not there, and has it monitored."""
+        for name, known in self.all.items():
+            if not known.there:
+                yield {"op": "register", "id": name, "provider": "test", "type": "Any", "params": {"a": name}}
+            for interval in INTERVALS:
+                if interval not in known.monitors:
+                    yield {"op": "recur", "id": name, "interval": interval, "timeout": self.dice.choice([5, 50, 20_000])}
+
+    def chance_line(self):
+        name, roll = self.dice.choice(IDS), self.dice.randrange(100)
+        if roll < 70:
+            what = self.dice.choice(["start", "stop", "monitor", "promote", "demote"])
+            return {"op": "exec", "id": name, "action": what, "timeout": self.dice.choice([1, 5, 1_000, 20_000])}
+        if roll < 80:
+            return {"op": "params", "id": name, "params": {"a": str(self.dice.randrange(1_000))}}
+        if roll < 90:
+            interval = self.dice.choice(INTERVALS)
+            return {"op": "cancel", "id": name, "interval": interval} if roll < 85 else {"op": "recur", "id": name, "interval": interval}
+        return {"op": ["forget", "unregister", "info", "history", "list"][roll // 2 - 45], "id": name}
+
+    def client(self):
+        """What a client sends in an hour, with the moments."""
+        lines = [(1, line) for line in self.missing_lines()]
+        lines += [(self.dice.randrange(2, HOUR), self.chance_line()) for _ in range(100)]
+        burst = self.dice.randrange(2, HOUR)
+        lines += [(burst, self.chance_line()) for _ in range(100)]
+        return list(self.with_withdrawals(sorted(lines, key=lambda line: line[0])))
+
+    def with_withdrawals(self, lines):
+        """Behind each fifth action its withdrawal, in the same moment. It names the call that the action is to have, which is right as
+        long as no command is refused but those of resources that are gone, and of intervals that are there."""
+        call, gone, busy = self.next_call, set(), {}
+        monitors = {(name, interval) for name, known in self.all.items() for interval in known.monitors}
+        for at, line in lines:
+            yield at, line
+            name, monitor = line.get("id"), (line.get("id"), line.get("interval"))
+            match line["op"]:
+                case "unregister" if busy.get(name) != at:
+                    gone.add(name)
+                case "cancel":
+                    monitors.discard(monitor)
+                case "recur" if monitor not in monitors and name not in gone:
+                    monitors.add(monitor)
+                    call += 1
+                case "exec" if name not in gone:
+                    if self.dice.random() < 0.2:
+                        yield at, {"op": "withdraw", "id": name, "call": call}
+                    else:
+                        busy[name] = at
+                    call += 1
+
+    # a sitting
+
+    def sit(self, stop, serves, lines):
+        """Plays a sitting of an hour: what it printed, by lines, and the numbers of what it left."""
+        self.wall += HOUR + self.dice.choice([0, 0, 5, HOUR, -HOUR, -30 * HOUR])
+        head = [self.wall, HOUR, stop, self.dice.randrange(4), self.dice.getrandbits(63), serves, TIDY_AT, len(lines)]
+        text = " ".join(map(str, head)) + "\n" + "".join(f"{at} {json.dumps(line)}\n" for at, line in lines)
+        self.note(text.encode())
+        self.program.stdin.write(text.encode())
+        self.program.stdin.flush()
+        out = []
+        for line in self.program.stdout:
+            if line.startswith(b"== "):
+                return out, self.left(line)
+            out.append(json.loads(line))
+        raise AssertionError(f"the program ended, with {self.program.wait()}")
+
+    def left(self, line):
+        """How many device calls a sitting had; none of its parts is too long."""
+        numbers = [int(word) for word in line.replace(b",", b"").split() if word.isdigit()]
+        calls, a, epoch_a, b, epoch_b = numbers
+        assert max(a, b) <= PART_LIMIT, line
+        self.counts["epochs"] = max(epoch_a, epoch_b)
+        return calls
+
+    def memory(self):
+        """The greatest resident memory that the program ever had, in KiB."""
+        with open(f"/proc/{self.program.pid}/status", encoding="ascii") as file:
+            return next(int(line.split()[1]) for line in file if line.startswith("VmHWM"))
+
+    # what a sitting says
+
+    def take_notice(self, notice):
+        known = self.all[notice["id"]]
+        assert known.there and notice["run"] > known.newest, ("told again, or of none", notice)
+        known.newest = notice["run"]
+        known.told = [*known.told, as_result(notice)][-KEPT:]
+        if notice["interval"] == 0:
+            assert known.queued.pop(notice["call"], None) == notice["action"], ("a result of no action", notice)
+        self.counts["told"] += 1
+
+    def take_reply(self, command, reply):
+        name = command.get("id")
+        known = self.all.get(name)
+        if "error" in reply:
+            self.counts[reply["error"]] += 1
+            if reply["error"] == "disk":
+                self.doubt = command
+            return
+        self.counts["acknowledged"] += command["op"] not in ("list", "info", "history")
+        self.next_call = max(self.next_call, reply.get("call", 0) + 1)
+        match command["op"]:
+            case "register":
+                assert not known.there
+                self.all[name] = Resource(True, command["params"])
+            case "unregister":
+                assert not known.queued
+                self.all[name] = Resource()
+            case "params":
+                known.params = command["params"]
+            case "exec":
+                known.queued[reply["call"]] = command["action"]
+            case "recur":
+                known.monitors[command["interval"]] = reply["call"]
+            case "cancel":
+                del known.monitors[command["interval"]]
+            case "withdraw":
+                known.told = [*known.told, withdrawn(command, known.queued.pop(command["call"]))][-KEPT:]
+                self.counts["withdrawn"] += 1
+            case "forget":
+                known.told = []
+
+    def hear(self, lines, out):
+        """Replies, one to a line, and between them notices, and how turns ended that no line asked for."""
+        asked = iter(lines)
+        for line in out:
+            if "outcome" in line:
+                self.take_notice(line)
+            elif "end" not in line:
+                self.take_reply(next(asked), line)
+
+    # what an opening finds
+
+    def doubts(self, op, name):
+        return (self.doubt.get("op"), self.doubt.get("id")) == (op, name)
+
+    def look_at_list(self, found):
+        for name in IDS:
+            known = self.all[name]
+            if known.there != (name in found):
+                assert self.doubts("unregister" if known.there else "register", name), ("the registry", name)
+                self.all[name] = Resource(not known.there, self.doubt.get("params"))
+        assert set(found) <= set(IDS)
+
+    def look_at_info(self, name, reply):
+        known = self.all[name]
+        assert known.there == ("error" not in reply), reply
+        if not known.there:
+            return
+        assert (reply["queued"], reply["running"]) == ([], None), ("an opening leaves nothing queued", reply)
+        if reply["params"] != known.params:
+            assert self.doubts("params", name) and reply["params"] == self.doubt["params"], ("parameters", reply)
+            known.params = reply["params"]
+        found = {monitor["interval"]: monitor["call"] for monitor in reply["recurring"]}
+        for interval, _ in set(found.items()) ^ set(known.monitors.items()):
+            op = "recur" if interval in found else "cancel"
+            assert self.doubts(op, name) and self.doubt["interval"] == interval, ("monitors", reply, known.monitors)
+        known.monitors = found
+        self.next_call = max([self.next_call, *[call + 1 for call in found.values()]])
+
+    def date(self, known, found):
+        """Gives what was withdrawn the moment at which it is found: one, as it neither began nor ran."""
+        moments = {result["call"]: result["at"] for result in found if result["outcome"] == "cancelled"}
+        for result in known.told:
+            if result["at"] is None and result["call"] in moments:
+                result["at"] = result["since"] = moments[result["call"]]
+
+    def look_at_history(self, name, reply, report, exact):
+        """All that was told, at most one result more, and then what an opening ended, which it reports."""
+        known = self.all[name]
+        if not known.there:
+            return
+        self.date(known, reply["results"])
+        found, old = reply["results"], set(map(str, known.told))
+        fresh = [result for result in found if str(result) not in old]
+        booted = [result for result in fresh if is_booted(result)]
+        more = [result for result in fresh if not is_booted(result)]
+        assert len(more) <= (0 if exact else 1), ("results that were not told", name, more)
+        for result in more:
+            if result["outcome"] == "cancelled":
+                assert self.doubts("withdraw", name) and self.doubt["call"] == result["call"], ("withdrawn by itself", name, result)
+        told = [] if self.doubts("forget", name) and len(found) == len(fresh) else known.told
+        assert found == [*told, *more, *booted][-KEPT:], ("a history", name, known.told, found)
+        if report:
+            # an opening that was stopped amid its record reports nothing, and the next one finds nothing to report
+            key = lambda result: result["call"]
+            assert sorted(report, key=key) == sorted(booted, key=key), (report, booted)
+        for result in more + booted:
+            known.newest = max(known.newest, result["run"])
+            self.next_call = max(self.next_call, result["call"] + 1)
+            if result["interval"] == 0:
+                known.queued.pop(result["call"], None)
+        # a start in doubt may be among what was dropped, and nothing else may be left
+        assert not known.queued, ("an acknowledged action is lost", name, known.queued)
+        known.told = found
+        self.counts["untold"] += len(more)
+        self.counts["ended by an opening"] += len(booted)
+
+    def look(self, exact=False):
+        """An opening without a stop and without turns, that asks for all."""
+        epochs = self.counts["epochs"]
+        out, self.opening = self.sit(0, 0, [(0, line) for line in QUESTIONS])
+        if self.counts["epochs"] > epochs:
+            # it tidied behind its opening: the next opening is of the other part
+            rest, self.opening = self.sit(0, 0, [])
+            assert rest == [], rest
+        report = collections.defaultdict(list)
+        while "outcome" in out[0]:
+            line = out.pop(0)
+            assert is_booted(line), line
+            report[line["id"]].append(as_result(line))
+        assert len(out) == len(QUESTIONS)
+        for command, reply in zip(QUESTIONS, out):
+            match command["op"]:
+                case "list":
+                    self.look_at_list(reply["resources"])
+                case "info":
+                    self.look_at_info(command["id"], reply)
+                case "history":
+                    self.look_at_history(command["id"], reply, report[command["id"]], exact)
+        self.doubt = {}
+
+    def stopped_opening(self, calls):
+        """An opening that is stopped near its end, before the report or behind it."""
+        out, _ = self.sit(max(1, calls + self.dice.randrange(-12, 8)), 0, [])
+        assert all(map(is_booted, out)), out
+        self.counts["openings that reported and were stopped"] += bool(out)
+
+    def hour(self, stops):
+        """An hour of a client, stopped or not."""
+        lines = self.client()
+        stop = self.opening + self.dice.randrange(1, self.hourly) if stops else 0
+        out, calls = self.sit(stop, 1, lines)
+        self.hear([line for _, line in lines], out)
+        # an hour that was stopped does not tell how many calls it would have made: perhaps more than is thought
+        self.hourly = self.hourly * 101 // 100 if 0 < stop <= calls else max(500, calls - self.opening)
+        self.counts["hours"] += 1
+        self.counts["stops"] += stops and calls >= stop
+        if stops and self.dice.random() < 0.5:
+            self.stopped_opening(calls)
+        self.look(exact=not stops)
+
+    def ends(self):
+        self.program.stdin.close()
+        self.program.stdout.close()
+        return self.program.wait()
+
+
+class Soak(helper.Check):
+    def test_life(self):
+        """a long life: stops each hour, and nothing told is lost"""
+        days, seed = helper.number("DAYS", 1), helper.number("SEED", 20261124)
+        began = time.monotonic()
+        life = Life(seed, lambda text: self.note("stdin", text))
+        self.addCleanup(life.program.kill)
+        life.hour(False)
+        half = 0
+        while life.counts["stops"] < 24 * days:
+            life.hour(True)
+            if life.counts["stops"] == 12 * days:
+                half = life.memory()
+        life.hour(False)
+        late = life.memory()
+        self.assertEqual(life.ends(), 0)
+        print(f"soak: {days} days in {time.monotonic() - began:.0f} s, seed {seed}: {dict(life.counts)};",
+              f"memory at most {half} KiB in its first half, {late} KiB in all")
+        # a part is tidied at some 2.2 MiB, which a day fills; by then the disk in memory has all the room that it takes
+        self.assertGreater(life.counts["epochs"], days // 3, "tidies by themselves")
+        self.assertGreater(life.counts["withdrawn"], 100 * days, "actions that were withdrawn")
+        if days >= 8:
+            self.assertLess(late, half * 1.1, "memory that grows with the days")
+
+
+if __name__ == "__main__":
+    helper.main()

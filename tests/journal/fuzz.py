@@ -1,0 +1,76 @@
+#!/usr/bin/env python3
+"""What guided fuzzing found of inputs, tests/fuzz/corpus, handed once more to the readers that they were found for: none crashes,
+takes long or fails, so what is read spells the same bytes, a pair that is refused is not written, and what a run leaves opens.
+Behind each pair the program's own `show` ends as it may.
+Use: fuzz.py PROGRAM, with TRIALS in the environment"""
+import os
+import subprocess
+import sys
+
+sys.path[0] += "/../lib"
+import helper  # noqa: E402
+
+TRIALS = os.environ.get("TRIALS", os.path.join(helper.TOP, "crates/trials/out/trials"))
+CORPUS = os.path.join(helper.TOP, "tests/fuzz/corpus")
+SHOWN, REFUSED, DAMAGED = 0, 5, 3
+
+
+class Fuzz(helper.Check):
+    def inputs(self, reader):
+        folder = os.path.join(CORPUS, reader)
+        names = sorted(os.listdir(folder))
+        self.assertTrue(names)
+        for name in names:
+            with open(os.path.join(folder, name), "rb") as file:
+                yield name, file.read()
+
+    def replay(self, reader):
+        for name, text in self.inputs(reader):
+            done = subprocess.run([TRIALS, reader], input=text, capture_output=True, timeout=10)
+            self.assertEqual((done.returncode, done.stderr), (0, b""), name)
+
+    def test_command(self):
+        """command lines that fuzzing found"""
+        self.replay("command")
+
+    def test_event(self):
+        """events that fuzzing found"""
+        self.replay("event")
+
+    def test_state(self):
+        """states that fuzzing found"""
+        self.replay("state")
+
+    def test_words(self):
+        """words of the command line that fuzzing found"""
+        self.replay("words")
+
+    def test_lines(self):
+        """whole runs that fuzzing found"""
+        self.replay("lines")
+
+    def test_pair(self):
+        """pairs of parts that fuzzing found"""
+        self.replay("pair")
+
+    def test_show(self):
+        """the same pairs, shown by the program, which writes nothing"""
+        folder = self.journal()
+        for name, text in self.inputs("pair"):
+            if len(text) < 2:
+                continue
+            length = min(int.from_bytes(text[:2], "big"), len(text) - 2)
+            parts = [text[2:][:length], text[2:][length:]]
+            for file, part in zip(("part-a", "part-b"), parts):
+                with open(os.path.join(folder, file), "wb") as out:
+                    out.write(part)
+            done = helper.explained("show", "--journal", folder, timeout=10)
+            if b"" in parts and b": empty, while part-" in done.stderr:
+                self.assertEqual(done.returncode, REFUSED, name)
+            else:
+                self.assertIn(done.returncode, (SHOWN, DAMAGED), (name, done.stderr))
+            self.assertEqual(helper.parts(folder), parts, name)
+
+
+if __name__ == "__main__":
+    helper.main()

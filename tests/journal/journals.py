@@ -1,0 +1,241 @@
+#!/usr/bin/env python3
+"""Journals whose parts are spelled by hand, after docs/FORMAT.md: what they are shown as, what their opening reports, each cause of
+damage, and a part that has no room left for a boot.
+Use: journals.py PROGRAM"""
+import json
+import subprocess
+import sys
+
+sys.path[0] += "/../lib"
+import helper  # noqa: E402
+from helper import PROGRAM  # noqa: E402
+
+# The greatest lengths of a part and of a record's body, and the numbers of actions that are used here.
+PART, BODY = 8388608, 32768
+START, STOP, MONITOR = 1, 2, 3
+SHOWN = b"""\
+{"ok":true,"resources":["r1","r2"]}
+{"failed":null,"id":"r1","ok":true,"params":{},"provider":"pacemaker","queued":[2],"recurring":[],"running":null,"type":"Dummy"}
+{"ok":true,"results":[{"action":"start","at":90,"call":1,"code":0,"interval":0,"name":"OCF_SUCCESS","outcome":"done","run":1,"since":20}]}
+{"failed":null,"id":"r2","ok":true,"params":{"state":"/tmp"},"provider":"heartbeat","queued":[],"recurring":[],"running":{"call":3,"key":"r2_monitor_0","run":2},"type":"Dummy"}
+{"ok":true,"results":[]}
+"""
+REPORT = b"""\
+{"action":"monitor","call":3,"code":1,"id":"r2","interval":0,"name":"OCF_ERR_GENERIC","outcome":"interrupted","run":2}
+{"action":"stop","call":2,"code":1,"id":"r1","interval":0,"name":"OCF_ERR_GENERIC","outcome":"dropped","run":0}
+{"ok":true,"resources":["r1","r2"]}
+"""
+OPEN, CLOSED = b"\1", b"\0"
+LIST = helper.lines({"op": "list"})
+
+
+def number(value, length=8):
+    return value.to_bytes(length, "big")
+
+
+def name(text):
+    return number(len(text), 1) + text.encode()
+
+
+def value(text):
+    return number(len(text), 2) + text.encode()
+
+
+# Events: a kind, the moment, and the fields.
+def register(at, resource, provider, kind, **params):
+    pairs = b"".join(name(key) + value(text) for key, text in params.items())
+    return number(1, 1) + number(at) + name(resource) + name(provider) + name(kind) + number(len(params), 1) + pairs
+
+
+def execute(at, resource, call, action, level=0, expect=0, timeout=20000):
+    task = number(action, 1) + number(level, 1) + number(expect, 1)
+    return number(4, 1) + number(at) + name(resource) + number(call) + task + number(timeout, 4)
+
+
+def forget(at, resource):
+    return number(7, 1) + number(at) + name(resource)
+
+
+def withdraw(at, resource, call):
+    return number(11, 1) + number(at) + name(resource) + number(call)
+
+
+def begin(at, resource, call, run):
+    return number(8, 1) + number(at) + name(resource) + number(call) + number(run)
+
+
+def done(at, resource, run, code):
+    return number(9, 1) + number(at) + name(resource) + number(run) + number(1, 1) + number(code, 1)
+
+
+
+# The empty state: the next call id, the next run number, the clock, and no resource.
+EMPTY = number(1) + number(1) + number(0) + number(0, 2)
+
+
+def head(magic=b"OCFJ", version=2, epoch=1, state=EMPTY):
+    return OPEN + magic + number(version, 1) + number(epoch) + number(len(state), 4) + state
+
+
+def record(*events):
+    body = b"".join(events)
+    return OPEN + number(len(body), 4) + body
+
+
+def busy():
+    """Part A of a journal of r1 with a start that is done and a stop that is queued, and of r2 with a monitor that runs."""
+    rows = [register(0, "r1", "pacemaker", "Dummy"), execute(10, "r1", 1, START), begin(20, "r1", 1, 1), done(90, "r1", 1, 0),
+            register(100, "r2", "heartbeat", "Dummy", state="/tmp"), execute(100, "r1", 2, STOP),
+            execute(100, "r2", 3, MONITOR, level=10), begin(110, "r2", 3, 2)]
+    return head() + b"".join(record(row) for row in rows) + CLOSED
+
+
+def probed():
+    """Part A of a journal of r1 with two probes that expect it stopped: the first one finds it so, the second one running."""
+    rows = [register(0, "r1", "pacemaker", "Dummy"), execute(10, "r1", 1, MONITOR, expect=7), begin(20, "r1", 1, 1), done(30, "r1", 1, 7),
+            execute(40, "r1", 2, MONITOR, expect=7), begin(50, "r1", 2, 2), done(60, "r1", 2, 0)]
+    return head() + b"".join(record(row) for row in rows) + CLOSED
+
+
+def withdrawn():
+    """Part A of a journal of r1 with a start that runs, a stop that was withdrawn at 30, and a monitor that is queued."""
+    rows = [register(0, "r1", "pacemaker", "Dummy"), execute(10, "r1", 1, START), begin(20, "r1", 1, 1), execute(25, "r1", 2, STOP),
+            execute(25, "r1", 3, MONITOR), withdraw(30, "r1", 2)]
+    return head() + b"".join(record(row) for row in rows) + CLOSED
+
+
+def crowded():
+    """Part A of a journal in which a start of r1 runs, and r1's results are forgotten over and over, until only eleven bytes are left
+    at most for one more record's body."""
+    rows = [register(0, "r1", "pacemaker", "Dummy"), execute(0, "r1", 1, START), begin(0, "r1", 1, 1)]
+    forgotten = forget(0, "r1")
+    full = record(forgotten * (BODY // len(forgotten)))
+    part = head() + b"".join(record(row) for row in rows)
+    part += full * ((PART - 1 - len(part)) // len(full))
+    part += record(forgotten * ((PART - 1 - len(part) - len(record())) // len(forgotten)))
+    return part + CLOSED
+
+
+class Journals(helper.Check):
+    def words(self, folder):
+        # its own root: an opening ends what is left of a start, by the path of the agent and the name of the resource
+        return ["run", "--journal", folder, "--root", self.here]
+
+    def shows(self, folder):
+        """A show of a journal, which stays the same byte for byte."""
+        before = helper.parts(folder)
+        found = helper.run("show", "--journal", folder)
+        self.assertEqual(helper.parts(folder), before, "a show that writes nothing")
+        return found
+
+    def stays(self, folder, status, line, advice):
+        """A journal that is not opened, is told so, and stays the same byte for byte."""
+        before = helper.parts(folder)
+        found = helper.run(*self.words(folder))
+        self.assertEqual((found.returncode, found.stdout, found.stderr.decode()), (status, b"", line + "\n"))
+        first, *more = helper.explained(*self.words(folder)).stderr.decode().splitlines()
+        self.assertEqual(first, line)
+        self.assertIn(advice, "\n".join(more))
+        self.assertEqual(helper.parts(folder), before, "an opening that writes nothing")
+
+    def damaged(self, where, part_a, part_b=b""):
+        folder = self.spelled("journal", part_a, part_b)
+        self.stays(folder, 3, f"ocfexec: damaged part {where}", "Nothing was changed. Keep both parts")
+        found = self.shows(folder)
+        self.assertEqual((found.returncode, found.stdout), (3, b""))
+
+    def test_shown(self):
+        """what a spelled journal shows"""
+        found = self.shows(self.spelled("journal", busy(), b""))
+        self.assertEqual((found.returncode, found.stdout), (0, SHOWN))
+
+    def test_failed(self):
+        """what failed last is the probe that did not find what it expected"""
+        found = self.shows(self.spelled("journal", probed(), b""))
+        _, info, history = (json.loads(line) for line in found.stdout.splitlines())
+        first, second = history["results"]
+        self.assertEqual((first["code"], second["code"], info["failed"]), (7, 0, second))
+
+    def test_withdrawn(self):
+        """what was withdrawn has a result and is queued no more"""
+        found = self.shows(self.spelled("journal", withdrawn(), b""))
+        _, info, history = (json.loads(line) for line in found.stdout.splitlines())
+        result = {"action": "stop", "at": 30, "call": 2, "code": 1, "interval": 0, "name": "OCF_ERR_GENERIC", "outcome": "cancelled",
+                  "run": 0, "since": 30}
+        self.assertEqual((info["queued"], info["running"]["call"], info["failed"], history["results"]), ([3], 1, None, [result]))
+
+    def test_reported(self):
+        """what its opening reports, once"""
+        folder = self.spelled("journal", busy(), b"")
+        self.assertEqual(helper.run(*self.words(folder), told=LIST).stdout, REPORT)
+        self.assertEqual(helper.run(*self.words(folder)).stdout, b"", "opened again")
+
+    def test_not_reported(self):
+        """a report that cannot be written"""
+        folder = self.spelled("journal", busy(), b"")
+        with open("/dev/full", "wb") as full:
+            found = subprocess.run([PROGRAM, *self.words(folder)], input=LIST, stdout=full, stderr=subprocess.DEVNULL)
+        self.assertEqual(found.returncode, 7)
+
+    def test_head_cut(self):
+        """damage: a head that is cut"""
+        self.damaged("A at 0: cut", head()[:43])
+
+    def test_record_cut(self):
+        """damage: a record that is cut"""
+        self.damaged("A at 44: cut", head() + b"\1\0\0")
+
+    def test_closed(self):
+        """damage: no part with an open gate"""
+        self.damaged("A at 0: closed", bytes(46))
+
+    def test_magic(self):
+        """damage: another magic"""
+        self.damaged("B at 0: magic", b"", head(magic=b"OCFK") + CLOSED)
+
+    def test_version(self):
+        """damage: a version that is not known"""
+        self.damaged("B at 0: version", b"", head(version=3) + CLOSED)
+
+    def test_epoch(self):
+        """damage: epoch 0"""
+        self.damaged("A at 0: epoch", head(epoch=0) + CLOSED)
+
+    def test_state(self):
+        """damage: a snapshot that is no state"""
+        self.damaged("A at 0: state", head(state=b"x") + CLOSED)
+
+    def test_long(self):
+        """damage: a record that is too long"""
+        self.damaged("A at 44: long", head() + OPEN + number(BODY + 1, 4))
+
+    def test_event(self):
+        """damage: a record that is no row of events"""
+        self.damaged("B at 44: event", b"", head() + record(b"\0") + CLOSED)
+
+    def test_order(self):
+        """damage: an event that does not apply"""
+        unregister = number(2, 1) + number(0) + name("r1")
+        self.damaged("A at 44: order", head() + record(unregister) + CLOSED)
+
+    def test_withdrawn_twice(self):
+        """damage: a withdrawal of what is not queued"""
+        part = withdrawn()[:-1]
+        self.damaged(f"A at {len(part)}: order", part + record(withdraw(30, "r1", 2)) + CLOSED)
+
+    def test_withdrawn_early(self):
+        """damage: a withdrawal in the first layout"""
+        event = withdraw(0, "r1", 1)
+        self.damaged("A at 44: event", head(version=1) + record(event) + CLOSED)
+
+    def test_no_room(self):
+        """a part without room for a boot is shown, and not opened"""
+        folder = self.spelled("journal", crowded(), b"")
+        self.stays(folder, 6, "ocfexec: full", "Nothing was changed. See what it holds by show")
+        found = self.shows(folder)
+        self.assertEqual(found.returncode, 0)
+        self.assertEqual(helper.replies(found.stdout)[1]["running"], {"call": 1, "key": "r1_start_0", "run": 1})
+
+
+if __name__ == "__main__":
+    helper.main()

@@ -1,0 +1,131 @@
+#!/usr/bin/env python3
+"""Opens journals of the first layout, which a program wrote that knew no other: tests/data/first-layout has their parts, and what
+that program's `show` printed of each. In `resting` nothing runs; in `running` the program was killed while two agents ran and an
+action was queued. Wanted: `show` prints the same, with the keys that are of the second layout, and writes nothing; an opening leaves the second layout in the other part, loses
+nothing and reports what was interrupted and dropped; the next opening of a journal at rest writes nothing. Killed at random moments
+while it goes over, the journal is always shown the same.
+Use: layouts.py PROGRAM, with KILLS and SEED in the environment"""
+import gzip
+import json
+import os
+import random
+import shutil
+import subprocess
+import sys
+import time
+
+sys.path[0] += "/../lib"
+import helper  # noqa: E402
+from helper import PROGRAM  # noqa: E402
+
+DATA = os.path.join(helper.TOP, "tests/data/first-layout")
+PARTS = ("part-a", "part-b")
+
+
+def stored(name, file):
+    with gzip.open(f"{DATA}/{name}/{file}.gz") as text:
+        return text.read()
+
+
+def today(line):
+    """What is shown of a line that the old program showed: nothing has failed, and each monitor is expected to succeed."""
+    shown = json.loads(line)
+    if "recurring" in shown:
+        shown["failed"] = None
+        for monitor in shown["recurring"]:
+            monitor["expect"] = 0
+    return json.dumps(shown, separators=(",", ":"), sort_keys=True, ensure_ascii=False).encode() + b"\n"
+
+
+def carried(name):
+    """What is to be shown of a stored journal, once it is carried over."""
+    return b"".join(today(line) for line in stored(name, "shown").splitlines())
+
+
+def head(part):
+    """A head's version and its epoch."""
+    return part[5], int.from_bytes(part[6:14], "big")
+
+
+def but_for(text, ids):
+    """What is shown of all resources but these: the first line lists them, and two lines follow of each."""
+    shown = text.splitlines()
+    names = json.loads(shown[0])["resources"]
+    return shown[:1] + [line for n, line in enumerate(shown[1:]) if names[n // 2] not in ids]
+
+
+class Layouts(helper.Check):
+    def unpack(self, old):
+        folder = self.place("journal")
+        shutil.rmtree(folder, ignore_errors=True)
+        os.mkdir(folder)
+        for part, text in zip(PARTS, old):
+            with open(os.path.join(folder, part), "wb") as out:
+                out.write(text)
+        return folder
+
+    def opened(self, folder):
+        done = subprocess.run([PROGRAM, "run", "--journal", folder, "--orphans", "0"], input=b"", capture_output=True)
+        self.assertEqual(done.returncode, 0, done.stderr)
+        return helper.replies(done.stdout)
+
+    def goes_over(self, name, report, touched):
+        old, text = [stored(name, part) for part in PARTS], carried(name)
+        self.assertEqual([head(part)[0] for part in old], [1, 1])
+        self.assertGreater(head(old[1])[1], head(old[0])[1])
+        folder = self.unpack(old)
+        self.assertEqual(helper.shown(folder), text, "what the old program showed")
+        self.assertEqual(helper.parts(folder), old, "a show that writes nothing")
+        told = self.opened(folder)
+        self.assertEqual([(line["id"], line["action"], line["outcome"]) for line in told], report)
+        new = helper.parts(folder)
+        self.assertEqual(new[1], old[1])
+        self.assertEqual(head(new[0]), (2, head(old[1])[1] + 1), "the second layout in the other part")
+        self.assertEqual(but_for(helper.shown(folder), touched), but_for(text, touched), "the same, but for what was interrupted")
+        self.assertEqual(self.opened(folder), [], "nothing to report again")
+        if not report:
+            self.assertEqual((helper.parts(folder), helper.shown(folder)), (new, text), "nothing written again")
+
+    def test_resting(self):
+        """a journal at rest goes over to the second layout"""
+        self.goes_over("resting", [], [])
+
+    def test_running(self):
+        """a journal of a killed program goes over, and is reported"""
+        report = [("r003", "start", "interrupted"), ("r007", "start", "interrupted"), ("r003", "stop", "dropped")]
+        self.goes_over("running", report, ["r003", "r007"])
+
+    def killed(self, old, text, most):
+        # where the journal stands behind a kill at a random moment of its opening
+        folder = self.unpack(old)
+        with open(self.place("err"), "wb") as err:
+            run = subprocess.Popen([PROGRAM, "run", "--journal", folder], stdin=subprocess.PIPE, stdout=err, stderr=err)
+            time.sleep(random.uniform(0, most))
+            run.kill()
+            run.wait()
+            run.stdin.close()
+        self.assertEqual(helper.shown(folder), text, "what the old program showed, behind a kill")
+        found = helper.parts(folder)
+        if found == old:
+            return "before"
+        return "behind" if head(found[0]) == (2, head(old[1])[1] + 1) and found[0][0] == 1 else "amid"
+
+    @helper.slow
+    def test_kills(self):
+        """kills at random moments of the way over"""
+        random.seed(helper.number("SEED", 20261124))
+        kills = helper.number("KILLS", 200)
+        old, text = [stored("resting", part) for part in PARTS], carried("resting")
+        folder = self.unpack(old)
+        began = time.monotonic()
+        self.opened(folder)
+        most = 1.2 * (time.monotonic() - began)
+        counts = {"before": 0, "amid": 0, "behind": 0}
+        for _ in range(kills):
+            counts[self.killed(old, text, most)] += 1
+        print("layouts: killed before, amid and behind the way over:", counts)
+        self.assertTrue(counts["before"] + counts["behind"] < kills or kills < 50, "a kill amid the way over")
+
+
+if __name__ == "__main__":
+    helper.main()

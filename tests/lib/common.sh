@@ -1,0 +1,118 @@
+# What the checks of the shell share; read by `. "$(dirname "$0")/../lib/common.sh" "$@"`, with the program as the first word. A check
+# has a folder of its own, `$here`, which is removed at its end; `$top` is the repository.
+# shellcheck shell=sh
+# The program names the signals that are ignored when it starts, as those are of what nohup or a script's `&` starts.
+[ "${signals-}" = default ] || exec env --default-signal signals=default "$0" "$@"
+program=$(realpath "$1")
+top=$(cd "$(dirname "$0")/../.." && pwd)
+check=${0##*/}
+here=$(mktemp -d)
+trap 'rm -rf "$here"' EXIT
+failed=0
+any_failed=0
+check_began=$(date +%s%3N)
+check_part=${check%.sh}
+
+# Says what is not as wanted. Use: differs WHAT WANTED FOUND
+differs() {
+    printf '%s: %s: wanted\n%s\nand found\n%s\n' "$check" "$1" "$2" "$3" >&2
+    failed=1
+}
+
+# Use: same WHAT WANTED FOUND
+same() {
+    [ "$2" = "$3" ] || differs "$1" "$2" "$3"
+}
+
+# Whether a file is just $here/wanted. Use: is_wanted WHAT FILE
+is_wanted() {
+    cmp -s "$here/wanted" "$2" || differs "$1" "$(head -c 600 "$here/wanted")" "$(head -c 600 "$2")"
+}
+
+# Runs the program on a journal, with these lines as its input. Sets $status. Use: run DIR [LINE..]
+run() {
+    folder=$1
+    shift
+    { [ $# -eq 0 ] || printf '%s\n' "$@"; } > "$here/asked"
+    status=0
+    "$program" run --journal "$folder" < "$here/asked" > "$here/out" 2> "$here/err" || status=$?
+}
+
+# Runs a command whose standard error is a file, which its environment names as the stream to the system's journal: so a fault is
+# explained there for a person, too. Use: explained FILE WORD..
+explained() {
+    explained_in=$1
+    shift
+    : > "$explained_in"
+    JOURNAL_STREAM=$(stat -c %d:%i "$explained_in") "$@" 2> "$explained_in"
+}
+
+# An opening that is refused, with this status and line alone, and with this text in a line after it for a person.
+# Use: refused DIR STATUS LINE TEXT
+refused() {
+    run "$1"
+    same "$1, status" "$2" "$status"
+    same "$1, standard error" "$3" "$(cat "$here/err")"
+    same "$1, standard output" "" "$(cat "$here/out")"
+    explained "$here/err" "$program" run --journal "$1" < /dev/null > "$here/out"
+    same "$1, status for a person" "$2" $?
+    same "$1, first line for a person" "$3" "$(head -n 1 "$here/err")"
+    tail -n +2 "$here/err" | grep -q -F -e "$4" || differs "$1, cause" "$4" "$(cat "$here/err")"
+}
+
+# Starts the program with these words, its input behind descriptor 3 and its output in a file. Sets $pid. Use: feed FILE WORD..
+feed() {
+    fed=$1
+    shift
+    mkfifo "$here/in"
+    env --default-signal "$program" "$@" < "$here/in" > "$fed" &
+    pid=$!
+    exec 3> "$here/in"
+    rm "$here/in"
+}
+
+# Waits until so many lines of a file hold this. Use: awaits COUNT PATTERN FILE
+awaits() {
+    until [ "$(grep -c -e "$2" "$3")" -ge "$1" ]; do
+        sleep 0.02
+    done
+}
+
+# The resident memory of a process in KiB: now, or the greatest that it ever was. Use: kib PID VmRSS, kib PID VmHWM
+kib() {
+    awk -v name="$2:" '$1 == name { print $2 }' "/proc/$1/status"
+}
+
+# What a process has taken of the processor, in milliseconds. Use: processor_time PID
+processor_time() {
+    awk -v rate="$(getconf CLK_TCK)" '{ print int(($14 + $15) * 1000 / rate) }' "/proc/$1/stat"
+}
+
+# The notices of a file in short: action, outcome, code and its name; and without the name. Use: notices FILE, outcomes FILE
+notices() {
+    sed -n 's/^{"action":"\([a-z-]*\)".*"code":\([0-9]*\).*"name":"\([a-zA-Z_]*\)".*"outcome":"\([a-z-]*\)".*/\1 \4 \2 \3/p' "$1"
+}
+outcomes() {
+    notices "$1" | cut -d ' ' -f 1-3
+}
+
+# Prints what was checked since the last such line, with its time. Use: checked NAME
+checked() {
+    check_now=$(date +%s%3N)
+    check_took=$((check_now - check_began))
+    check_began=$check_now
+    check_word=ok
+    if [ "$failed" -ne 0 ]; then
+        check_word=failed
+        any_failed=1
+        failed=0
+    fi
+    printf '%-8s%4d.%02d s  %s: %s\n' "$check_word" $((check_took / 1000)) $((check_took % 1000 / 10)) "$check_part" "$1"
+}
+
+# Ends a check: what was checked last has this name. Use: finish NAME
+finish() {
+    checked "$1"
+    [ "$any_failed" -eq 0 ] || exit 1
+    exit 0
+}

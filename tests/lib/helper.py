@@ -1,0 +1,341 @@
+"""What the checks in Python share: the program, a folder for each check, its agents, the lines of commands, and runs that are asked
+and heard. A module is called as `tests/FOLDER/NAME.py PROGRAM`; each of its tests is a check, which is printed with its time. With ONLY
+in the environment, the one test of that sentence is tried. A test that fails says how it is played again, with the numbers that it asked
+for; one by chance, which asked for SEED, leaves its folder, with what it was given, in tests/failed."""
+import json
+import os
+import shlex
+import shutil
+import signal
+import subprocess
+import sys
+import tempfile
+import threading
+import time
+import unittest
+
+PROGRAM = os.path.realpath(sys.argv[1]) if len(sys.argv) > 1 else ""
+PARTS = ("part-a", "part-b")
+TOP = os.path.dirname(os.path.dirname(os.path.dirname(os.path.abspath(__file__))))
+FAILED = os.path.join(TOP, "tests/failed")
+# how this module is called again, and the numbers that the test under way asked for
+CALL, numbers = [sys.argv[0], *([PROGRAM] if PROGRAM else [])], {}
+
+# The program names the signals that are ignored when it starts, as those are of what nohup or a script's `&` starts. What Python
+# itself ignores is at its default in what it starts.
+for ignored in signal.valid_signals() - {signal.SIGPIPE, signal.SIGXFSZ}:
+    if signal.getsignal(ignored) == signal.SIG_IGN:
+        signal.signal(ignored, signal.SIG_DFL)
+
+
+def number(name, default):
+    """A number that the environment may name, as ROUNDS or SEED."""
+    numbers[name] = int(os.environ.get(name, default))
+    return numbers[name]
+
+
+def slow(test):
+    """Marks a test that --fast leaves out."""
+    return unittest.skipIf(os.environ.get("FAST"), "slow")(test)
+
+
+def register(name, kind, provider="test", **params):
+    return {"op": "register", "id": name, "provider": provider, "type": kind, "params": params}
+
+
+def action(name, what, **more):
+    return {"op": "exec", "id": name, "action": what, **more}
+
+
+def lines(*commands):
+    """The lines of these commands, in bytes."""
+    return "".join(json.dumps(command) + "\n" for command in commands).encode()
+
+
+def replies(out):
+    """The values of whole lines; what stands behind the last newline is none."""
+    return [json.loads(line) for line in out.split(b"\n")[:-1]]
+
+
+def is_notice(value, **wanted):
+    """Whether a value is a notice, with these keys as wanted."""
+    return "outcome" in value and all(value[key] == part for key, part in wanted.items())
+
+
+def run(*words, told=b"", **how):
+    """A whole run, which is told all its input at once."""
+    return subprocess.run([PROGRAM, *words], input=told, capture_output=True, **{"timeout": 120, **how})
+
+
+def journal_stream(err):
+    """What the environment of a program names as its stream to the system's journal: its standard error, which is this open file."""
+    found = os.fstat(err)
+    return {"JOURNAL_STREAM": f"{found.st_dev}:{found.st_ino}"}
+
+
+def explained(*words, told=b"", **how):
+    """A whole run whose standard error goes to the system's journal, as far as the program knows: so a fault is explained there."""
+    with tempfile.TemporaryFile() as err:
+        done = subprocess.run([PROGRAM, *words], input=told, stdout=subprocess.PIPE, stderr=err,
+                              env={**os.environ, **journal_stream(err.fileno())}, **{"timeout": 120, **how})
+        err.seek(0)
+        done.stderr = err.read()
+    return done
+
+
+def parts(folder):
+    """The bytes of a journal's two parts."""
+    found = []
+    for name in PARTS:
+        with open(os.path.join(folder, name), "rb") as part:
+            found.append(part.read())
+    return found
+
+
+def shown(folder):
+    """What `show` prints of a journal."""
+    done = run("show", "--journal", folder)
+    assert done.returncode == 0, done.stderr
+    return done.stdout
+
+
+def results(folder):
+    """The results of each resource of a journal, by its id."""
+    found = replies(shown(folder))
+    return {name: found[2 + 2 * place]["results"] for place, name in enumerate(found[0]["resources"])}
+
+
+def processor_time(pid):
+    """What a process has taken of the processor, in seconds."""
+    with open(f"/proc/{pid}/stat", encoding="ascii") as stat:
+        fields = stat.read().rsplit(")", 1)[1].split()
+    return (int(fields[11]) + int(fields[12])) / os.sysconf("SC_CLK_TCK")
+
+
+def kib(pid, name):
+    """The resident memory of a process in KiB: now, as VmRSS, or the greatest that it ever was, as VmHWM."""
+    with open(f"/proc/{pid}/status", encoding="ascii") as status:
+        return next(int(line.split()[1]) for line in status if line.startswith(name + ":"))
+
+
+def shim(source, folder):
+    """A library of this source in C, of tests/shims, to be loaded before the C library's."""
+    built = os.path.join(folder, os.path.basename(source).removesuffix(".c") + ".so")
+    subprocess.run(["cc", "-O1", "-shared", "-fPIC", "-o", built, os.path.join(TOP, "tests/shims", source), "-ldl"], check=True)
+    return built
+
+
+def is_alive(pid):
+    """Whether a process runs, and is no zombie."""
+    try:
+        with open(f"/proc/{pid}/stat", encoding="ascii") as stat:
+            return stat.read().rsplit(")", 1)[1].split()[0] != "Z"
+    except OSError:
+        return False
+
+
+def keep(folder, into):
+    """Copies a folder into the place of an earlier one, but for what is no plain file."""
+    shutil.rmtree(into, ignore_errors=True)
+    try:
+        shutil.copytree(folder, into, symlinks=True)
+    except OSError:
+        # a named pipe, or a file that an agent just removed
+        pass
+
+
+class Heard:
+    """A program that runs, whose lines are kept with the moments at which they came; its standard error goes to a file."""
+
+    def __init__(self, *words, err=os.devnull, program=None, **how):
+        with open(err, "wb") as file:
+            self.run = subprocess.Popen([program or PROGRAM, *words], stdin=subprocess.PIPE, stdout=subprocess.PIPE, stderr=file, **how)
+        self.lines, self.came = [], threading.Condition()
+        self.reader = threading.Thread(target=self.read, daemon=True)
+        self.reader.start()
+
+    def read(self):
+        for line in self.run.stdout:
+            with self.came:
+                self.lines.append((time.monotonic(), line.decode()))
+                self.came.notify_all()
+
+    def tell(self, *commands):
+        self.send(lines(*commands))
+
+    def send(self, text):
+        self.run.stdin.write(text)
+        self.run.stdin.flush()
+
+    def values(self):
+        """The values of all whole lines that have come."""
+        with self.came:
+            return [json.loads(line) for _, line in self.lines if line.endswith("\n")]
+
+    def told(self):
+        """The notices that have come."""
+        return [value for value in self.values() if is_notice(value)]
+
+    def awaits(self, holds, seconds=10, after=0):
+        """The moment and the value of the first line of which this holds, after so many; two None where none came."""
+        until, at = time.monotonic() + seconds, after
+        with self.came:
+            while True:
+                while at < len(self.lines):
+                    value = json.loads(self.lines[at][1])
+                    if holds(value):
+                        return self.lines[at][0], value
+                    at += 1
+                if not self.came.wait(max(0, until - time.monotonic())):
+                    return None, None
+
+    def ends(self, seconds=10):
+        """The exit status, behind the end of its input."""
+        self.run.stdin.close()
+        status = self.run.wait(seconds)
+        self.reader.join()
+        return status
+
+    def killed(self):
+        self.run.kill()
+        self.run.wait()
+        self.reader.join()
+        self.run.stdin.close()
+        self.run.stdout.close()
+
+
+class Check(unittest.TestCase):
+    """A check has a folder of its own, `here`, which is the root of its agents, too."""
+
+    longMessage = True
+    here = None
+
+    def setUp(self):
+        self.here = tempfile.mkdtemp()
+
+    def run(self, result=None):
+        numbers.clear()
+        bad = len(result.failures) + len(result.errors)
+        super().run(result)
+        if len(result.failures) + len(result.errors) > bad:
+            self.say_again()
+        self.clear()
+        return result
+
+    def say_again(self):
+        """Says how a test that failed is played again; what one by chance was given, and what it left, is kept."""
+        only = {"ONLY": shlex.quote(self.shortDescription())} if self.shortDescription() else {}
+        again = " ".join([*[f"{name}={value}" for name, value in {**numbers, **only}.items()], *CALL])
+        name = os.path.basename(sys.argv[0]).removesuffix(".py")
+        print(f"{name}: once more: {again}", flush=True)
+        if "SEED" in numbers and self.here:
+            folder = os.path.join(FAILED, name, self._testMethodName)
+            self.note("again", again.encode() + b"\n")
+            keep(self.here, folder)
+            print(f"{name}: kept: {folder}", flush=True)
+
+    def clear(self):
+        # an agent that ends just then may still write there
+        for _ in range(5):
+            if not self.here or not os.path.exists(self.here):
+                return
+            shutil.rmtree(self.here, ignore_errors=True)
+            if os.path.exists(self.here):
+                time.sleep(1)
+
+    def place(self, name):
+        return os.path.join(self.here, name)
+
+    def note(self, name, text):
+        """Leaves what a test by chance is given in its folder, which is kept where it fails."""
+        with open(self.place(name), "ab") as file:
+            file.write(text)
+
+    def agent(self, kind, text):
+        """An agent of the provider test, as a script of the shell."""
+        folder = self.place("resource.d/test")
+        os.makedirs(folder, exist_ok=True)
+        path = os.path.join(folder, kind)
+        with open(path, "w", encoding="utf-8") as file:
+            file.write("#!/bin/sh\n" + text)
+        os.chmod(path, 0o755)
+
+    def heard(self, *words, **how):
+        """A program that runs, and is gone at the end of the check."""
+        run = Heard(*words, **how)
+        self.addCleanup(run.killed)
+        return run
+
+    def spelled(self, name, *found):
+        """The folder of a journal whose parts are these bytes."""
+        folder = self.journal(name)
+        for file, text in zip(PARTS, found):
+            with open(os.path.join(folder, file), "wb") as part:
+                part.write(text)
+        return folder
+
+    def journal(self, name="journal"):
+        os.mkdir(self.place(name))
+        return self.place(name)
+
+    def holds(self, what, name):
+        self.assertTrue(what, name)
+
+
+class Told(unittest.TestResult):
+    """Prints each check with its time, and what it found wrong."""
+
+    test = None
+
+    def startTest(self, test):
+        super().startTest(test)
+        self.began, self.before, self.test = time.monotonic(), self.bad(), test
+
+    def bad(self):
+        return len(self.failures) + len(self.errors)
+
+    def addSkip(self, test, reason):
+        super().addSkip(test, reason)
+        self.say("skipped", test, f": {reason}")
+
+    def say(self, word, test, more=""):
+        name = os.path.basename(sys.argv[0]).removesuffix(".py")
+        print(f"{word:8}{time.monotonic() - self.began:7.2f} s  {name}: {test.shortDescription() or test.id()}{more}", flush=True)
+
+    def stopTest(self, test):
+        if self.bad() > self.before:
+            self.say("failed", test)
+        elif not any(skipped is test for skipped, _ in self.skipped):
+            self.say("ok", test)
+        self.test = None
+        super().stopTest(test)
+
+    def end(self):
+        """Ends the program, which took too long: so did the test under way."""
+        if self.test:
+            self.say("failed", self.test)
+            self.test.say_again()
+            self.test.clear()
+        os._exit(128 + signal.SIGTERM)
+
+
+def chosen(tests, only):
+    """These tests, one by one; of a sentence that is given that test alone."""
+    for test in tests:
+        if isinstance(test, unittest.TestSuite):
+            yield from chosen(test, only)
+        elif only in ("", test.shortDescription()):
+            yield test
+
+
+def main(failfast=False):
+    found = unittest.defaultTestLoader.loadTestsFromModule(sys.modules["__main__"])
+    suite = unittest.TestSuite(chosen(found, os.environ.get("ONLY", "")))
+    told = Told()
+    told.failfast = failfast
+    if signal.getsignal(signal.SIGTERM) == signal.SIG_DFL:
+        signal.signal(signal.SIGTERM, lambda *_: told.end())
+    suite.run(told)
+    for test, trace in told.failures + told.errors:
+        print(f"{test.id()}:\n{trace}", file=sys.stderr)
+    sys.exit(0 if told.wasSuccessful() and told.testsRun else 1)

@@ -1,0 +1,213 @@
+#!/usr/bin/env python3
+"""Runs the checks of the built programs, tests/FOLDER/NAME.sh and NAME.py of the folders below, and counts them.
+
+A script prints a line for each of its checks, `ok`, `failed` or `skipped`, with its time; one that needs what the machine has not ends
+with 77. A script that prints none fails. Several run at once, and what one printed is printed whole when it has ended. A line
+`# check: MARK..` near the head of a script says `slow`, so that --fast leaves it out, or `alone`, so that nothing runs beside it, as it
+measures time or load; in a script in Python single tests may be slow (helper.slow). The last lines say what was skipped and why, what
+took longest and what failed; the very last counts the checks.
+
+Use: runner.py [--fast] [--jobs N] [--limit SECONDS] [NAME..], with PROGRAM in the environment, and JOBS for --jobs; a NAME is that of a
+script or of a folder, and without any all are run"""
+import argparse
+import concurrent.futures
+import itertools
+import os
+import re
+import signal
+import subprocess
+import sys
+import tempfile
+import time
+from pathlib import Path
+
+TOP = Path(__file__).resolve().parents[2]
+FOLDERS = ["cli", "journal", "agents", "crash", "load", "system", "repository"]
+# the marks, and in how many lines they may stand
+MARKS, HEAD = {"slow", "alone"}, 5
+MARK = re.compile(r"# check: (.*)")
+CHECK = re.compile(r"^(ok|failed|skipped) +([0-9.]+) s  (.*)$", re.MULTILINE)
+WHY = re.compile(r"skipped: (.*)")
+SKIPPED, LATE, NOT_STARTED = 77, 124, 126
+# how long a script has to end after SIGTERM, in seconds, and how many of the slowest checks are named
+GRACE, SLOWEST = 5, 10
+
+
+class Script:
+    """A script of checks, with its marks."""
+
+    def __init__(self, path):
+        self.path, self.folder, self.file, self.name = str(path), path.parent.name, path.name, path.stem
+        with open(TOP / path, encoding="utf-8") as text:
+            lines = [MARK.match(line) for line in itertools.islice(text, HEAD)]
+        self.marks = {word for line in lines if line for word in line[1].split()}
+        if not self.marks <= MARKS:
+            sys.exit(f"{path}: no such mark: {' '.join(self.marks - MARKS)}")
+
+    def is_named(self, name):
+        name = name.removeprefix("tests/").rstrip("/")
+        return name in (self.folder, self.name, self.file, f"{self.folder}/{self.name}", f"{self.folder}/{self.file}")
+
+
+class Ended:
+    """A script that has ended: what it printed, and each of its checks as a word, its seconds and its name."""
+
+    def __init__(self, script, status, output, seconds):
+        self.script, self.output, self.seconds, self.fault = script, output, seconds, ""
+        text = output.decode(errors="replace")
+        self.checks = [(word, float(took), re.sub("^[a-z_]+: ", "", name)) for word, took, name in CHECK.findall(text)]
+        if status == SKIPPED:
+            self.checks.append(("skipped", 0.0, (WHY.findall(text) or ["it ended with 77"])[-1]))
+        elif status:
+            self.fault = f"with status {status}" + (f", after {seconds:.0f} s" if status == LATE else "")
+        elif not self.checks:
+            self.fault = "without a line of a check"
+        if self.fault and not self.named("failed"):
+            self.checks.append(("failed", seconds, f"it ended {self.fault}"))
+
+    def named(self, word):
+        """The checks that ended so, each by its file and its name."""
+        return [f"{self.script.path}: {name}" for said, _, name in self.checks if said == word]
+
+    def show(self):
+        sys.stdout.buffer.write(self.output)
+        if self.fault:
+            sys.stdout.buffer.write(f"failed          {self.script.path}, {self.fault}\n".encode())
+        sys.stdout.buffer.flush()
+
+
+class Runner:
+    """Runs scripts, each for so many seconds at most."""
+
+    def __init__(self, program, limit):
+        self.program, self.limit, self.live, self.is_closed = program, limit, set(), False
+
+    def run(self, script):
+        # in a session of its own: with an action the program ends the background jobs of its session that name the same resource
+        began = time.monotonic()
+        with tempfile.TemporaryFile() as output:
+            try:
+                running = subprocess.Popen([script.path, self.program], stdin=subprocess.DEVNULL, stdout=output, stderr=output, cwd=TOP,
+                                           start_new_session=True)
+            except OSError as error:
+                return Ended(script, NOT_STARTED, f"{script.path}: {error.strerror}\n".encode(), 0)
+            self.live.add(running)
+            status = self.awaits(running)
+            self.live.discard(running)
+            output.seek(0)
+            return Ended(script, status, output.read(), time.monotonic() - began)
+
+    def awaits(self, running):
+        try:
+            return running.wait(0 if self.is_closed else self.limit)
+        except subprocess.TimeoutExpired:
+            end(running)
+            return LATE
+
+    def run_all(self, scripts, jobs, take):
+        """Runs these, so many at once, and hands on each as soon as it has ended."""
+        with concurrent.futures.ThreadPoolExecutor(jobs) as pool:
+            runs = [pool.submit(self.run, script) for script in scripts]
+            try:
+                for run in concurrent.futures.as_completed(runs):
+                    take(run.result())
+            except BaseException:
+                self.is_closed = True
+                pool.shutdown(wait=False, cancel_futures=True)
+                for running in list(self.live):
+                    end(running)
+                raise
+
+
+def end(running):
+    """Ends a script, with what it started in its process group."""
+    for number in (signal.SIGTERM, signal.SIGKILL):
+        try:
+            os.killpg(running.pid, number)
+            running.wait(GRACE)
+        except (ProcessLookupError, subprocess.TimeoutExpired):
+            pass
+
+
+class Tally:
+    """The scripts that have ended, and what they say all together."""
+
+    def __init__(self, jobs):
+        self.jobs, self.began, self.ended = jobs, time.monotonic(), []
+
+    def take(self, ended):
+        ended.show()
+        self.ended.append(ended)
+
+    def named(self, word):
+        return [name for ended in self.ended for name in ended.named(word)]
+
+    def slowest(self):
+        found = [(seconds, f"{ended.script.path}: {name}")
+                 for ended in self.ended for said, seconds, name in ended.checks if said != "skipped"]
+        return [f"{seconds:7.2f} s  {name}" for seconds, name in sorted(found, reverse=True)[:SLOWEST]]
+
+    def show(self, left_out):
+        """The last lines."""
+        passed, failed, skipped = map(self.named, ("ok", "failed", "skipped"))
+        listed(f"skipped {len(skipped)}", skipped)
+        listed(f"left out, as slow, {len(left_out)}", [script.path for script in left_out])
+        listed("took longest", self.slowest())
+        listed(f"failed {len(failed)}", failed)
+        if failed:
+            print("once more: tests/check.sh", *[ended.script.file for ended in self.ended if ended.named("failed")])
+        print(f"{len(self.ended)} scripts, {self.jobs} at once, in {time.monotonic() - self.began:.0f} s")
+        print(f"{len(passed)} passed, {len(failed)} failed", flush=True)
+        return 1 if failed else 0
+
+
+def listed(what, names):
+    if names:
+        print(f"{what}:", *[f"    {name}" for name in names], sep="\n")
+
+
+def scripts():
+    """All scripts, folder by folder."""
+    return [Script(path.relative_to(TOP)) for folder in FOLDERS for end in ("sh", "py")
+            for path in sorted((TOP / "tests" / folder).glob(f"*.{end}"))]
+
+
+def chosen(found, names):
+    """The scripts of these names, or all where there is none."""
+    for name in names:
+        if not any(script.is_named(name) for script in found):
+            sys.exit(f"runner.py: there is no check or folder of the name {name}")
+    return [script for script in found if not names or any(map(script.is_named, names))]
+
+
+def words():
+    parser = argparse.ArgumentParser(prog="check.sh", description="Runs the checks of the built programs.")
+    parser.add_argument("names", nargs="*", metavar="NAME", help="a check or a folder: all, if none is given")
+    parser.add_argument("--fast", action="store_true", help="leave out what is marked slow")
+    jobs = int(os.environ.get("JOBS") or len(os.sched_getaffinity(0)))
+    parser.add_argument("--jobs", type=int, default=jobs, help="how many run at once: as many as there are processors, if not given")
+    parser.add_argument("--limit", type=float, default=300, help="how many seconds each may take")
+    return parser.parse_args()
+
+
+def main():
+    given = words()
+    os.environ["FAST"] = "1" if given.fast else ""
+    found = chosen(scripts(), given.names)
+    left_out = [script for script in found if given.fast and "slow" in script.marks]
+    found = [script for script in found if script not in left_out]
+    # what takes long begins first, and what measures comes last
+    beside = sorted([script for script in found if "alone" not in script.marks], key=lambda script: "slow" not in script.marks)
+    runner, tally = Runner(os.environ["PROGRAM"], given.limit), Tally(given.jobs)
+    runner.run_all(beside, given.jobs, tally.take)
+    runner.run_all([script for script in found if "alone" in script.marks], 1, tally.take)
+    return tally.show(left_out)
+
+
+if __name__ == "__main__":
+    for number in (signal.SIGTERM, signal.SIGHUP):
+        signal.signal(number, lambda number, _: sys.exit(128 + number))
+    try:
+        sys.exit(main())
+    except KeyboardInterrupt:
+        sys.exit(128 + signal.SIGINT)

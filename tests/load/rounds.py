@@ -1,0 +1,88 @@
+#!/usr/bin/env python3
+"""Runs that go on: served for millions of rounds, and drained for thousands of turns, by a shim under which no wait lasts (rounds.c);
+a command that comes alone is answered at once; and what an opening drops it drops at its own moment.
+Use: rounds.py PROGRAM, with ROUNDS, TURNS and LIMIT, in seconds, in the environment"""
+import os
+import shutil
+import struct
+import sys
+import time
+
+sys.path[0] += "/../lib"
+import helper  # noqa: E402
+
+
+class Rounds(helper.Check):
+    def hurried(self, *words):
+        # a run whose waits are counted, and do not last
+        if not shutil.which("cc"):
+            self.skipTest("install a C compiler (apt-get install gcc)")
+        with open(self.place("waits"), "wb") as file:
+            file.write(bytes(8))
+        environment = {**os.environ, "LD_PRELOAD": helper.shim("rounds.c", self.here), "WAITS": self.place("waits")}
+        return self.heard(*words, "--memory", "--root", self.here, env=environment)
+
+    def waits(self):
+        with open(self.place("waits"), "rb") as file:
+            return struct.unpack("l", file.read())[0]
+
+    def waited(self, count, goes_on):
+        # waits until so many waits are counted; how many are, where the run does not go on so long
+        until = time.monotonic() + helper.number("LIMIT", 240)
+        while self.waits() < count and goes_on() and time.monotonic() < until:
+            time.sleep(0.02)
+        return self.waits()
+
+    def test_serve(self):
+        """serve goes on after two million rounds"""
+        run, wanted = self.hurried("serve"), helper.number("ROUNDS", 2_000_000)
+        made = self.waited(wanted, lambda: run.run.poll() is None)
+        self.assertIsNone(run.run.poll(), f"it ended after {made} rounds")
+        self.assertGreaterEqual(made, wanted)
+        run.tell({"op": "list"})
+        self.assertEqual(run.awaits(lambda value: True)[1], {"ok": True, "resources": []})
+        self.assertEqual(run.ends(), 0)
+
+    def test_drain(self):
+        """a drain goes on after twenty thousand turns"""
+        # it ends where the check is gone, too
+        self.agent("Waiting", 'until [ -e "$OCF_RESKEY_until" ] || [ ! -e "$0" ]; do sleep 0.05; done\n')
+        run, wanted = self.hurried("run"), helper.number("TURNS", 20_000)
+        run.tell(helper.register("r1", "Waiting", until=self.place("until")), helper.action("r1", "start", timeout=300_000), {"op": "drain"})
+        made = self.waited(wanted, lambda: run.run.poll() is None and not any("end" in value for value in run.values()))
+        with open(self.place("until"), "wb"):
+            pass
+        self.assertEqual(run.awaits(lambda value: "end" in value)[1], {"end": "idle"}, f"after {made} turns")
+        self.assertGreaterEqual(made, wanted)
+        self.assertEqual([(value["outcome"], value["code"]) for value in run.told()], [("done", 0)])
+        self.assertEqual(run.ends(), 0)
+
+    def test_alone(self):
+        """commands are answered at once where nothing follows them"""
+        for word in ("run", "serve"):
+            run = self.heard(word, "--memory")
+            for names in (["a"], ["b", "c", "d"]):
+                run.tell(*[helper.register(name, "None") for name in names])
+                until = time.monotonic() + 5
+                while len(run.values()) < ord(names[-1]) - ord("a") + 1 and time.monotonic() < until:
+                    time.sleep(0.005)
+                self.assertEqual(run.values(), [{"ok": True}] * (ord(names[-1]) - ord("a") + 1), f"{word}: {names}")
+            self.assertEqual(run.ends(), 0)
+
+    def test_moment(self):
+        """what an opening finds queued is dropped at the moment of the opening"""
+        folder = self.journal()
+        done = helper.run("run", "--journal", folder, told=helper.lines(helper.register("r1", "None"), helper.action("r1", "start")))
+        self.assertEqual(helper.replies(done.stdout)[1]["call"], 1)
+        time.sleep(0.1)
+        before = int(time.time() * 1000)
+        done = helper.run("run", "--journal", folder, told=helper.lines({"op": "history", "id": "r1"}))
+        after = int(time.time() * 1000)
+        notice, history = helper.replies(done.stdout)
+        result, = history["results"]
+        self.assertEqual((notice["outcome"], result["outcome"], result["call"]), ("dropped", "dropped", 1))
+        self.assertTrue(before <= result["at"] <= after, f"{before} <= {result['at']} <= {after}")
+
+
+if __name__ == "__main__":
+    helper.main()

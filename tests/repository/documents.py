@@ -1,0 +1,188 @@
+#!/usr/bin/env python3
+"""The names in the documents: each path, file, edit, item of a crate, target of make, subcommand and option that README.md,
+CONTRIBUTING.md, docs/ and mutants/README.md name in backticks is there, and each other word in backticks stands somewhere in the
+repository beside the documents; in a section or a row of one crate it stands in that crate. The manual page has the options of
+`--help`, and no others.
+Use: documents.py PROGRAM"""
+import collections
+import fnmatch
+import glob
+import os
+import re
+import sys
+
+sys.path[0] += "/../lib"
+import helper  # noqa: E402
+
+DOCUMENTS = ["README.md", "CONTRIBUTING.md", "mutants/README.md", *sorted(glob.glob("docs/*.md", root_dir=helper.TOP))]
+MANUAL = "docs/ocfexec.8"
+# What is made of the definitions.
+STATEMENT = "docs/STATEMENT.antt.txt"
+SUBCOMMANDS = ["run", "serve", "show", "status"]
+# What others name so, what only a gate or a check leaves, and what a document says is not there.
+OUTSIDE = {"--default-signal", "--keep-size", "--length", "--pdeathsig", "/srv/hour", "ArgGroup", "clap_complete", "clone3", "crates/ocfexec/out/gate",
+           "fallocate", "flock", "get_ocf_metadata", "hidepid", "list_ocf_providers", "migrate_from", "migrate_to", "nohup",
+           "ocfexec run --version", "perf", "rattle-kit-13f", "rt check --fix-imports", "strace -c -w", "systemctl reload", "tests/failed", "wait4"}
+# What stands for any name of its kind.
+ANY = re.compile(r"\b(NAME|FILE|CRATE)\b")
+FILE = re.compile(r"[\w.*-]+\.(rt|antt|py|sh|c|h|md|edit|service|jsonl|8)")
+ITEM = re.compile(r"\w+(::\w+)*")
+PAIR = re.compile(r"[a-z]\w* [A-Z]\w*")
+PATH = re.compile(r"[\w.*-]+(/[\w.*-]*)+")
+OPTION = re.compile(r"(?<![\w-])--?[A-Za-z][a-z-]*")
+CALL = re.compile(r"[ $]*((?:ocfexec|make) [^|<>&#]*?)(?:   .*)?$")
+
+
+def read(path):
+    with open(os.path.join(helper.TOP, path), encoding="utf-8", errors="replace") as file:
+        return file.read()
+
+
+def tree():
+    """The files of the repository, without what is built."""
+    found = []
+    for top, folders, files in os.walk(helper.TOP):
+        folders[:] = [folder for folder in folders if folder not in (".git", "out", "failed", "__pycache__")]
+        found += [os.path.relpath(os.path.join(top, file), helper.TOP) for file in files]
+    return found
+
+
+def options(text):
+    return set(OPTION.findall(text)) - OUTSIDE
+
+
+def is_any(pattern):
+    return bool(glob.glob(pattern, root_dir=helper.TOP))
+
+
+class Names:
+    """What there is to be named. A place is a line of a document, behind the heading that it stands under."""
+
+    def __init__(self):
+        self.crates = set(os.listdir(os.path.join(helper.TOP, "crates")))
+        self.files, self.of_crate, self.words, self.of_file = set(), collections.defaultdict(set), set(OUTSIDE), {}
+        for path in tree():
+            hidden = path in (*DOCUMENTS, MANUAL, STATEMENT, "tests/repository/documents.py") or path.startswith("docs/pictures/")
+            words = set(re.findall(r"\w+", path if hidden else path + " " + read(path)))
+            self.files.add(path)
+            self.words |= words
+            self.of_file[path] = words
+            if path.startswith("crates/"):
+                self.of_crate[path.split("/")[1]] |= words
+        self.helps = {name: helper.run(*[name][:len(name)], "--help").stdout.decode() for name in ["", *SUBCOMMANDS]}
+        self.targets = set(re.findall(r"^(\w+):", read("Makefile"), re.MULTILINE))
+
+    def near(self, place):
+        """The crates that a place names in backticks; all where it names none."""
+        return self.crates.intersection(re.findall(r"`(\w+)", place)) or self.crates
+
+    def owner(self, place):
+        """The crate whose section or row it is."""
+        found = re.match(r"#+ `(\w+)`\n\|", place) or re.search(r"^\| `(\w+)` \|", place, re.MULTILINE)
+        return found[1] if found and found[1] in self.crates else None
+
+    def is_path(self, name, place):
+        """From the top, in docs/, in crates/ or in a crate that the place names; or an edit."""
+        crate, _, edit = name.partition("/")
+        tried = [name, f"docs/{name}", f"crates/{name}", f"mutants/{name}.edit", f"mutants/gate/{name}.edit", f"crates/{crate}/must-fail/{edit}.edit"]
+        return any(map(is_any, tried + [f"crates/{crate}/{name}" for crate in self.near(place)]))
+
+    def is_file(self, name, place):
+        """A file of this name; one of a crate in a crate that the place names."""
+        found = [path.split("/") for path in self.files if fnmatch.fnmatch(os.path.basename(path), name)]
+        return any(path[0] != "crates" or path[1] in self.near(place) for path in found)
+
+    def is_item(self, name, place):
+        """Each word in the crate that begins it, or whose section it is; else the first and the last one in one file."""
+        words = name.split("::")
+        crate = words[0] if words[0] in self.crates else self.owner(place)
+        if crate:
+            return self.of_crate[crate].issuperset(words)
+        return any({words[0], words[-1]} <= found for found in self.of_file.values())
+
+    def is_pair(self, name):
+        """A crate, and a file of its specs/ or another word in it."""
+        crate, word = name.split(" ")
+        if is_any(f"crates/*/specs/{word}.antt"):
+            return is_any(f"crates/{crate}/specs/{word}.antt")
+        return word in self.of_crate[crate]
+
+    def is_called(self, name):
+        """A call of the program, by its subcommand and its options."""
+        _, *words = re.split(r"[\s=]+", name)
+        if not words or words[0].startswith("-"):
+            return options(name) <= options(self.helps[""])
+        return words[0] == "help" or words[0] in SUBCOMMANDS and options(name) <= options(self.helps[words[0]])
+
+    def is_there(self, name, place=""):
+        """Whether what is named so at a place is there."""
+        found = ANY.sub("*", name)
+        if name in OUTSIDE:
+            return True
+        if not self.words.issuperset(re.findall(r"[A-Za-z_]\w+", found)) and not name.startswith("_"):
+            return False
+        if name.startswith("make "):
+            return name.split()[1] in self.targets
+        if name.startswith("ocfexec "):
+            return self.is_called(name)
+        if PAIR.fullmatch(name) and name.split(" ")[0] in self.crates:
+            return self.is_pair(name)
+        if OPTION.match(name):
+            return any(options(name) <= options(text) for text in self.helps.values())
+        if ITEM.fullmatch(name):
+            return self.is_item(name, place) if not name.startswith("_") else any(word.endswith(name) for word in self.words)
+        if FILE.fullmatch(found):
+            return self.is_file(found, place)
+        first = found.split(" ")[0].rstrip("/")
+        return not PATH.fullmatch(first) or self.is_path(first, place)
+
+
+def named(text):
+    """What a text names, and the place: in backticks, by a link, as `crate` `File`, or in a line that calls the program or make."""
+    fenced, heading = False, ""
+    for line in text.splitlines():
+        heading = line if line.startswith("#") and not fenced else heading
+        fenced ^= line.startswith("```")
+        if fenced or line.startswith("    "):
+            found = [call[1].strip() for call in [CALL.match(line)] if call]
+        else:
+            found = re.findall(r"`([^`]+)`", line) + re.findall(r"\]\(([^):]+)\)", line)
+            found += [pair.replace("`", "") for pair in re.findall(r"`[a-z]\w*` `[A-Z]\w*`", line)]
+        yield from ((name, f"{heading}\n{line}") for name in found)
+
+
+def misspelled(name):
+    """A name with one of its words misspelled, for each word."""
+    for word in re.finditer(r"[A-Za-z_]\w+", name):
+        yield name[:word.start() + 1] + "q" + name[word.start() + 1:]
+
+
+class Documents(helper.Check):
+    @classmethod
+    def setUpClass(cls):
+        cls.names = Names()
+        cls.found = [(path, *name) for path in DOCUMENTS for name in named(read(path))]
+
+    def test_names(self):
+        """what the documents name is there"""
+        self.assertEqual([f"{path}: {name}" for path, name, place in self.found if not self.names.is_there(name, place)], [])
+
+    def test_misspelled(self):
+        """a name of theirs that is misspelled in any word is not there"""
+        self.assertEqual([one for _, name, place in self.found for one in misspelled(name) if self.names.is_there(one, place)], [])
+
+    def test_moved(self):
+        """nor is an item or a file of a crate in the place of another one's"""
+        for name, place in (("exec_session::run_lines", ""), ("src/session.rt", "`exec_session`"), ("exec_session Breaks", "")):
+            self.assertTrue(self.names.is_there(name, place), name)
+            self.assertFalse(self.names.is_there(name.replace("exec_session", "two_parts"), place.replace("exec_session", "two_parts")), name)
+
+    def test_manual(self):
+        """the manual page has the options of --help, and no others"""
+        wanted = set().union(*[options(text) for text in self.names.helps.values()])
+        long = [{name for name in found if name.startswith("--")} for found in (options(read(MANUAL).replace("\\-", "-")), wanted)]
+        self.assertEqual(*long)
+
+
+if __name__ == "__main__":
+    helper.main()

@@ -1,0 +1,193 @@
+#!/usr/bin/env python3
+"""The runner of the checks, tests/lib/runner.py, over scripts that stand in for the checks: what it counts, what it says at the end, what
+it leaves out, and what it runs at once; and what is left of a test by chance that failed.
+Use: runner.py PROGRAM"""
+import os
+import shutil
+import signal
+import subprocess
+import sys
+import time
+
+sys.path[0] += "/../lib"
+import helper  # noqa: E402
+
+FOLDERS = ["cli", "journal", "agents", "crash", "load", "system", "repository", "lib"]
+GOOD = 'echo "ok         0.10 s  good: a check"\n'
+# Counts the scripts that are under way, this one too, into a file of its own name, and waits for another one to do so, for {wait} tenths of
+# a second at most.
+COUNTS = """cd {here}
+touch live/$$
+n=0; until [ "$(ls live | wc -l)" -gt 1 ] || [ $n -ge {wait} ]; do sleep 0.1; n=$((n+1)); done
+ls live | wc -l > seen.$(basename "$0" .sh)
+n=0; until [ "$(echo seen.* | wc -w)" -gt 1 ] || [ $n -ge {wait} ]; do sleep 0.1; n=$((n+1)); done
+rm live/$$
+"""
+# A test by chance that fails, and one that does not.
+THROWS = """#!/usr/bin/env python3
+import random
+import sys
+import time
+
+sys.path[0] += "/../lib"
+import helper
+
+
+class Throws(helper.Check):
+    def test_one(self):
+        \'\'\'a throw of the dice\'\'\'
+        self.note("thrown", b"%d" % random.Random(helper.number("SEED", 7)).randrange(1000000))
+        self.fail()
+
+    def test_two(self):
+        \'\'\'another throw\'\'\'
+        helper.number("SEED", 8)
+
+    def test_zero(self):
+        \'\'\'a throw that lasts\'\'\'
+        if helper.number("LASTS", 0):
+            print(helper.number("SEED", 9), flush=True)
+            time.sleep(60)
+
+
+helper.main()
+"""
+
+
+class Runner(helper.Check):
+    def setUp(self):
+        super().setUp()
+        for folder in FOLDERS:
+            os.makedirs(self.place(f"tests/{folder}"))
+        shutil.copy(os.path.join(helper.TOP, "tests/lib/runner.py"), self.place("tests/lib"))
+        self.words = [sys.executable, self.place("tests/lib/runner.py")]
+        self.environment = {**os.environ, "PROGRAM": helper.PROGRAM, "JOBS": "2", "FAST": "1"}
+
+    def script(self, name, body, mark="", mode=0o755):
+        with open(self.place(f"tests/{name}.sh"), "w", encoding="ascii") as file:
+            file.write(f"#!/bin/sh\n{mark}{body}")
+        os.chmod(self.place(f"tests/{name}.sh"), mode)
+
+    def ran(self, *words):
+        """The status, and the lines of what is said, without those of how long it took."""
+        done = subprocess.run([*self.words, *words], capture_output=True, text=True, env=self.environment, timeout=60)
+        self.assertEqual(done.stderr, "")
+        return done.returncode, [line for line in done.stdout.splitlines() if "at once, in" not in line]
+
+    def refused(self, *words):
+        done = subprocess.run([*self.words, *words], capture_output=True, text=True, env=self.environment, timeout=60)
+        self.assertEqual(done.stdout, "")
+        self.assertNotEqual(done.returncode, 0)
+        return done.stderr
+
+    def test_counts(self):
+        """each check counts, what failed is named with its file, and what a script printed is shown whole"""
+        self.script("cli/good", GOOD)
+        self.script("load/bad", GOOD + 'echo "failed     0.20 s  bad: another check"; sleep 0.3; echo why >&2; exit 1\n')
+        status, said = self.ran()
+        good, at = "ok         0.10 s  good: a check", said.index("why")
+        self.assertEqual(said[at - 2:at + 2], [good, "failed     0.20 s  bad: another check", "why",
+                                               "failed          tests/load/bad.sh, with status 1"])
+        self.assertEqual(said.count(good), 2)
+        self.assertEqual(said[-4:], ["failed 1:", "    tests/load/bad.sh: another check", "once more: tests/check.sh bad.sh",
+                                     "2 passed, 1 failed"])
+        self.assertEqual((status, self.ran("good")[0]), (1, 0))
+
+    def test_faults(self):
+        """a script fails that prints no check, that ends with another status, that takes too long, and that cannot be started"""
+        self.script("cli/mute", "echo nothing of it\n")
+        self.script("cli/status", GOOD + "exit 3\n")
+        self.script("cli/hangs", f"echo begun; echo $$ > {self.place('pid')}; sleep 60\n")
+        self.script("cli/not_executable", GOOD, mode=0o644)
+        status, said = self.ran("--limit", "1")
+        self.assertEqual((status, said[-1]), (1, "1 passed, 4 failed"))
+        self.assertIn("begun", said)
+        failed = said[said.index("failed 4:") + 1:-2]
+        wanted = ["hangs.sh: it ended with status 124, after 1 s", "mute.sh: it ended without a line of a check",
+                  "not_executable.sh: it ended with status 126", "status.sh: it ended with status 3"]
+        self.assertEqual(sorted(failed), ["    tests/cli/" + line for line in wanted])
+        with open(self.place("pid"), encoding="ascii") as file:
+            self.assertFalse(helper.is_alive(int(file.read())), "what took too long is gone")
+
+    def test_skipped(self):
+        """what is skipped is named with its reason, a script or one of its checks"""
+        self.script("system/all", 'echo "all.sh: skipped: no moon here"; exit 77\n')
+        self.script("system/part", GOOD + 'echo "skipped    0.00 s  part: the sun: it is not there"\n')
+        status, said = self.ran()
+        self.assertEqual((status, said[-1]), (0, "1 passed, 0 failed"))
+        found = said[said.index("skipped 2:") + 1:][:2]
+        self.assertEqual(sorted(found), ["    tests/system/all.sh: no moon here", "    tests/system/part.sh: the sun: it is not there"])
+
+    def test_chosen(self):
+        """names of scripts and of folders choose, and --fast leaves out what is marked slow"""
+        for name in ("cli/one", "cli/two", "load/three"):
+            self.script(name, GOOD, mark="# check: slow\n" if name == "cli/two" else "")
+        for words, count in (([], 3), (["cli"], 2), (["one", "load"], 2), (["two.sh"], 1), (["tests/cli/two.sh"], 1), (["--fast"], 2)):
+            self.assertEqual(self.ran(*words)[1][-1], f"{count} passed, 0 failed", words)
+        self.assertIn("    tests/cli/two.sh", self.ran("--fast")[1])
+        self.script("load/three", 'echo "ok         0.10 s  three: fast is \'$FAST\'"\n')
+        for words, fast in (([], ""), (["--fast"], "1")):
+            self.assertEqual(self.ran("three", *words)[1][0], f"ok         0.10 s  three: fast is '{fast}'")
+        self.assertIn("four", self.refused("four"))
+        self.script("cli/one", GOOD, mark="# check: quick\n")
+        self.assertIn("quick", self.refused("one"))
+
+    def test_alone(self):
+        """several run at once, and nothing beside what is marked alone"""
+        os.mkdir(self.place("live"))
+        for name, wait in (("one", 100), ("two", 100), ("alone", 3)):
+            self.script(f"cli/{name}", COUNTS.format(here=self.here, wait=wait) + GOOD, mark="# check: alone\n" if name == "alone" else "")
+        self.assertEqual(self.ran()[1][-1], "3 passed, 0 failed")
+        seen = {}
+        for name in ("one", "two", "alone"):
+            with open(self.place(f"seen.{name}"), encoding="ascii") as file:
+                seen[name] = int(file.read())
+        self.assertEqual(seen, {"one": 2, "two": 2, "alone": 1})
+
+    def test_ended(self):
+        """a runner that is ended ends what it runs, and begins nothing more"""
+        for name in ("one", "two", "three"):
+            self.script(f"cli/{name}", f"echo $$ > {self.place(name)}; sleep 60\n")
+        run = subprocess.Popen(self.words, stdout=subprocess.DEVNULL, env=self.environment)
+        self.addCleanup(run.kill)
+        until = time.monotonic() + 10
+        while sum(os.path.exists(self.place(name)) for name in ("one", "two", "three")) < 2:
+            self.assertLess(time.monotonic(), until, "two scripts run")
+            time.sleep(0.02)
+        time.sleep(0.2)
+        run.send_signal(signal.SIGTERM)
+        self.assertEqual(run.wait(20), 128 + signal.SIGTERM)
+        begun = [name for name in ("one", "two", "three") if os.path.exists(self.place(name))]
+        self.assertEqual(len(begun), 2)
+        for name in begun:
+            with open(self.place(name), encoding="ascii") as file:
+                self.assertFalse(helper.is_alive(int(file.read())), name)
+
+    def test_kept(self):
+        """of a test by chance that fails, or takes too long, it is said how it is played again, and what it was given is kept"""
+        shutil.copy(os.path.join(helper.TOP, "tests/lib/helper.py"), self.place("tests/lib"))
+        with open(self.place("tests/crash/throws.py"), "w", encoding="ascii") as file:
+            file.write(THROWS)
+        os.chmod(self.place("tests/crash/throws.py"), 0o755)
+        again = f"SEED=7 ONLY='a throw of the dice' tests/crash/throws.py {helper.PROGRAM}"
+        thrown = set()
+        for words in (["tests/crash/throws.py", helper.PROGRAM], ["sh", "-c", again]):
+            done = subprocess.run(words, capture_output=True, text=True, cwd=self.here, env={**os.environ, "ONLY": ""})
+            self.assertEqual(done.returncode, 1, done.stderr)
+            self.assertIn(f"throws: once more: {again}\n", done.stdout)
+            self.assertEqual(os.listdir(self.place("tests/failed/throws")), ["test_one"])
+            with open(self.place("tests/failed/throws/test_one/thrown"), encoding="ascii") as file:
+                thrown.add(file.read())
+            shutil.rmtree(self.place("tests/failed"))
+        self.assertEqual(len(thrown), 1)
+        lasts = subprocess.Popen(["tests/crash/throws.py", helper.PROGRAM], stdout=subprocess.PIPE, text=True, cwd=self.here,
+                                 env={**os.environ, "ONLY": "a throw that lasts", "LASTS": "1"})
+        self.assertEqual(lasts.stdout.readline(), "9\n")
+        lasts.terminate()
+        said = lasts.communicate(timeout=20)[0]
+        self.assertRegex(said, r"^failed +[0-9.]+ s  throws: a throw that lasts\nthrows: once more: LASTS=1 SEED=9 ONLY='a throw that lasts' ")
+        self.assertEqual(os.listdir(self.place("tests/failed/throws")), ["test_zero"])
+
+
+if __name__ == "__main__":
+    helper.main()

@@ -1,0 +1,132 @@
+#!/usr/bin/env python3
+"""The statement in one file, docs/STATEMENT.antt.txt: it is what docs/statement.py makes of the definitions of this tree, a change of
+a text in it makes it stale, and what its definitions name is in it; docs/STATEMENT.md names nothing else.
+Use: statement.py PROGRAM"""
+import os
+import re
+import shutil
+import subprocess
+import sys
+
+sys.path[0] += "/../lib"
+import helper  # noqa: E402
+
+SCRIPT, STATEMENT, READING = "docs/statement.py", "docs/STATEMENT.antt.txt", "docs/STATEMENT.md"
+# What the reading names besides definitions: the program, and what its example asks for.
+EXAMPLE = {"exec", "ocfexec", "register", "web"}
+KEY = re.compile(r"^(?:abbrev|unfoldable|record|data) ([^\s:({]+)", re.MULTILINE)
+# What the language has, and variables.
+BUILT_IN = {"Type", "Unit", "Why", *"ABDPTQ"}
+# A change of each kind of text in it: a file, and what is there once, with what it becomes.
+CHANGES = [
+    ("executor/src/machine.rt", "        → IsWithin (reports xs) (interruptions start zs) }", "        → IsWithin (reports xs) [] }"),
+    ("executor/specs/Runs.antt", "(ran ≡ interrupted s (moment s now))", "(ran ≡ [])"),
+    ("executor/specs/Lives.antt", "-- what its stop may have left", "-- what is left"),
+    ("executor/specs/Lives.antt", "  pub acknowledged : p ≡ x.done.events ++ later\n", ""),
+    ("ocf_types/specs/Limits.antt", "longest_result = 84", "longest_result = 85"),
+    ("ocf_types/src/reply.rt", "    EpochSpent,\n", ""),
+    ("ocf_types/src/limits.rt", "pub const RESERVE: u64 = 32_768;", "pub const RESERVE: u64 = 32_769;"),
+    ("ocf_types/specs/Names.antt", "is_ascii_alphanumeric, is_ascii_alphabetic}", "is_ascii_alphanumeric, is_ascii as is_ascii_alphabetic}"),
+]
+# What is no text of it: a lemma, and a definition that nobody names.
+OTHERS = [
+    ("gated_slots/specs/Slot.antt", "length-slot body = omega (arith, ", "length-slot body = omega (arith, arith, "),
+    ("executor/specs/Runs.antt", "-- a run of the machine", "-- as many as there are\nabbrev pub Unnamed : ℕ\nUnnamed = 0\n\n-- a run of the machine"),
+]
+
+
+def read(path):
+    with open(path, encoding="utf-8") as file:
+        return file.read()
+
+
+def write(path, text):
+    with open(path, "w", encoding="utf-8") as file:
+        file.write(text)
+
+
+def check(top):
+    """The status of a check of the statement in a tree, and what it says."""
+    done = subprocess.run([sys.executable, os.path.join(top, SCRIPT), "--check"], capture_output=True, text=True)
+    return done.returncode, done.stderr
+
+
+def words(text):
+    """The words of definitions that are no projections, without comments."""
+    return re.findall(r"(?<![\w.'])[A-Za-z_][\w']*", re.sub(r"--.*", "", text))
+
+
+class Statement(helper.Check):
+    def copied(self):
+        """A copy of what the statement is made of."""
+        for folder in ("docs", "crates"):
+            shutil.copytree(os.path.join(helper.TOP, folder), self.place(folder), ignore=shutil.ignore_patterns("out", "proofs", "must-fail"))
+        self.assertEqual(check(self.here), (0, ""))
+
+    def with_change(self, path, old, new):
+        """What a check of the copy says while one file of a crate is changed."""
+        path = self.place(f"crates/{path}")
+        text = read(path)
+        self.assertEqual(text.count(old), 1, (path, old))
+        write(path, text.replace(old, new))
+        said = check(self.here)
+        write(path, text)
+        return said
+
+    def test_fresh(self):
+        """docs/STATEMENT.antt.txt is what `make statement` writes"""
+        self.assertEqual(check(helper.TOP), (0, ""))
+
+    def test_changed(self):
+        """a law, a definition, a comment, a field, a number, a variant, a constant or a name of the library that changes makes it stale"""
+        self.copied()
+        for change in CHANGES:
+            self.assertEqual(self.with_change(*change), (1, f"{STATEMENT} is stale: make statement\n"), change)
+
+    def test_others(self):
+        """a lemma, and a definition that nobody names, do not"""
+        self.copied()
+        for change in OTHERS:
+            self.assertEqual(self.with_change(*change), (0, ""), change)
+
+    def test_gone(self):
+        """a definition that is gone is an error, and so is a lemma in its place"""
+        self.copied()
+        for new in ("abbrev pub booted_at", "pub booted"):
+            self.assertEqual(self.with_change("exec_ledger/specs/Boots.antt", "abbrev pub booted", new),
+                             (1, "statement.py: booted in crates/exec_ledger/specs/Boots.antt is no definition\n"), new)
+
+    def test_whole(self):
+        """each word in it that begins with a capital is defined in it, declared in Rust or a name of the library"""
+        text = read(os.path.join(helper.TOP, STATEMENT))
+        definitions, _, ends = text.partition("\n-- Types and constants from Rust")
+        there = re.findall(r"^  (\w+) :|(\w+) \(there ", definitions, re.MULTILINE)
+        known = BUILT_IN.union(KEY.findall(definitions), *there, re.findall(r"\w+", ends))
+        named = definitions[re.search(KEY, definitions).start():]
+        self.assertEqual(sorted({word for word in words(named) if word[0].isupper()} - known), [])
+
+    def test_reading(self):
+        """each name in backticks in docs/STATEMENT.md is in it"""
+        names = set(re.findall(r"`(\w+)`", read(os.path.join(helper.TOP, READING)))) - EXAMPLE
+        self.assertGreater(len(names), 50)
+        self.assertEqual(sorted(names - set(words(read(os.path.join(helper.TOP, STATEMENT))))), [])
+
+    def test_order(self):
+        """each definition of a file is in it once, and what names it is above it or under the same comment"""
+        text, _, ends = read(os.path.join(helper.TOP, STATEMENT)).partition("\n-- Types and constants from Rust")
+        groups, file, places = [], "", {}
+        for paragraph in text.split("\n\n"):
+            file = paragraph if paragraph.startswith("---") else file
+            if paragraph.startswith("-- ") or not groups:
+                groups.append("")
+            groups[-1] += paragraph + "\n"
+            for name in KEY.findall(paragraph):
+                self.assertNotIn((file, name), places)
+                places[file, name] = len(groups) - 1
+        names = [name for _, name in places] + re.findall(r"^  (\w+) :", text, re.MULTILINE) + words(ends)
+        at = {name: place for (_, name), place in places.items() if names.count(name) == 1 and name[0].isupper()}
+        self.assertEqual([(word, group) for place, group in enumerate(groups) for word in words(group) if at.get(word, place) < place], [])
+
+
+if __name__ == "__main__":
+    helper.main()

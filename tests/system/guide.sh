@@ -1,0 +1,86 @@
+#!/bin/sh
+# check: slow
+# The first hour in one go: the Debian package is built and installed, each command of the guide is run and prints what the guide
+# says, and the package is removed. It is installed into a folder of its own; with `/`, on this machine, as the guide says it.
+# Where no gate has passed on these programs there is no package: then it is the program as it was built, and with `/` an error.
+# Use: guide.sh PROGRAM [/]
+set -u
+. "$(dirname "$0")/../lib/common.sh" "$@"
+on_machine=${2:-}
+skip() {
+    echo "guide.sh: skipped: $1"
+    exit 77
+}
+[ -x /usr/lib/ocf/resource.d/heartbeat/nginx ] || skip "install the package resource-agents"
+[ -x /usr/sbin/nginx ] || skip "install the package nginx"
+command -v curl > /dev/null || skip "install the package curl"
+command -v pgrep > /dev/null || skip "install the package procps"
+[ "$(id -u)" -eq 0 ] || skip "agents write to /run/resource-agents: run it as root"
+curl -s http://127.0.0.1:8088/ > /dev/null && skip "something listens on port 8088 of loopback"
+
+PATH=$PATH:/usr/sbin:/sbin
+root=$here/root
+libexec=$root/usr/libexec/ocfexec
+installed=
+mkdir "$root" "$here/hour"
+chmod 755 "$here" "$root"
+
+# Use: package WORD.., as dpkg does it, there or on this machine
+package() {
+    if [ "$on_machine" = / ]; then
+        dpkg "$@" > "$here/dpkg" 2>&1
+    else
+        dpkg --root="$root" --force-not-root --force-depends --log="$here/log" "$@" > "$here/dpkg" 2>&1
+    fi || differs "dpkg $1" "done" "$(cat "$here/dpkg")"
+}
+
+# Builds the package and installs it.
+install() {
+    deb=$("$top/package/deb.sh" "$here") || exit 1
+    mkdir -p "$root/var/lib/dpkg/info" "$root/var/lib/dpkg/updates"
+    : > "$root/var/lib/dpkg/status"
+    package -i "$deb"
+    installed=yes
+    same "the version" "$("$program" --version)" "$("$bin/ocfexec" --version)"
+    checked "the package is built and installed"
+}
+
+# Removes the package, of which nothing stays.
+remove() {
+    installed=
+    package -P ocfexec
+    [ ! -e "$bin/ocfexec" ] || differs "the package" "removed" "$(ls -l "$bin/ocfexec")"
+    [ ! -e "$libexec" ] || differs "the package" "removed" "$(ls "$libexec")"
+    checked "the package is removed"
+}
+
+# Whatever fails, no service of the guide stays, and no package.
+leave() {
+    [ ! -s "$here/hour/nginx.pid" ] || kill -KILL -- "-$(cat "$here/hour/nginx.pid")" 2> /dev/null
+    [ -z "$installed" ] || package -P ocfexec
+    rm -rf "$here"
+}
+trap leave EXIT
+
+bin=$root/usr/bin
+if [ "$on_machine" = / ]; then
+    ! command -v ocfexec > /dev/null || skip "ocfexec is installed here already: $(command -v ocfexec)"
+    bin=/usr/bin
+    libexec=/usr/libexec/ocfexec
+    install
+elif [ -f "$top/crates/ocfexec/out/gate" ] && command -v dpkg-deb > /dev/null; then
+    install
+else
+    echo "skipped    0.00 s  guide: the package: no gate has passed on these programs, or there is no dpkg-deb"
+    mkdir -p "$bin" "$root/usr/libexec"
+    ln -s "$program" "$bin/ocfexec"
+    ln -s "$top/examples" "$libexec"
+fi
+
+sed "s,/usr/libexec/ocfexec/,$libexec/," "$top/docs/GUIDE.md" > "$here/GUIDE.md"
+cd "$here/hour" || exit 1
+PATH=$bin:$PATH python3 "$top/tests/lib/guide.py" "$here/GUIDE.md" || failed=1
+checked "the guide's commands"
+cd "$here" || exit 1
+[ -z "$installed" ] || remove
+[ "$any_failed" -eq 0 ]

@@ -1,0 +1,43 @@
+#!/usr/bin/env bash
+# Builds the Debian package, in which lintian, where it is installed, finds nothing wrong; installs it into a folder of its own, runs
+# what is in it, and removes it. Without a gate that passed on these programs, or without dpkg, it is skipped.
+# Use: package.sh PROGRAM
+set -u
+. "$(dirname "$0")/../lib/common.sh" "$@"
+if ! command -v dpkg-deb > /dev/null || ! command -v dpkg > /dev/null; then
+    echo "package.sh: skipped: no dpkg"
+    exit 77
+fi
+if [ ! -f "$top/crates/ocfexec/out/gate" ]; then
+    echo "package.sh: skipped: no gate has passed"
+    exit 77
+fi
+deb=$("$top/package/deb.sh" "$here") || exit 1
+if command -v lintian > /dev/null; then
+    same "what lintian finds" "" "$(lintian --allow-root --fail-on error,warning "$deb" 2>&1)"
+fi
+root=$here/root
+mkdir -p "$root/var/lib/dpkg/info" "$root/var/lib/dpkg/updates"
+touch "$root/var/lib/dpkg/status"
+package() { PATH=$PATH:/usr/sbin:/sbin dpkg --root="$root" --force-not-root --force-depends --log="$here/log" "$@" > "$here/dpkg" 2>&1 || { cat "$here/dpkg"; exit 1; }; }
+
+package -i "$deb"
+same "the version" "$("$program" --version)" "$("$root/usr/bin/ocfexec" --version)"
+same "an agent's metadata" 0 "$(OCF_RESOURCE_TYPE=Stateful "$root/usr/lib/ocf/resource.d/ocfexec/Stateful" meta-data > "$here/meta"; echo $?)"
+reply=$(printf '%s\n' '{"op":"register","id":"r1","provider":"ocfexec","type":"Dummy","params":{"state":"'"$here/state"'"}}' \
+    '{"op":"exec","id":"r1","action":"start","timeout":5000}' '{"op":"drain"}' |
+    "$root/usr/bin/ocfexec" run --memory --root "$root/usr/lib/ocf" | grep -c '"outcome":"done"')
+same "an installed agent" 1 "$reply"
+grep -q "commit $(head -n 1 "$top/crates/ocfexec/out/gate")" "$root/usr/share/doc/ocfexec/README.gate" || differs "the gate" "its commit" ""
+grep -q '/usr/bin/ocfexec serve .* \$OCFEXEC_OPTIONS$' "$root/lib/systemd/system/ocfexec.service" || differs "the unit" "the options of /etc/default" ""
+[ -s "$root/usr/share/man/man8/ocfexec.8.gz" ] || differs "the manual page" "there" "not"
+
+for completions in bash-completion/completions/ocfexec zsh/vendor-completions/_ocfexec fish/vendor_completions.d/ocfexec.fish; do
+    [ -s "$root/usr/share/$completions" ] || differs "$completions" "there" "not"
+done
+
+package -r ocfexec
+same "what is left" "$root/etc/default/ocfexec" "$(find "$root" -type f -not -path "$root/var/lib/dpkg/*")"
+package -P ocfexec
+same "what is left of it" "" "$(find "$root" -type f -not -path "$root/var/lib/dpkg/*")"
+finish "the installed package"
