@@ -14,11 +14,9 @@ shift
 copy=$(mktemp -d)
 trap 'rm -rf "$copy"' EXIT
 
-# The files as they stand in the work tree.
+# The files as they stand in the work tree, but for what was built. Git is not asked: a copy of the tree may be no repository.
 cd "$top"
-git ls-files -co --exclude-standard -z | while IFS= read -r -d '' file; do
-    if [ -f "$file" ]; then printf '%s\0' "$file"; fi
-done | tar --null -T - -cf - | tar -xf - -C "$copy"
+tar --exclude=.git --exclude=out -cf - . | tar -xf - -C "$copy"
 
 # Those of the crates below are the gate's affair.
 rm -rf "$copy"/crates/*/must-fail
@@ -54,7 +52,11 @@ if rt help 2>&1 | grep -c -E '^ *rt ci +\[?NAME' > /dev/null; then
 else
     alone || status=$?
 fi
-grep -A 2 -e "^rt: must-fail $name/" -e ' passed, ' "$copy/said" | grep -v '^--$' || cat "$copy/said"
+if grep -c "^rt: must-fail $name/" "$copy/said" > /dev/null; then
+    grep -A 2 -e "^rt: must-fail $name/" -e ' passed, ' "$copy/said" | grep -v '^--$'
+else
+    cat "$copy/said"
+fi
 # An edit that did not reach the prover shows nothing.
 if grep -c -e "^rt: must-fail $name/.*: BAD EDIT" "$copy/said" > /dev/null; then status=1; fi
 exit "$status"
