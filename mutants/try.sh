@@ -1,7 +1,8 @@
 #!/usr/bin/env bash
 # Tries a crate's wrong bodies, mutants/NAME/*.edit and mutants/gate/NAME/*.edit, on a copy of the repository, and prints the fate of
 # each. The gate keeps a few of its own, in crates/NAME/must-fail. It begins with what was proved before: a kit whose gate tries one
-# crate alone knows what it proved on this machine, and any other finds the libraries below as the checks of the work tree left them.
+# crate alone knows what it proved on this machine. Any other finds the libraries below as the checks of the work tree left them, and so
+# does each kit where CI is true, since there it tries no crate alone.
 # The name tests stands for those that only a check of the built program refuses, try_tests.sh, and gate for all that have a
 # stamp, stamps.py.
 # Use: mutants/try.sh NAME [EDIT..]
@@ -30,6 +31,11 @@ for edit in "$@"; do
 done
 git init -q "$copy"
 
+# Whether the gate tries one crate alone here.
+has_gate() {
+    [ "${CI:-}" != true ] && rt help 2>&1 | grep -c -E '^ *rt ci +\[?NAME' > /dev/null
+}
+
 # The gate of one crate.
 gate() {
     rt ci "$name" > "$copy/said" 2>&1
@@ -47,7 +53,7 @@ alone() {
 
 cd "$copy"
 status=0
-if rt help 2>&1 | grep -c -E '^ *rt ci +\[?NAME' > /dev/null; then
+if has_gate; then
     gate || status=$?
 else
     alone || status=$?

@@ -23,6 +23,9 @@ elif words == ["help"]:
     print("  rt ci NAME..  the gate of these crates")
 elif words == ["ci"]:
     print("5 passed, 0 failed")
+elif words[0] == "ci" and os.environ.get("CI") == "true":
+    print("0 passed, 1 failed")
+    sys.exit(2)
 else:
     failed = 0
     for path in sorted(glob.glob("crates/*/must-fail/*.edit")):
@@ -54,6 +57,7 @@ EVERY = ["beside/one", "high/one", "high/two", "low/one"]
 class Stamps(helper.Check):
     def setUp(self):
         super().setUp()
+        self.ci = ""
         os.mkdir(self.place("bin"))
         self.write("bin/rt", RT)
         os.chmod(self.place("bin/rt"), 0o755)
@@ -83,7 +87,7 @@ class Stamps(helper.Check):
 
     def environment(self):
         """An environment whose `rt` is the one that stands in."""
-        return {**os.environ, "PATH": self.place("bin") + ":" + os.environ["PATH"]}
+        return {**os.environ, "CI": self.ci, "PATH": self.place("bin") + ":" + os.environ["PATH"]}
 
     def called(self, *words, script="mutants/stamps.py"):
         """What a call of a script says, its status, and the edits that were tried meanwhile."""
@@ -117,6 +121,14 @@ class Stamps(helper.Check):
             self.assertEqual((asked, status), (["high/" + edit for edit in wanted], 0))
         _, status, asked = self.called("gate", script="mutants/try.sh")
         self.assertEqual((asked, status, sorted(self.lines())), (EVERY, 0, EVERY))
+
+    def test_ci(self):
+        """where the kit takes no crate alone, as CI is true, each edit is tried all the same, and one that is not refused fails"""
+        self.ci = "true"
+        self.tries(EVERY, 4, 0)
+        self.edit("low/one", new="n + 1 /* harmless */")
+        self.assertIn("NOT REFUSED", self.tries(["low/one"], 3, 1))
+        self.assertEqual(sorted(self.lines()), EVERY[:3])
 
     def test_another_sum(self):
         """an edit whose line has another sum, or is gone, is tried, and no other one"""
