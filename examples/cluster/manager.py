@@ -16,16 +16,19 @@ What runs here is known by the executor's journal alone, and is found out anew w
 """
 import argparse
 import json
+import os
 import shlex
 import subprocess
 import sys
 import time
 
 from etcd import Etcd, Unreachable, absent, delete, now, put, unchanged
-from executor import Ended, Executor, Record
+from record import Record
+
+sys.path.insert(1, os.path.dirname(os.path.dirname(os.path.abspath(__file__))))
+from ocfexec import Ended, Executor  # noqa: E402
 
 NOT_RUNNING = 7  # the exit code of a monitor that finds its service cleanly stopped
-FOR_A_PERSON = (2, 3, 6)  # statuses of the executor: wrong words, a damaged journal, a full one
 INTERVAL, TIMEOUT, FENCE_SECONDS, FAILED_SECONDS = 500, 10000, 20, 15
 
 
@@ -79,10 +82,12 @@ class Service:
 
 class Manager:
     def __init__(self, options):
-        self.node, self.words, self.fence = options.node, options.words, options.fence
+        self.node, self.fence = options.node, options.fence
         self.etcd = Etcd(options.etcd)
         self.lease = Lease(self.etcd, options.lease, options.reserve)
         self.record = Record(options.record)
+        # in this session, so that what ends the node by its process group ends the executor, too
+        self.executor = Executor(options.words, idle=self.lease.keep, own_session=False)
         self.services, self.view, self.seen = {}, {}, 0
         self.fresh, self.joined = True, False  # whether it has not tried to join yet, and whether it has a lease to lose
         self.fencing = None  # the node that is being fenced, its key, the process, and when it began
@@ -110,14 +115,20 @@ class Manager:
 
     def open(self):
         """Starts an executor, and takes over from its journal what this manager, or the one before it, has not seen."""
-        self.executor = Executor(self.words, self.record, self.lease.keep)
-        for name in self.executor.ask(op="list")["resources"]:
+        self.executor.start()
+        self.record_results()
+        for name, results in self.executor.past.items():
             for monitor in self.executor.ask(op="info", id=name)["recurring"]:
                 self.executor.ask(op="cancel", id=name, interval=monitor["interval"])
-            for result in self.executor.ask(op="history", id=name)["results"]:
+            for result in results:
                 self.record.add(name, result)
             self.services[name] = self.recovered(name)
         self.record.new.clear()
+
+    def record_results(self):
+        """Takes all results that have come into the record, before anything is done about them."""
+        for result in self.executor.take():
+            self.record.add(result.pop("id"), result)
 
     def recovered(self, name):
         """What the last action says. The report of the opening is told once, so it is read from the record: the manager may
@@ -278,7 +289,8 @@ class Manager:
 
     def hear(self):
         """Takes what has ended to the services that it belongs to."""
-        self.executor.hears(0.05)
+        self.executor.hear(0.05)
+        self.record_results()
         while self.record.new:
             name, result = self.record.new.pop(0)
             service = self.services[name]
@@ -312,9 +324,9 @@ class Manager:
             try:
                 self.manage()
             except Ended as ended:
-                self.say(f"the executor ended with status {ended}")
-                if ended.args[0] in FOR_A_PERSON:
-                    return ended.args[0]
+                self.say(str(ended))
+                if ended.wants_person:
+                    return ended.status
                 time.sleep(0.1)
 
 

@@ -1,0 +1,312 @@
+"""Drives `ocfexec serve` from Python: commands and their replies, and each result once, also where the executor was killed and
+started again. Python's standard library alone, no threads.
+
+    executor = Executor(["ocfexec", "serve", "--journal", "/var/lib/ocfexec"])
+    executor.start()
+    for result in executor.reported:  # what was interrupted or dropped when the executor before this one ended
+        print(result["id"], result["action"], result["outcome"])
+    executor.ask(op="register", id="r1", provider="heartbeat", type="Dummy")
+    call = executor.ask(op="exec", id="r1", action="start")["call"]
+    try:
+        print(executor.result(call)["outcome"])
+    except Ended:
+        executor.start()  # opens the journal again, which knows how the call ended
+        print(executor.result(call)["outcome"])
+    executor.leave()
+
+Commands, replies and results are dictionaries, as docs/FORMAT.md describes them. `drain`, `watch` and `meta` are refused here:
+an executor that serves runs actions by itself, and `ocfexec run` answers all three.
+"""
+import collections
+import fcntl
+import json
+import os
+import select
+import signal
+import subprocess
+import time
+
+FOR_A_PERSON = (2, 3, 6, 8)  # wrong words, a damaged journal, a full one, SIGCHLD ignored: another start ends likewise
+REPORTED = ("interrupted", "dropped")  # outcomes that an opening alone reports
+NOT_HERE = ("drain", "watch", "meta")
+# the words of {"end":..} that reply to a command; with every other one the executor speaks of its own turns
+ENDS = {"tidy": ("done", "epoch-spent", "disk", "closed"), "leave": ("left",)}
+SET_PIPE_SIZE, PIPE_SIZE = getattr(fcntl, "F_SETPIPE_SZ", 1031), 1 << 20
+KEPT = 64  # results of a resource that a journal keeps
+PIECE = 65536  # bytes that are read or written at once
+TICK = 0.1  # seconds between two calls of `idle`
+
+
+class Error(Exception):
+    """What goes wrong with an executor."""
+
+
+class Ended(Error):
+    """The executor has ended, and all that it had written was read. `status` is its exit status; below 0 it is the signal that
+    ended it."""
+
+    def __init__(self, status):
+        super().__init__(f"the executor ended with status {status}")
+        self.status = status
+
+    @property
+    def wants_person(self):
+        """Whether another start would end in the same way, so that a person has to look."""
+        return self.status in FOR_A_PERSON
+
+
+class Refused(Error):
+    """A command was refused: `word` and `number` are those of the reply. Nothing has changed, unless the word is `disk`."""
+
+    def __init__(self, command, reply):
+        super().__init__(f"{json.dumps(command)}: {reply['error']}")
+        self.command, self.word, self.number = command, reply["error"], reply["number"]
+
+
+class Late(Error):
+    """A reply or a result did not come in time. What was asked may be done all the same; a reply that comes later is passed over."""
+
+
+class Garbled(Error):
+    """The program wrote a line that is no line of an executor."""
+
+
+def _with_default_signals():
+    """A shell starts what is in the background with signals ignored, and agents would inherit that."""
+    for number in (signal.SIGINT, signal.SIGQUIT, signal.SIGCHLD):
+        signal.signal(number, signal.SIG_DFL)
+
+
+class Executor:
+    """An executor that is started, asked, heard, ended, and started again after it ended.
+
+    The program waits wherever its output is not read. So all that it has written is read in every call here, also while a command
+    is written, and is kept until it is taken; its pipe holds one MiB more, about 6,000 results, while no call is made.
+
+    reported  the results that the last opening reported, as interrupted or dropped
+    past      of each resource that was registered then, its results in the journal, oldest first
+    troubles  words as "full", each of which says that a turn could not be made; the executor makes it again by itself
+    """
+
+    def __init__(self, words, idle=None, wake=None, own_session=True, patience=None):
+        """`words` is the command line. `idle` is called ten times a second while a reply or a result is waited for. `wake` is a file
+        descriptor: while it can be read, `hear` does not wait. `own_session` keeps a terminal's signals from the program, and
+        `patience` is how long a reply is waited for, in seconds; None is for ever."""
+        self.words, self.idle, self.wake, self.own_session, self.patience = list(words), idle, wake, own_session, patience
+        self.process, self.reported, self.past, self.troubles = None, [], {}, []
+        self._opened_before = self._is_open = False
+        self._delivered = {}  # by resource: the last results that were handed on, by call and run
+        self._results = self._arriving = {}  # results that were not taken yet, by call and run, oldest first
+
+    # Starting and ending
+
+    def start(self):
+        """Starts the program, and waits until it has opened the journal and answers. From the second opening on, the results that
+        the program before had recorded and could not tell any more are handed on, too. Raises Ended where the journal cannot be
+        opened."""
+        self._begin()
+        if self._is_open:
+            self.reported, self._is_open = [], False
+        self._arriving, missed = {}, {}
+        try:
+            names = self.ask(op="list")["resources"]
+            self.past = {name: self.ask(op="history", id=name)["results"] for name in names}
+            missed = self._missed()
+        finally:
+            arrived, self._arriving = self._arriving, self._results
+            self._results.update(missed)
+            self._results.update(arrived)
+        self._opened_before = self._is_open = True
+
+    def is_running(self):
+        """Whether the program runs."""
+        return self.process is not None and self.process.poll() is None
+
+    def leave(self):
+        """Ends the program in order, and gives its status: each action that runs ends within its timeout, and is recorded. What is
+        queued is dropped, as the next opening reports; monitors are kept in the journal."""
+        try:
+            self.ask(op="leave")
+            return self._end()
+        except Ended as ended:
+            return ended.status
+
+    def close(self):
+        """Ends the program's input, and gives its status: the agents that run are killed, and the next opening reports their
+        actions as interrupted."""
+        self.process.stdin.close()
+        self._write.clear()
+        return self._end()
+
+    def kill(self):
+        """Kills the program, and gives its status. Its agents live on; the next opening waits for them."""
+        self.process.kill()
+        return self._end()
+
+    # Commands
+
+    def ask(self, *allowed, **command):
+        """The reply to a command. Raises Refused, unless the reply's word of refusal is one of those that are allowed."""
+        reply = self.ask_all([command])[0]
+        if reply.get("error") not in (None, *allowed):
+            raise Refused(command, reply)
+        return reply
+
+    def ask_all(self, commands):
+        """The replies to these commands, in their order; a refusal is a reply. Up to 64 that arrive together are recorded by one
+        write, so this is faster than one after another. Raises Late and Ended; then some may be done all the same."""
+        first = self._sent
+        for command in commands:
+            self._send(command)
+        numbers = range(first, self._sent)
+        try:
+            self._await(lambda: self._answered >= self._sent or None, self.patience)
+        except Late:
+            self._passed_over.update(number for number in numbers if number not in self._replies)
+            raise
+        return [self._replies.pop(number) for number in numbers]
+
+    # Results
+
+    def hear(self, seconds=None):
+        """Reads what has come; where nothing has, waits so many seconds at most, None being for ever. Whether something came. Raises
+        Ended once everything was read."""
+        return self._exchange(seconds)
+
+    def take(self):
+        """All results that have come and were not taken yet, oldest first."""
+        taken = list(self._results.values())
+        self._results.clear()
+        return taken
+
+    def result(self, call, seconds=None):
+        """The result of a call, waited for so many seconds at most; of a recurring monitor the oldest that was not taken. Other
+        results stay for `take`. Raises Late, or Ended: then it comes with the next `start`."""
+        return self._results.pop(self._await(lambda: next((key for key in self._results if key[0] == call), None), seconds))
+
+    def fileno(self):
+        """The descriptor to wait for in a loop of the caller's own: while it can be read, `hear` finds something."""
+        return self.process.stdout.fileno()
+
+    # The lines
+
+    def _begin(self):
+        if self.is_running():
+            raise Error("the executor runs already")
+        if self.process:
+            self.process.stdin.close()
+            self.process.stdout.close()
+        self._read, self._write = bytearray(), bytearray()
+        self._sent = self._answered = 0
+        self._asked, self._replies, self._passed_over = collections.deque(), {}, set()
+        self.process = subprocess.Popen(self.words, bufsize=0, stdin=subprocess.PIPE, stdout=subprocess.PIPE,
+                                        start_new_session=self.own_session, preexec_fn=_with_default_signals)
+        os.set_blocking(self.process.stdin.fileno(), False)
+        try:
+            fcntl.fcntl(self.process.stdout, SET_PIPE_SIZE, PIPE_SIZE)
+        except OSError:
+            pass  # the user has as much in pipes as the system allows: this one stays as it is
+
+    def _end(self):
+        """Reads all up to the end of the program, and gives its status."""
+        try:
+            while True:
+                self._exchange(None, wakes=False)
+        except Ended as ended:
+            return ended.status
+
+    def _send(self, command):
+        if command["op"] in NOT_HERE:
+            raise ValueError(f"{command['op']}: an executor that serves acts by itself, and is not asked for this here")
+        self._write += json.dumps(command).encode() + b"\n"
+        self._asked.append(command["op"])
+        self._sent += 1
+
+    def _await(self, found, seconds):
+        """What `found` gives, as soon as it gives something."""
+        until = None if seconds is None else time.monotonic() + seconds
+        while (what := found()) is None:
+            left = None if until is None else max(0, until - time.monotonic())
+            if left == 0:
+                raise Late(f"after {seconds} s")
+            if self.idle:
+                self.idle()
+                left = TICK if left is None else min(left, TICK)
+            self._exchange(left, wakes=False)
+        return what
+
+    def _exchange(self, seconds, wakes=True):
+        """Writes and reads as far as both are possible, after a wait of so many seconds at most. Whether something was read."""
+        poll, out = select.poll(), self.process.stdout.fileno()
+        poll.register(out, select.POLLIN)
+        if self._write:
+            poll.register(self.process.stdin, select.POLLOUT)
+        if wakes and self.wake is not None:
+            poll.register(self.wake, select.POLLIN)
+        ready = {number for number, _ in poll.poll(None if seconds is None else seconds * 1000)}
+        if self._write and self.process.stdin.fileno() in ready:
+            self._write_some()
+        if out not in ready:
+            return False
+        part = os.read(out, PIECE)
+        if not part:  # the end, perhaps in the middle of a line
+            raise Ended(self.process.wait())
+        self._read += part
+        self._take_lines()
+        return True
+
+    def _write_some(self):
+        try:
+            del self._write[:os.write(self.process.stdin.fileno(), self._write[:PIECE])]
+        except BlockingIOError:
+            pass
+        except OSError:
+            self._write.clear()  # the program ends: what it has still written is read first
+
+    def _take_lines(self):
+        *lines, rest = self._read.split(b"\n")
+        self._read = rest
+        for line in lines:
+            try:
+                self._take_line(json.loads(line))
+            except (ValueError, LookupError, TypeError, AttributeError):
+                raise Garbled(bytes(line[:200])) from None
+
+    def _take_line(self, value):
+        if not isinstance(value, dict):
+            raise TypeError(value)
+        if "outcome" in value:
+            self._take_result(value)
+        elif "end" in value and value["end"] not in (ENDS.get(self._asked[0], ()) if self._asked else ()):
+            self.troubles.append(value["end"])
+        else:
+            self._asked.popleft()
+            if self._answered in self._passed_over:
+                self._passed_over.discard(self._answered)
+            else:
+                self._replies[self._answered] = value
+            self._answered += 1
+
+    def _take_result(self, result):
+        if result["outcome"] in REPORTED:
+            self.reported.append(result)
+        self._deliver(result["id"], result, self._arriving)
+
+    def _deliver(self, name, result, into):
+        """Keeps a result for the caller, unless it was delivered before."""
+        key, delivered = (result["call"], result["run"]), self._delivered.setdefault(name, {})
+        if key not in delivered:
+            delivered[key] = True
+            into[key] = {**result, "id": name}
+            if len(delivered) > 2 * KEPT:
+                del delivered[next(iter(delivered))]
+
+    def _missed(self):
+        """Results in the journal that no line has told. At the first opening these are another program's, and are in `past` alone;
+        what was withdrawn is told by no line at any time."""
+        missed = {}
+        for name, results in self.past.items():
+            for result in results:
+                if result["outcome"] != "cancelled":
+                    self._deliver(name, result, missed if self._opened_before else {})
+        return missed

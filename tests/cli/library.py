@@ -1,0 +1,175 @@
+#!/usr/bin/env python3
+"""The library for clients in Python, examples/ocfexec.py: replies and refusals, results by call, more commands than pipes hold, what an
+opening reports, and each result once, however often the executor is killed.
+Use: library.py PROGRAM"""
+import os
+import random
+import signal
+import sys
+import time
+
+sys.path[0] += "/../lib"
+import helper  # noqa: E402
+from helper import PROGRAM, action, register  # noqa: E402
+
+sys.dont_write_bytecode = True
+sys.path.insert(1, os.path.join(helper.TOP, "examples"))
+import ocfexec  # noqa: E402
+
+KILLS = 100
+# a program that writes what is no line of an executor
+TALKS = "#!/bin/sh\nread -r line\necho 'good morning'\nread -r line\n"
+
+
+class Library(helper.Check):
+    def setUp(self):
+        super().setUp()
+        self.agent("Fast", "exit 0\n")
+        self.agent("Slow", f"echo $$ >> {self.here}/slow\nsleep 0.3\n")
+
+    def executor(self, *words, **how):
+        executor = ocfexec.Executor([PROGRAM, "serve", *words, "--root", self.here], **how)
+        self.addCleanup(self.gone, executor)
+        executor.start()
+        return executor
+
+    def gone(self, executor):
+        if executor.is_running():
+            executor.kill()
+        if executor.process:
+            executor.process.stdin.close()
+            executor.process.stdout.close()
+
+    def begun(self, count):
+        """Waits until so many slow actions have begun."""
+        for _ in range(1000):
+            if os.path.exists(self.place("slow")) and len(open(self.place("slow"), encoding="ascii").read().split()) >= count:
+                return
+            time.sleep(0.01)
+        self.fail("no slow action began")
+
+    def test_asked(self):
+        """a command is replied, or refused by name and number; an order that serves no client is none here"""
+        executor = self.executor("--memory")
+        self.assertEqual(executor.ask(**register("a", "Fast")), {"ok": True})
+        self.assertEqual(executor.ask("exists", **register("a", "Fast")), {"error": "exists", "number": 6})
+        with self.assertRaises(ocfexec.Refused) as refused:
+            executor.ask(**register("a", "Fast"))
+        self.assertEqual((refused.exception.word, refused.exception.number), ("exists", 6))
+        for op in ("drain", "watch", "meta"):
+            self.assertRaises(ValueError, executor.ask, op=op)
+        self.assertEqual(executor.ask(op="tidy"), {"end": "done"})
+        self.assertEqual(executor.leave(), 0)
+        self.assertRaises(ocfexec.Ended, executor.ask, op="list")
+
+    def test_calls(self):
+        """a result is found by its call, and the others stay; of a call whose result was taken none comes"""
+        executor = self.executor("--memory")
+        executor.ask_all([register(name, "Fast") for name in "abc"])
+        calls = [reply["call"] for reply in executor.ask_all([action(name, "start") for name in "abc"])]
+        self.assertEqual(executor.result(calls[1], 5)["id"], "b")
+        others = [executor.result(call, 5) for call in (calls[0], calls[2])]
+        self.assertEqual(([result["id"] for result in others], executor.take()), (["a", "c"], []))
+        self.assertRaises(ocfexec.Late, executor.result, calls[1], 0.1)
+
+    def test_many(self):
+        """commands and replies of more than all pipes hold are written and read side by side"""
+        executor = self.executor("--memory", patience=60)
+        long = {f"p{number}": "x" * 1000 for number in range(15)}
+        executor.ask(**register("a", "Fast", **long))
+        replies = executor.ask_all([{"op": "info", "id": "a", "more": "y" * 1000}] * 1000)
+        self.assertEqual([len(reply["params"]) for reply in replies], [15] * 1000)
+
+    def test_late(self):
+        """a reply that does not come in time is passed over when it comes, and the next one is that of its own command"""
+        executor = self.executor("--memory")
+        executor.patience = 0.2
+        os.kill(executor.process.pid, signal.SIGSTOP)
+        self.assertRaises(ocfexec.Late, executor.ask, op="list")
+        os.kill(executor.process.pid, signal.SIGCONT)
+        executor.patience = 5
+        self.assertEqual(executor.ask(**register("a", "Fast")), {"ok": True})
+
+    def test_idle(self):
+        """a wait for a reply calls what the client has to do meanwhile, and a descriptor ends a wait for anything"""
+        called, (wake, waker) = [], os.pipe()
+        self.addCleanup(os.close, wake)
+        self.addCleanup(os.close, waker)
+        executor = self.executor("--memory", idle=lambda: called.append(0), wake=wake)
+        executor.ask(**register("s", "Slow"))
+        executor.result(executor.ask(**action("s", "start"))["call"], 5)
+        self.assertGreaterEqual(len(called), 3)
+        os.write(waker, b"!")
+        began = time.monotonic()
+        self.assertFalse(executor.hear(5))
+        self.assertLess(time.monotonic() - began, 1)
+
+    def test_reported(self):
+        """an opening reports what was interrupted and dropped, by call too; another one reports nothing more"""
+        folder = self.journal()
+        executor = self.executor("--journal", folder)
+        executor.ask(**register("s", "Slow"))
+        calls = [executor.ask(**action("s", what))["call"] for what in ("start", "stop")]
+        self.begun(1)
+        self.assertEqual(executor.kill(), -signal.SIGKILL)
+        executor.start()
+        self.assertEqual([(result["call"], result["outcome"]) for result in executor.reported],
+                         [(calls[0], "interrupted"), (calls[1], "dropped")])
+        self.assertEqual([executor.result(call, 5)["outcome"] for call in calls], ["interrupted", "dropped"])
+        self.assertEqual(executor.leave(), 0)
+        executor.start()
+        self.assertEqual((executor.reported, executor.take(), len(executor.past["s"])), ([], [], 2))
+
+    def test_damaged(self):
+        """a journal that is damaged, and one that another program holds, end the executor with a status; the first wants a person"""
+        folder = self.spelled("journal", b"\x01 no journal", b"")
+        with self.assertRaises(ocfexec.Ended) as ended:
+            self.executor("--journal", folder)
+        self.assertEqual((ended.exception.status, ended.exception.wants_person), (3, True))
+        self.executor("--journal", self.journal("another"))
+        with self.assertRaises(ocfexec.Ended) as ended:
+            self.executor("--journal", self.place("another"))
+        self.assertEqual((ended.exception.status, ended.exception.wants_person), (5, False))
+
+    def test_garbled(self):
+        """what is no line of an executor is named"""
+        with open(self.place("talks"), "w", encoding="ascii") as file:
+            file.write(TALKS)
+        os.chmod(self.place("talks"), 0o755)
+        executor = ocfexec.Executor([self.place("talks")])
+        self.addCleanup(self.gone, executor)
+        self.assertRaises(ocfexec.Garbled, executor.start)
+
+    @helper.slow
+    def test_kills(self):
+        """through kills of the executor at any moment each result is told once, and by the call that asked for it"""
+        dice = random.Random(helper.number("SEED", 20261127))
+        folder, told, calls = self.journal(), [], []
+        executor = self.executor("--journal", folder, "--orphans", "0")
+        executor.ask_all([register(name, "Fast") for name in "abcd"])
+        executor.ask_all([{"op": "recur", "id": name, "interval": 20} for name in "abcd"])
+        for _ in range(helper.number("KILLS", KILLS)):
+            until = time.monotonic() + dice.uniform(0, 0.2)
+            try:
+                while time.monotonic() < until:
+                    calls.append(executor.ask(**action(dice.choice("abcd"), "start"))["call"])
+                    executor.hear(0.01)
+                    told += executor.take()
+            except ocfexec.Refused as refused:
+                self.assertEqual(refused.word, "queue-full")
+            # what it wrote up to here is not read before the kill
+            time.sleep(dice.uniform(0, 0.03))
+            executor.kill()
+            executor.start()
+        self.assertEqual(executor.leave(), 0)
+        told += executor.take()
+        runs = sorted(result["run"] for result in told if result["run"])
+        self.assertEqual(runs, list(range(1, len(runs) + 1)), "each run once")
+        asked = [result["call"] for result in told if result["call"] in set(calls)]
+        self.assertEqual(len(asked), len(set(asked)), "no result of a call twice")
+        queued = {call for name in "abcd" for call in helper.replies(helper.shown(folder))[1 + 2 * "abcd".index(name)]["queued"]}
+        self.assertEqual(set(calls) - set(asked), queued, "a result for each call that is not queued")
+
+
+if __name__ == "__main__":
+    helper.main()
