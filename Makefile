@@ -46,16 +46,15 @@ fuzz:
 sanitize:
 	@tests/sanitize.sh
 
-# Installs the programs that the gate proved and built, or proves and builds them first; with them the manual page, the two
-# clients and the unit.
+# Installs the programs that the gate proved and built, or proves and builds them first; with them the manual page, the
+# clients with their library, and the unit.
 install: $(PROGRAM) $(AGENTS)
 	install -D $(PROGRAM) $(DESTDIR)$(PREFIX)/bin/ocfexec
 	install -D $(AGENTS) $(DESTDIR)$(PREFIX)/bin/ocf_agents
 	install -D -m 644 docs/ocfexec.8 $(DESTDIR)$(PREFIX)/share/man/man8/ocfexec.8
-	install -D examples/client.py $(DESTDIR)$(PREFIX)/share/doc/ocfexec/client.py
-	install -D examples/client.sh $(DESTDIR)$(PREFIX)/share/doc/ocfexec/client.sh
-	install -D examples/with-executor.sh $(DESTDIR)$(PREFIX)/share/doc/ocfexec/with-executor.sh
-	install -D -m 644 examples/ocfexec.service $(DESTDIR)$(PREFIX)/share/doc/ocfexec/ocfexec.service
+	install -d $(DESTDIR)$(PREFIX)/share/doc/ocfexec
+	install examples/client.py examples/client.sh examples/with-executor.sh $(DESTDIR)$(PREFIX)/share/doc/ocfexec
+	install -m 644 examples/ocfexec.py examples/resources.py examples/*.service $(DESTDIR)$(PREFIX)/share/doc/ocfexec
 
 # Builds a Debian package of the programs that the gate proved, and of no others.
 deb:

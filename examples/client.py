@@ -1,171 +1,422 @@
 #!/usr/bin/env python3
-"""Keeps one resource running through ocfexec: starts it, monitors it, starts it anew where a monitor fails, and stops it on
-SIGTERM. An executor that ends is started again: with --journal it goes on where it was, and first reports what was interrupted.
-SIGUSR1 replaces the executor, as after an update: what runs ends and is recorded, and the resource stays as it is.
+"""Keeps the resources of a file running through ocfexec: probes each, starts it where it does not run, monitors it, and starts it
+anew where a monitor fails. An executor that ends is started again: with --journal it goes on where it was.
 
-    client.py --interval 10000 ocfexec serve --journal /var/lib/ocfexec
-    client.py --type Dummy --param state=/tmp/dummy ocfexec serve --memory --meta-variables --log -
+    client.py ocfexec serve --journal /var/lib/ocfexec --meta-variables --log -
+    client.py --file resources.json --check
 
-Agents of Debian's package resource-agents want --meta-variables: without Pacemaker's interval they take each monitor for a
-probe. --log - shows what they say.
+SIGTERM, SIGINT  stop the resources, and end the client; its status is 1 where one did not stop
+SIGUSR1          ends the client and leaves the resources running; what runs ends first, and the next client goes on
+SIGHUP           reads the file again: what is new there is started, what is gone is stopped and taken out of the journal, what has
+                 another agent or other parameters is stopped as it was and started as it is, what was given up is tried again
 
-A reader may be slow (--slow): the executor waits where the pipe is full, and no line is lost.
+resources.py beside this file says what the file may hold. Resources are brought up side by side, in no order. One that fails is
+started anew at once, and then after 1, 2, 4 .. 60 seconds; one that has failed too often is stopped and given up, and named.
+Where the file is not there, or names nothing, nothing is done and no executor started, until SIGHUP.
+
+Each result is printed as a line of JSON. Agents of Debian's package resource-agents want --meta-variables: without Pacemaker's
+interval they take each monitor for a probe. --log - shows what they say.
 """
 import argparse
 import json
 import os
 import select
 import signal
-import subprocess
+import socket
 import sys
 import time
 
+sys.dont_write_bytecode = True
+import resources  # noqa: E402
+from ocfexec import REPORTED, Ended, Error, Executor, Refused  # noqa: E402
+
+FILE = "/etc/ocfexec/resources.json"
 RUNNING = (0, 8, 190, 191)  # the exit codes of a monitor that finds its resource running
 NOT_RUNNING = 7  # and cleanly stopped
-FOR_A_PERSON = (2, 3, 6)  # wrong words, a damaged journal, a full one: another start would end likewise
+LONGEST = 60  # the longest pause, in seconds
+WATCH = "watch"
+NEVER = float("inf")
 
 
-class Ended(Exception):
-    """The executor ended. Its status stands behind; below 0 it is the signal that killed it."""
+class GivenUp(Exception):
+    """A resource failed too often."""
 
 
-def with_default_signals():
-    """A shell starts what is in the background with these signals ignored, and agents would inherit that."""
-    for number in (signal.SIGINT, signal.SIGQUIT):
-        signal.signal(number, signal.SIG_DFL)
+def say(what):
+    print(f"client: {what}", file=sys.stderr, flush=True)
 
 
-class Executor:
-    """One run of ocfexec that serves: commands are lines to it, replies and results are lines from it."""
+def notify(*lines):
+    """Tells systemd, where that has started the client: sd_notify(3)."""
+    path = os.environ.get("NOTIFY_SOCKET", "")
+    if path:
+        with socket.socket(socket.AF_UNIX, socket.SOCK_DGRAM) as to:
+            try:
+                to.sendto("\n".join(lines).encode(), "\0" + path[1:] if path.startswith("@") else path)
+            except OSError as error:
+                say(f"systemd could not be told: {error.strerror}")
 
-    def __init__(self, words, slow):
-        # a session of its own, so that a terminal's interrupt reaches the client alone
-        self.process = subprocess.Popen(words, stdin=subprocess.PIPE, stdout=subprocess.PIPE, start_new_session=True,
-                                        preexec_fn=with_default_signals)
-        self.slow = slow
-        self.read = b""  # what was read and is no whole line yet
-        self.results = {}  # the last result of each call
 
-    def line(self, seconds=None):
-        """The next line, waited for so long at most; None where none came."""
-        while b"\n" not in self.read:
-            if not select.select([self.process.stdout], [], [], seconds)[0]:
-                return None
-            part = os.read(self.process.stdout.fileno(), 65536)
-            if not part:  # the end, perhaps amid a line
-                raise Ended(self.process.wait())
-            self.read += part
-        line, self.read = self.read.split(b"\n", 1)
-        time.sleep(self.slow)
-        return json.loads(line)
+def described(result):
+    """A result in words, as: start ended with 1 (OCF_ERR_GENERIC)."""
+    if result["outcome"] in ("done", "not-started"):
+        how = "ended" if result["outcome"] == "done" else "was not started,"
+        return f"{result['action']} {how} with {result['code']} ({result['name']})"
+    return f"{result['action']} was {result['outcome']}"
 
-    def hears(self, seconds=None):
-        """The next reply, waited for so long at most; a result is printed and kept, and gives None, as nothing does."""
-        line = self.line(seconds)
-        if line is not None and "end" in line:  # of a turn that the executor made by itself, and makes again unless its disk failed
-            if line["end"] != "left":
-                print(f"the executor's turn ended: {line['end']}", file=sys.stderr)
-            return None
-        if line is None or "outcome" not in line:
-            return line
-        print(json.dumps(line, separators=(",", ":")), flush=True)
-        self.results[line["call"]] = line
-        return None
 
-    def send(self, command):
-        """Writes the line of a command."""
+class Resource:
+    """A resource that is kept. What is done to it is a task: a generator of what it waits for. It waits for an action, yielded as a
+    command, and is sent its result; for a pause, yielded in seconds; or for WATCH, and is sent the result of a monitor that
+    does not find the resource running."""
+
+    def __init__(self, name, executor):
+        self.name, self.executor = name, executor
+        self.wanted, self.had = None, resources.Wanted("", "")  # what the file wants, and what it wanted before
+        self.state, self.is_settled = "new", False  # in a word, and whether its first start has ended, in either way
+        self.restarts = []  # when it was started anew, by the monotonic clock
+        self.task = self.awaited = None  # awaited: the number of a call, or WATCH
+        self.due, self.last = NEVER, None  # when its pause is over; its last result
+
+    def want(self, wanted):
+        """What the file wants of it from now on; None, that it is not there. Whether that is something to be done."""
+        differs = wanted != self.wanted or self.state == "given up"
+        if differs:
+            self.had, self.wanted = self.wanted or self.had, wanted
+            self.restarts.clear()
+            self.is_settled = False
+        return differs
+
+    def ask(self, op, *allowed, **more):
+        return self.executor.ask(*allowed, op=op, id=self.name, **more)
+
+    def action(self, action, **more):
+        limit = (self.wanted or self.had).timeout(action)
+        return {"op": "exec", "id": self.name, "action": action, "timeout": limit, **more}
+
+    def settle(self, state, what):
+        say(f"{self.name} {what}")
+        self.state, self.is_settled = state, True
+
+    # What is done to it
+
+    def kept(self):
+        """Keeps it running, until it has failed too often."""
         try:
-            self.process.stdin.write(json.dumps(command).encode() + b"\n")
-            self.process.stdin.flush()
-        except OSError:
-            raise Ended(self.process.wait()) from None
-
-    def leave(self):
-        """Lets it end in order, so that no action is cut off: hears the results of what still runs, and gives its status."""
-        try:
-            self.send({"op": "leave"})
+            self.clear()
+            yield from self.registered()
+            self.last = yield self.probe()
+            is_first = self.last["code"] == NOT_RUNNING
             while True:
-                self.hears()
-        except Ended as ended:
-            return ended.args[0]
+                if self.last["code"] not in RUNNING:
+                    yield from self.started(is_first)
+                self.monitor()
+                self.last = yield WATCH
+                self.state, is_first = "failed", False
+                say(f"{self.name} does not run: {described(self.last)}")
+        except GivenUp as why:
+            yield from self.given_up(why)
 
-    def ask(self, *words, **command):
-        """The reply to a command that may be refused with one of these words alone."""
-        self.send(command)
-        while (reply := self.hears()) is None:
-            pass
-        if reply.get("error") not in (None, *words):
-            sys.exit(f"{command}: {reply['error']}")
-        return reply
+    def removed(self):
+        """Stops it as it was, and takes it out of the journal."""
+        try:
+            self.clear()
+            say(f"{self.name} is not in the file: it is stopped, and taken out of the journal")
+            yield from self.unregistered()
+            self.state = "gone"
+        except GivenUp as why:
+            self.settle("given up", f"is given up: {why}")
 
-    def code_of(self, resource, action):
-        """Runs an action to its end, and gives its exit code."""
-        call = self.ask(op="exec", id=resource, action=action)["call"]
-        while call not in self.results:
-            self.hears()
-        return self.results.pop(call)["code"]
+    def stopped(self):
+        """Stops it once, as the client ends."""
+        self.clear()
+        if self.cancel_monitors():
+            self.last = yield self.action("stop")
+            self.state = "stopped" if self.last["code"] == 0 else "not stopped"
+            say(f"{self.name} is {self.state}: {described(self.last)}")
+
+    def given_up(self, why):
+        """Leaves it stopped. A stop that failed is not tried once more: that wants a person."""
+        self.cancel_monitors()
+        if self.last["action"] != "stop":
+            yield self.action("stop")
+        self.settle("given up", f"is given up: {why}")
+
+    # The steps of that
+
+    def registered(self):
+        info = self.ask("info", "unknown-resource")
+        if "error" not in info and not self.wanted.is_registered_as(info):
+            say(f"{self.name} is another one in the file now: it is stopped as it was")
+            yield from self.unregistered()
+        self.ask("register", "exists", provider=self.wanted.provider, type=self.wanted.type, params=self.wanted.params)
+
+    def unregistered(self):
+        if not self.cancel_monitors():
+            return
+        self.last = yield self.action("stop")
+        while self.last["code"] != 0:
+            yield from self.paused()
+            self.last = yield self.action("stop")
+        self.ask("unregister")
+
+    def started(self, is_first):
+        """Starts it until that succeeds. What has failed is stopped first, and what did not stop is not started."""
+        self.state = "starting"
+        while True:
+            if not is_first:
+                yield from self.paused()
+            is_first = False
+            if (self.last["action"], self.last["code"]) != ("monitor", NOT_RUNNING):
+                self.last = yield self.action("stop")
+            if self.last["action"] != "stop" or self.last["code"] == 0:
+                self.last = yield self.action("start")
+                if self.last["code"] == 0:
+                    return
+
+    def paused(self):
+        """Waits as long as another try has to wait. Raises GivenUp where there were too many."""
+        now, limits = time.monotonic(), self.wanted or self.had
+        self.restarts = [moment for moment in self.restarts if moment > now - limits.within / 1000]
+        if len(self.restarts) >= limits.restarts:
+            raise GivenUp(f"{described(self.last)}, and it was tried {len(self.restarts)} times more within {limits.within} ms")
+        pause = min(LONGEST, 2 ** len(self.restarts) // 2)
+        self.restarts.append(now + pause)
+        if pause:
+            self.settle("failed", f"is tried again in {pause} s: {described(self.last)}")
+            yield pause
+
+    def probe(self):
+        """A monitor. It expects that the resource does not run, unless the results in the journal say that it did."""
+        results = [result for result in self.ask("history")["results"] if result["outcome"] not in ("dropped", "cancelled")]
+        last = next((result for result in reversed(results) if (result["action"], result["outcome"]) != ("monitor", "interrupted")), None)
+        runs = last and last["action"] != "stop" and (last["code"] in RUNNING or last["outcome"] == "interrupted")
+        return self.action("monitor", expect=0 if runs else NOT_RUNNING)
+
+    def monitor(self):
+        """Has it monitored as the file wants it."""
+        interval, timeout = self.wanted.interval, self.wanted.timeout("monitor")
+        for monitor in self.ask("info")["recurring"]:
+            if (monitor["interval"], monitor["timeout"]) != (interval, timeout):
+                self.ask("cancel", interval=monitor["interval"])
+        self.ask("recur", "exists", interval=interval, timeout=timeout)
+        self.settle("running", "runs")
+
+    def cancel_monitors(self):
+        """Whether it is registered at all."""
+        info = self.ask("info", "unknown-resource")
+        for monitor in info.get("recurring", []):
+            self.ask("cancel", interval=monitor["interval"])
+        return "error" not in info
+
+    def clear(self):
+        """Takes back what is queued, so that nothing waits but for what has begun."""
+        for call in self.ask("info", "unknown-resource").get("queued", []):
+            self.ask("withdraw", "not-queued", call=call)
+
+    # How a task goes on
+
+    def begin(self, task):
+        """Begins this task in place of the one before."""
+        if self.task:
+            self.task.close()
+        self.task = task
+        self.go_on(None)
+
+    def go_on(self, came):
+        """Takes the task on with what came, up to what it waits for next."""
+        self.awaited, self.due = None, NEVER
+        try:
+            what = self.task.send(came)
+            if isinstance(what, dict):
+                self.awaited = self.executor.ask(**what)["call"]
+            elif what == WATCH:
+                self.awaited = WATCH
+            else:
+                self.due = time.monotonic() + what
+        except StopIteration:
+            self.task = None
+        except Refused as refused:
+            self.task = None
+            if refused.word not in ("disk", "closed"):  # of these two the executor ends
+                self.settle("given up", f"is given up: {refused}")
+
+    def hear(self, result):
+        fails = result["interval"] and result["code"] not in RUNNING
+        if self.awaited == result["call"] or self.awaited == WATCH and fails:
+            self.go_on(result)
 
 
-def bring_up(executor, name, code):
-    """Starts a resource that a monitor with this exit code did not find running; one that failed is stopped first."""
-    if code not in RUNNING + (NOT_RUNNING,):
-        executor.code_of(name, "stop")
-    if code not in RUNNING:
-        executor.code_of(name, "start")
+class Client:
+    """Keeps all resources, through one executor after another, until a signal ends that."""
 
+    def __init__(self, file, words):
+        self.file, self.asked, self.told = file, [], None
+        self.wake, waker = os.pipe()
+        for end in (self.wake, waker):
+            os.set_blocking(end, False)
+        signal.set_wakeup_fd(waker, warn_on_full_buffer=False)
+        for number in (signal.SIGTERM, signal.SIGINT, signal.SIGUSR1, signal.SIGHUP):
+            signal.signal(number, lambda came, _: self.asked.append(came))
+        self.executor = Executor(words, wake=self.wake)
+        self.resources = {}
+        self.is_ready = self.is_stopping = self.is_leaving = self.has_opened = self.has_worked = False
 
-def withdraw_queued(executor, name):
-    """Takes back what is queued for a resource, so that a stop waits for nothing but what has begun."""
-    for call in executor.ask(op="info", id=name)["queued"]:
-        executor.ask("not-queued", op="withdraw", id=name, call=call)
+    # Its file and its signals
 
+    def read(self):
+        """Takes over what the file wants. One that is wrong changes nothing; whether it could be read."""
+        try:
+            wanted = resources.read(self.file)
+        except (resources.Wrong, OSError) as error:
+            say(f"{self.file}: {error.strerror if isinstance(error, OSError) else error}")
+            return False
+        for name in wanted:
+            self.resources.setdefault(name, Resource(name, self.executor))
+        changed = [resource for name, resource in self.resources.items() if resource.want(wanted.get(name))]
+        for resource in changed if self.executor.is_running() else ():
+            self.begin(resource)
+        return True
 
-def keep(executor, options, asked):
-    """Brings the resource up and watches it until a signal comes, then stops it and gives the stop's exit code. SIGUSR1 leaves it
-    as it is, and gives none."""
-    name, params = options.id, dict(pair.split("=", 1) for pair in options.param)
-    executor.ask("exists", op="register", id=name, provider=options.provider, type=options.type, params=params)
-    executor.ask(op="params", id=name, params=params)
-    executor.ask("exists", op="recur", id=name, interval=options.interval)
-    code = executor.code_of(name, "monitor")
-    while not asked:
-        bring_up(executor, name, code)
-        executor.results.clear()  # what is older says nothing of the resource any more
-        executor.hears(0.5)
-        code = next((result["code"] for result in executor.results.values()), 0)
-    if asked == [signal.SIGUSR1]:
-        asked.remove(signal.SIGUSR1)
-        return None
-    executor.ask("no-such-recurring", op="cancel", id=name, interval=options.interval)
-    withdraw_queued(executor, name)
-    return executor.code_of(name, "stop")
+    def begin(self, resource):
+        if self.is_stopping:
+            resource.begin(resource.stopped())
+        else:
+            resource.begin(resource.kept() if resource.wanted else resource.removed())
+
+    def heed(self):
+        """Does what signals have asked for. Whether the client is to end."""
+        while select.select([self.wake], [], [], 0)[0]:
+            os.read(self.wake, 4096)
+        while self.asked:
+            number = self.asked.pop(0)
+            if number == signal.SIGHUP:
+                self.is_ready = self.is_stopping
+                notify("RELOADING=1", f"MONOTONIC_USEC={time.monotonic_ns() // 1000}")
+                say(f"{self.file} was read again" if self.read() else "all stays as it was")
+            elif not self.is_stopping:
+                self.is_ready = True
+                self.tell("STOPPING=1")
+                self.is_leaving, self.is_stopping = number == signal.SIGUSR1, number != signal.SIGUSR1
+                for resource in self.resources.values() if self.is_stopping and self.executor.is_running() else ():
+                    self.begin(resource)
+        return self.is_leaving or self.is_stopping and not any(resource.task for resource in self.resources.values())
+
+    def rest(self, seconds=None):
+        """Waits without an executor, until a signal comes. Whether the client is to leave, or was told to stop."""
+        select.select([self.wake], [], [], seconds)
+        self.heed()
+        return self.is_leaving or self.is_stopping
+
+    def tell(self, *lines):
+        """Tells systemd how all is, where that has changed; and once, that each resource runs or has failed."""
+        by_state = {}
+        for resource in self.resources.values():
+            by_state.setdefault(resource.state, []).append(resource.name)
+        told = "STATUS=" + ("; ".join(f"{state}: {', '.join(names)}" for state, names in by_state.items()) or "nothing is configured")
+        if not self.is_ready and all(resource.is_settled or not resource.wanted for resource in self.resources.values()):
+            self.is_ready, lines = True, (*lines, "READY=1")
+        if lines or told != self.told:
+            notify(*lines, told)
+            self.told = told
+
+    # One run of the executor
+
+    def open(self):
+        """Starts the executor, and goes on with each resource of the file and of the journal."""
+        self.has_opened = self.has_worked = False
+        self.executor.start()
+        self.has_opened = True
+        for result in self.executor.reported:
+            say(f"{result['id']}: {described(result)} when the executor ended")
+        for name in self.executor.past:
+            self.resources.setdefault(name, Resource(name, self.executor))
+        for resource in self.resources.values():
+            if resource.state != "given up" or self.is_stopping:
+                self.begin(resource)
+
+    def look(self):
+        """Waits for what comes next, and hands it on."""
+        due = min((resource.due for resource in self.resources.values()), default=NEVER)
+        self.executor.hear(None if due == NEVER else max(0, due - time.monotonic()))
+        for result in self.told_results():
+            if result["id"] in self.resources:
+                self.resources[result["id"]].hear(result)
+        for resource in self.resources.values():
+            if resource.due <= time.monotonic():
+                resource.go_on(None)
+        while self.executor.troubles:
+            say(f"the executor could not go on: {self.executor.troubles.pop(0)}")
+        self.resources = {name: resource for name, resource in self.resources.items() if resource.state != "gone"}
+
+    def told_results(self):
+        """The results that have come, each of which is printed."""
+        found = self.executor.take()
+        for result in found:
+            print(json.dumps(result, separators=(",", ":"), sort_keys=True), flush=True)
+            self.has_worked |= result["outcome"] not in REPORTED
+        return found
+
+    def keep(self):
+        """Keeps the resources until the client is to end, and gives its status. Raises Ended."""
+        self.open()
+        while not self.heed():
+            self.tell()
+            self.look()
+        status = self.executor.leave()
+        self.told_results()
+        if status:
+            say(f"the executor ended with status {status}")
+        return int(status != 0 or any(resource.state == "not stopped" for resource in self.resources.values()))
+
+    def run(self):
+        """The client's exit status."""
+        if os.path.exists(self.file) and not self.read():
+            return 2
+        while not self.resources:
+            say(f"nothing is done, as {self.file} " + ("names no resource" if os.path.exists(self.file) else "is not there"))
+            self.tell()
+            if self.rest():
+                return 0
+        pause = 0
+        while True:
+            try:
+                return self.keep()
+            except Ended as ended:
+                self.told_results()
+                say(str(ended))
+                if ended.wants_person:
+                    return ended.status
+                if self.is_stopping and not self.has_opened:
+                    return 1
+            # an executor that has told a result is followed by the next one at once
+            pause = 0 if self.has_worked else min(LONGEST, 2 * pause or 1)
+            if pause and self.rest(pause) and self.is_leaving:
+                return 0
 
 
 def main():
     parser = argparse.ArgumentParser(description=__doc__, formatter_class=argparse.RawDescriptionHelpFormatter)
-    for option, default in (("--id", "r1"), ("--provider", "heartbeat"), ("--type", "Dummy")):
-        parser.add_argument(option, default=default)
-    parser.add_argument("--param", action="append", default=[], metavar="NAME=VALUE")
-    parser.add_argument("--interval", type=int, default=10000, help="of the monitor, in milliseconds")
-    parser.add_argument("--slow", type=float, default=0, help="seconds to wait behind each line that is read")
+    parser.add_argument("--file", default=FILE, help="what is to be kept (%(default)s)")
+    parser.add_argument("--check", action="store_true", help="only say whether the file is as it should be")
     parser.add_argument("words", nargs=argparse.REMAINDER, help="the executor's command line")
-    options, asked = parser.parse_args(), []  # the signals that came
-    for number in (signal.SIGTERM, signal.SIGINT, signal.SIGUSR1):
-        signal.signal(number, lambda came, _: came in asked or asked.append(came))
-    while True:
-        executor = Executor(options.words, options.slow)
+    options = parser.parse_args()
+    if options.check:
         try:
-            code = keep(executor, options, asked)
-            status = executor.leave()
-            if code is not None:
-                return status or code
-            if status:
-                raise Ended(status)
-        except Ended as ended:
-            print(f"client: the executor ended with status {ended}", file=sys.stderr, flush=True)
-            if ended.args[0] in FOR_A_PERSON:
-                return ended.args[0]
-            time.sleep(1)
+            print(f"{options.file}: {len(resources.read(options.file))} resources")
+        except (resources.Wrong, OSError) as error:
+            sys.exit(f"{options.file}: {error.strerror if isinstance(error, OSError) else error}")
+        return 0
+    if not options.words:
+        parser.error("the executor's command line is missing")
+    try:
+        return Client(options.file, options.words).run()
+    except OSError as error:  # there is no such program
+        say(str(error))
+        return 2
+    except Error as error:
+        say(str(error))
+        return 1
 
 
 if __name__ == "__main__":

@@ -33,6 +33,7 @@ gzip -9n "$root/usr/share/man/man8/ocfexec.8"
 for example in examples/client.py examples/client.sh examples/with-executor.sh; do
     install -D -m 755 "$example" "$root/usr/libexec/ocfexec/${example##*/}"
 done
+install -m 644 examples/ocfexec.py examples/resources.py "$root/usr/libexec/ocfexec"
 # the unit of this package: its own paths, and its options from a file that an administrator keeps
 mkdir -p "$root/lib/systemd/system" "$root/etc/default"
 sed -e 's#/usr/local/share/doc/ocfexec/#/usr/libexec/ocfexec/#' -e 's#/usr/local/bin/#/usr/bin/#' \

@@ -1,8 +1,9 @@
 #!/bin/sh
 # check: slow
-# The first hour in one go: the Debian package is built and installed, each command of the guide is run and prints what the guide
+# The first hour in one go: the Debian package is built and installed, each block of the guide is run and prints what the guide
 # says, and the package is removed. It is installed into a folder of its own; with `/`, on this machine, as the guide says it.
 # Where no gate has passed on these programs there is no package: then it is the program as it was built, and with `/` an error.
+# Where no systemd runs, and in a folder, tests/lib/systemctl.py plays it by the unit.
 # Use: guide.sh PROGRAM [/]
 set -u
 . "$(dirname "$0")/../lib/common.sh" "$@"
@@ -22,7 +23,7 @@ PATH=$PATH:/usr/sbin:/sbin
 root=$here/root
 libexec=$root/usr/libexec/ocfexec
 installed=
-mkdir "$root" "$here/hour"
+mkdir "$root" "$here/hour" "$here/systemd" "$here/bin"
 chmod 755 "$here" "$root"
 
 # Use: package WORD.., as dpkg does it, there or on this machine
@@ -56,17 +57,26 @@ remove() {
 
 # Whatever fails, no service of the guide stays, and no package.
 leave() {
-    [ ! -s "$here/hour/nginx.pid" ] || kill -KILL -- "-$(cat "$here/hour/nginx.pid")" 2> /dev/null
+    # dash's own kill takes no group behind --
+    [ ! -s "$hour/nginx.pid" ] || env kill -KILL -- "-$(cat "$hour/nginx.pid")" 2> /dev/null
     [ -z "$installed" ] || package -P ocfexec
     rm -rf "$here"
+    [ "$on_machine" != / ] || rm -rf "$hour"
 }
 trap leave EXIT
 
 bin=$root/usr/bin
+hour=$here/hour
+unit=$root/lib/systemd/system/ocfexec.service
 if [ "$on_machine" = / ]; then
     ! command -v ocfexec > /dev/null || skip "ocfexec is installed here already: $(command -v ocfexec)"
     bin=/usr/bin
     libexec=/usr/libexec/ocfexec
+    hour=/srv/hour
+    unit=/lib/systemd/system/ocfexec.service
+    for folder in "$hour" /etc/ocfexec /var/lib/ocfexec; do
+        [ ! -e "$folder" ] || skip "$folder is there already"
+    done
     install
 elif [ -f "$top/crates/ocfexec/out/gate" ] && command -v dpkg-deb > /dev/null; then
     install
@@ -75,11 +85,36 @@ else
     mkdir -p "$bin" "$root/usr/libexec"
     ln -s "$program" "$bin/ocfexec"
     ln -s "$top/examples" "$libexec"
+    unit=$top/examples/ocfexec.service
 fi
 
-sed "s,/usr/libexec/ocfexec/,$libexec/," "$top/docs/GUIDE.md" > "$here/GUIDE.md"
-cd "$here/hour" || exit 1
-PATH=$bin:$PATH python3 "$top/tests/lib/guide.py" "$here/GUIDE.md" || failed=1
+# Use: placed FILE, with the places of this check in place of those of a machine
+placed() {
+    if [ "$on_machine" = / ]; then
+        cat "$1"
+    else
+        sed -e "s,/usr/\(local/share/doc\|libexec\)/ocfexec/,$libexec/,g" -e "s,/usr/\(local/\)\?bin/ocfexec,$bin/ocfexec,g" \
+            -e "s,/etc/ocfexec,$here/etc/ocfexec,g" \
+            -e "s,/var/lib/ocfexec,$here/var/lib/ocfexec,g" -e "s,/srv/hour,$hour,g" "$1"
+    fi
+}
+
+# Use: played COMMAND [WORD]: a command that plays one of systemd's
+played() {
+    printf '#!/bin/sh\nexec python3 "%s" "%s" "%s" %s "$@"\n' "$top/tests/lib/systemctl.py" "$here/ocfexec.service" "$here/systemd" "$2" \
+        > "$here/bin/$1"
+    chmod 755 "$here/bin/$1"
+}
+
+placed "$top/docs/GUIDE.md" > "$here/GUIDE.md"
+placed "$unit" > "$here/ocfexec.service"
+if [ "$on_machine" != / ] || [ ! -d /run/systemd/system ]; then
+    played systemctl ""
+    played journalctl journalctl
+    [ "$on_machine" = / ] || mkdir -p -m 700 "$here/var/lib/ocfexec"
+fi
+cd "$here" || exit 1
+PATH=$here/bin:$bin:$PATH python3 "$top/tests/lib/guide.py" "$here/GUIDE.md" || failed=1
 checked "the guide's commands"
 cd "$here" || exit 1
 [ -z "$installed" ] || remove

@@ -1,0 +1,121 @@
+"""The file of the resources that client.py keeps: what it may hold. What is wrong is named by its key. Times are in milliseconds.
+
+    {"resources": {
+      "web": {
+        "provider": "heartbeat", "type": "nginx",
+        "params": {"configfile": "/etc/nginx/nginx.conf"},                   none, if left out
+        "interval": 10000,                                                   of the monitor; as here, if left out
+        "timeouts": {"start": 20000, "stop": 20000, "monitor": 20000},       as here, if left out
+        "restarts": 5, "within": 600000}}}                                   as here, if left out
+"""
+import json
+import re
+from typing import NamedTuple
+
+GREATEST = 4294967295  # of an interval and a timeout, in milliseconds
+TIMEOUT = 20000
+MOST_RESOURCES, MOST_PARAMS, MOST_BYTES = 256, 64, 1024
+
+
+class Wrong(Exception):
+    """The file cannot be used. The text begins with the key."""
+
+
+class Wanted(NamedTuple):
+    """What the file wants of a resource. It is started anew `restarts` times in `within` milliseconds at most."""
+
+    provider: str
+    type: str
+    params: dict = {}
+    interval: int = 10000
+    timeouts: dict = {}
+    restarts: int = 5
+    within: int = 600000
+
+    def is_registered_as(self, info):
+        """Whether the journal has the same agent and parameters, by the reply to `info`."""
+        return (self.provider, self.type, self.params) == (info["provider"], info["type"], info["params"])
+
+    def timeout(self, action):
+        return self.timeouts.get(action, TIMEOUT)
+
+
+def wrong(key, what, value):
+    raise Wrong(f"{key}: {what} is wanted, not {json.dumps(value)}")
+
+
+def is_name(value, more=""):
+    return isinstance(value, str) and re.fullmatch(f"[A-Za-z0-9_.{more}-]{{1,64}}", value) and value not in (".", "..")
+
+
+def check_object(key, value, needed=(), others=None):
+    """An object that has the keys that are needed, and beside them these others alone; any, where none are given."""
+    if not isinstance(value, dict):
+        wrong(key, "an object", value)
+    for name in needed:
+        if name not in value:
+            raise Wrong(f"{key}.{name}: it is missing")
+    for name in value if others is not None else ():
+        if name not in (*needed, *others):
+            raise Wrong(f"{key}.{name}: there is no such key; there are {', '.join((*needed, *others))}")
+
+
+def check_number(key, value, least):
+    if isinstance(value, bool) or not isinstance(value, int) or not least <= value <= GREATEST:
+        wrong(key, f"a whole number from {least} to {GREATEST}", value)
+
+
+def check_params(key, value):
+    check_object(key, value)
+    if len(value) > MOST_PARAMS:
+        raise Wrong(f"{key}: at most {MOST_PARAMS} parameters are possible, not {len(value)}")
+    for name, text in value.items():
+        if not re.fullmatch("[A-Za-z_][A-Za-z0-9_]{0,63}", name):
+            raise Wrong(f"{key}.{name}: a parameter's name is a letter or _, then letters, digits and _, 64 at most")
+        if not isinstance(text, str) or not re.fullmatch("[^\0\ud800-\udfff]*", text) or len(text.encode()) > MOST_BYTES:
+            wrong(f"{key}.{name}", f"a text of at most {MOST_BYTES} bytes, without NUL", text)
+
+
+def check_resource(name, value):
+    """What the file wants of one resource."""
+    key = f"resources.{name}"
+    if not is_name(name, ":"):
+        raise Wrong(f"{key}: a resource's name is 1 to 64 letters, digits and _ - . : and neither . nor ..")
+    check_object(key, value, ("provider", "type"), Wanted._fields[2:])
+    for word in ("provider", "type"):
+        if not is_name(value[word]):
+            wrong(f"{key}.{word}", "a name of 1 to 64 letters, digits and _ - .", value[word])
+    check_params(f"{key}.params", value.get("params", {}))
+    timeouts = value.get("timeouts", {})
+    check_object(f"{key}.timeouts", timeouts, (), ("start", "stop", "monitor"))
+    for action, limit in timeouts.items():
+        check_number(f"{key}.timeouts.{action}", limit, 1)
+    for word, least in (("interval", 1), ("restarts", 0), ("within", 1)):
+        if word in value:
+            check_number(f"{key}.{word}", value[word], least)
+    return Wanted(**value)
+
+
+def without_twins(pairs):
+    """An object, none of whose keys stands twice."""
+    found = {}
+    for name, value in pairs:
+        if name in found:
+            raise Wrong(f"{name}: this key stands twice in one object")
+        found[name] = value
+    return found
+
+
+def read(path):
+    """What the file wants, by resource. Raises Wrong, and OSError where it cannot be read."""
+    with open(path, encoding="utf-8") as file:
+        try:
+            found = json.load(file, object_pairs_hook=without_twins)
+        except (ValueError, RecursionError) as error:
+            raise Wrong(f"this is not JSON: {error}") from None
+    check_object("the file", found, ("resources",), ())
+    resources = found["resources"]
+    check_object("resources", resources)
+    if len(resources) > MOST_RESOURCES:
+        raise Wrong(f"resources: at most {MOST_RESOURCES} are possible, not {len(resources)}")
+    return {name: check_resource(name, value) for name, value in resources.items()}

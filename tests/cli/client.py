@@ -1,0 +1,280 @@
+#!/usr/bin/env python3
+"""The client of examples/, which keeps the resources of a file: what it starts, what it finds running and keeps, what the file changes,
+what it gives up, how its signals end it, what it tells systemd, and that no kill of its executor loses a result.
+Use: client.py PROGRAM"""
+import json
+import os
+import random
+import signal
+import socket
+import subprocess
+import sys
+import time
+
+sys.path[0] += "/../lib"
+import helper  # noqa: E402
+from helper import PROGRAM  # noqa: E402
+
+CLIENT = os.path.join(helper.TOP, "examples/client.py")
+# an agent whose service is a file, and which fails as the file `fails` beside it names its action
+AGENT = """state=$OCF_RESKEY_state
+echo "$OCF_RESOURCE_TYPE $1 $state" >> {here}/calls
+if [ -e "$state.fails" ] && grep -q -x "$1" "$state.fails"; then exit 1; fi
+case $1 in
+start) : > "$state" ;;
+stop) rm -f "$state" ;;
+monitor) [ -e "$state" ] || exit 7 ;;
+esac
+"""
+# what a file may not hold, and how the message begins that says so
+WRONG = (
+    ("[]", "the file: an object is wanted"),
+    ("{", "this is not JSON: "),
+    ('{"resource": {}}', "the file.resources: it is missing"),
+    ('{"resources": {}, "more": 1}', "the file.more: there is no such key"),
+    ('{"resources": {"a b": {}}}', "resources.a b: a resource's name"),
+    ('{"resources": {"a": 1}}', "resources.a: an object is wanted, not 1"),
+    ('{"resources": {"a": {}, "a": {}}}', "a: this key stands twice"),
+    ('{"resources": {"a": {"type": "T"}}}', "resources.a.provider: it is missing"),
+    ('{"resources": {"a": {"provider": "..", "type": "T"}}}', "resources.a.provider: a name"),
+    ('{"resources": {"a": {"provider": "p", "type": "T", "param": {}}}}', "resources.a.param: there is no such key"),
+    ('{"resources": {"a": {"provider": "p", "type": "T", "params": {"1": "x"}}}}', "resources.a.params.1: a parameter's name"),
+    ('{"resources": {"a": {"provider": "p", "type": "T", "params": {"x": 1}}}}', "resources.a.params.x: a text"),
+    ('{"resources": {"a": {"provider": "p", "type": "T", "interval": "10s"}}}', "resources.a.interval: a whole number from 1"),
+    ('{"resources": {"a": {"provider": "p", "type": "T", "interval": true}}}', "resources.a.interval: a whole number from 1"),
+    ('{"resources": {"a": {"provider": "p", "type": "T", "timeouts": {"start": 0}}}}', "resources.a.timeouts.start: a whole number"),
+    ('{"resources": {"a": {"provider": "p", "type": "T", "timeouts": {"promote": 1}}}}', "resources.a.timeouts.promote: there is no"),
+    ('{"resources": {"a": {"provider": "p", "type": "T", "restarts": -1}}}', "resources.a.restarts: a whole number from 0"),
+)
+
+
+class Kept(helper.Check):
+    def setUp(self):
+        super().setUp()
+        for kind in ("Dummy", "Other"):
+            self.agent(kind, AGENT.format(here=self.here))
+        self.journal()
+
+    def wants(self, **resources):
+        """Writes the file, of resources by their keys in it."""
+        with open(self.place("new"), "w", encoding="ascii") as file:
+            json.dump({"resources": resources}, file)
+        os.rename(self.place("new"), self.place("resources.json"))
+
+    def dummy(self, name, kind="Dummy", **more):
+        return {"provider": "test", "type": kind, "params": {"state": self.place(name)}, "interval": 100, **more}
+
+    def client(self, **how):
+        return self.heard("--file", self.place("resources.json"), PROGRAM, "serve", "--journal", self.place("journal"), "--root", self.here,
+                          program=CLIENT, err=self.place("err"), **how)
+
+    def said(self):
+        with open(self.place("err"), encoding="utf-8") as file:
+            return file.read()
+
+    def waits(self, what, holds, seconds=15):
+        until = time.monotonic() + seconds
+        while not holds():
+            if time.monotonic() > until:
+                self.fail(f"no {what} within {seconds} s:\n{self.said()}")
+            time.sleep(0.02)
+
+    def runs(self, *names):
+        self.waits(f"running {names}", lambda: all(os.path.exists(self.place(name)) for name in names))
+
+    def comes(self, client, after=0, **wanted):
+        found = client.awaits(lambda value: helper.is_notice(value, **wanted), 15, after)[1]
+        self.assertIsNotNone(found, f"{wanted}:\n{self.said()}")
+        return found
+
+    def ended(self, client, number):
+        """Sends a signal, which ends the client; its status."""
+        os.kill(client.run.pid, number)
+        status = client.run.wait(15)
+        client.reader.join()
+        return status
+
+    def starts(self):
+        with open(self.place("calls"), encoding="ascii") as file:
+            return [line.split()[:2] for line in file].count(["Dummy", "start"])
+
+    def child(self, client):
+        """The executor that a client has started, if there is one."""
+        with open(f"/proc/{client.run.pid}/task/{client.run.pid}/children", encoding="ascii") as file:
+            found = file.read().split()
+        return int(found[0]) if found else None
+
+    def test_kept(self):
+        """resources are probed as stopped, started, monitored, started anew where they stop, and stopped at the end"""
+        self.wants(a=self.dummy("a"), b=self.dummy("b"))
+        client = self.client()
+        for name in "ab":
+            self.comes(client, id=name, interval=100, code=0)
+        info = json.loads(helper.shown(self.place("journal")).splitlines()[1])
+        self.assertIsNone(info["failed"], "a probe that expected 7")
+        os.remove(self.place("a"))
+        self.comes(client, id="a", interval=100, code=7)
+        self.runs("a")
+        self.assertEqual(self.ended(client, signal.SIGTERM), 0)
+        self.assertFalse(os.path.exists(self.place("a")) or os.path.exists(self.place("b")), "nothing runs")
+        self.assertEqual(self.starts(), 3)
+
+    def test_left(self):
+        """one that leaves keeps them running, and the next one goes on without a start or a failure"""
+        self.wants(a=self.dummy("a"))
+        self.assertEqual(self.starts_and_leaves(), 0)
+        self.assertTrue(os.path.exists(self.place("a")))
+        client = self.client()
+        self.comes(client, id="a", interval=0, code=0, action="monitor")
+        self.comes(client, id="a", interval=100, code=0)
+        info = json.loads(helper.shown(self.place("journal")).splitlines()[1])
+        self.assertEqual((self.starts(), info["failed"]), (1, None))
+        self.assertEqual(self.ended(client, signal.SIGTERM), 0)
+
+    def starts_and_leaves(self):
+        client = self.client()
+        self.comes(client, id="a", interval=100, code=0)
+        return self.ended(client, signal.SIGUSR1)
+
+    def test_found(self):
+        """one that runs already is kept as it is"""
+        self.wants(a=self.dummy("a"))
+        with open(self.place("a"), "w", encoding="ascii"):
+            pass
+        client = self.client()
+        self.comes(client, id="a", interval=100, code=0)
+        self.assertEqual(self.starts(), 0)
+
+    def test_changed(self):
+        """one whose agent changes is stopped as it was, and runs by the other one; so it is with parameters, and behind a new start"""
+        self.wants(a=self.dummy("a"))
+        client = self.client()
+        self.comes(client, id="a", interval=100, code=0)
+        self.wants(a=self.dummy("other", "Other"))
+        os.kill(client.run.pid, signal.SIGHUP)
+        self.runs("other")
+        self.assertFalse(os.path.exists(self.place("a")), "the one before is stopped")
+        self.assertEqual(self.ended(client, signal.SIGUSR1), 0)
+        info = json.loads(helper.shown(self.place("journal")).splitlines()[1])
+        self.assertEqual((info["type"], info["params"]), ("Other", {"state": self.place("other")}))
+        self.wants(a=self.dummy("third", "Other"))
+        client = self.client()
+        self.runs("third")
+        self.assertFalse(os.path.exists(self.place("other")), "the one before is stopped")
+
+    def test_gone(self):
+        """one that the file names no more is stopped and taken out of the journal; a wrong file changes nothing"""
+        self.wants(a=self.dummy("a"), b=self.dummy("b"))
+        client = self.client()
+        self.runs("a", "b")
+        with open(self.place("resources.json"), "w", encoding="ascii") as file:
+            file.write('{"resources": {"a": 1}}')
+        os.kill(client.run.pid, signal.SIGHUP)
+        self.waits("refusal", lambda: "resources.a: an object is wanted" in self.said())
+        self.wants(b=self.dummy("b"))
+        os.kill(client.run.pid, signal.SIGHUP)
+        self.waits("stop of a", lambda: not os.path.exists(self.place("a")))
+        self.assertEqual(self.ended(client, signal.SIGUSR1), 0)
+        self.assertEqual(json.loads(helper.shown(self.place("journal")).splitlines()[0])["resources"], ["b"])
+        self.assertTrue(os.path.exists(self.place("b")))
+
+    def test_given_up(self):
+        """one that fails is tried again after a pause, then given up, stopped and named, while others run; and tried after a SIGHUP"""
+        with open(self.place("a.fails"), "w", encoding="ascii") as file:
+            file.write("start\n")
+        self.wants(a=self.dummy("a", restarts=3), b=self.dummy("b"))
+        began, client = time.monotonic(), self.client()
+        self.waits("end of its tries", lambda: "client: a is given up: start ended with 1" in self.said())
+        self.assertEqual(self.starts(), 1 + 1 + 3)
+        self.assertGreaterEqual(time.monotonic() - began, 1 + 2)
+        self.comes(client, id="b", interval=100, code=0)
+        os.remove(self.place("a.fails"))
+        os.kill(client.run.pid, signal.SIGHUP)
+        self.runs("a")
+        self.assertEqual(self.ended(client, signal.SIGTERM), 0)
+
+    def test_not_stopped(self):
+        """nothing is started over what did not stop, and at the end the status says so"""
+        self.wants(a=self.dummy("a", restarts=1))
+        client = self.client()
+        self.comes(client, id="a", interval=100, code=0)
+        with open(self.place("a.fails"), "w", encoding="ascii") as file:
+            file.write("monitor\nstop\n")
+        self.waits("end of its tries", lambda: "client: a is given up: stop ended with 1" in self.said())
+        self.assertEqual(self.starts(), 1)
+        self.assertEqual(self.ended(client, signal.SIGTERM), 1)
+
+    def test_wrong(self):
+        """what a file may not hold is refused by its key, before anything is started"""
+        for text, begins in WRONG:
+            with open(self.place("resources.json"), "w", encoding="ascii") as file:
+                file.write(text)
+            done = subprocess.run([CLIENT, "--file", self.place("resources.json"), PROGRAM, "serve", "--journal", self.place("journal")],
+                                  capture_output=True, text=True, timeout=20)
+            self.assertEqual((done.returncode, done.stdout), (2, ""), text)
+            self.assertTrue(done.stderr.startswith(f"client: {self.place('resources.json')}: {begins}"), f"{text}: {done.stderr}")
+        self.assertEqual(os.listdir(self.place("journal")), [])
+
+    def test_nothing(self):
+        """without a file, or with an empty one, it says so and starts nothing, until the file names a resource"""
+        client = self.client()
+        self.waits("word of it", lambda: "nothing is done, as " in self.said())
+        self.wants()
+        os.kill(client.run.pid, signal.SIGHUP)
+        self.waits("word of it", lambda: "names no resource" in self.said())
+        self.assertEqual((self.child(client), os.listdir(self.place("journal"))), (None, []))
+        self.wants(a=self.dummy("a"))
+        os.kill(client.run.pid, signal.SIGHUP)
+        self.runs("a")
+        self.assertEqual(self.ended(client, signal.SIGTERM), 0)
+
+    def test_systemd(self):
+        """systemd is told when all run, of a new reading of the file, how all is, and of the end"""
+        with socket.socket(socket.AF_UNIX, socket.SOCK_DGRAM) as told:
+            told.bind(self.place("notify"))
+            told.settimeout(15)
+            self.wants(a=self.dummy("a"))
+            client = self.client(env={**os.environ, "NOTIFY_SOCKET": self.place("notify")})
+            for number, wanted in ((None, ["READY=1", "STATUS=running: a"]), (signal.SIGHUP, ["RELOADING=1"]),
+                                   (None, ["READY=1", "STATUS=running: a"]), (signal.SIGTERM, ["STOPPING=1", "STATUS=running: a"])):
+                if number:
+                    os.kill(client.run.pid, number)
+                found = told.recv(4096).decode().split("\n")
+                while found[0] != wanted[0]:
+                    found = told.recv(4096).decode().split("\n")
+                self.assertEqual(found[:len(wanted)], wanted)
+            self.assertEqual(client.run.wait(15), 0)
+
+    def test_damaged(self):
+        """a damaged journal ends it with that status, and so does one word wrong"""
+        self.wants(a=self.dummy("a"))
+        self.spelled("damaged", b"\x01 no journal", b"")
+        for words, status in ((("--journal", self.place("damaged")), 3), (("--journey", "x"), 2)):
+            done = subprocess.run([CLIENT, "--file", self.place("resources.json"), PROGRAM, "serve", *words], capture_output=True, timeout=20)
+            self.assertEqual(done.returncode, status, done.stderr)
+
+    @helper.slow
+    def test_kills(self):
+        """no result is lost or told twice through kills of its executor"""
+        dice, kills = random.Random(helper.number("SEED", 20261127)), helper.number("KILLS", 100)
+        self.wants(**{name: self.dummy(name, interval=20) for name in "abcd"})
+        client, killed = self.client(), None
+        self.runs("a", "b", "c", "d")
+        for _ in range(kills):
+            self.waits("executor", lambda: self.child(client) not in (None, killed))
+            self.comes(client, len(client.values()), outcome="done")
+            time.sleep(dice.uniform(0, 0.1))
+            killed = self.child(client)
+            os.kill(killed, signal.SIGKILL)
+        self.comes(client, len(client.values()), outcome="done")
+        self.assertEqual(self.ended(client, signal.SIGTERM), 0)
+        runs = sorted(value["run"] for value in client.told() if value["run"])
+        self.assertEqual(runs, list(range(1, len(runs) + 1)), "each run once")
+        self.assertGreater(len(runs), kills)
+        for name, results in helper.results(self.place("journal")).items():
+            told = [value for value in client.told() if value["id"] == name][-len(results):]
+            self.assertEqual(told, [{**result, "id": name} for result in results])
+
+
+if __name__ == "__main__":
+    helper.main()

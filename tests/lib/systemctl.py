@@ -1,0 +1,130 @@
+#!/usr/bin/env python3
+"""Plays systemctl(1) and journalctl(1) for one unit where no systemd runs, by what its file says: the commands and signals that start,
+stop, restart and reload it, and which ends of it are followed by another start. What the unit sends to NOTIFY_SOCKET is heard.
+Use: systemctl.py UNIT FOLDER COMMAND WORD.., with what the unit says and the state in the folder, or as a module"""
+import os
+import signal
+import socket
+import subprocess
+import sys
+import time
+
+sys.dont_write_bytecode = True
+import units  # noqa: E402
+
+WAIT = 60  # the longest wait for a start or an end, in seconds
+
+
+class Manager:
+    def __init__(self, unit, folder, **variables):
+        self.unit, self.folder, self.variables = unit, folder, variables
+
+    def place(self, name):
+        return os.path.join(self.folder, name)
+
+    def read(self, name):
+        try:
+            with open(self.place(name), encoding="utf-8") as file:
+                return file.read().strip()
+        except FileNotFoundError:
+            return ""
+
+    def write(self, name, text):
+        with open(self.place("new"), "w", encoding="utf-8") as file:
+            file.write(text)
+        os.rename(self.place("new"), self.place(name))
+
+    def waits(self, what, holds):
+        until = time.monotonic() + WAIT
+        while not holds():
+            if time.monotonic() > until:
+                raise TimeoutError(what)
+            time.sleep(0.02)
+
+    # The commands
+
+    def start(self):
+        """Starts the unit, by a process that follows it, and waits until it says that it is ready, or has ended."""
+        if self.read("active"):
+            return
+        self.write("active", "activating")
+        if os.fork() == 0:
+            try:
+                self.follow()
+            finally:
+                self.write("active", "")
+                os._exit(0)
+        self.waits("its start", lambda: self.read("active") != "activating")
+
+    def stop(self, signal_name="Service.KillSignal"):
+        if self.read("active"):
+            self.write("asked", "stop")
+            self.signal(getattr(signal, self.unit.get(signal_name, "SIGTERM")))
+            self.waits("its end", lambda: not self.read("active"))
+
+    def restart(self):
+        self.stop("Service.RestartKillSignal")
+        self.start()
+
+    def reload(self):
+        subprocess.run(self.unit.words("Service.ExecReload", MAINPID=self.read("MainPID")), check=True)
+
+    def signal(self, number):
+        os.kill(int(self.read("MainPID")), number)
+
+    # The process that follows the unit
+
+    def follow(self):
+        with socket.socket(socket.AF_UNIX, socket.SOCK_DGRAM) as told:
+            if os.path.exists(self.place("notify")):
+                os.unlink(self.place("notify"))
+            told.bind(self.place("notify"))
+            told.settimeout(0.05)
+            self.write("asked", "")
+            while self.run(told) and not self.read("asked"):
+                time.sleep(1)
+
+    def run(self, told):
+        """One run of the main process. Whether another one follows."""
+        with open(self.place("log"), "ab") as log:
+            main = subprocess.Popen(self.unit.words("Service.ExecStart", **self.variables), stdin=subprocess.DEVNULL, stdout=log, stderr=log,
+                                    env={**os.environ, "NOTIFY_SOCKET": self.place("notify")})
+        self.write("MainPID", str(main.pid))
+        while main.poll() is None:
+            try:
+                self.hear(told.recv(65536).decode())
+            except TimeoutError:
+                pass
+        self.write("ExecMainStatus", str(main.returncode))
+        return main.returncode != 0 and str(main.returncode) not in self.unit.get("Service.RestartPreventExitStatus").split()
+
+    def hear(self, text):
+        for line in text.split("\n"):
+            if line == "READY=1":
+                self.write("active", "active")
+            if line.startswith("STATUS="):
+                self.write("StatusText", line.removeprefix("STATUS="))
+
+
+def main():
+    unit, folder, command, *words = sys.argv[1:]
+    manager, now = Manager(units.Unit(unit), folder), "--now" in words
+    if command == "journalctl":
+        print(manager.read("log"))
+    elif command == "show":
+        print(manager.read(words[words.index("-P") + 1]))
+    elif command == "daemon-reload" or not {"ocfexec", "ocfexec.service"}.intersection(words):
+        return 0
+    elif command == "is-active":
+        return 0 if manager.read("active") else 3
+    elif command == "kill":
+        manager.signal(next(getattr(signal, word.removeprefix("--signal=")) for word in words if word.startswith("--signal=")))
+    elif command not in ("enable", "disable"):
+        getattr(manager, command)()
+    elif now:
+        manager.start() if command == "enable" else manager.stop()
+    return 0
+
+
+if __name__ == "__main__":
+    sys.exit(main())

@@ -1,0 +1,128 @@
+#!/usr/bin/env python3
+"""The unit of examples/ with the client and its file, as systemd runs it by what the unit says: its start, its reload, a restart that
+leaves the services running, a kill, a stop, and a status that wants a person. All units are checked by systemd-analyze where it is.
+Use: unit.py PROGRAM"""
+import json
+import os
+import shutil
+import signal
+import subprocess
+import sys
+import time
+import unittest
+
+sys.path[0] += "/../lib"
+import helper  # noqa: E402
+import systemctl  # noqa: E402
+import units  # noqa: E402
+from helper import PROGRAM  # noqa: E402
+
+EXAMPLES = os.path.join(helper.TOP, "examples")
+AGENT = """echo $1 >> {here}/calls
+case $1 in
+start) : > "$OCF_RESKEY_state" ;;
+stop) rm -f "$OCF_RESKEY_state" ;;
+monitor) [ -e "$OCF_RESKEY_state" ] || exit 7 ;;
+esac
+"""
+
+
+class Keeper(helper.Check):
+    def setUp(self):
+        super().setUp()
+        self.agent("Dummy", AGENT.format(here=self.here))
+        self.journal()
+        os.mkdir(self.place("systemd"))
+        places = (("/usr/local/share/doc/ocfexec/client.py", os.path.join(EXAMPLES, "client.py")),
+                  ("/usr/local/bin/ocfexec", PROGRAM), ("/var/lib/ocfexec", self.place("journal")), ("/etc/ocfexec", self.here),
+                  ("--meta-variables", f"--root {self.here}"))
+        self.manager = systemctl.Manager(units.Unit(os.path.join(EXAMPLES, "ocfexec.service"), places), self.place("systemd"))
+        self.addCleanup(self.manager.stop)
+        self.wants("web")
+
+    def wants(self, *names):
+        resources = {name: {"provider": "test", "type": "Dummy", "params": {"state": self.place(name)}, "interval": 200} for name in names}
+        with open(self.place("new"), "w", encoding="ascii") as file:
+            json.dump({"resources": resources}, file)
+        os.rename(self.place("new"), self.place("resources.json"))
+
+    def called(self):
+        """What the agent was called for, without its monitors."""
+        with open(self.place("calls"), encoding="ascii") as file:
+            return [word for word in file.read().split() if word != "monitor"]
+
+    def says(self, wanted, seconds=15):
+        until = time.monotonic() + seconds
+        while self.manager.read("StatusText") != wanted:
+            self.assertLess(time.monotonic(), until, f"{wanted}, not {self.manager.read('StatusText')}:\n{self.manager.read('log')}")
+            time.sleep(0.02)
+
+    def test_restart(self):
+        """a restart leaves the services running, a reload brings in new ones, and a stop stops all"""
+        self.manager.start()
+        self.assertEqual((self.manager.read("active"), self.called()), ("active", ["start"]))
+        main = self.manager.read("MainPID")
+        self.manager.restart()
+        self.says("running: web")
+        self.assertNotEqual(self.manager.read("MainPID"), main)
+        self.assertEqual(self.called(), ["start"])
+        self.wants("web", "db")
+        self.manager.reload()
+        self.says("running: web, db")
+        self.assertEqual(self.called(), ["start", "start"])
+        self.manager.stop()
+        self.assertEqual((self.manager.read("ExecMainStatus"), self.called()), ("0", ["start", "start", "stop", "stop"]))
+
+    def test_killed(self):
+        """a client that is killed is started again, and goes on with what runs; told to leave it is not, and what runs stays"""
+        self.manager.start()
+        main = self.manager.read("MainPID")
+        self.manager.signal(signal.SIGKILL)
+        self.manager.waits("another client", lambda: self.manager.read("MainPID") != main)
+        self.manager.write("StatusText", "")
+        self.says("running: web")
+        self.manager.signal(signal.SIGUSR1)
+        self.manager.waits("its end", lambda: not self.manager.read("active"))
+        self.assertEqual((self.manager.read("ExecMainStatus"), self.called()), ("0", ["start"]))
+        self.assertTrue(os.path.exists(self.place("web")))
+
+    def test_person(self):
+        """a wrong file, and a damaged journal, are not tried again"""
+        self.spelled("damaged", b"\x01 no journal", b"")
+        shutil.copytree(self.place("damaged"), self.place("journal"), dirs_exist_ok=True)
+        for text, status in ((None, "3"), ("{}", "2")):
+            if text:
+                with open(self.place("resources.json"), "w", encoding="ascii") as file:
+                    file.write(text)
+            self.manager.start()
+            self.assertEqual((self.manager.read("active"), self.manager.read("ExecMainStatus")), ("", status))
+
+    def test_nothing(self):
+        """without a file it is up, and nothing is started, until a reload finds one"""
+        os.remove(self.place("resources.json"))
+        self.manager.start()
+        self.assertEqual((self.manager.read("active"), self.manager.read("StatusText")), ("active", "nothing is configured"))
+        self.assertEqual(os.listdir(self.place("journal")), [])
+        self.wants("web")
+        self.manager.reload()
+        self.says("running: web")
+
+    @unittest.skipUnless(shutil.which("systemd-analyze"), "there is no systemd-analyze")
+    def test_verify(self):
+        """systemd-analyze finds nothing wrong with any unit"""
+        places = (("/usr/local/share/doc/ocfexec/client.py", os.path.join(EXAMPLES, "client.py")), ("/usr/local/bin/ocfexec", PROGRAM))
+        names = [name for name in os.listdir(EXAMPLES) if name.endswith((".service", ".socket"))]
+        for name in names:
+            with open(os.path.join(EXAMPLES, name), encoding="utf-8") as file:
+                text = file.read()
+            for place, here in places:
+                text = text.replace(place, here)
+            with open(self.place(name), "w", encoding="utf-8") as file:
+                file.write(text)
+        for name in names:
+            done = subprocess.run(["systemd-analyze", "verify", "--man=no", self.place(name)], capture_output=True, text=True, timeout=60)
+            self.assertEqual((done.returncode, done.stdout + done.stderr), (0, ""), name)
+
+
+if __name__ == "__main__":
+    helper.main()
