@@ -47,14 +47,14 @@ sanitize:
 	@tests/sanitize.sh
 
 # Installs the programs that the gate proved and built, or proves and builds them first; with them the manual page, the
-# clients with their library, and the unit.
+# clients with their library, and the units.
 install: $(PROGRAM) $(AGENTS)
 	install -D $(PROGRAM) $(DESTDIR)$(PREFIX)/bin/ocfexec
 	install -D $(AGENTS) $(DESTDIR)$(PREFIX)/bin/ocf_agents
 	install -D -m 644 docs/ocfexec.8 $(DESTDIR)$(PREFIX)/share/man/man8/ocfexec.8
 	install -d $(DESTDIR)$(PREFIX)/share/doc/ocfexec
 	install examples/client.py examples/client.sh examples/with-executor.sh $(DESTDIR)$(PREFIX)/share/doc/ocfexec
-	install -m 644 examples/ocfexec.py examples/resources.py examples/*.service $(DESTDIR)$(PREFIX)/share/doc/ocfexec
+	install -m 644 examples/ocfexec.py examples/resources.py examples/*.service examples/*.socket $(DESTDIR)$(PREFIX)/share/doc/ocfexec
 
 # Builds a Debian package of the programs that the gate proved, and of no others.
 deb:
