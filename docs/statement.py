@@ -15,7 +15,7 @@ import textwrap
 TOP = os.path.dirname(os.path.dirname(os.path.abspath(__file__)))
 INTO = "docs/STATEMENT.antt.txt"
 # Files of crates/executor/src, and the laws in them.
-LAWS = [("machine", "lives_are_runs"), ("machine", "lives_in_order"), ("machine", "reports_told"), ("laws", "whole_life")]
+LAWS = [("laws", "promise"), ("laws", "whole_life")]
 WIDTH = 140
 RULE = "-" * WIDTH + "\n"
 HEAD = """\

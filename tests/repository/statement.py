@@ -19,8 +19,8 @@ KEY = re.compile(r"^(?:abbrev|unfoldable|record|data) ([^\s:({]+)", re.MULTILINE
 BUILT_IN = {"Type", "Unit", "Why", *"ABDPTQ"}
 # A change of each kind of text in it: a file, and what is there once, with what it becomes.
 CHANGES = [
-    ("executor/src/machine.rt", "        → IsWithin (reports xs) (interruptions start zs) }", "        → IsWithin (reports xs) [] }"),
-    ("executor/specs/Runs.antt", "(ran ≡ interrupted s (moment s now))", "(ran ≡ [])"),
+    ("executor/src/laws.rt", "        → (zs : List Event) × FoundAs (after_all start zs) c\n        × Runs", "        → (zs : List Event) × FoundAs start c\n        × Runs"),
+    ("executor/specs/Runs.antt", "  pub ran : x.ran ≡ interrupted s (moment s x.now)\n", "  pub ran : x.ran ≡ []\n"),
     ("executor/specs/Lives.antt", "-- what its stop may have left", "-- what is left"),
     ("executor/specs/Lives.antt", "  pub acknowledged : p ≡ x.done.events ++ later\n", ""),
     ("ocf_types/specs/Limits.antt", "longest_result = 84", "longest_result = 85"),
@@ -31,7 +31,7 @@ CHANGES = [
 # What is no text of it: a lemma, and a definition that nobody names.
 OTHERS = [
     ("gated_slots/specs/Slot.antt", "length-slot body = omega (arith, ", "length-slot body = omega (arith, arith, "),
-    ("executor/specs/Runs.antt", "-- a run of the machine", "-- as many as there are\nabbrev pub Unnamed : ℕ\nUnnamed = 0\n\n-- a run of the machine"),
+    ("executor/specs/Runs.antt", "-- a behaviour of the", "-- as many as there are\nabbrev pub Unnamed : ℕ\nUnnamed = 0\n\n-- a behaviour of the"),
 ]
 
 

@@ -1,13 +1,10 @@
 -- What stands behind what is told: each acknowledgement and each notice of a result has an event of its own.
 use Rattle.std.specs.Prelude.{◌≡◌, Bool, true, false, List, [], ◌∷◌}
 use Rattle.ocf_types.specs.Kinds.{Event}
-use Rattle.ocf_types.specs.declared.event.Change.TheVariants as change
-use Rattle.ocf_types.specs.declared.event.Step.TheVariants as step
-use Rattle.ocf_types.specs.declared.outcome.Outcome.TheVariants.{Run}
-use Rattle.ocf_types.specs.declared.outcome.RunEnd.{RunEnd}
 use Rattle.ocf_types.specs.declared.reply.Notice.{Notice}
 use Rattle.ocf_types.specs.declared.reply.ReplyOf.TheVariants.{Accepted, Done}
 use Rattle.exec_ledger.specs.Replies.{KeepsRunning, acknowledged}
+use Rattle.executor.specs.Promise.{IsOfResult}
 use Rattle.exec_commands.specs.declared.reply.LineReply.TheVariants.{Request}
 use Rattle.exec_client.specs.Said.{Said, Answered, Noticed}
 
@@ -17,12 +14,6 @@ claims (Answered (Request Done)) = true
 claims (Answered (Request (Accepted call key))) = true
 claims (Noticed notice signal) = true
 claims _ = false
-
--- the notice is of the result that this event is: of that resource's run, which ended so at that moment
-pub record IsOfResult (n : Notice) (e : Event) : Type 0 where
-  pub end : RunEnd
-  pub is : e ≡ record { at = n.result.at; change = change.Step n.id (step.Result n.result.run end) }
-  pub ended : n.result.outcome ≡ Run end
 
 -- it says that this event is recorded: a command's, which it acknowledges, or a result
 abbrev pub TellsOf : Said → Event → Type 0

@@ -8,25 +8,29 @@ ghost use Rattle.child_model.specs.declared.answer.Entry.{Entry};
 ghost use Rattle.child_model.specs.declared.answer.Poll.TheVariants.{Signaled};
 ghost use Rattle.exec_journal.specs.Found.{FoundAs};
 ghost use Rattle.executor.specs.Lives.{IsLife, LifeLeaves, Lived, Sitting};
+ghost use Rattle.executor.specs.Promise.{IsKept};
+ghost use Rattle.executor.specs.Runs.{Runs};
+ghost use Rattle.executor.specs.SeenLives.{seen};
 ghost use Rattle.exec_client.specs.Behind.{Behind};
 ghost use Rattle.exec_client.specs.Lives.{ToldOver};
 ghost use Rattle.exec_client.specs.Said.{Said};
 ghost use Rattle.exec_client.specs.Signals.{signal_of};
 
 use disk_model::Disk;
-use executor::laws::whole_life;
+use executor::laws::promise;
 
-/// Behind a whole life, of openings, calls and stops at any moment, every pair that may be left is found as the state after
-/// what stands of it, and each acknowledgement and each notice that a client was told in any sitting has an event of its own
-/// in that, in the order in which they were told.
+/// The promise, with what clients were sent: of each history of incarnations there is one list of events of which all holds that
+/// `executor::laws::promise` says, and in which each acknowledgement and each notice that a client was sent in any of them has an
+/// event of its own, in the order in which they were sent.
 pub fn told_stands<D: Disk>()
-    ensures stands { (start : State) (life : List (Sitting D)) (told : List Said)
-        → IsLife D.view start life → ToldOver life told
+    ensures stands { (start : State) (life : List (Sitting D)) (is : IsLife D.view start life)
+        (told : List Said) → ToldOver life told
         → (c : Image) → LifeLeaves D.view start life c
-        → (zs : List Event) × Lived start life zs × FoundAs (after_all start zs) c
-        × Behind told zs }
+        → (zs : List Event) × FoundAs (after_all start zs) c
+        × Runs start (seen D.view start life is) zs × Lived start life zs
+        × IsKept start (seen D.view start life is) zs × Behind told zs }
 {
-    whole_life::<D>();
+    promise::<D>();
 }
 
 /// A signal is told of a run exactly where a poll of it says that one ended it: that of such a poll.

@@ -4,3 +4,5 @@ pub mod Lives
 pub mod Follows
 pub mod Runs
 pub mod Reports
+pub mod Claims
+pub mod Examples

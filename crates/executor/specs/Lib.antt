@@ -17,3 +17,4 @@ pub mod Joins
 pub mod Machine
 pub mod Runs
 pub mod SeenLives
+pub mod Promise

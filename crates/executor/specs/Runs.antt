@@ -1,39 +1,71 @@
--- Runs of the machine: openings, calls and stops, one sitting after another.
-use Rattle.std.specs.Prelude.{◌≡◌, ◌⊎◌, ℕ, true, List, [], ◌∷◌, ◌++◌, Option}
+-- Behaviours of the machine: openings, calls and crashes, one incarnation after another.
+use Rattle.std.specs.Prelude.{◌≡◌, ◌⊎◌, ◌≤◌, ℕ, true, List, [], ◌∷◌, ◌++◌, Option}
+use Rattle.std.specs.List.{flat_map}
 use Rattle.ocf_types.specs.Answer.{moment}
 use Rattle.ocf_types.specs.Due.{due_at}
 use Rattle.ocf_types.specs.Kinds.{Event}
 use Rattle.ocf_types.specs.State.{State, after_all}
 use Rattle.ocf_types.specs.declared.reply.Notice.{Notice}
-use Rattle.executor.specs.Lives.{Exchange, MayBoot, boots}
-use Rattle.executor.specs.Machine.{Left, Machine, MovesAll, and_then}
+use Rattle.child_model.specs.Children.{Asked}
+use Rattle.child_model.specs.declared.answer.Entry.{Entry}
 use Rattle.exec_ledger.specs.Boots.{booted}
+use Rattle.exec_ledger.specs.Pieces.{HasBegin}
+use Rattle.executor.specs.Lives.{MayBoot, boots}
+use Rattle.executor.specs.Machine.{Label, Left, Machine, MovesAll, and_then}
 use Rattle.executor.specs.Reports.{dropped, interrupted}
 use Rattle.executor.specs.declared.opening.OpenError.{OpenError}
 
--- a sitting, as it is seen: an opening that was refused or stopped, at a moment; or one with its report, calls that returned, and
--- calls that were under way when it was stopped
+-- a service as it is seen: its moment, what its opening reported as interrupted and as dropped, the calls that returned, those under way
+-- at the crash, and how many device calls the disk had had then
+pub record SeenService : Type 0 where
+  pub now : ℕ
+  pub ran : List Notice
+  pub queued : List Notice
+  pub calls : List Label
+  pub begun : List Label
+  pub stop : ℕ
+
+-- an incarnation as it is seen: an opening that was refused, or in which the crash came, at a moment; or a service
 pub data Seen : Type 0 where
   Opening : ℕ → Option OpenError → Seen
-  Serving : ℕ → List Notice → List Notice → List Exchange → List Exchange → Seen
+  Serving : SeenService → Seen
 
 -- the machine as it is opened on a state: what ran or was queued has ended, and all monitors are due
 abbrev pub opened_on : State → ℕ → Machine
-opened_on s now = record { is_open = true; state = booted s now; due = due_at (booted s now) (moment s now); told = [] }
+opened_on s now = record { is_open = true; state = booted s now; due = due_at (booted s now) (moment s now) }
 
--- so much of what calls left stands behind a stop: all that stood when they returned, and a front part of the rest
+-- so much of what calls left remains after a crash: all that was recorded when they returned, and a prefix of the rest
 abbrev pub StandsOf : Left → Left → List Event → Type 0
 StandsOf returned under_way p = (later : List Event) × (others : List Event) × (p ≡ returned.events ++ later)
     × (p ++ others ≡ (and_then returned under_way).events ++ (and_then returned under_way).pending)
 
--- what stands of a sitting: the boot, and so much of what its calls left
+-- the answers of agent processes in a service
+abbrev pub answers_in : SeenService → List Entry
+answers_in x = flat_map (λ l. l.answers) (x.calls ++ x.begun)
+
+-- each agent whose start was asked before the crash has its begin among these events
+abbrev pub HasBegins : SeenService → List Event → Type 0
+HasBegins x es = (run clock : ℕ) → Asked (answers_in x) run clock → clock ≤ x.stop → HasBegin run es
+
+-- What remains of a service behind its boot: a prefix of what its calls left, with the begin of each start.
+pub record Remains (x : SeenService) (s : State) (p : List Event) : Type 0 where
+  pub ran : x.ran ≡ interrupted s (moment s x.now)
+  pub queued : x.queued ≡ dropped s (moment s x.now)
+  pub returned : Machine
+  pub last : Machine
+  pub done : Left
+  pub under_way : Left
+  pub moves : MovesAll x.calls (opened_on s x.now) returned done
+  pub goes_on : MovesAll x.begun returned last under_way
+  pub stands : StandsOf done under_way p
+  pub begins : HasBegins x p
+
+-- what remains of an incarnation
 abbrev pub Sits : Seen → State → List Event → Type 0
 Sits (Opening now end) s zs = (zs ≡ []) ⊎ (MayBoot end × (zs ≡ boots s now))
-Sits (Serving now ran queued calls begun) s zs = (ran ≡ interrupted s (moment s now)) × (queued ≡ dropped s (moment s now))
-    × (m : Machine) × (n : Machine) × (done : Left) × (under_way : Left) × (p : List Event)
-    × MovesAll calls (opened_on s now) m done × MovesAll begun m n under_way × StandsOf done under_way p × (zs ≡ boots s now ++ p)
+Sits (Serving x) s zs = (p : List Event) × Remains x s p × (zs ≡ boots s x.now ++ p)
 
--- a run of the machine from a state on, the last sitting first, and what stands of it
+-- a behaviour of the machine from a state on, the last incarnation first, and what remains of it
 abbrev pub Runs : State → List Seen → List Event → Type 0
 Runs start [] zs = zs ≡ []
 Runs start (x ∷ older) zs = (ys : List Event) × (more : List Event) × Runs start older ys × Sits x (after_all start ys) more × (zs ≡ ys ++ more)

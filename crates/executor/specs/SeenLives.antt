@@ -1,20 +1,53 @@
--- What is seen of a life.
-use Rattle.std.specs.Prelude.{List, [], ◌∷◌, ◌++◌}
+-- What is seen of a history of incarnations.
+use Rattle.std.specs.Prelude.{Bool, true, List, [], ◌∷◌, ◌++◌}
 use Rattle.ocf_types.specs.State.{State}
 use Rattle.ocf_types.specs.declared.reply.Notice.{Notice}
 use Rattle.disk_model.specs.View.{View}
-use Rattle.executor.specs.Lives.{InOpening, InService, IsLife, Sitting}
+use Rattle.executor.specs.Lives.{Calls, Exchange, Finished, InOpening, InService, IsLife, Sitting, Took}
+use Rattle.executor.specs.Machine.{Label}
 use Rattle.executor.specs.Runs.{Opening, Seen, Serving}
+use Rattle.executor.specs.Sessions.{Effects}
+use Rattle.executor.specs.Sights.{Sight}
+use Rattle.executor.specs.declared.session.InputOf.TheVariants as input
 
--- of each sitting what was asked and answered, and of a service its report, the last sitting first
+-- of the notices that an executor holds after a call, those of that call: of a turn, of an executor that was open
+abbrev pub notices_of : Bool → Exchange → List Notice → List Notice
+notices_of true (Took (input.Turn now) reply) told = told
+notices_of true (Finished now end) told = told
+notices_of _ _ told = []
+
+-- the label of a call of an executor that was open or not
+abbrev pub label_in : {D : Type 0} → (D → View) → Bool → Exchange → Sight D → Sight D → Effects → Label
+label_in look was_open e old new effects = record {
+  exchange = e;
+  answers = effects.entries;
+  notices = notices_of was_open e new.told;
+  room = old.children.room;
+  place = old.place;
+  faults = ((look old.disk).failures, (look new.disk).failures);
+}
+
+-- the labels of calls, one after the other
+abbrev pub labels : {D : Type 0} → (look : D → View) → (old : Sight D) → (es : List Exchange) → (new : Sight D) → (effects : Effects)
+    → Calls look old es new effects → List Label
+labels look old [] new effects calls = []
+labels look old (e ∷ es) new effects (mid, first, later, does, rest, is) = label_in look old.is_open e old mid first ∷ labels look mid es new later rest
+
+-- of each incarnation its labels, and of a service its report, the last incarnation first
 abbrev pub seen : {D : Type 0} → (look : D → View) → (start : State) → (life : List (Sitting D)) → IsLife look start life → List Seen
 seen look start [] is = []
 seen look start (InOpening old new now end ∷ older) is = Opening now end ∷ seen look start older is.0
-seen look start (InService x ∷ older) is =
-    Serving x.now is.2.was_running is.2.was_queued is.2.calls is.2.begun ∷ seen look start older is.0
+seen look start (InService x ∷ older) is = Serving (record {
+  now = x.now;
+  ran = is.2.was_running;
+  queued = is.2.was_queued;
+  calls = labels look x.opened is.2.calls x.returned x.done is.2.returns;
+  begun = labels look x.returned is.2.begun x.last x.under_way is.2.goes_on;
+  stop = x.stop;
+}) ∷ seen look start older is.0
 
--- what the openings of these sittings reported as interrupted, the first one's first
+-- what the openings of these incarnations reported as interrupted, the first one's first
 abbrev pub reports : List Seen → List Notice
 reports [] = []
 reports (Opening now end ∷ older) = reports older
-reports (Serving now ran queued calls begun ∷ older) = reports older ++ ran
+reports (Serving x ∷ older) = reports older ++ x.ran

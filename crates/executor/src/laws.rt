@@ -16,6 +16,9 @@ ghost use Rattle.exec_turn.specs.AgentsLive.{AgentsLive};
 ghost use Rattle.executor.specs.Joins.{StandsAt, as_calls};
 ghost use Rattle.executor.specs.Lives.{BeginsAs, Calls, Exchange, GoesOnFrom, InOpening, IsLife, LifeLeaves, Lived, OpensBehind, Sat, Sitting};
 ghost use Rattle.executor.specs.Openings.{NotOpened, Opened};
+ghost use Rattle.executor.specs.Promise.{IsKept};
+ghost use Rattle.executor.specs.Runs.{Runs};
+ghost use Rattle.executor.specs.SeenLives.{seen};
 ghost use Rattle.executor.specs.Parts.{DistinctKeys, AreRising, IsPlain, entries_of_runs, events_of, inputs_at, own_runs, part};
 ghost use Rattle.exec_ledger.specs.Together.{Answered};
 ghost use Rattle.executor.specs.Sessions.{Effects, Input, Session};
@@ -26,6 +29,7 @@ ghost use Rattle.executor.specs.declared.opening.OpenError.TheVariants as why;
 
 use disk_model::Disk;
 use exec_journal::laws::{found_once, what_stands};
+use ocf_types::laws::{lawful_states, layouts};
 
 /// Each resource's part of a session is a run of the machine that has this resource alone, whatever the children answered
 /// and however the others' actions ran between its own: its inputs and all turns with their replies, the entries of its
@@ -87,6 +91,24 @@ pub fn distinct_keys()
     ensures apart { (s : State) (live : List ℕ) → IsLawfulState s → AgentsLive s live
         → DistinctKeys s }
 {}
+
+/// The promise. Take any history of incarnations, crashed at any moment, and any pair of files that its last crash may leave. Then
+/// there is one list of events: the pair is found as the state after it; what the history was seen to do is a behaviour of the
+/// machine, which knows no disk, and the list is what remains of that and of what its calls did; and it keeps what is promised.
+/// Each acknowledgement has the event of its own command in it, each notice its result, each start of an agent its begin; openings
+/// report as interrupted what boots do; and it is in order.
+pub fn promise<D: Disk>()
+    ensures { (start : State) (life : List (Sitting D)) (is : IsLife D.view start life) (c : Image)
+        → LifeLeaves D.view start life c
+        → (zs : List Event) × FoundAs (after_all start zs) c
+        × Runs start (seen D.view start life is) zs × Lived start life zs
+        × IsKept start (seen D.view start life is) zs }
+{
+    found_once();
+    what_stands();
+    lawful_states();
+    layouts();
+}
 
 /// Behind a whole life, of openings, calls and stops at any moment, every pair that may be left is found as the state after
 /// what stands of each sitting, one behind the other: its boot, and a front part of its events that holds all that a call

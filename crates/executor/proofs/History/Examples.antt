@@ -9,22 +9,22 @@ use Rattle.ocf_types.specs.declared.event.Change.TheVariants as change
 use Rattle.ocf_types.specs.declared.event.Step.TheVariants as step
 use Rattle.executor.specs.Histories.{BeginInOrder, EndsBetween, RunsAscend, interruptions, is_of}
 
-abbrev r1 : List ℕ
+abbrev pub r1 : List ℕ
 r1 = codes "r1"
 
-abbrev registered : Event
+abbrev pub registered : Event
 registered = record { at = 0; change = change.Register (record { id = r1; provider = codes "pacemaker"; agent = codes "Dummy"; params = [] }) }
 
-abbrev asked : ℕ → Event
+abbrev pub asked : ℕ → Event
 asked call = record { at = 0; change = change.Step r1 (step.Exec (record { call = call; task = task.Start; timeout = 20000 })) }
 
-abbrev begins : ℕ → ℕ → Event
+abbrev pub begins : ℕ → ℕ → Event
 begins call run = record { at = 10; change = change.Step r1 (step.Begin call run) }
 
-abbrev ended : ℕ → Event
+abbrev pub ended : ℕ → Event
 ended run = record { at = 20; change = change.Step r1 (step.Result run (Done 0)) }
 
-abbrev boot : Event
+abbrev pub boot : Event
 boot = record { at = 30; change = change.Boot }
 
 -- a start that is begun twice under one run number

@@ -1,5 +1,6 @@
 -- Whole lives are runs of the machine.
-use Rattle.std.proofs.Common.{◌≡◌, inl, inr, ℕ, List, [], ◌∷◌, ◌++◌, Option, Some, None, refl, sym, ap, subst, ◌∙◌, append_assoc}
+use Rattle.std.proofs.Common.{◌≡◌, inl, inr, ℕ, List, [], ◌∷◌, ◌++◌, Option, Some, None, refl, sym, ap, ap₂, subst, ◌∙◌, append_assoc}
+use Rattle.std.proofs.lemmas.Grind.{flat_map-append}
 use Rattle.std.proofs.lemmas.List.{append-nil}
 use Rattle.ocf_types.specs.Answer.{moment}
 use Rattle.ocf_types.specs.Due.{due_at}
@@ -8,22 +9,25 @@ use Rattle.ocf_types.specs.Laws.{after_all-append}
 use Rattle.ocf_types.specs.State.{State, after_all}
 use Rattle.disk_model.specs.Image.{Image}
 use Rattle.disk_model.specs.View.{Lawful, View}
+use Rattle.child_model.specs.Children.{Asked}
+use Rattle.child_model.specs.declared.answer.Entry.{Entry}
 use Rattle.exec_journal.specs.Found.{FoundAs}
 use Rattle.exec_journal.specs.Opening.{OpensLike}
 use Rattle.executor.specs.Lives.{EndsOpening, InOpening, InService, IsLife, LifeLeaves, Lived, MayBoot, Serves, Service, Sitting, Stands, boots}
-use Rattle.executor.specs.Machine.{Machine, MovesAll}
-use Rattle.executor.specs.Runs.{Opening, Runs, Seen, StandsOf, opened_on}
+use Rattle.executor.specs.Machine.{Label, Machine, MovesAll}
+use Rattle.executor.specs.Runs.{Opening, Remains, Runs, Seen, SeenService, answers_in, opened_on}
 use Rattle.executor.specs.Openings.{StartsLike}
 use Rattle.exec_ledger.specs.Boots.{booted}
 use Rattle.executor.specs.Reports.{dropped, interrupted}
-use Rattle.executor.specs.SeenLives.{seen}
+use Rattle.executor.specs.SeenLives.{labels, seen}
+use Rattle.executor.specs.Sessions.{followed_by}
 use Rattle.executor.specs.Sights.{due_in}
 use Rattle.executor.specs.declared.opening.OpenError.{OpenError}
 use Rattle.executor.specs.declared.opening.OpenError.TheVariants as why
 use Rattle.exec_ledger.specs.Laws.{WhatStands}
 use Rattle.executor.proofs.Lives.Services.{service_stands, whole_leads}
 use Rattle.executor.proofs.Lives.Whole.{OneFinding, behind_boots, one_state}
-use Rattle.executor.proofs.Machines.Calls.{left_of, machine_of, moves_all, same_machine}
+use Rattle.executor.proofs.Machines.Calls.{labels_answers, left_of, machine_of, moves_all, same_machine}
 
 module _ {D : Type 0} (look : D → View) (law : WhatStands) (once : OneFinding) (lawful : (d : D) → (look d).honest → Lawful (look d))
     (start : State) where
@@ -84,13 +88,45 @@ module _ {D : Type 0} (look : D → View) (law : WhatStands) (once : OneFinding)
       → due_in x.opened ≡ due_at x.opened.state (moment t x.now)
       → machine_of x.opened ≡ opened_on t x.now
   opened_so x s t state due = same_machine (machine_of x.opened) (opened_on t x.now) s.opens.over.is_open state
-      (due ∙ ap (λ (u : State). due_at u (moment t x.now)) state) s.opens.over.told
+      (due ∙ ap (λ (u : State). due_at u (moment t x.now)) state)
 
-  -- so much of what a service did stands
-  stands_so : (x : Service D) (p : List Event) → Stands x p → StandsOf (left_of x.done) (left_of x.under_way) p
-  stands_so x p s = (s.later, s.others, s.acknowledged, s.front)
+  -- what is seen of a service
+  abbrev view_of : (x : Service D) → Serves look x → SeenService
+  view_of x s = record {
+    now = x.now;
+    ran = s.was_running;
+    queued = s.was_queued;
+    calls = labels look x.opened s.calls x.returned x.done s.returns;
+    begun = labels look x.returned s.begun x.last x.under_way s.goes_on;
+    stop = x.stop;
+  }
 
-  -- every pair that a life may leave is found behind a run of the machine
+  -- the answers in it are those that its children gave
+  answers_are : (x : Service D) (s : Serves look x) → answers_in (view_of x s) ≡ (followed_by x.done x.under_way).entries
+  answers_are x s =
+      flat_map-append (λ (l : Label). l.answers) (view_of x s).calls (view_of x s).begun
+      ∙ ap₂ (λ (a b : List Entry). a ++ b) (labels_answers look s.calls x.opened x.returned x.done s.returns)
+      (labels_answers look s.begun x.returned x.last x.under_way s.goes_on)
+
+  -- so much of it remains
+  remains_so : (x : Service D) (s : Serves look x) (t : State) (p : List Event) → s.was_running ≡ interrupted t (moment t x.now)
+      → s.was_queued ≡ dropped t (moment t x.now) → machine_of x.opened ≡ opened_on t x.now → Stands x p → Remains (view_of x s) t p
+  remains_so x s t p ran queued machine stands = record {
+    ran = ran;
+    queued = queued;
+    returned = machine_of x.returned;
+    last = machine_of x.last;
+    done = left_of x.done;
+    under_way = left_of x.under_way;
+    moves = subst (λ (m : Machine). MovesAll (view_of x s).calls m (machine_of x.returned) (left_of x.done)) machine
+        (moves_all look s.calls x.opened x.returned x.done s.returns);
+    goes_on = moves_all look s.begun x.returned x.last x.under_way s.goes_on;
+    stands = (stands.later, stands.others, stands.acknowledged, stands.front);
+    begins = λ run clock asked le.
+        stands.begins run clock (subst (λ (es : List Entry). Asked es run clock) (answers_are x s) asked) le;
+  }
+
+  -- every pair that a history may leave is found after a behaviour of the machine
   pub life_runs : (life : List (Sitting D)) (is : IsLife look start life) (c : Image) → LifeLeaves look start life c
       → Behind life (seen look start life is) c
   life_runs [] is c left = ([], refl, refl, left.0)
@@ -116,27 +152,10 @@ module _ {D : Type 0} (look : D → View) (law : WhatStands) (once : OneFinding)
       ∙ ap (λ (t : State). after_all t p) opened in
       let machine = opened_so x serves s (starts.boot ∙ ap (λ (t : State). booted t x.now) same)
       (starts.due_is ∙ ap (λ (t : State). due_at x.opened.state (moment t x.now)) same) in
-      let calls = moves_all look serves.calls x.opened x.returned x.done serves.returns in (
+      let remains = remains_so x serves s p (starts.ran ∙ ap (λ (t : State). interrupted t (moment t x.now)) same)
+      (starts.queued ∙ ap (λ (t : State). dropped t (moment t x.now)) same) machine stands.1 in (
         ys ++ (b ++ p),
-        (
-          ys,
-          b ++ p,
-          before.1,
-          (
-            starts.ran ∙ ap (λ (t : State). interrupted t (moment t x.now)) same,
-            starts.queued ∙ ap (λ (t : State). dropped t (moment t x.now)) same,
-            machine_of x.returned,
-            machine_of x.last,
-            left_of x.done,
-            left_of x.under_way,
-            p,
-            subst (λ (m : Machine). MovesAll serves.calls m (machine_of x.returned) (left_of x.done)) machine calls,
-            moves_all look serves.begun x.returned x.last x.under_way serves.goes_on,
-            stands_so x p stands.1,
-            refl,
-          ),
-          refl,
-        ),
+        (ys, b ++ p, before.1, (p, remains, refl), refl),
         (ys, p, before.2, stands.1, refl),
         subst (λ (t : State). FoundAs t c) (sym all) stands.2,
       )

@@ -60,15 +60,13 @@ reports_told start (Opening now end ∷ older) zs (ys, more, before, sits, is) =
     subst (λ (l : List Event). IsWithin (reports older) (interruptions start l)) (sym is)
     (subst (IsWithin (reports older)) (sym (interruptions-append start ys more))
     (within_more (reports older) (interruptions start ys) (interruptions (after_all start ys) more) (reports_told start older ys before)))
-reports_told start (Serving now ran queued calls begun ∷ older) zs (ys, more, before, sits, is) =
+reports_told start (Serving x ∷ older) zs (ys, more, before, (p, r, more_is), is) =
     let s = after_all start ys in
-    let p = sits.6 in
-    let more_is : more ≡ boots s now ++ p = sits.10 in
-    let here : IsWithin ran (interruptions s more) =
-    subst (λ (l : List Event). IsWithin ran (interruptions s l)) (sym more_is)
-    (subst (IsWithin ran) (sym (interruptions-append s (boots s now) p))
-    (within_more ran (interruptions s (boots s now)) (interruptions (after_all s (boots s now)) p)
-    (subst (λ (l : List Notice). IsWithin l (interruptions s (boots s now))) (sym sits.0) (boots_tell s now)))) in
-    subst (λ (l : List Event). IsWithin (reports older ++ ran) (interruptions start l)) (sym is)
-    (subst (IsWithin (reports older ++ ran)) (sym (interruptions-append start ys more))
-    (within_both (reports older) (interruptions start ys) ran (interruptions s more) (reports_told start older ys before) here))
+    let here : IsWithin x.ran (interruptions s more) =
+    subst (λ (l : List Event). IsWithin x.ran (interruptions s l)) (sym more_is)
+    (subst (IsWithin x.ran) (sym (interruptions-append s (boots s x.now) p))
+    (within_more x.ran (interruptions s (boots s x.now)) (interruptions (after_all s (boots s x.now)) p)
+    (subst (λ (l : List Notice). IsWithin l (interruptions s (boots s x.now))) (sym r.ran) (boots_tell s x.now)))) in
+    subst (λ (l : List Event). IsWithin (reports older ++ x.ran) (interruptions start l)) (sym is)
+    (subst (IsWithin (reports older ++ x.ran)) (sym (interruptions-append start ys more))
+    (within_both (reports older) (interruptions start ys) x.ran (interruptions s more) (reports_told start older ys before) here))

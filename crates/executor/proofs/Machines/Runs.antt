@@ -1,5 +1,5 @@
 -- What stands of a run of the machine applies.
-use Rattle.std.proofs.Common.{◌≡◌, inl, inr, ℕ, ◌≤◌, Bool, true, false, List, [], ◌∷◌, ◌++◌, map, Option, Some, None, Result, Ok, Err, option_to_list, refl, sym, ap, subst, ◌∙◌, append_assoc}
+use Rattle.std.proofs.Common.{◌≡◌, inl, inr, ℕ, ◌+◌, ◌≤◌, Bool, true, false, List, [], ◌∷◌, ◌++◌, length, map, Option, Some, None, Result, Ok, Err, option_to_list, refl, sym, ap, subst, ◌∙◌, append_assoc}
 use Rattle.std.specs.Prelude.{if◌then◌else◌}
 use Rattle.std.specs.List.{AllByRecursion, IsDistinct}
 use Rattle.std.specs.Map.{keys_of}
@@ -18,15 +18,21 @@ use Rattle.ocf_types.specs.declared.command.RequestOf.TheVariants as asked
 use Rattle.ocf_types.specs.declared.outcome.RunEnd.{RunEnd}
 use Rattle.ocf_types.specs.declared.outcome.StartFault.{StartFault}
 use Rattle.ocf_types.specs.declared.refusal.Refusal.{Refusal}
+use Rattle.ocf_types.specs.declared.reply.TidyEnd.{TidyEnd}
+use Rattle.ocf_types.specs.declared.reply.TidyEnd.TheVariants as tidy
 use Rattle.ocf_types.specs.declared.reply.TurnEnd.{TurnEnd}
 use Rattle.ocf_types.specs.declared.reply.TurnEnd.TheVariants as turn_end
-use Rattle.exec_ledger.specs.Actives.{Active}
-use Rattle.exec_turn.specs.Picks.{begins}
+use Rattle.ocf_types.specs.declared.reply.Notice.{Notice}
+use Rattle.child_model.specs.declared.answer.Entry.{Entry}
+use Rattle.exec_ledger.specs.Actives.{Active, active}
+use Rattle.exec_ledger.specs.Scenes.{Scene, behind, scene}
+use Rattle.exec_turn.specs.Picks.{ArePicks, begins}
 use Rattle.exec_turn.specs.Polls.{Polled, ending, ends_of, results}
 use Rattle.exec_turn.specs.Starts.{Started, refusals, refused_end}
+use Rattle.exec_turn.specs.Turn.{EachPolled, IsFinish, IsTurn, PickedAt, PicksBehind, Told, TurnKind, Whole}
 use Rattle.executor.specs.Histories.{Follow, IsInOrder}
 use Rattle.executor.specs.Lives.{Abandoned, Cleared, Exchange, Finished, Row, Tidied, Took, boots}
-use Rattle.executor.specs.Machine.{BeginsNext, FinishEnds, GoesOn, Left, Machine, MovesAll, MovesOpen, MovesWhile, PollsAll, TakesAll, TurnEnds, TurnFails, TurnsWhole, and_then, behind}
+use Rattle.executor.specs.Machine.{GoesOn, Label, Left, Machine, MovesAll, MovesOpen, MovesTurn, MovesWhile, TakesAll, TidyEnds, and_then}
 use Rattle.executor.specs.Runs.{Opening, Runs, Seen, Serving, Sits, opened_on}
 use Rattle.exec_ledger.specs.Boots.{booted}
 use Rattle.exec_ledger.specs.Together.{Adds, Answered}
@@ -81,17 +87,30 @@ few_refused x = by x.answer
     by (Ok t) = inl refl
     by (Err fault) = inr (_, refl)
 
-results_follow : (at : ℕ) (m : Machine) (ps : List Polled) → PollsAll m ps → Fine m.state → Follow m.state (results at ps)
-results_follow at m ps each fine =
-    let all = all_run m.state fine.apart in
-    ends_follow at (λ p. p.who) (ends_of at) (few_ends at) m.state ps
-    (each_unmap (RunsHere m.state) (λ p. p.who) ps (subst (AllByRecursion (RunsHere m.state)) (sym each) all.0))
+results_follow : (at : ℕ) (s : State) (ps : List Polled) → map (λ p. p.who) ps ≡ active s → Fine s → Follow s (results at ps)
+results_follow at s ps each fine =
+    let all = all_run s fine.apart in
+    ends_follow at (λ p. p.who) (ends_of at) (few_ends at) s ps
+    (each_unmap (RunsHere s) (λ p. p.who) ps (subst (AllByRecursion (RunsHere s)) (sym each) all.0))
     (subst (IsDistinct bytes_eq) (ap ids_of (sym each) ∙ map-map (λ (a : Active). a.id) (λ (p : Polled). p.who) ps) all.1)
 
-begun_so : (at : ℕ) (m : Machine) (bs out : List Active) → BeginsNext at m bs out → Fine m.state → BegunSo m.state at bs
-begun_so at m bs out next fine =
-    begins_follow m.due at m.state.next_run m.state.resources bs out next.0 fine.apart m.state refl next.1
-    (entries_found m.state.resources fine.apart)
+-- picks, and what they leave out
+picks_so : (end : TurnEnd) (x : Scene) (bs : List Active) → PickedAt end x bs
+    → (out : List Active) × ArePicks x.due x.at x.state.next_run x.state.resources (bs ++ out) × (x.state.next_run + length bs ≤ num_max)
+picks_so turn_end.Done x bs p =
+    ([], subst (ArePicks x.due x.at x.state.next_run x.state.resources) (sym (append-nil bs)) p.0, p.1.runs)
+picks_so turn_end.RunsSpent x bs p = (p.0.next ∷ p.0.later, p.0.picks, p.1.runs)
+picks_so turn_end.Full x bs p = (p.0.next ∷ p.0.later, p.0.picks, p.1.runs)
+picks_so turn_end.Memory x bs p = (p.0.next ∷ p.0.later, p.0.picks, p.1.runs)
+picks_so turn_end.Closed x bs p = absurd p.0
+picks_so turn_end.BookFull x bs p = absurd p.0
+picks_so turn_end.Disk x bs p = absurd p.0
+
+begun_so : (end : TurnEnd) (x : Scene) (bs : List Active) → PickedAt end x bs → Fine x.state → BegunSo x.state x.at bs
+begun_so end x bs picked fine =
+    let p = picks_so end x bs picked in
+    begins_follow x.due x.at x.state.next_run x.state.resources bs p.0 p.1 fine.apart x.state refl p.2
+    (entries_found x.state.resources fine.apart)
 
 refusals_follow : (at : ℕ) (s : State) (bs : List Active) (xs : List Started) → map (λ x. x.what) xs ≡ bs
     → AllByRecursion (RunsHere s) bs → IsDistinct bytes_eq (ids_of bs) → Follow s (refusals at xs)
@@ -100,23 +119,78 @@ refusals_follow at s bs xs each runs apart =
     (each_unmap (RunsHere s) (λ x. x.what) xs (subst (AllByRecursion (RunsHere s)) (sym each) runs))
     (subst (IsDistinct bytes_eq) (ap ids_of (sym each) ∙ map-map (λ (a : Active). a.id) (λ (x : Started). x.what) xs) apart)
 
-two_follow : (at : ℕ) (m : Machine) (ps : List Polled) (bs out : List Active) → PollsAll m ps → BeginsNext at (behind m (results at ps)) bs out
-    → Fine m.state → Follow m.state (results at ps ++ begins at bs)
-two_follow at m ps bs out each next fine =
-    let one = results_follow at m ps each fine in
-    follow_both m.state (results at ps) (begins at bs) one
-    (begun_so at (behind m (results at ps)) bs out next (fine_on m.state (results at ps) one fine)).follow
+two_follow : (end : TurnEnd) (x : Scene) (ps : List Polled) (bs : List Active) → EachPolled x ps → PicksBehind end x ps bs
+    → Fine x.state → Follow x.state (results x.at ps ++ begins x.at bs)
+two_follow end x ps bs polled picked fine =
+    let one = results_follow x.at x.state ps polled.each fine in
+    follow_both x.state (results x.at ps) (begins x.at bs) one
+    (begun_so end (behind x (results x.at ps)) bs picked (fine_on x.state (results x.at ps) one fine)).follow
 
-three_follow : (at : ℕ) (m : Machine) (ps : List Polled) (bs out : List Active) (xs : List Started) → PollsAll m ps
-    → BeginsNext at (behind m (results at ps)) bs out → map (λ x. x.what) xs ≡ bs → Fine m.state
-    → Follow m.state (results at ps ++ begins at bs ++ refusals at xs)
-three_follow at m ps bs out xs each next starts fine =
-    let one = results_follow at m ps each fine in
-    let two = begun_so at (behind m (results at ps)) bs out next (fine_on m.state (results at ps) one fine) in
-    subst (Follow m.state) (sym (append_assoc (results at ps) (begins at bs) (refusals at xs)))
-    (follow_both m.state (results at ps) (begins at bs ++ refusals at xs) one
-    (follow_both (after_all m.state (results at ps)) (begins at bs) (refusals at xs) two.follow
-    (refusals_follow at (after_all (after_all m.state (results at ps)) (begins at bs)) bs xs starts two.run two.apart)))
+three_follow : (end : TurnEnd) (x : Scene) (t : Told end x) → Fine x.state
+    → Follow x.state (results x.at t.polled ++ begins x.at t.begun ++ refusals x.at t.started)
+three_follow end x t fine =
+    let es = results x.at t.polled in
+    let one = results_follow x.at x.state t.polled t.each_polled.each fine in
+    let two = begun_so end (behind x es) t.begun t.picked (fine_on x.state es one fine) in
+    subst (Follow x.state) (sym (append_assoc es (begins x.at t.begun) (refusals x.at t.started)))
+    (follow_both x.state es (begins x.at t.begun ++ refusals x.at t.started) one
+    (follow_both (after_all x.state es) (begins x.at t.begun) (refusals x.at t.started) two.follow
+    (refusals_follow x.at (after_all (after_all x.state es) (begins x.at t.begun)) t.begun t.started t.each_started two.run two.apart)))
+
+-- What a turn leaves applies, and nothing is pending but after a disk fault.
+pub record TurnFollows (end : TurnEnd) (s : State) (events pending : List Event) : Type 0 where
+  pub follow : Fine s → Follow s (events ++ pending)
+  pub whole : (end ≡ turn_end.Disk → ⊥) → pending ≡ []
+
+all_recorded : (end : TurnEnd) (s : State) (es events pending : List Event) → events ≡ es → pending ≡ [] → (Fine s → Follow s es)
+    → TurnFollows end s events pending
+all_recorded end s es events pending is none follow = record {
+  follow = λ fine. subst (Follow s) (sym ((λ i. is i ++ none i) ∙ append-nil es)) (follow fine);
+  whole = λ _. none;
+}
+
+some_pending : (s : State) (es fs events pending : List Event) → events ≡ es → pending ≡ fs → (Fine s → Follow s (es ++ fs))
+    → TurnFollows turn_end.Disk s events pending
+some_pending s es fs events pending is rest follow = record {
+  follow = λ fine. subst (Follow s) (sym (λ i. is i ++ rest i)) (follow fine);
+  whole = λ none. absurd (none refl);
+}
+
+whole_follows : (end : TurnEnd) (x : Scene) (entries : List Entry) (events pending : List Event) (told : List Notice)
+    → Whole end x entries events pending told → TurnFollows end x.state events pending
+whole_follows end x entries events pending told (t, entries_are, is, none, told_is) =
+    all_recorded end x.state _ events pending is none (three_follow end x t)
+
+turn_follows : (end : TurnEnd) (x : Scene) (entries : List Entry) (events pending : List Event) (told : List Notice)
+    → IsTurn end x entries events pending told → TurnFollows end x.state events pending
+turn_follows turn_end.Closed x entries events pending told bad = absurd bad
+turn_follows turn_end.BookFull x entries events pending told does =
+    all_recorded turn_end.BookFull x.state [] events pending does.1 does.2 (λ fine. tt)
+turn_follows turn_end.Done x entries events pending told does = whole_follows turn_end.Done x entries events pending told does
+turn_follows turn_end.RunsSpent x entries events pending told does = whole_follows turn_end.RunsSpent x entries events pending told does
+turn_follows turn_end.Full x entries events pending told does = whole_follows turn_end.Full x entries events pending told does
+turn_follows turn_end.Memory x entries events pending told does = whole_follows turn_end.Memory x entries events pending told does
+turn_follows turn_end.Disk x entries events pending told (inl (ps, polled, entries_are, none, is, told_is)) =
+    some_pending x.state [] (results x.at ps) events pending none is (λ fine. results_follow x.at x.state ps polled.each fine)
+turn_follows turn_end.Disk x entries events pending told (inr (inl (ps, end, bs, polled, picked, entries_are, is, rest, told_is))) =
+    some_pending x.state (results x.at ps) (begins x.at bs) events pending is rest (two_follow end x ps bs polled picked)
+turn_follows turn_end.Disk x entries events pending told (inr (inr (end, t, entries_are, is, rest, told_is))) =
+    some_pending x.state (results x.at t.polled ++ begins x.at t.begun) (refusals x.at t.started) events pending is rest
+    (three_follow end x t)
+
+-- one that begins nothing
+finish_follows : (end : TurnEnd) (x : Scene) (entries : List Entry) (events pending : List Event) (told : List Notice)
+    → IsFinish end x entries events pending told → TurnFollows end x.state events pending
+finish_follows turn_end.Done x entries events pending told (ps, polled, entries_are, is, none, told_is) =
+    all_recorded turn_end.Done x.state (results x.at ps) events pending is none (λ fine. results_follow x.at x.state ps polled.each fine)
+finish_follows turn_end.BookFull x entries events pending told does =
+    all_recorded turn_end.BookFull x.state [] events pending does.1 does.2 (λ fine. tt)
+finish_follows turn_end.Disk x entries events pending told (ps, polled, entries_are, none, is, told_is) =
+    some_pending x.state [] (results x.at ps) events pending none is (λ fine. results_follow x.at x.state ps polled.each fine)
+finish_follows turn_end.Closed x entries events pending told bad = absurd bad
+finish_follows turn_end.RunsSpent x entries events pending told bad = absurd bad
+finish_follows turn_end.Full x entries events pending told bad = absurd bad
+finish_follows turn_end.Memory x entries events pending told bad = absurd bad
 
 abbrev nothing : Left
 nothing = record { events = []; pending = [] }
@@ -146,67 +220,54 @@ went_wrong m n es fs left opened shut is follow = subst (Went m n) (sym is) (rec
 goes_on : (m n : Machine) (es : List Event) (left : Left) → m.is_open ≡ true → GoesOn es m n left → (Fine m.state → Follow m.state es) → Went m n left
 goes_on m n es left opened crash follow = went_on m n es left opened (ap (λ (k : Machine). k.state) crash.0) crash.1 follow
 
-takes_all : (m n : Machine) (now : ℕ) (cs : List Command) (rs : List Reply) (left : Left) → m.is_open ≡ true → TakesAll now cs rs m n left
+takes_all : (l : Label) (m n : Machine) (now : ℕ) (cs : List Command) (rs : List Reply) (left : Left) → m.is_open ≡ true → TakesAll l now cs rs m n left
     → Went m n left
-takes_all m n now cs rs left opened (meant, es, answered, inl (told, crash)) =
+takes_all l m n now cs rs left opened (meant, es, answered, inl (told, crash)) =
     goes_on m n es left opened crash (λ fine. answered_follow m.state now cs meant es fine.low answered)
-takes_all m n now cs rs left opened (meant, es, answered, inr (some, told, fails)) =
-    went_wrong m n [] es left opened fails.0 fails.1 (λ fine. answered_follow m.state now cs meant es fine.low answered)
+takes_all l m n now cs rs left opened (meant, es, answered, inr (some, told, fails)) =
+    went_wrong m n [] es left opened fails.1.0 fails.1.1 (λ fine. answered_follow m.state now cs meant es fine.low answered)
 
-turns_whole : (end : TurnEnd) (at : ℕ) (m n : Machine) (left : Left) → m.is_open ≡ true → TurnsWhole end at m n left → Went m n left
-turns_whole end at m n left opened (ps, bs, out, xs, each, next, starts, whole, crash) =
-    went_on m n (results at ps ++ begins at bs ++ refusals at xs) left opened (ap (λ (k : Machine). k.state) crash.0) crash.1
-    (λ fine. three_follow at m ps bs out xs each next starts fine)
+-- a turn of a kind, what it leaves of which applies
+turn_went : (kind : TurnKind) (each : ℕ) (end : TurnEnd) (at : ℕ) (l : Label) (m n : Machine) (left : Left) → m.is_open ≡ true
+    → MovesTurn kind each end at l m n left → TurnFollows end m.state left.events left.pending → Went m n left
+turn_went kind each end at l m n left opened t follows = record {
+  follow = λ o fine. follows.follow fine;
+  onward = λ o. (
+    opened,
+    ap (λ (k : Machine). k.state) t.goes_on,
+    follows.whole (λ disk. absurd (false≢true (sym (t.closes.1 disk) ∙ o))),
+  );
+  closed = λ bad. absurd (false≢true (sym bad ∙ opened));
+}
 
-turn_fails : (at : ℕ) (m n : Machine) (left : Left) → m.is_open ≡ true → n.is_open ≡ false → TurnFails at m left → Went m n left
-turn_fails at m n left opened shut (ps, each, inl is) =
-    went_wrong m n [] (results at ps) left opened shut is (λ fine. results_follow at m ps each fine)
-turn_fails at m n left opened shut (ps, each, inr (bs, out, next, inl is)) =
-    went_wrong m n (results at ps) (begins at bs) left opened shut is (λ fine. two_follow at m ps bs out each next fine)
-turn_fails at m n left opened shut (ps, each, inr (bs, out, next, inr (xs, starts, is))) =
-    went_wrong m n (results at ps ++ begins at bs) (refusals at xs) left opened shut is
-    (λ fine. three_follow at m ps bs out xs each next starts fine)
+tidied : (end : TidyEnd) (l : Label) (m n : Machine) (left : Left) → m.is_open ≡ true → TidyEnds end l m n left → Went m n left
+tidied tidy.Done l m n left opened crash = goes_on m n [] left opened crash (λ fine. tt)
+tidied tidy.EpochSpent l m n left opened (spent, crash) = goes_on m n [] left opened crash (λ fine. tt)
+tidied tidy.Disk l m n left opened (cause, fails) = went_wrong m n [] [] left opened fails.0 fails.1 (λ fine. tt)
+tidied tidy.Closed l m n left opened bad = absurd bad
 
-turn_ends : (end : TurnEnd) (at : ℕ) (m n : Machine) (left : Left) → m.is_open ≡ true → TurnEnds end at m n left → Went m n left
-turn_ends turn_end.Closed at m n left opened bad = absurd bad
-turn_ends turn_end.BookFull at m n left opened crash = went_on m n [] left opened (ap (λ (k : Machine). k.state) crash.0) crash.1 (λ fine. tt)
-turn_ends turn_end.Disk at m n left opened (shut, fails) = turn_fails at m n left opened shut fails
-turn_ends turn_end.Done at m n left opened turns = turns_whole turn_end.Done at m n left opened turns
-turn_ends turn_end.RunsSpent at m n left opened turns = turns_whole turn_end.RunsSpent at m n left opened turns
-turn_ends turn_end.Full at m n left opened turns = turns_whole turn_end.Full at m n left opened turns
-turn_ends turn_end.Memory at m n left opened turns = turns_whole turn_end.Memory at m n left opened turns
+moves_open : (e : Exchange) (l : Label) (m n : Machine) (left : Left) → m.is_open ≡ true → MovesOpen e l m n left → Went m n left
+moves_open (Took (input.Request now (asked.Question q)) reply) l m n left opened h = goes_on m n [] left opened h.2 (λ fine. tt)
+moves_open (Took (input.Request now (asked.Command c)) reply) l m n left opened (quiet, inl takes) =
+    takes_all l m n now (c ∷ []) (reply ∷ []) left opened takes
+moves_open (Took (input.Request now (asked.Command c)) reply) l m n left opened (quiet, inr full) = goes_on m n [] left opened full.4 (λ fine. tt)
+moves_open (Took (input.Turn now) reply) l m n left opened (end, replies, t) =
+    turn_went IsTurn 3 end (moment m.state now) l m n left opened t
+    (turn_follows end (scene m.state m.due l.place (moment m.state now)) l.answers left.events left.pending l.notices t.turns)
+moves_open (Row now cs rs) l m n left opened takes = takes_all l m n now cs rs left opened takes.1
+moves_open (Finished now end) l m n left opened t =
+    turn_went IsFinish 2 end (moment m.state now) l m n left opened t
+    (finish_follows end (scene m.state m.due l.place (moment m.state now)) l.answers left.events left.pending l.notices t.turns)
+moves_open (Tidied end) l m n left opened (quiet, ends) = tidied end l m n left opened ends
+moves_open Cleared l m n left opened crash = goes_on m n [] left opened crash.1 (λ fine. tt)
+moves_open Abandoned l m n left opened fails = went_wrong m n [] [] left opened fails.1.0 fails.1.1 (λ fine. tt)
 
--- one that begins nothing
-finish_ends : (end : TurnEnd) (at : ℕ) (m n : Machine) (left : Left) → m.is_open ≡ true → FinishEnds end at m n left → Went m n left
-finish_ends turn_end.Done at m n left opened (ps, each, crash) =
-    went_on m n (results at ps) left opened (ap (λ (k : Machine). k.state) crash.0) crash.1 (λ fine. results_follow at m ps each fine)
-finish_ends turn_end.BookFull at m n left opened crash = went_on m n [] left opened (ap (λ (k : Machine). k.state) crash.0) crash.1 (λ fine. tt)
-finish_ends turn_end.Disk at m n left opened (ps, each, fails) =
-    went_wrong m n [] (results at ps) left opened fails.0 fails.1 (λ fine. results_follow at m ps each fine)
-finish_ends turn_end.Closed at m n left opened bad = absurd bad
-finish_ends turn_end.RunsSpent at m n left opened bad = absurd bad
-finish_ends turn_end.Full at m n left opened bad = absurd bad
-finish_ends turn_end.Memory at m n left opened bad = absurd bad
-
-moves_open : (e : Exchange) (m n : Machine) (left : Left) → m.is_open ≡ true → MovesOpen e m n left → Went m n left
-moves_open (Took (input.Request now (asked.Question q)) reply) m n left opened h = goes_on m n [] left opened h.1 (λ fine. tt)
-moves_open (Took (input.Request now (asked.Command c)) reply) m n left opened (inl takes) =
-    takes_all m n now (c ∷ []) (reply ∷ []) left opened takes
-moves_open (Took (input.Request now (asked.Command c)) reply) m n left opened (inr full) = goes_on m n [] left opened full.3 (λ fine. tt)
-moves_open (Took (input.Turn now) reply) m n left opened (end, replies, turns) = turn_ends end (moment m.state now) m n left opened turns
-moves_open (Row now cs rs) m n left opened takes = takes_all m n now cs rs left opened takes
-moves_open (Finished now end) m n left opened finishes = finish_ends end (moment m.state now) m n left opened finishes
-moves_open (Tidied end) m n left opened (inl (disk, fails)) = went_wrong m n [] [] left opened fails.0 fails.1 (λ fine. tt)
-moves_open (Tidied end) m n left opened (inr (done, crash)) = goes_on m n [] left opened crash (λ fine. tt)
-moves_open Cleared m n left opened crash = goes_on m n [] left opened crash (λ fine. tt)
-moves_open Abandoned m n left opened fails = went_wrong m n [] [] left opened fails.0 fails.1 (λ fine. tt)
-
-moves_so : (o : Bool) (e : Exchange) (m n : Machine) (left : Left) → m.is_open ≡ o → MovesWhile o e m n left → Went m n left
-moves_so true e m n left opened h = moves_open e m n left opened h
-moves_so false e m n left shut h = subst (Went m n) (sym h.1.1) (record {
+pub moves_so : (o : Bool) (l : Label) (m n : Machine) (left : Left) → m.is_open ≡ o → MovesWhile o l m n left → Went m n left
+moves_so true l m n left opened h = moves_open l.exchange l m n left opened h
+moves_so false l m n left shut h = subst (Went m n) (sym h.2.1) (record {
   follow = λ o fine. tt;
-  onward = λ o. absurd (false≢true (sym h.1.0 ∙ o));
-  closed = λ o. (refl, h.1.0);
+  onward = λ o. absurd (false≢true (sym h.2.0 ∙ o));
+  closed = λ o. (refl, h.2.0);
 })
 
 -- one part behind another
@@ -242,15 +303,15 @@ went_both m k n a b one two = record {
         (subst (λ (l : List Event). Follow m.state (l ++ (a.pending ++ []))) (sym (append-nil a.events))
         (subst (λ (l : List Event). Follow m.state (a.events ++ l)) (sym (append-nil a.pending)) so_far))
 
-moves_all_so : (es : List Exchange) (m n : Machine) (left : Left) → MovesAll es m n left → Went m n left
+pub moves_all_so : (ls : List Label) (m n : Machine) (left : Left) → MovesAll ls m n left → Went m n left
 moves_all_so [] m n left (same, none) = subst (Went m n) (sym none) (record {
   follow = λ o fine. tt;
   onward = λ o. (ap (λ (k : Machine). k.is_open) (sym same) ∙ o, ap (λ (k : Machine). k.state) same, refl);
   closed = λ o. (refl, ap (λ (k : Machine). k.is_open) same ∙ o);
 })
-moves_all_so (e ∷ es) m n left (mid, first, later, moves, rest, is) =
+moves_all_so (l ∷ ls) m n left (mid, first, later, moves, rest, is) =
     subst (Went m n) (sym is)
-    (went_both m mid n first later (moves_so m.is_open e m mid first refl moves) (moves_all_so es mid n later rest))
+    (went_both m mid n first later (moves_so m.is_open l m mid first refl moves) (moves_all_so ls mid n later rest))
 
 -- the boot that is needed applies
 boots_follow : (s : State) (now : ℕ) → Follow s (boots s now)
@@ -264,15 +325,16 @@ boots_follow s now = by (any_busy s) refl
 sits_follow : (x : Seen) (s : State) (zs : List Event) → Fine s → Sits x s zs → Follow s zs
 sits_follow (Opening now end) s zs fine (inl none) = subst (Follow s) (sym none) tt
 sits_follow (Opening now end) s zs fine (inr (may, is)) = subst (Follow s) (sym is) (boots_follow s now)
-sits_follow (Serving now ran queued calls begun) s zs fine (ran_is, queued_is, m, n, done, under_way, p, returns, crash, stands, is) =
-    let boot = boots_follow s now in
-    let open_state : after_all s (boots s now) ≡ booted s now = boots_is s now in
-    let fine2 : Fine (booted s now) = subst Fine open_state (fine_on s (boots s now) boot fine) in
-    let went = went_both (opened_on s now) m n done under_way (moves_all_so calls (opened_on s now) m done returns)
-    (moves_all_so begun m n under_way crash) in
+sits_follow (Serving x) s zs fine (p, r, is) =
+    let boot = boots_follow s x.now in
+    let open_state : after_all s (boots s x.now) ≡ booted s x.now = boots_is s x.now in
+    let fine2 : Fine (booted s x.now) = subst Fine open_state (fine_on s (boots s x.now) boot fine) in
+    let went = went_both (opened_on s x.now) r.returned r.last r.done r.under_way (moves_all_so x.calls (opened_on s x.now) r.returned r.done r.moves)
+    (moves_all_so x.begun r.returned r.last r.under_way r.goes_on) in
     let all = went.follow refl fine2 in
-    let first : Follow (booted s now) p = follow_first (booted s now) p stands.1 (subst (Follow (booted s now)) (sym stands.3) all) in
-    subst (Follow s) (sym is) (follow_both s (boots s now) p boot (subst (λ (t : State). Follow t p) (sym open_state) first))
+    let first : Follow (booted s x.now) p =
+    follow_first (booted s x.now) p r.stands.1 (subst (Follow (booted s x.now)) (sym r.stands.3) all) in
+    subst (Follow s) (sym is) (follow_both s (boots s x.now) p boot (subst (λ (t : State). Follow t p) (sym open_state) first))
 
 pub runs_follow : (start : State) (xs : List Seen) (zs : List Event) → Fine start → Runs start xs zs → Follow start zs
 runs_follow start [] zs fine none = subst (Follow start) (sym none) tt

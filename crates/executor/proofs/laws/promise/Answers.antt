@@ -1,10 +1,10 @@
+use Rattle.exec_ledger.specs.Laws.{WhatStands}
 use Rattle.executor.specs.SeenLives.{seen}
 use Rattle.executor.proofs.Lives.Lawful.{LawfulLaws, start_lawful}
-use Rattle.exec_ledger.specs.Laws.{WhatStands}
 use Rattle.executor.proofs.Lives.Whole.{OneFinding}
+use Rattle.executor.proofs.Machines.Claims.{runs_kept}
 use Rattle.executor.proofs.Machines.Lives.{life_runs}
-use Rattle.executor.proofs.Machines.Runs.{in_order}
-use Rattle.executor.proofs.machine.lives_in_order.Goals as goal
+use Rattle.executor.proofs.laws.promise.Goals as goal
 
 pub returns : goal.returns
 returns g c =
@@ -16,4 +16,4 @@ returns g c =
     λ start life is image left.
     let b = life_runs g.D.Disk.view law once g.met.D.Disk.lawful start life is image left in
     let lawful = start_lawful laws g.D.Disk.view law g.met.D.Disk.lawful start life is image left in
-    (b.0, b.2, b.3, in_order start (seen g.D.Disk.view start life is) b.0 lawful b.1)
+    (b.0, b.3, b.1, b.2, runs_kept start (seen g.D.Disk.view start life is) b.0 lawful b.1)

@@ -1,0 +1,132 @@
+-- Steps that the machine refuses, and claims of which nothing is recorded.
+use Rattle.std.proofs.Common.{◌≡◌, inl, inr, ℕ, ◌<◌, true, false, List, [], ◌∷◌, ◌++◌, length, map, None, Ok, refl, sym, ap, subst, ◌∙◌, arith}
+use Rattle.ocf_types.specs.Answer.{asked_event, moment, tests}
+use Rattle.ocf_types.specs.Kinds.{Event}
+use Rattle.ocf_types.specs.RegistryLaws.{passed}
+use Rattle.ocf_types.specs.Spelling.{spelled_event}
+use Rattle.ocf_types.specs.State.{State, after_all, empty}
+use Rattle.ocf_types.specs.declared.command.CommandOf.TheVariants as command
+use Rattle.ocf_types.specs.declared.event.Change.TheVariants as change
+use Rattle.ocf_types.specs.declared.reply.Notice.{Notice}
+use Rattle.ocf_types.specs.declared.reply.ReplyOf.TheVariants as reply
+use Rattle.ocf_types.specs.declared.reply.TurnEnd.{TurnEnd}
+use Rattle.ocf_types.specs.declared.reply.TurnEnd.TheVariants as turn_end
+use Rattle.child_model.specs.Children.{start_answer}
+use Rattle.child_model.specs.declared.answer.Entry.{Entry}
+use Rattle.child_model.specs.declared.answer.Poll.{Poll}
+use Rattle.child_model.specs.declared.answer.Poll.TheVariants as poll
+use Rattle.exec_journal.specs.Place.{first_place}
+use Rattle.exec_ledger.specs.Actives.{active}
+use Rattle.exec_ledger.specs.Scenes.{Scene, scene}
+use Rattle.exec_turn.specs.Picks.{begin_of, begins as begins_at}
+use Rattle.exec_turn.specs.Polls.{Polled, entries_of, polls, result_notices, results}
+use Rattle.exec_turn.specs.Starts.{Started, refusal_notices, refusals, starts}
+use Rattle.exec_turn.specs.Turn.{IsTurn, Whole}
+use Rattle.executor.specs.Lives.{Took}
+use Rattle.executor.specs.Machine.{Label, Left, Machine, MovesWhile}
+use Rattle.executor.specs.Promise.{Acknowledged, AllRecorded}
+use Rattle.executor.specs.Runs.{HasBegins, SeenService}
+use Rattle.executor.specs.declared.session.InputOf.TheVariants as input
+use Rattle.executor.proofs.History.Examples.{asked, r1, registered}
+
+-- lists without an entry
+module _ {A : Type 0} where
+  none_before : (xs ys : List A) → xs ++ ys ≡ [] → xs ≡ []
+  none_before [] ys is = refl
+  none_before (x ∷ xs) ys is = absurd (let bad : x ∷ (xs ++ ys) ≡ [] = is in cc)
+
+  none_after : (xs ys : List A) → xs ++ ys ≡ [] → ys ≡ []
+  none_after [] ys is = is
+  none_after (x ∷ xs) ys is = absurd (let bad : x ∷ (xs ++ ys) ≡ [] = is in cc)
+
+module _ {A B : Type 0} where
+  none_mapped : (f : A → B) (xs : List A) → map f xs ≡ [] → xs ≡ []
+  none_mapped f [] is = refl
+  none_mapped f (x ∷ xs) is = absurd (let bad : f x ∷ map f xs ≡ [] = is in cc)
+
+-- each poll is an answer
+no_polls : (at : ℕ) (ps : List Polled) → polls at ps ≡ [] → ps ≡ []
+no_polls at [] is = refl
+no_polls at (p ∷ ps) is = absurd (by p.poll (none_before (entries_of at p.who.running p.poll p.kill) (polls at ps) is))
+  where
+    by : (a : Poll) → entries_of at p.who.running a p.kill ≡ [] → ⊥
+    by poll.Running is = cc
+    by (poll.Exited code) is = cc
+    by (poll.Signaled signal) is = cc
+    by poll.Fault is = cc
+
+-- a turn at 10, by its end, its answers, the book's room and its notices
+abbrev pub turned : TurnEnd → List Entry → ℕ → List Notice → Label
+turned end answers room notices =
+    record { exchange = Took (input.Turn 10) (reply.Turn end); answers = answers; notices = notices; room = room; place = first_place; faults = (0, 0) }
+
+-- an open machine with one action in its queue, of which nothing runs
+abbrev waiting : Machine
+waiting = record { is_open = true; state = after_all empty (registered ∷ asked 1 ∷ []); due = λ id call. None }
+
+-- what a turn that ends done was told
+done_so : (answers : List Entry) (room : ℕ) (notices : List Notice) (m n : Machine) (left : Left)
+    → MovesWhile true (turned turn_end.Done answers room notices) m n left
+    → (x : Scene) × (x.state ≡ m.state) × Whole turn_end.Done x answers left.events left.pending notices
+done_so answers room notices m n left (end, is, t) =
+    let same : end ≡ turn_end.Done = (let told : reply.Turn turn_end.Done ≡ reply.Turn end = is in cc) in
+    let x : Scene = scene m.state m.due first_place (moment m.state 10) in
+    (x, refl, subst (λ (e : TurnEnd). IsTurn e x answers left.events left.pending notices) same t.turns)
+
+-- a notice that no answer gives
+unanswered : (room : ℕ) (a : Notice) (more : List Notice) (m n : Machine) (left : Left)
+    → MovesWhile true (turned turn_end.Done [] room (a ∷ more)) m n left → ⊥
+unanswered room a more m n left moves =
+    let (x, here, (t, entries, events, none, told)) = done_so [] room (a ∷ more) m n left moves in
+    let no_ps = no_polls x.at t.polled (none_before (polls x.at t.polled) (starts t.clock t.started) (sym entries)) in
+    let no_xs = none_mapped (λ (s : Started). record { run = s.what.running.run; at = t.clock; answer = start_answer s.answer }) t.started
+    (none_after (polls x.at t.polled) (starts t.clock t.started) (sym entries)) in
+    let bad : a ∷ more ≡ [] =
+    told ∙ (λ i. result_notices x.at (no_ps i) ++ refusal_notices x.at (no_xs i)) in
+    cc
+
+-- a start without its begin
+unbegun : (e : Entry) (room : ℕ) (notices : List Notice) (pending : List Event) (n : Machine)
+    → MovesWhile true (turned turn_end.Done (e ∷ []) room notices) waiting n (record { events = []; pending = pending }) → ⊥
+unbegun e room notices pending n moves =
+    let (x, here, (t, entries, events, none, told)) =
+    done_so (e ∷ []) room notices waiting n (record { events = []; pending = pending }) moves in
+    let early : List Event = results x.at t.polled ++ begins_at x.at t.begun in
+    let no_bs = none_mapped (begin_of x.at) t.begun
+    (none_after (results x.at t.polled) (begins_at x.at t.begun) (none_before early (refusals x.at t.started) (sym events))) in
+    let no_xs = none_mapped (λ (s : Started). s.what) t.started (t.each_started ∙ no_bs) in
+    let each : map (λ p. p.who) t.polled ≡ [] = t.each_polled.each ∙ ap (λ (s : State). active s) here in
+    let no_ps = none_mapped (λ (p : Polled). p.who) t.polled each in
+    let bad : e ∷ [] ≡ [] = entries ∙ (λ i. polls x.at (no_ps i) ++ starts t.clock (no_xs i)) in
+    cc
+
+-- the book told as full where it takes three answers for each resource
+full_with_room : (answers : List Entry) (notices : List Notice) (n : Machine) (left : Left)
+    → MovesWhile true (turned turn_end.BookFull answers 3 notices) waiting n left → ⊥
+full_with_room answers notices n left (end, is, t) =
+    let same : end ≡ turn_end.BookFull = (let told : reply.Turn turn_end.BookFull ≡ reply.Turn end = is in cc) in
+    let less : 3 < 3 = t.full.0 same in omega (arith, less)
+
+-- a crash after which the begin of an agent that was started is lost
+abbrev started : SeenService
+started = record {
+  now = 0;
+  ran = [];
+  queued = [];
+  calls = turned turn_end.Done (record { run = 1; at = 3; answer = start_answer (Ok tt) } ∷ []) 256 [] ∷ [];
+  begun = [];
+  stop = 5;
+}
+
+lost : HasBegins started (registered ∷ asked 1 ∷ []) → ⊥
+lost h =
+    let bad : false ≡ true = h 1 3 (start_answer (Ok tt), tt, (0, omega arith, refl)) (omega arith) in cc
+
+-- the acknowledgement of one command, and the event of another
+crossed : AllRecorded empty (Acknowledged 0 (command.Unregister r1) reply.Done ∷ []) (registered ∷ []) → ⊥
+crossed (inl h) =
+    let c = command.Unregister r1 in
+    let same = (passed (tests empty c (length (spelled_event (asked_event empty 0 c)))) (asked_event empty 0 c) registered h.0.0).0 in
+    let bad : change.Unregister r1 ≡ registered.change = ap (λ (e : Event). e.change) same in
+    cc
+crossed (inr bad) = bad
