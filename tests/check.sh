@@ -5,19 +5,11 @@ set -u
 cd "$(dirname "$0")/.."
 export PROGRAM=$PWD/crates/ocfexec/out/ocfexec
 export AGENTS=$PWD/crates/ocf_agents/out/ocf_agents
-export TRIALS=$PWD/crates/trials/out/trials
-export TRIAL_LIVES=$PWD/crates/trial_lives/out/trial_lives
 export PYTHONDONTWRITEBYTECODE=1
 if [ ! -x "$PROGRAM" ]; then
     (cd crates/ocfexec && rt run -- --help > /dev/null) || exit 1
 fi
 if [ ! -x "$AGENTS" ]; then
     (cd crates/ocf_agents && OCF_RESOURCE_TYPE=Dummy rt run -- meta-data > /dev/null) || exit 1
-fi
-if [ ! -x "$TRIALS" ]; then
-    (cd crates/trials && rt run -- lines < stdin > /dev/null) || exit 1
-fi
-if [ ! -x "$TRIAL_LIVES" ]; then
-    (cd crates/trial_lives && rt run < stdin > /dev/null) || exit 1
 fi
 exec tests/lib/runner.py "$@"

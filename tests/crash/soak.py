@@ -1,14 +1,15 @@
 #!/usr/bin/env python3
-"""A long life: hours over one journal, on a simulated clock. The program crates/trial_lives plays them through the program's own run,
-with a disk in memory and scripted agents; this plans them, and looks at all that is said. 64 resources have four recurring monitors
-each, a client starts, stops, withdraws and asks by chance, at times a hundred lines at once, the wall clock jumps at each opening, and
-journals are tidied by the run itself. In each hour the disk stops in a random device call behind its opening, and half of the openings
-behind that are stopped, too; an hour that ends before its stop is one more. Of what was not synced a stop leaves nothing, all, or other bytes.
+# check: builds
+"""A long life: hours over one journal, on a simulated clock. The program of tests/trials plays them through the program's own run, with
+a disk in memory and scripted agents; this plans them, and looks at all that is said. 64 resources have four recurring monitors each, a
+client starts, stops, withdraws and asks by chance, at times a hundred lines at once, the wall clock jumps at each opening, and journals
+are tidied by the run itself. In each hour the disk stops in a random device call behind its opening, and half of the openings behind
+that are stopped, too; an hour that ends before its stop is one more. Of what was not synced a stop leaves nothing, all, or other bytes.
 Wanted: what an opening finds holds every acknowledged command and every result that was told, in order, and beyond that at most the
 command that was refused for the disk and a result of each resource that was not told; each action that was queued or ran is told,
 withdrawn, or found as dropped or interrupted, and an opening reports just what it found so; the parts stay below their limit and are
 tidied; the memory does not grow with the days; at the end, behind a close, each history is just what was told.
-Use: soak.py [PROGRAM], with TRIAL_LIVES, DAYS and SEED in the environment"""
+Use: soak.py [PROGRAM], with DAYS and SEED in the environment"""
 import collections
 import json
 import os
@@ -20,7 +21,6 @@ import time
 sys.path[0] += "/../lib"
 import helper  # noqa: E402
 
-TRIAL_LIVES = os.environ.get("TRIAL_LIVES", os.path.join(helper.TOP, "crates/trial_lives/out/trial_lives"))
 HOUR = 3_600_000
 PART_LIMIT = 8_388_608
 # the tail past which a run tidies by itself, as soon as that gains two megabytes
@@ -70,7 +70,9 @@ class Life:
         self.hourly = 4_000  # how many an hour makes behind that
         self.counts = collections.Counter()
         self.wall = 1_700_000_000_000
-        self.program = subprocess.Popen([TRIAL_LIVES], stdin=subprocess.PIPE, stdout=subprocess.PIPE)
+        # what is given back is not kept for long, so that the memory of the process is that of the life
+        self.program = subprocess.Popen([helper.trials(), "life"], stdin=subprocess.PIPE, stdout=subprocess.PIPE,
+                                        env={**os.environ, "ASAN_OPTIONS": "quarantine_size_mb=1"})
 
     # what a client sends
 
@@ -325,6 +327,15 @@ class Life:
 
 
 class Soak(helper.Check):
+    def test_minute(self):
+        """a life of a minute says just what it did before"""
+        texts = []
+        for name in ("life.stdin", "life.stdout"):
+            with open(os.path.join(helper.TOP, "tests/trials", name), "rb") as file:
+                texts.append(file.read())
+        done = subprocess.run([helper.trials(), "life"], input=texts[0], capture_output=True, timeout=20)
+        self.assertEqual((done.returncode, done.stdout, done.stderr), (0, texts[1], b""))
+
     def test_life(self):
         """a long life: stops each hour, and nothing told is lost"""
         days, seed = helper.number("DAYS", 1), helper.number("SEED", 20261124)

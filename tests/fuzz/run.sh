@@ -1,5 +1,5 @@
 #!/usr/bin/env bash
-# Fuzzes each reader of crates/trials, guided by what it covers, two at a time, and prints what was found. What crashes, hangs or
+# Fuzzes each reader of tests/trials, guided by what it covers, two at a time, and prints what was found. What crashes, hangs or
 # fails is kept in the folder of work; a smallest set of inputs that covers as much goes to tests/fuzz/corpus with KEEP=1.
 # Use: run.sh SECONDS [READER..]; it needs the package afl++
 set -eu

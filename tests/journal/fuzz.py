@@ -1,8 +1,9 @@
 #!/usr/bin/env python3
+# check: builds
 """What guided fuzzing found of inputs, tests/fuzz/corpus, handed once more to the readers that they were found for: none crashes,
-takes long or fails, so what is read spells the same bytes, a pair that is refused is not written, and what a run leaves opens.
-Behind each pair the program's own `show` ends as it may.
-Use: fuzz.py PROGRAM, with TRIALS in the environment"""
+takes long or fails, so what is read spells the same bytes, a pair that is refused is not written, and what a run leaves opens. The
+program of tests/trials hands them over. Behind each pair the program's own `show` ends as it may.
+Use: fuzz.py PROGRAM"""
 import os
 import subprocess
 import sys
@@ -10,12 +11,16 @@ import sys
 sys.path[0] += "/../lib"
 import helper  # noqa: E402
 
-TRIALS = os.environ.get("TRIALS", os.path.join(helper.TOP, "crates/trials/out/trials"))
 CORPUS = os.path.join(helper.TOP, "tests/fuzz/corpus")
 SHOWN, REFUSED, DAMAGED = 0, 5, 3
 
 
 class Fuzz(helper.Check):
+    def hand(self, reader, text, name):
+        """Hands these bytes to a reader."""
+        done = subprocess.run([helper.trials(), reader], input=text, capture_output=True, timeout=20)
+        self.assertEqual((done.returncode, done.stdout, done.stderr), (0, b"", b""), name)
+
     def inputs(self, reader):
         folder = os.path.join(CORPUS, reader)
         names = sorted(os.listdir(folder))
@@ -26,8 +31,18 @@ class Fuzz(helper.Check):
 
     def replay(self, reader):
         for name, text in self.inputs(reader):
-            done = subprocess.run([TRIALS, reader], input=text, capture_output=True, timeout=10)
-            self.assertEqual((done.returncode, done.stderr), (0, b""), name)
+            self.hand(reader, text, name)
+
+    def test_first(self):
+        """a first run, of three commands and a line that is none"""
+        with open(os.path.join(helper.TOP, "tests/trials/lines.stdin"), "rb") as file:
+            self.hand("lines", file.read(), "lines.stdin")
+
+    def test_none(self):
+        """a reader that there is not is refused"""
+        done = subprocess.run([helper.trials(), "none"], input=b"", capture_output=True, timeout=20)
+        self.assertEqual((done.returncode, done.stdout), (1, b""))
+        self.assertIn(b"no reader is called none", done.stderr)
 
     def test_command(self):
         """command lines that fuzzing found"""

@@ -2,6 +2,7 @@
 and heard. A module is called as `tests/FOLDER/NAME.py PROGRAM`; each of its tests is a check, which is printed with its time. With ONLY
 in the environment, the one test of that sentence is tried. A test that fails says how it is played again, with the numbers that it asked
 for; one by chance, which asked for SEED, leaves its folder, with what it was given, in tests/failed."""
+import functools
 import json
 import os
 import shlex
@@ -116,6 +117,13 @@ def kib(pid, name):
     """The resident memory of a process in KiB: now, as VmRSS, or the greatest that it ever was, as VmHWM."""
     with open(f"/proc/{pid}/status", encoding="ascii") as status:
         return next(int(line.split()[1]) for line in status if line.startswith(name + ":"))
+
+
+@functools.cache
+def trials():
+    """The program of tests/trials, which is built where it is not there, or was built from other texts."""
+    built = subprocess.run([os.path.join(TOP, "tests/trials/build.sh")], stdout=subprocess.PIPE, check=True, text=True)
+    return built.stdout.strip()
 
 
 def shim(source, folder):

@@ -3,9 +3,10 @@
 
 A script prints a line for each of its checks, `ok`, `failed` or `skipped`, with its time; one that needs what the machine has not ends
 with 77. A script that prints none fails. Several run at once, and what one printed is printed whole when it has ended. A line
-`# check: MARK..` near the head of a script says `slow`, so that --fast leaves it out, or `alone`, so that nothing runs beside it, as it
-measures time or load; in a script in Python single tests may be slow (helper.slow). The last lines say what was skipped and why, what
-took longest and what failed; the very last counts the checks.
+`# check: MARK..` near the head of a script says `slow`, so that --fast leaves it out, `builds`, so that it begins early and may take
+longer, as it may have to build a program first, or `alone`, so that nothing runs beside it, as it measures time or load; in a script in
+Python single tests may be slow (helper.slow). The last lines say what was skipped and why, what took longest and what failed; the very
+last counts the checks.
 
 Use: runner.py [--fast] [--jobs N] [--limit SECONDS] [NAME..], with PROGRAM in the environment, and JOBS for --jobs; a NAME is that of a
 script or of a folder, and without any all are run"""
@@ -24,13 +25,15 @@ from pathlib import Path
 TOP = Path(__file__).resolve().parents[2]
 FOLDERS = ["cli", "journal", "agents", "crash", "load", "system", "repository"]
 # the marks, and in how many lines they may stand
-MARKS, HEAD = {"slow", "alone"}, 5
+MARKS, HEAD = {"slow", "builds", "alone"}, 5
 MARK = re.compile(r"# check: (.*)")
 CHECK = re.compile(r"^(ok|failed|skipped) +([0-9.]+) s  (.*)$", re.MULTILINE)
 WHY = re.compile(r"skipped: (.*)")
 SKIPPED, LATE, NOT_STARTED = 77, 124, 126
 # how long a script has to end after SIGTERM, in seconds, and how many of the slowest checks are named
 GRACE, SLOWEST = 5, 10
+# how many seconds more than its limit a script may take that may have to build a program first
+BUILD = 600
 
 
 class Script:
@@ -92,14 +95,14 @@ class Runner:
             except OSError as error:
                 return Ended(script, NOT_STARTED, f"{script.path}: {error.strerror}\n".encode(), 0)
             self.live.add(running)
-            status = self.awaits(running)
+            status = self.awaits(running, self.limit + BUILD * ("builds" in script.marks))
             self.live.discard(running)
             output.seek(0)
             return Ended(script, status, output.read(), time.monotonic() - began)
 
-    def awaits(self, running):
+    def awaits(self, running, limit):
         try:
-            return running.wait(0 if self.is_closed else self.limit)
+            return running.wait(0 if self.is_closed else limit)
         except subprocess.TimeoutExpired:
             end(running)
             return LATE
@@ -197,7 +200,7 @@ def main():
     left_out = [script for script in found if given.fast and "slow" in script.marks]
     found = [script for script in found if script not in left_out]
     # what takes long begins first, and what measures comes last
-    beside = sorted([script for script in found if "alone" not in script.marks], key=lambda script: "slow" not in script.marks)
+    beside = sorted([script for script in found if "alone" not in script.marks], key=lambda script: not script.marks)
     runner, tally = Runner(os.environ["PROGRAM"], given.limit), Tally(given.jobs)
     runner.run_all(beside, given.jobs, tally.take)
     runner.run_all([script for script in found if "alone" in script.marks], 1, tally.take)

@@ -108,6 +108,8 @@ class Runner(helper.Check):
         self.assertEqual(sorted(failed), ["    tests/cli/" + line for line in wanted])
         with open(self.place("pid"), encoding="ascii") as file:
             self.assertFalse(helper.is_alive(int(file.read())), "what took too long is gone")
+        self.script("cli/built", "sleep 1.5\n" + GOOD, mark="# check: builds\n")
+        self.assertEqual(self.ran("--limit", "1", "built")[1][-1], "1 passed, 0 failed")
 
     def test_skipped(self):
         """what is skipped is named with its reason, a script or one of its checks"""

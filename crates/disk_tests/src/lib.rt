@@ -2,8 +2,6 @@
 #![tactic(auto)]
 
 #[cfg(test)]
-mod disks;
-#[cfg(test)]
 mod every_byte;
 #[cfg(test)]
 mod files;
@@ -11,8 +9,6 @@ mod files;
 mod liar;
 #[cfg(test)]
 mod lies;
-#[cfg(test)]
-mod openings;
 #[cfg(test)]
 mod parts;
 #[cfg(test)]
