@@ -22,7 +22,7 @@ check:
 mutants:
 	@mutants/try.sh $(or $(NAME),gate)
 
-# The rate of each benchmark, whose program is proved by this call: the gate has no benchmarks.
+# The rate of each benchmark, whose programs are proved by this call: the gate has no benchmarks.
 bench:
 	@bench/rates.sh
 
