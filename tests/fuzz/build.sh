@@ -11,7 +11,8 @@ kit=$(dirname "$(rt doc)")
 counters=/usr/lib/afl/afl-compiler-rt.o
 
 cp "$made/module.bc" "$work"
-mapfile -t flags < <(sed -e 's/^module\.o$/trials.o/' -e 's/^-O0$/-O2/' -e '/^-fsanitize=address$/d' "$made/flags")
+mapfile -t flags < <(sed -e 's/^module\.o$/trials.o/' -e 's/^-O0$/-O2/' -e '/^-fsanitize=address$/d' \
+    -e "s#^--sysroot=.*#--sysroot=$kit/toolchain#" "$made/flags")
 (cd "$work" && "$kit/toolchain/bin/clang" "${flags[@]}" -fsanitize-coverage=trace-pc-guard)
 objcopy --redefine-sym main=trial_main "$work/trials.o"
 cc -O1 -o "$work/trials" "$here/persist.c" "$work/trials.o" "$kit/c/libos_c.a" "$kit/c/liblibc_c.a" "$counters"
