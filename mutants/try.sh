@@ -1,8 +1,7 @@
 #!/usr/bin/env bash
 # Tries a crate's wrong bodies, mutants/NAME/*.edit and mutants/gate/NAME/*.edit, on a copy of the repository, and prints the fate of
 # each. The gate keeps a few of its own, in crates/NAME/must-fail. It begins with what was proved before: a kit whose gate tries one
-# crate alone knows what it proved on this machine. Any other finds the libraries below as the checks of the work tree left them, and so
-# does each kit where CI is true, since there it tries no crate alone.
+# crate alone knows what it proved on this machine, and any other finds the libraries below as the checks of the work tree left them.
 # The name tests stands for those that only a check of the built program refuses, try_tests.sh, and gate for all that have a
 # stamp, stamps.py.
 # Use: mutants/try.sh NAME [EDIT..]
@@ -17,6 +16,7 @@ trap 'rm -rf "$copy"' EXIT
 
 # The files as they stand in the work tree, but for what was built. Git is not asked: a copy of the tree may be no repository.
 cd "$top"
+. tests/lib/apart.sh
 tar --exclude=.git --exclude=out -cf - . | tar -xf - -C "$copy"
 
 # Those of the crates below are the gate's affair.
@@ -31,14 +31,24 @@ for edit in "$@"; do
 done
 git init -q "$copy"
 
-# Whether the gate tries one crate alone here.
-has_gate() {
-    [ "${CI:-}" != true ] && rt help 2>&1 | grep -c -E '^ *rt ci +\[?NAME' > /dev/null
+# Leaves the copy only this crate and those below it.
+cut_copy() {
+    local folder
+    lines_with "$(grep "^${name}[: ]" crates.txt)" > below
+    for folder in crates/*; do
+        grep -c "^${folder#crates/}[: ]" below > /dev/null || rm -rf "$folder"
+    done
+    mv below crates.txt
 }
 
-# The gate of one crate.
+# The gate of one crate. Where CI is true the kit takes no crate by its name, and the gate is that of a copy that has no others.
 gate() {
-    rt ci "$name" > "$copy/said" 2>&1
+    if [ "${CI:-}" = true ]; then
+        cut_copy
+        rt ci > "$copy/said" 2>&1
+    else
+        rt ci "$name" > "$copy/said" 2>&1
+    fi
 }
 
 # The edits alone, with their count as the gate says it.
@@ -53,7 +63,7 @@ alone() {
 
 cd "$copy"
 status=0
-if has_gate; then
+if rt help 2>&1 | grep -c -E '^ *rt ci +\[?NAME' > /dev/null; then
     gate || status=$?
 else
     alone || status=$?

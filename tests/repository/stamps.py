@@ -21,9 +21,9 @@ if words == ["version"]:
     print(open(os.path.join(here, "kit")).read().strip())
 elif words == ["help"]:
     print("  rt ci NAME..  the gate of these crates")
-elif words == ["ci"]:
+elif words == ["ci"] and not glob.glob("crates/*/must-fail"):
     print("5 passed, 0 failed")
-elif words[0] == "ci" and os.environ.get("CI") == "true":
+elif words[1:] and os.environ.get("CI") == "true":
     print("0 passed, 1 failed")
     sys.exit(2)
 else:
@@ -62,7 +62,7 @@ class Stamps(helper.Check):
         self.write("bin/rt", RT)
         os.chmod(self.place("bin/rt"), 0o755)
         self.write("bin/kit", "kit one")
-        for script in ("mutants/stamps.py", "mutants/goals.py", "mutants/try.sh", "tests/gate.sh"):
+        for script in ("mutants/stamps.py", "mutants/goals.py", "mutants/try.sh", "tests/gate.sh", "tests/lib/apart.sh"):
             os.makedirs(os.path.dirname(self.place(f"top/{script}")), exist_ok=True)
             shutil.copy(os.path.join(helper.TOP, script), self.place(f"top/{script}"))
         self.write("top/crates.txt", "# name: what it stands on\n" + "".join(f"{name}: {below}\n" for name, below in CRATES.items()))
@@ -123,9 +123,13 @@ class Stamps(helper.Check):
         self.assertEqual((asked, status, sorted(self.lines())), (EVERY, 0, EVERY))
 
     def test_ci(self):
-        """where the kit takes no crate alone, as CI is true, each edit is tried all the same, and one that is not refused fails"""
+        """where the kit takes no crate by name, as CI is true, the gate is that of a copy of it and those below, and what is not refused fails"""
         self.ci = "true"
+        notes = "    open(os.path.join(here, 'there'), 'a').write(' '.join(sorted(os.listdir('crates'))) + '\\n')\n"
+        self.write("bin/rt", RT.replace("    failed = 0\n", "    failed = 0\n" + notes))
         self.tries(EVERY, 4, 0)
+        with open(self.place("bin/there"), encoding="utf-8") as file:
+            self.assertEqual(sorted(file.read().splitlines()), ["beside", "high low", "low"])
         self.edit("low/one", new="n + 1 /* harmless */")
         self.assertIn("NOT REFUSED", self.tries(["low/one"], 3, 1))
         self.assertEqual(sorted(self.lines()), EVERY[:3])
