@@ -130,10 +130,14 @@ class Resource:
     def stopped(self):
         """Stops it once, as the client ends."""
         self.clear()
+        self.state = "not stopped"
         if self.cancel_monitors():
             self.last = yield self.action("stop")
-            self.state = "stopped" if self.last["code"] == 0 else "not stopped"
-            say(f"{self.name} is {self.state}: {described(self.last)}")
+            if self.last["code"] != 0:
+                return say(f"{self.name} is not stopped: {described(self.last)}")
+            say(f"{self.name} is stopped")
+        self.state = "stopped"
+        return None
 
     def given_up(self, why):
         """Leaves it stopped. A stop that failed is not tried once more: that wants a person."""
@@ -239,7 +243,7 @@ class Resource:
         except Refused as refused:
             self.task = None
             if refused.word not in ("disk", "closed"):  # of these two the executor ends
-                self.settle("given up", f"is given up: {refused}")
+                self.settle("not stopped" if self.state == "not stopped" else "given up", f"is given up: {refused}")
 
     def hear(self, result):
         fails = result["interval"] and result["code"] not in RUNNING
@@ -290,16 +294,18 @@ class Client:
             os.read(self.wake, 4096)
         while self.asked:
             number = self.asked.pop(0)
+            if self.is_stopping:
+                continue
             if number == signal.SIGHUP:
-                self.is_ready = self.is_stopping
+                self.is_ready = False
                 notify("RELOADING=1", f"MONOTONIC_USEC={time.monotonic_ns() // 1000}")
                 say(f"{self.file} was read again" if self.read() else "all stays as it was")
-            elif not self.is_stopping:
-                self.is_ready = True
-                self.tell("STOPPING=1")
-                self.is_leaving, self.is_stopping = number == signal.SIGUSR1, number != signal.SIGUSR1
-                for resource in self.resources.values() if self.is_stopping and self.executor.is_running() else ():
-                    self.begin(resource)
+                continue
+            self.is_ready = True
+            self.tell("STOPPING=1")
+            self.is_leaving, self.is_stopping = number == signal.SIGUSR1, number != signal.SIGUSR1
+            for resource in self.resources.values() if self.is_stopping and self.executor.is_running() else ():
+                self.begin(resource)
         return self.is_leaving or self.is_stopping and not any(resource.task for resource in self.resources.values())
 
     def rest(self, seconds=None):
@@ -374,7 +380,7 @@ class Client:
         if os.path.exists(self.file) and not self.read():
             return 2
         while not self.resources:
-            say(f"nothing is done, as {self.file} " + ("names no resource" if os.path.exists(self.file) else "is not there"))
+            say(f"no resource is known from {self.file}, so nothing is done")
             self.tell()
             if self.rest():
                 return 0

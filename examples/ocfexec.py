@@ -162,16 +162,17 @@ class Executor:
         try:
             self._await(lambda: self._answered >= self._sent or None, self.patience)
         except Late:
-            self._passed_over.update(number for number in numbers if number not in self._replies)
+            self._passed_over.update(number for number in numbers if self._replies.pop(number, None) is None)
             raise
         return [self._replies.pop(number) for number in numbers]
 
     # Results
 
     def hear(self, seconds=None):
-        """Reads what has come; where nothing has, waits so many seconds at most, None being for ever. Whether something came. Raises
-        Ended once everything was read."""
-        return self._exchange(seconds)
+        """Reads what has come; where nothing has, and no result waits to be taken, waits so many seconds at most, None being for ever.
+        Whether something came or waits. Raises Ended once everything was read."""
+        came = self._exchange(0 if self._results else seconds)
+        return came or bool(self._results)
 
     def take(self):
         """All results that have come and were not taken yet, oldest first."""

@@ -72,6 +72,18 @@ class Library(helper.Check):
         self.assertEqual(([result["id"] for result in others], executor.take()), (["a", "c"], []))
         self.assertRaises(ocfexec.Late, executor.result, calls[1], 0.1)
 
+    def test_waits(self):
+        """a result that came with a reply is there to be taken at once"""
+        executor = self.executor("--memory")
+        executor.ask(**register("n", "Nothing"))
+        executor.ask(**action("n", "start"))
+        time.sleep(0.3)
+        executor.ask(op="list")
+        began = time.monotonic()
+        self.assertTrue(executor.hear(5))
+        self.assertLess(time.monotonic() - began, 1)
+        self.assertEqual([result["outcome"] for result in executor.take()], ["not-started"])
+
     def test_many(self):
         """commands and replies of more than all pipes hold are written and read side by side"""
         executor = self.executor("--memory", patience=60)

@@ -70,7 +70,13 @@ class Pair(helper.Check):
     def writers(self, count):
         run = self.starts()
         written = [subprocess.Popen(["sh", "-c", WRITER, "sh", name, str(count), self.fifo]) for name in ("one", "two")]
-        self.assertEqual([writer.wait(120) for writer in written], [0, 0])
+        for writer in written:
+            self.addCleanup(writer.wait)
+            self.addCleanup(writer.kill)
+        while None in [writer.poll() for writer in written]:
+            self.assertIsNone(run.poll(), "it ended while lines were written")
+            time.sleep(0.02)
+        self.assertEqual([writer.returncode for writer in written], [0, 0])
         # a registration, the parameters, a start and its result, of each
         found = self.answered(run, 2 * (count + 3))
         self.assertEqual([value for value in found if "error" in value], [])

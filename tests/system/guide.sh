@@ -23,6 +23,8 @@ PATH=$PATH:/usr/sbin:/sbin
 root=$here/root
 libexec=$root/usr/libexec/ocfexec
 installed=
+# the folders of this machine that the guide makes, once it is known that they are not there
+ours=
 mkdir "$root" "$here/hour" "$here/systemd" "$here/bin"
 chmod 755 "$here" "$root"
 
@@ -31,7 +33,7 @@ package() {
     if [ "$on_machine" = / ]; then
         dpkg "$@" > "$here/dpkg" 2>&1
     else
-        dpkg --root="$root" --force-not-root --force-depends --log="$here/log" "$@" > "$here/dpkg" 2>&1
+        dpkg --root="$root" --force-not-root --force-depends --force-script-chrootless --log="$here/log" "$@" > "$here/dpkg" 2>&1
     fi || differs "dpkg $1" "done" "$(cat "$here/dpkg")"
 }
 
@@ -61,7 +63,8 @@ leave() {
     [ ! -s "$hour/nginx.pid" ] || env kill -KILL -- "-$(cat "$hour/nginx.pid")" 2> /dev/null
     [ -z "$installed" ] || package -P ocfexec
     rm -rf "$here"
-    [ "$on_machine" != / ] || rm -rf "$hour"
+    # shellcheck disable=SC2086
+    [ -z "$ours" ] || rm -rf $ours
 }
 trap leave EXIT
 
@@ -70,13 +73,14 @@ hour=$here/hour
 unit=$root/lib/systemd/system/ocfexec.service
 if [ "$on_machine" = / ]; then
     ! command -v ocfexec > /dev/null || skip "ocfexec is installed here already: $(command -v ocfexec)"
+    for folder in /srv/hour /etc/ocfexec /var/lib/ocfexec; do
+        [ ! -e "$folder" ] || skip "$folder is there already"
+    done
+    ours="/srv/hour /etc/ocfexec /var/lib/ocfexec"
     bin=/usr/bin
     libexec=/usr/libexec/ocfexec
     hour=/srv/hour
     unit=/lib/systemd/system/ocfexec.service
-    for folder in "$hour" /etc/ocfexec /var/lib/ocfexec; do
-        [ ! -e "$folder" ] || skip "$folder is there already"
-    done
     install
 elif [ -f "$top/crates/ocfexec/out/gate" ] && command -v dpkg-deb > /dev/null; then
     install

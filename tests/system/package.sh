@@ -19,16 +19,25 @@ fi
 root=$here/root
 mkdir -p "$root/var/lib/dpkg/info" "$root/var/lib/dpkg/updates"
 touch "$root/var/lib/dpkg/status"
-package() { PATH=$PATH:/usr/sbin:/sbin dpkg --root="$root" --force-not-root --force-depends --log="$here/log" "$@" > "$here/dpkg" 2>&1 || { cat "$here/dpkg"; exit 1; }; }
+package() { PATH=$PATH:/usr/sbin:/sbin dpkg --root="$root" --force-not-root --force-depends --force-script-chrootless --log="$here/log" "$@" > "$here/dpkg" 2>&1 || { cat "$here/dpkg"; exit 1; }; }
 
 package -i "$deb"
 same "the version" "$("$program" --version)" "$("$root/usr/bin/ocfexec" --version)"
+commit=$(head -n 1 "$top/crates/ocfexec/out/gate")
+before=$("$program" --version | cut -d ' ' -f 2)+$(git -C "$top" rev-list --count "$commit^").$(git -C "$top" rev-parse --short=12 "$commit^")
+dpkg --compare-versions "$(dpkg-deb -f "$deb" Version)" gt "$before" || differs "the version" "above that of the commit before" "$(dpkg-deb -f "$deb" Version)"
+same "the journal's folder" 700 "$(stat -c %a "$root/var/lib/ocfexec")"
+for file in README.md docs/GUIDE.md docs/FORMAT.md docs/CLUSTER.md examples/client.py examples/ocfexec-fifo.socket; do
+    [ -s "$root/usr/share/doc/ocfexec/$file" ] || differs "$file" "there" "not"
+done
+printf '{"resources": {}}\n' > "$here/resources.json"
+same "the client" "$here/resources.json: 0 resources" "$("$root/usr/libexec/ocfexec/client.py" --file "$here/resources.json" --check)"
 same "an agent's metadata" 0 "$(OCF_RESOURCE_TYPE=Stateful "$root/usr/lib/ocf/resource.d/ocfexec/Stateful" meta-data > "$here/meta"; echo $?)"
 reply=$(printf '%s\n' '{"op":"register","id":"r1","provider":"ocfexec","type":"Dummy","params":{"state":"'"$here/state"'"}}' \
     '{"op":"exec","id":"r1","action":"start","timeout":5000}' '{"op":"drain"}' |
     "$root/usr/bin/ocfexec" run --memory --root "$root/usr/lib/ocf" | grep -c '"outcome":"done"')
 same "an installed agent" 1 "$reply"
-grep -q "commit $(head -n 1 "$top/crates/ocfexec/out/gate")" "$root/usr/share/doc/ocfexec/README.gate" || differs "the gate" "its commit" ""
+grep -q "commit $commit" "$root/usr/share/doc/ocfexec/README.gate" || differs "the gate" "its commit" ""
 grep -q '/usr/bin/ocfexec serve .* \$OCFEXEC_OPTIONS$' "$root/lib/systemd/system/ocfexec.service" || differs "the unit" "the options of /etc/default" ""
 [ -s "$root/usr/share/man/man8/ocfexec.8.gz" ] || differs "the manual page" "there" "not"
 
@@ -38,6 +47,7 @@ done
 
 package -r ocfexec
 same "what is left" "$root/etc/default/ocfexec" "$(find "$root" -type f -not -path "$root/var/lib/dpkg/*")"
+touch "$root/var/lib/ocfexec/part-a"
 package -P ocfexec
-same "what is left of it" "" "$(find "$root" -type f -not -path "$root/var/lib/dpkg/*")"
+same "what is left of it" "$root/var/lib/ocfexec/part-a" "$(find "$root" -type f -not -path "$root/var/lib/dpkg/*")"
 finish "the installed package"

@@ -97,6 +97,24 @@ class Keeper(helper.Check):
             self.manager.start()
             self.assertEqual((self.manager.read("active"), self.manager.read("ExecMainStatus")), ("", status))
 
+    def test_removed(self):
+        """the package's removal leaves what runs, and says so; its upgrade ends nothing before the new one is there"""
+        self.manager.start()
+        played = os.path.join(self.here, "bin")
+        os.mkdir(played)
+        with open(os.path.join(played, "systemctl"), "w", encoding="ascii") as file:
+            file.write(f'#!/bin/sh\nexec {sys.executable} {systemctl.__file__} {self.place("unit")} {self.place("systemd")} "$@"\n')
+        os.chmod(os.path.join(played, "systemctl"), 0o755)
+        shutil.copy(os.path.join(EXAMPLES, "ocfexec.service"), self.place("unit"))
+        for word, said, active in (("upgrade", "", "active"), ("remove", "the services that it keeps run on", "")):
+            done = subprocess.run(["sh", os.path.join(helper.TOP, "package/prerm"), word], capture_output=True, text=True, timeout=60,
+                                  env={"PATH": f"{played}:{os.environ['PATH']}"})
+            self.assertEqual((done.returncode, done.stderr), (0, ""))
+            self.assertIn(said, done.stdout)
+            self.assertEqual(self.manager.read("active"), active)
+        self.assertEqual((self.manager.read("ExecMainStatus"), self.called()), ("0", ["start"]))
+        self.assertTrue(os.path.exists(self.place("web")))
+
     def test_nothing(self):
         """without a file it is up, and nothing is started, until a reload finds one"""
         os.remove(self.place("resources.json"))
