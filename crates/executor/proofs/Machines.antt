@@ -6,3 +6,4 @@ pub mod Runs
 pub mod Reports
 pub mod Claims
 pub mod Examples
+pub mod Story
