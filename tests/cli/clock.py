@@ -133,7 +133,7 @@ class Clock(helper.Check):
         for seconds in (0, -3600, 3600, -YEARS, YEARS):
             table = self.status(seconds)
             self.is_true_to(table, 5 + time.monotonic() - began)
-            self.assertRegex(table, r"r1 test:Sleeper start since \d+ (ms|s)\n")
+            self.assertRegex(table, r"r1 test:Sleeper never run start since \d+ (ms|s)\n")
             self.assertRegex(table, r"\n every 2 s running, \d+ (ms|s) ago; due (in )?\d+ (ms|s)")
         self.is_true_to(self.status(YEARS, "journal", "r2"), 5 + time.monotonic() - began)
         run.run.kill()
@@ -152,10 +152,10 @@ class Clock(helper.Check):
             name = self.copied(f"copy{place}", executor)
             self.is_true_to(self.status(0, name), 5 + time.monotonic() - began)
             table = self.status(-3600, name)
-            self.assertIn("r1 test:Sleeper start since a moment in the future by the clock\n", table)
+            self.assertIn("r1 test:Sleeper never run start since a moment in the future by the clock\n", table)
             self.assertIn("\n every 2 s running, in the future by the clock; due within 2 s\n", table)
             table = self.status(YEARS, name)
-            self.assertIn("r1 test:Sleeper start since 3650 days\n", table)
+            self.assertIn("r1 test:Sleeper never run start since 3650 days\n", table)
             self.assertRegex(table, r"\n every 2 s running, 3650 days ago; due 36(49|50) days ago\n")
 
 

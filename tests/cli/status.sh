@@ -23,10 +23,17 @@ tells() {
 }
 
 tells --memory
-same "no resource" "RESOURCE  AGENT  NOW" "$(cat "$here/out")"
-tells --journal "$here/empty"
-same "a folder without a journal" "RESOURCE  AGENT  NOW" "$(cat "$here/out")"
-same "a folder without a journal, made" "" "$(ls "$here/empty")"
+same "no resource" "RESOURCE  AGENT  STATE  NOW" "$(cat "$here/out")"
+for more in "" --json --exit-code; do
+    tells $more --journal "$here/empty"
+    same "a folder without a journal $more, status" 9 "$status"
+    same "a folder without a journal $more, text" "ocfexec: no journal here yet" "$(cat "$here/err")"
+    same "a folder without a journal $more, output" "" "$(cat "$here/told")"
+    same "a folder without a journal $more, made" "" "$(ls "$here/empty")"
+done
+"$program" run --journal "$here/empty" < /dev/null
+tells --exit-code --journal "$here/empty"
+same "a new journal" "0 RESOURCE  AGENT  STATE  NOW" "$status $(cat "$here/out")"
 checked "nothing"
 
 run "$here/journal" '{"op":"register","id":"a-longer-name","provider":"test","type":"Slow","params":{"time":""}}' \
@@ -44,17 +51,17 @@ until "$program" show --journal "$here/journal" | grep '_start_0"' > "$here/runn
 cp -r "$here/journal" "$here/before"
 tells --journal "$here/journal"
 cat > "$here/wanted" <<'TABLE'
-RESOURCE       AGENT      NOW
-a-longer-name  test:Slow  start since TIME, 1 queued
+RESOURCE       AGENT      STATE               NOW
+a-longer-name  test:Slow  failed since TIME   start since TIME, 1 queued
   monitor       not running, TIME ago
   start         failed: the agent's file is missing, TIME ago
   promote       failed: a signal ended the agent, TIME ago
-  last failure  promote: failed: a signal ended the agent, TIME ago
-b              test:None  idle
+  last failure  promote: failed: a signal ended the agent (OCF_ERR_GENERIC, 1), TIME ago
+b              test:None  failed since TIME   idle
   start         failed: the agent's file is missing, TIME ago
   stop          cancelled: it was withdrawn before it began, TIME ago
   every TIME failed: the agent's file is missing, TIME ago; due
-  last failure  monitor: failed: the agent's file is missing, TIME ago
+  last failure  monitor: failed: the agent's file is missing (OCF_ERR_INSTALLED, 5), TIME ago
 TABLE
 sed -E -i 's/  +/  /g' "$here/wanted" "$here/out"
 is_wanted "a journal in use" "$here/out"
@@ -63,12 +70,12 @@ checked "a journal in use"
 tells --journal "$here/journal" b
 sed -E -i 's/call [0-9]+/call N/; s/  +/  /g' "$here/out"
 cat > "$here/wanted" <<'TABLE'
-RESOURCE  AGENT  NOW
-b  test:None  idle
+RESOURCE  AGENT  STATE  NOW
+b  test:None  failed since TIME  idle
   start  failed: the agent's file is missing, TIME ago
   stop  cancelled: it was withdrawn before it began, TIME ago
   every TIME failed: the agent's file is missing, TIME ago; due
-  last failure  monitor: failed: the agent's file is missing, TIME ago
+  last failure  monitor: failed: the agent's file is missing (OCF_ERR_INSTALLED, 5), TIME ago
   history, oldest first:
   call N, stop of TIME: cancelled: it was withdrawn before it began, TIME ago
   call N, start of TIME: failed: the agent's file is missing, TIME ago
@@ -84,11 +91,18 @@ same "no such resource, output" "" "$(cat "$here/told")"
 checked "no such resource"
 
 "$program" status --json --journal "$here/journal" > "$here/json"
-"$program" show --journal "$here/journal" | cmp -s - "$here/json" || differs "status --json" "what show prints" "$(cat "$here/json")"
+"$program" show --journal "$here/journal" > "$here/shown"
+head -n 5 "$here/json" | cmp -s - "$here/shown" || differs "status --json" "first what show prints" "$(cat "$here/json")"
+sed -n '6,$p' "$here/json" | sed -E 's/"(at|since)":[0-9]+/"\1":N/g' > "$here/states"
+cat > "$here/wanted" <<'LINES'
+{"failed":{"action":"promote","at":N,"code":1,"name":"OCF_ERR_GENERIC","outcome":"signaled"},"id":"a-longer-name","queued":1,"running":{"action":"start","since":N},"since":N,"state":"failed"}
+{"failed":{"action":"monitor","at":N,"code":5,"name":"OCF_ERR_INSTALLED","outcome":"not-started"},"id":"b","queued":0,"running":null,"since":N,"state":"failed"}
+LINES
+is_wanted "the states as JSON" "$here/states"
 "$program" status --json --journal "$here/journal" b > "$here/one"
-tail -n 2 "$here/json" | cmp -s - "$here/one" || differs "status --json b" "the last two lines of show" "$(cat "$here/one")"
+sed -n '4,5p;7p' "$here/json" | cmp -s - "$here/one" || differs "status --json b" "the lines of b" "$(cat "$here/one")"
 "$program" status --journal "$here/journal" a-longer-name --json > "$here/one"
-sed -n '2,3p' "$here/json" | cmp -s - "$here/one" || differs "status a-longer-name --json" "the second and third line of show" "$(cat "$here/one")"
+sed -n '2,3p;6p' "$here/json" | cmp -s - "$here/one" || differs "status a-longer-name --json" "the lines of a-longer-name" "$(cat "$here/one")"
 checked "as JSON"
 
 for name in nobody a-longer-nam B ''; do

@@ -1,5 +1,5 @@
 -- The command line of `ocfexec` as `clap` reads it: `run`, `serve`, `show` and `status`, each with the same options, and `status`
--- with two more.
+-- with three more.
 use Rattle.std.specs.Prelude.{[], ◌∷◌, Some, true, codes}
 use Rattle.clap.specs.Words.{App, Rule, Text, new_app, new_rule, with_rule, with_subcommand}
 use Rattle.clap.specs.declared.builder.ArgAction.TheVariants.{SetTrue}
@@ -61,9 +61,12 @@ with_agent_app a =
 abbrev pub with_options_app : App → App
 with_options_app a = with_agent_app (with_site_app (with_journal_app a))
 
--- which resource is asked for, and whether as JSON
+-- which resource is asked for, whether as JSON, and whether what has failed shows in the status of the process
 abbrev pub with_status_app : App → App
-with_status_app a = with_rule (with_rule a (word_rule (codes "resource"))) (flag_rule (codes "json"))
+with_status_app a =
+    let a₁ = with_rule a (word_rule (codes "resource")) in
+    let a₂ = with_rule a₁ (flag_rule (codes "json")) in
+    with_rule a₂ (flag_rule (codes "exit-code"))
 
 -- a subcommand is asked for; the version is told by `--version`
 abbrev pub top_app : App

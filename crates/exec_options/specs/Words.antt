@@ -65,6 +65,7 @@ pub record IsReadFrom (rows : List Row) (o : Options) : Type 0 where
   pub leave_orphans : o.leave_orphans ≡ is_true_text (first_of (codes "leave-orphans") rows)
   pub resource : option_map (λ s. s.now) o.resource ≡ first_of (codes "resource") rows
   pub json : o.json ≡ is_true_text (first_of (codes "json") rows)
+  pub exit_code : o.exit_code ≡ is_true_text (first_of (codes "exit-code") rows)
 
 -- by `clap`'s rules the words name this subcommand, with these rows
 abbrev pub Names : List Text → Subcommand → List Row → Type 0

@@ -167,10 +167,15 @@ fn with_status_options<'a>(alloc: Global, command: Command<'a>) -> Result<Comman
         "ID",
         "The one resource that is asked for, whose history is told, too; left out, all",
     ))?;
-    command.arg(flag(
+    let command = command.arg(flag(
         alloc,
         "json",
-        "Print the lines of show, and no table; with ID those of that resource alone",
+        "Print the lines of show and a line of each resource, and no table; with ID those of that resource alone",
+    ))?;
+    command.arg(flag(
+        alloc,
+        "exit-code",
+        "End with status 9 where a resource has failed, or it is not known how it is",
     ))
 }
 

@@ -73,6 +73,8 @@ pub struct Options<'a> {
     pub leave_orphans: bool,
     /// The id of the one resource whose status is asked for, or none.
     pub resource: Option<&'a str>,
-    /// Whether a status is given as the lines of a show.
+    /// Whether a status is given as lines of JSON.
     pub json: bool,
+    /// Whether a status ends otherwise than well where a resource has failed, or it is not known how it is.
+    pub exit_code: bool,
 }

@@ -54,7 +54,9 @@ Example:
 pub const STATUS: &str =
     "Give just one of --journal and --memory. A journal that is in use can be shown too, and nothing is changed.
 The other options are those of run, and do nothing here. Results are in colour on a terminal alone.
+STATE is what the last results tell: started, promoted, stopped, failed, unknown (what was cut off may be done or not) or never run.
 
 Examples:
   ocfexec status --journal /var/lib/ocfexec
-  ocfexec status --journal /var/lib/ocfexec web";
+  ocfexec status --journal /var/lib/ocfexec web
+  ocfexec status --journal /var/lib/ocfexec --exit-code > /dev/null || echo look at it";

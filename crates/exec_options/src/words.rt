@@ -136,6 +136,7 @@ fn options_of<'a>(
         leave_orphans: is_set(matches, "leave-orphans"),
         resource: text_of(matches, "resource"),
         json: is_set(matches, "json"),
+        exit_code: is_set(matches, "exit-code"),
     })
 }
 

@@ -1,7 +1,9 @@
 -- The rows of a table, one more and one less.
 use Rattle.std.proofs.Common.{◌≡◌, ℕ, ◌+◌, ◌<◌, ◌++◌, true, false, take, length, List, [], ◌∷◌, Option, Result, Ok, Err, refl, ap, sym, subst, ◌∙◌}
 use Rattle.std.proofs.lemmas.List.{append-nil, append_assoc, take_more}
+use Rattle.std.proofs.lemmas.Grind.{flat_map-append}
 use Rattle.std.proofs.lemmas.List.Elements.{filter-append}
+use Rattle.std.specs.List.{flat_map}
 use Rattle.ocf_types.specs.Places.{entry_at, no_entry}
 use Rattle.ocf_types.specs.Resource.{Resource}
 use Rattle.ocf_types.specs.State.{State}
@@ -11,7 +13,7 @@ use Rattle.exec_journal.specs.Found.{FoundAs}
 use Rattle.exec_output.specs.declared.fault.Fault.{Fault}
 use Rattle.exec_output.specs.declared.fault.Fault.TheVariants as fault
 use Rattle.exec_output.specs.Told.{told}
-use Rattle.exec_output.specs.Tables.{agent_text, AreRows, gap, IsRow, IsToldAs, TellsAs, asked_entries, is_asked_for}
+use Rattle.exec_output.specs.Tables.{agent_text, AreRows, gap, IsRow, IsToldAs, TellsAs, asked_entries, is_asked_for, state_text}
 
 abbrev Entry : Type 0
 Entry = List ℕ × Resource
@@ -55,6 +57,26 @@ asked_same look s i text lt asked rows =
     (sym (first_asked look s i lt ∙ ap (λ es. asked_entries look (take i s.resources) ++ es) (none_asked look (entry_at s i) asked)
     ∙ append-nil (asked_entries look (take i s.resources)))) rows
 
+-- the lines of the resources that are asked for, and one more
+pub lines_of_more : (f : Entry → List ℕ) (look : Look) (s : State) (i : ℕ) (line : List ℕ) → i < length s.resources
+    → is_asked_for look (entry_at s i).0 ≡ true → line ≡ f (entry_at s i)
+    → flat_map f (asked_entries look (take i s.resources)) ++ line ≡ flat_map f (asked_entries look (take (i + 1) s.resources))
+lines_of_more f look s i line lt asked is =
+    let es = asked_entries look (take i s.resources) in
+    let more : asked_entries look (take (i + 1) s.resources) ≡ es ++ entry_at s i ∷ [] =
+    first_asked look s i lt ∙ ap (λ xs. es ++ xs) (one_asked look (entry_at s i) asked)
+    in
+    ap (λ t. flat_map f es ++ t) (is ∙ sym (append-nil (f (entry_at s i))))
+    ∙ sym (ap (flat_map f) more ∙ flat_map-append f es (entry_at s i ∷ []))
+
+pub lines_of_same : (f : Entry → List ℕ) (look : Look) (s : State) (i : ℕ) → i < length s.resources
+    → is_asked_for look (entry_at s i).0 ≡ false
+    → flat_map f (asked_entries look (take i s.resources)) ≡ flat_map f (asked_entries look (take (i + 1) s.resources))
+lines_of_same f look s i lt asked =
+    ap (flat_map f)
+    (sym (first_asked look s i lt ∙ ap (λ es. asked_entries look (take i s.resources) ++ es) (none_asked look (entry_at s i) asked)
+    ∙ append-nil (asked_entries look (take i s.resources))))
+
 no_first : (f : ℕ) (more : List ℕ) → [] ≡ f ∷ more → ⊥
 no_first f more e = cc
 
@@ -71,8 +93,11 @@ right_none (f ∷ fs) more e = let bad : [] ≡ f ∷ (fs ++ more) = e in absurd
 no_row : (look : Look) (e : Entry) (row more : List ℕ) → [] ≡ row ++ more → IsRow look e row → ⊥
 no_row look e row more empty is =
     let front = (e.0 ++ gap is.0) ++ agent_text e.1 in
-    let whole : [] ≡ (front ++ gap is.1) ++ told look e.1 = left_none row more empty ∙ is.2 in
-    let agent = right_none (e.0 ++ gap is.0) (agent_text e.1) (left_none front (gap is.1) (left_none (front ++ gap is.1) (told look e.1) whole)) in
+    let state = (front ++ gap is.1) ++ state_text look e.1 in
+    let whole : [] ≡ (state ++ gap is.2) ++ told look e.1 = left_none row more empty ∙ is.3 in
+    let no_state : [] ≡ state = left_none state (gap is.2) (left_none (state ++ gap is.2) (told look e.1) whole) in
+    let no_front : [] ≡ front ++ gap is.1 = left_none (front ++ gap is.1) (state_text look e.1) no_state in
+    let agent = right_none (e.0 ++ gap is.0) (agent_text e.1) (left_none front (gap is.1) no_front) in
     no_first 58 e.1.agent (right_none e.1.provider (58 ∷ e.1.agent) agent)
 
 -- no rows are those of no resources
@@ -98,6 +123,8 @@ tells reads look old new s (Err fault.Log) found told = absurd told
 tells reads look old new s (Err (fault.Damaged damage)) found told = absurd told
 tells reads look old new s (Err fault.Memory) found told = absurd told
 tells reads look old new s (Err fault.NotOpened) found told = absurd told
+tells reads look old new s (Err fault.NoJournal) found told = absurd told
+tells reads look old new s (Err fault.NotWell) found told = (s, found, told)
 tells reads look old new s (Err fault.Disk) found told = absurd told
 tells reads look old new s (Err fault.Full) found told = absurd told
 tells reads look old new s (Err fault.ChildrenIgnored) found told = absurd told

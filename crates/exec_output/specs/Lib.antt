@@ -4,3 +4,7 @@ pub mod Shown
 pub mod IoFaults
 pub mod Tables
 pub mod Told
+pub mod Texts
+pub mod Conditions
+pub mod ConditionTexts
+pub mod StatusLines

@@ -42,6 +42,27 @@ meaning action Interrupted = codes "interrupted: the executor stopped while it r
 meaning action Dropped = codes "dropped: the executor stopped before it began"
 meaning action Cancelled = codes "cancelled: it was withdrawn before it began"
 
+-- what an exit code means that was not expected, in the words of crm_mon(8) where it has some
+abbrev pub unexpected_meaning : Code → List ℕ
+unexpected_meaning code.Success = codes "running"
+unexpected_meaning code.Generic = codes "error"
+unexpected_meaning code.Args = codes "invalid parameter"
+unexpected_meaning code.Unimplemented = codes "unimplemented feature"
+unexpected_meaning code.Perm = codes "insufficient privileges"
+unexpected_meaning code.Installed = codes "not installed"
+unexpected_meaning code.Configured = codes "not configured"
+unexpected_meaning code.NotRunning = codes "not running"
+unexpected_meaning code.RunningPromoted = codes "promoted"
+unexpected_meaning code.FailedPromoted = codes "promoted (failed)"
+unexpected_meaning code.Degraded = codes "degraded"
+unexpected_meaning code.DegradedPromoted = codes "promoted (degraded)"
+unexpected_meaning (code.Other n) = codes "a code of the agent's own"
+
+-- what the failure of an action means
+abbrev pub failure_meaning : Action → Outcome → List ℕ
+failure_meaning action (Run (Done n)) = unexpected_meaning (code_read n)
+failure_meaning action outcome = meaning action outcome
+
 -- how an exit code is to be taken
 abbrev pub code_tone : Code → Tone
 code_tone code.Success = Good

@@ -40,9 +40,3 @@ ShowsAs reads old new (Err _) = ⊥
 -- a resource of this id is registered
 abbrev pub IsRegistered : State → List ℕ → Type 0
 IsRegistered s id = (place : ℕ) × (place < length s.resources) × (id_at s place ≡ id)
-
--- the same of one resource: its lines alone, or nothing where it is not registered
-abbrev pub ShowsOneAs : {T : Type 0} → Image → List ℕ → Option (List ℕ) → Option (List ℕ) → Result T Fault → Type 0
-ShowsOneAs reads id old new (Ok done) = (s : State) × FoundAs s reads × IsRegistered s id × Appends old new (resource_lines s id)
-ShowsOneAs reads id old new (Err fault.NoResource) = (s : State) × FoundAs s reads × (¬ IsRegistered s id) × (new ≡ old)
-ShowsOneAs reads id old new ended = ShowsAs reads old new ended

@@ -1,5 +1,6 @@
 -- A journal's state as a table for a person.
-use Rattle.std.specs.Prelude.{◌≡◌, ℕ, ⊤, Bool, true, List, [], ◌∷◌, ◌++◌, filter, replicate, codes, Option, Result, Ok, Err}
+use Rattle.std.specs.Prelude.{◌≡◌, ℕ, ⊤, Bool, true, false, ◌&&◌, List, [], ◌∷◌, ◌++◌, filter, replicate, codes, Option, Result, Ok, Err}
+use Rattle.std.specs.List.{list_any}
 use Rattle.std.specs.Option.{option_map_or}
 use Rattle.std.specs.Str.{bytes_eq}
 use Rattle.std.specs.Io.KnownBytes.{Appends}
@@ -7,6 +8,8 @@ use Rattle.ocf_types.specs.Resource.{Resource}
 use Rattle.ocf_types.specs.State.{State}
 use Rattle.disk_model.specs.Image.{Image}
 use Rattle.exec_journal.specs.Found.{Damaged, FoundAs, IsFound}
+use Rattle.exec_output.specs.ConditionTexts.{condition_text}
+use Rattle.exec_output.specs.Conditions.{condition_of, is_bad}
 use Rattle.exec_output.specs.Told.{told}
 use Rattle.exec_output.specs.declared.look.Look.{Look}
 use Rattle.exec_output.specs.declared.fault.Fault.{Fault}
@@ -15,6 +18,10 @@ use Rattle.exec_output.specs.declared.fault.Fault.TheVariants as fault
 -- an agent, as its provider and its type
 abbrev pub agent_text : Resource → List ℕ
 agent_text r = r.provider ++ 58 ∷ r.agent
+
+-- how a resource is, as a look tells it
+abbrev pub state_text : Look → Resource → List ℕ
+state_text look r = condition_text look.moment look.colours r.history
 
 -- a look asks for the resource of this id
 abbrev pub is_asked_for : Look → List ℕ → Bool
@@ -28,9 +35,10 @@ asked_entries look es = filter (λ e. is_asked_for look e.0) es
 abbrev pub gap : ℕ → List ℕ
 gap n = replicate n 32 ++ codes "  "
 
--- a resource's row: its id and its agent, a gap behind each, and then what is told of it
+-- a resource's row: its id, its agent and how it is, a gap behind each, and then what is told of it
 abbrev pub IsRow : Look → List ℕ × Resource → List ℕ → Type 0
-IsRow look e row = (n : ℕ) × (m : ℕ) × (row ≡ (((e.0 ++ gap n) ++ agent_text e.1) ++ gap m) ++ told look e.1)
+IsRow look e row = (n : ℕ) × (m : ℕ) × (k : ℕ)
+    × (row ≡ (((((e.0 ++ gap n) ++ agent_text e.1) ++ gap m) ++ state_text look e.1) ++ gap k) ++ told look e.1)
 
 -- a row of each of these resources, just once, in their order
 abbrev pub AreRows : Look → List (List ℕ × Resource) → List ℕ → Type 0
@@ -39,7 +47,8 @@ AreRows look (e ∷ es) text = (row : List ℕ) × (more : List ℕ) × (text �
 
 -- the line above the rows
 abbrev pub IsHead : List ℕ → Type 0
-IsHead head = (n : ℕ) × (m : ℕ) × (head ≡ (((codes "RESOURCE" ++ gap n) ++ codes "AGENT") ++ gap m) ++ codes "NOW\n")
+IsHead head = (n : ℕ) × (m : ℕ) × (k : ℕ)
+    × (head ≡ (((((codes "RESOURCE" ++ gap n) ++ codes "AGENT") ++ gap m) ++ codes "STATE") ++ gap k) ++ codes "NOW\n")
 
 -- a head, and then the rows of the resources that are asked for
 abbrev pub IsTable : Look → State → List ℕ → Type 0
@@ -56,13 +65,27 @@ IsWritten old new text (Err _) = ⊥
 abbrev pub NotWritten : {T : Type 0} → Option (List ℕ) → Option (List ℕ) → Fault → Result T Fault → Type 0
 NotWritten old new why ended = (ended ≡ Err why) × (new ≡ old)
 
--- what is told of a state, by how it ended: its table, or nothing where no such resource is registered or memory is refused
+-- a resource that a look asks for has failed, or it is not known how it is
+abbrev pub is_any_bad : Look → State → Bool
+is_any_bad look s = list_any (λ e. is_asked_for look e.0 && is_bad (condition_of e.1.history)) s.resources
+
+-- a look is to end so where one has failed
+abbrev pub is_alarm : Look → State → Bool
+is_alarm look s = look.alarms && is_any_bad look s
+
+-- what is written of a state, by how that ended: its table, or nothing where no such resource is registered or memory is refused
+abbrev pub IsTableTold : {T : Type 0} → Look → State → Option (List ℕ) → Option (List ℕ) → Result T Fault → Type 0
+IsTableTold look s old new (Ok done) = (text : List ℕ) × IsTable look s text × Appends old new text
+IsTableTold look s old new (Err fault.NoResource) = (asked_entries look s.resources ≡ []) × (new ≡ old)
+IsTableTold look s old new (Err fault.ReplyMemory) = new ≡ old
+IsTableTold look s old new (Err fault.InputOrOutput) = ⊤
+IsTableTold look s old new (Err _) = ⊥
+
+-- what is told of a state, by how it ended: where its table is written, by whether a resource asks for a person
 abbrev pub IsToldAs : {T : Type 0} → Look → State → Option (List ℕ) → Option (List ℕ) → Result T Fault → Type 0
-IsToldAs look s old new (Ok done) = (text : List ℕ) × IsTable look s text × Appends old new text
-IsToldAs look s old new (Err fault.NoResource) = (asked_entries look s.resources ≡ []) × (new ≡ old)
-IsToldAs look s old new (Err fault.ReplyMemory) = new ≡ old
-IsToldAs look s old new (Err fault.InputOrOutput) = ⊤
-IsToldAs look s old new (Err _) = ⊥
+IsToldAs look s old new (Ok done) = IsTableTold look s old new (Ok done) × (is_alarm look s ≡ false)
+IsToldAs look s old new (Err fault.NotWell) = IsTableTold {T = Unit {0}} look s old new (Ok tt) × (is_alarm look s ≡ true)
+IsToldAs {T} look s old new (Err f) = IsTableTold {T = T} look s old new (Err f)
 
 -- what is written, by how it ended: what is told of the state that is found on these parts, or nothing where the pair is not
 -- read; damage that is told is the one that is found

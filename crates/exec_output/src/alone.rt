@@ -1,17 +1,11 @@
 //! What a journal holds of one resource.
-ghost use Rattle.std.specs.Prelude.{◌≡◌, ◌<◌, IfNone, IfSome, IsErrOf, Ok, false, length, true};
+ghost use Rattle.std.specs.Prelude.{◌≡◌, ◌<◌, IfNone, IfSome, Ok, false, length, true};
 ghost use Rattle.std.specs.Io.KnownBytes.{Appends};
 ghost use Rattle.ocf_types.specs.Places.{id_at};
-ghost use Rattle.disk_model.specs.View.{Increased};
-ghost use Rattle.exec_journal.specs.Opening.{Opens};
-ghost use Rattle.exec_output.specs.Faults.{IsRunEnd};
-ghost use Rattle.exec_output.specs.Shown.{IsRegistered, ShowsOneAs, resource_lines};
+ghost use Rattle.exec_output.specs.Shown.{IsRegistered, resource_lines};
 
-use crate::fault::Fault;
 use crate::send::IoFault;
-use crate::shown::{opening_fault, write_resource};
-use disk_model::Disk;
-use exec_journal::Journal;
+use crate::shown::write_resource;
 use exec_state::State;
 use ocf_types::StateView;
 use std::alloc::Global;
@@ -31,8 +25,8 @@ fn place_of(state: &State, id: &str) -> Option<usize>
     None
 }
 
-// Writes the lines of the resource of this id, and says whether there is one.
-fn write_one<W: Write>(
+/// Writes the lines of the resource of this id, and says whether there is one.
+pub(crate) fn write_one<W: Write>(
     alloc: Global,
     writer: &mut W,
     state: &State,
@@ -50,32 +44,4 @@ fn write_one<W: Write>(
     };
     write_resource(alloc, writer, state, state.id_at(place))?;
     Ok(true)
-}
-
-/// Opens a journal without a boot and writes what it holds of the resource of this id: the replies of `info` and `history`. They
-/// are all written, or the fault is that of input or output, or of memory for a reply, or that there is no such resource. The
-/// disk is handed back.
-pub fn show_one<D: Disk + Drop, W: Write>(
-    alloc: Global,
-    disk: D,
-    writer: &mut W,
-    id: &str,
-) -> (D, Result<(), Fault>)
-    ensures shown { (D.view result.0).honest
-        → ShowsOneAs (D.view disk).reads id.now (W.contents writer.old)
-        (W.contents writer.new) result.1 }
-    ensures opens { Opens (D.view disk) (D.view result.0) }
-    ensures cause { IsErrOf result.1 Fault.Disk
-        → Increased (D.view disk).failures (D.view result.0).failures }
-    ensures ends { IsRunEnd result.1 }
-{
-    match Journal::open(alloc, disk) {
-        Ok((journal, state)) => match write_one(alloc, writer, &state, id) {
-            Ok(true) => (journal.into_disk(), Ok(())),
-            Ok(false) => (journal.into_disk(), Err(Fault::NoResource)),
-            Err(IoFault::InputOrOutput) => (journal.into_disk(), Err(Fault::InputOrOutput)),
-            Err(IoFault::Memory) => (journal.into_disk(), Err(Fault::ReplyMemory)),
-        },
-        Err((fault, disk)) => (disk, Err(opening_fault(fault))),
-    }
 }

@@ -1,7 +1,10 @@
 //! What the program puts out: replies and notices, what a journal holds, and the faults that end it.
 #![tactic(auto)]
 
+mod alarm;
 mod alone;
+mod condition;
+mod condition_text;
 mod fault;
 mod lines;
 mod look;
@@ -9,12 +12,14 @@ mod meanings;
 mod send;
 mod shown;
 mod spans;
+mod state_lines;
 mod statuses;
 mod table;
+mod told_lines;
 
-pub use alone::show_one;
 pub use fault::Fault;
 pub use look::Look;
 pub use send::{IoFault, send_notice, send_notices, send_replies, send_reply};
 pub use shown::show;
 pub use statuses::status;
+pub use told_lines::status_json;

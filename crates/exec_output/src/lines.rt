@@ -2,9 +2,11 @@
 ghost use Rattle.std.specs.Prelude.{◌≡◌, ◌<◌, ◌-◌, ◌++◌, length, replicate, OnOk};
 ghost use Rattle.std.specs.List.{flat_map};
 ghost use Rattle.ocf_types.specs.Places.{at_place};
-ghost use Rattle.exec_output.specs.Told.{action_line, colour_of, failure_line, history_text, is_asked, is_run, last_of, lines_text, monitor_line, monitor_text};
-ghost use Rattle.exec_output.specs.Told.{painted, past_line, result_text, set_in, told_actions};
+ghost use Rattle.exec_output.specs.Texts.{colour_of, painted};
+ghost use Rattle.exec_output.specs.Told.{action_line, failure_line, history_text, is_asked, is_run, last_of, lines_text, monitor_line, monitor_text};
+ghost use Rattle.exec_output.specs.Told.{past_line, result_text, set_in, told_actions};
 
+use crate::condition_text::add_failed;
 use crate::look::Look;
 use crate::meanings::{Tone, meaning, tone_of};
 use crate::spans::{add, add_ago, add_due, add_exactly, add_number, add_span};
@@ -46,8 +48,13 @@ fn colour_of(tone: Tone) -> &'static str
     }
 }
 
-// A text in its colour, where colours are wanted.
-fn add_painted(text: &mut Vec<u8>, colours: bool, tone: Tone, more: &str) -> Result<(), AllocError>
+/// Adds a text in its colour, where colours are wanted.
+pub fn add_painted(
+    text: &mut Vec<u8>,
+    colours: bool,
+    tone: Tone,
+    more: &str,
+) -> Result<(), AllocError>
     ensures { OnOk result (text.new.items ≡ text.old.items ++ painted colours tone more.now) }
 {
     if !colours {
@@ -225,7 +232,7 @@ fn add_failure(text: &mut Vec<u8>, look: &Look, failed: &Option<Ended>) -> Resul
     begin(text, b"last failure")?;
     add(text, ended.action.word())?;
     add(text, ": ")?;
-    add_result(text, look, ended)
+    add_failed(text, look, ended)
 }
 
 // A line of the history.

@@ -13,6 +13,8 @@ pub struct Look<'a> {
     pub only: Option<&'a str>,
     /// Whether results are in colour, by the codes of terminals. ECMA-48, SGR.
     pub colours: bool,
+    /// Whether it is a fault where one that is asked for has failed, or it is not known how it is.
+    pub alarms: bool,
 }
 
 impl Look<'_> {

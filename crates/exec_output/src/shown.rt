@@ -66,7 +66,11 @@ fn write_resources<W: Write>(
 }
 
 // The reply of `list`, and then of each resource those of `info` and `history`.
-fn write_state<W: Write>(alloc: Global, writer: &mut W, state: &State) -> Result<(), IoFault>
+pub(crate) fn write_state<W: Write>(
+    alloc: Global,
+    writer: &mut W,
+    state: &State,
+) -> Result<(), IoFault>
     ensures { OnOk result
         (Appends (W.contents writer.old) (W.contents writer.new) (shown state.now.state)) }
 {

@@ -3,8 +3,9 @@ ghost use Rattle.std.specs.Prelude.{IsErrOf, IfOk, IfErr, IfSome, IfNone};
 ghost use Rattle.disk_model.specs.View.{Increased};
 ghost use Rattle.exec_journal.specs.Opening.{Opens};
 ghost use Rattle.exec_output.specs.Faults.{IsRunEnd};
-ghost use Rattle.exec_output.specs.Tables.{IsToldAs, IsWritten, NotWritten, TellsAs};
+ghost use Rattle.exec_output.specs.Tables.{IsTableTold, IsToldAs, IsWritten, NotWritten, TellsAs};
 
+use crate::alarm::is_alarm;
 use crate::fault::Fault;
 use crate::look::Look;
 use crate::shown::opening_fault;
@@ -47,10 +48,26 @@ fn write_table<W: Write>(
     look: &Look,
     state: &State,
 ) -> Result<(), Fault>
-    ensures { IsToldAs look.now state.now.state (W.contents writer.old)
+    ensures { IsTableTold look.now state.now.state (W.contents writer.old)
         (W.contents writer.new) result }
 {
     write_made(writer, table_of(alloc, look, state))
+}
+
+// Writes the table of a state, and tells where a resource asks for a person.
+#[tactic(auto, using(crate::proofs::AlarmLemmas::untold))]
+fn tell<W: Write>(alloc: Global, writer: &mut W, look: &Look, state: &State) -> Result<(), Fault>
+    ensures { IsToldAs look.now state.now.state (W.contents writer.old)
+        (W.contents writer.new) result }
+{
+    if let Err(fault) = write_table(alloc, writer, look, state) {
+        return Err(fault);
+    }
+    if is_alarm(look, state) {
+        Err(Fault::NotWell)
+    } else {
+        Ok(())
+    }
 }
 
 /// Opens a journal without a boot and writes what it holds as a table for a person: a line of heads, and then a row of each
@@ -74,7 +91,7 @@ pub fn status<D: Disk + Drop, W: Write>(
 {
     match Journal::open(alloc, disk) {
         Ok((journal, state)) => {
-            let ended = write_table(alloc, writer, look, &state);
+            let ended = tell(alloc, writer, look, &state);
             (journal.into_disk(), ended)
         }
         Err((fault, disk)) => (disk, Err(opening_fault(fault))),

@@ -4,6 +4,7 @@ ghost use Rattle.ocf_types.specs.Places.{entry_at, at_place};
 ghost use Rattle.exec_output.specs.Tables.{agent_text, AreRows, gap, IsHead, IsRow, IsTable, asked_entries};
 ghost use Rattle.exec_output.specs.Told.{now_text, queued_text, running_text, told};
 
+use crate::condition_text::condition_text;
 use crate::lines::{add_lines, pad};
 use crate::look::Look;
 use crate::spans::{add, add_number, add_since};
@@ -18,6 +19,7 @@ use unicode_width::UnicodeWidthStr;
 struct Columns {
     id: usize,
     agent: usize,
+    condition: usize,
 }
 
 // The columns that a text takes on a terminal.
@@ -39,19 +41,35 @@ fn agent_of(alloc: Global, state: &State, place: usize) -> Result<Vec<u8>, Alloc
     Ok(text)
 }
 
+// The columns that the text of how a resource is takes.
+fn condition_width(
+    alloc: Global,
+    look: &Look,
+    state: &State,
+    place: usize,
+) -> Result<usize, AllocError>
+    requires { place < length state.now.state.resources }
+{
+    let text = condition_text(alloc, look.moment, false, state, place)?;
+    Ok(width(text.as_slice()))
+}
+
 // Columns that are wide enough for the resources that are asked for.
 fn columns_of(alloc: Global, look: &Look, state: &State) -> Result<Columns, AllocError> {
     let mut ids = "RESOURCE".len();
     let mut agents = "AGENT".len();
+    let mut conditions = "STATE".len();
     for place in 0..state.len() {
         if look.asks_for(state.id_at(place)) {
             ids = ids.max(width(state.id_at(place).as_bytes()));
             agents = agents.max(width(agent_of(alloc, state, place)?.as_slice()));
+            conditions = conditions.max(condition_width(alloc, look, state, place)?);
         }
     }
     Ok(Columns {
         id: ids,
         agent: agents,
+        condition: conditions,
     })
 }
 
@@ -120,10 +138,14 @@ fn row_of(
 {
     let id = state.id_at(place).as_bytes();
     let agent = agent_of(alloc, state, place)?;
+    let condition = condition_text(alloc, look.moment, look.colours, state, place)?;
+    let taken = condition_width(alloc, look, state, place)?;
     let mut row = Vec::from_slice(alloc, id)?;
     add_gap(&mut row, width(id), columns.id)?;
     row.extend_from_slice(agent.as_slice())?;
     add_gap(&mut row, width(agent.as_slice()), columns.agent)?;
+    row.extend_from_slice(condition.as_slice())?;
+    add_gap(&mut row, taken, columns.condition)?;
     add_told(alloc, &mut row, look, state, place)?;
     Ok(row)
 }
@@ -156,6 +178,8 @@ fn head_of(alloc: Global, columns: Columns) -> Result<Vec<u8>, AllocError>
     add_gap(&mut head, "RESOURCE".len(), columns.id)?;
     add(&mut head, "AGENT")?;
     add_gap(&mut head, "AGENT".len(), columns.agent)?;
+    add(&mut head, "STATE")?;
+    add_gap(&mut head, "STATE".len(), columns.condition)?;
     add(&mut head, "NOW\n")?;
     Ok(head)
 }

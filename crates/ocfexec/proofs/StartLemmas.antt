@@ -33,6 +33,8 @@ ends look source rules report p q (Err fault.NotText) how = absurd how
 ends look source rules report p q (Err fault.Log) how = absurd how
 ends look source rules report p q (Err fault.NoResource) how = absurd how
 ends look source rules report p q (Err fault.NotOpened) how = absurd how
+ends look source rules report p q (Err fault.NoJournal) how = absurd how
+ends look source rules report p q (Err fault.NotWell) how = absurd how
 ends look source rules report p q (Err (fault.Damaged damage)) how = tt
 ends look source rules report p q (Err fault.Memory) how = absurd how
 ends look source rules report p q (Err fault.Disk) how = tt
@@ -78,6 +80,8 @@ journal_ends words o (Err fault.NotText) gives ends = absurd ends
 journal_ends words o (Err fault.Log) gives ends = absurd ends
 journal_ends words o (Err fault.NoResource) gives ends = (o, gives)
 journal_ends words o (Err fault.NotOpened) gives ends = absurd ends
+journal_ends words o (Err fault.NoJournal) gives ends = absurd ends
+journal_ends words o (Err fault.NotWell) gives ends = (o, gives)
 journal_ends words o (Err (fault.Damaged damage)) gives ends = (o, gives)
 journal_ends words o (Err fault.Memory) gives ends = tt
 journal_ends words o (Err fault.Disk) gives ends = (o, gives)
@@ -86,18 +90,25 @@ journal_ends words o (Err fault.InputOrOutput) gives ends = inr (o, gives)
 journal_ends words o (Err fault.ReplyMemory) gives ends = (o, gives)
 journal_ends words o (Err fault.ChildrenIgnored) gives ends = (o, gives)
 
--- a journal in files that was opened, and one that was not
+-- a journal in files that was opened, one that was not, and a folder that has none
 pub opened_ends : {T : Type 0} (r : Result T Fault) → IsRunEnd r → IsFolderEnd r
 opened_ends r ends = inl ends
 
 pub not_opened_ends : {T : Type 0} (f : Fault) → (f ≡ fault.Memory) ⊎ (f ≡ fault.NotOpened) → IsFolderEnd {T = T} (Err f)
-not_opened_ends {T} f = ⊎_elim (λ is. inl (subst (λ x. IsRunEnd {T = T} (Err x)) (sym is) tt)) (λ is. inr (ap Err is))
+not_opened_ends {T} f = ⊎_elim (λ is. inl (subst (λ x. IsRunEnd {T = T} (Err x)) (sym is) tt)) (λ is. inr (inl (ap Err is)))
+
+pub not_found_ends : {T : Type 0} (f : Fault) → (f ≡ fault.Memory) ⊎ ((f ≡ fault.NotOpened) ⊎ (f ≡ fault.NoJournal))
+    → IsFolderEnd {T = T} (Err f)
+not_found_ends {T} f =
+    ⊎_elim (λ is. inl (subst (λ x. IsRunEnd {T = T} (Err x)) (sym is) tt))
+    (⊎_elim (λ is. inr (inl (ap Err is))) (λ is. inr (inr (ap Err is))))
 
 -- words that ask for a journal in the files of a folder
 pub folder_ends : {T : Type 0} (words : List (List ℕ)) (o : Options) (r : Result T Fault) → Gives words o
     → is_some (folder_of o.journal) ≡ true → IsFolderEnd r → EndsFor words r
-folder_ends words o r gives is_in = ⊎_elim (journal_ends words o r gives)
-    (λ is. subst (λ x. EndsFor words x) (sym is) (o, gives, is_in))
+folder_ends words o r gives is_in =
+    ⊎_elim (journal_ends words o r gives)
+    (⊎_elim (λ is. subst (λ x. EndsFor words x) (sym is) (o, gives, is_in)) (λ is. subst (λ x. EndsFor words x) (sym is) (o, gives, is_in)))
 
 -- words that ask for a log that is not opened
 pub log_ends : (words : List (List ℕ)) (o : Options) (f : Fault) → Gives words o → f ≡ fault.Log → is_some o.log ≡ true

@@ -56,9 +56,13 @@ AsksForLog words = (o : Options) × Gives words o × (is_some o.log ≡ true)
 abbrev pub IsNotOpened : {T : Type 0} → Result T Fault → Type 0
 IsNotOpened ended = IfErr ended (λ f. f ≡ fault.Memory ⊎ f ≡ fault.NotOpened)
 
--- how a run or a show of a journal in files may end: as on any disk, or since the files are not opened
+-- why the files of a journal are not looked at
+abbrev pub IsNotFound : {T : Type 0} → Result T Fault → Type 0
+IsNotFound ended = IfErr ended (λ f. f ≡ fault.Memory ⊎ (f ≡ fault.NotOpened ⊎ f ≡ fault.NoJournal))
+
+-- how a run or a show of a journal in files may end: as on any disk, or since the files are not opened, or hold no journal
 abbrev pub IsFolderEnd : {T : Type 0} → Result T Fault → Type 0
-IsFolderEnd ended = IsRunEnd ended ⊎ (ended ≡ Err fault.NotOpened)
+IsFolderEnd ended = IsRunEnd ended ⊎ (ended ≡ Err fault.NotOpened ⊎ ended ≡ Err fault.NoJournal)
 
 -- why a program that is given these words ends so
 abbrev pub EndsFor : {T : Type 0} → List (List ℕ) → Result T Fault → Type 0
@@ -72,5 +76,6 @@ EndsFor words (Err fault.NotText) = ⊥
 EndsFor words (Err fault.Memory) = ⊤
 EndsFor words (Err fault.Log) = AsksForLog words
 EndsFor words (Err fault.NotOpened) = IsInFolder words
+EndsFor words (Err fault.NoJournal) = IsInFolder words
 EndsFor words (Err fault.InputOrOutput) = AsksForText words ⊎ AsksForJournal words
 EndsFor words (Err _) = AsksForJournal words

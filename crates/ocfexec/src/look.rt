@@ -31,6 +31,7 @@ pub fn look_of<'a>(rt: &HostRuntime, options: Options<'a>) -> Look<'a> {
         moment: moment_of(rt, options.journal),
         only: options.resource,
         colours: is_terminal(rt),
+        alarms: options.exit_code,
     }
 }
 

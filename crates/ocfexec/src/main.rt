@@ -35,8 +35,13 @@ fn main(rt: HostRuntime) -> ExitCode {
 // Says on standard error what ended the program.
 fn tell(system: &System<'_>, fault: Fault) {
     match fault {
-        // it was told where it happened
-        Fault::Usage | Fault::Log | Fault::NotOpened | Fault::Disk | Fault::InputOrOutput => {}
+        // it was told where it happened, and what is not well by the status itself
+        Fault::Usage
+        | Fault::Log
+        | Fault::NotOpened
+        | Fault::NotWell
+        | Fault::Disk
+        | Fault::InputOrOutput => {}
         Fault::Damaged(damage) => report::report_cause(system, fault, damage.cause),
         _ => report::report(system, fault),
     }

@@ -1,7 +1,7 @@
 //! What is shown of a journal.
 ghost use Rattle.std.specs.Prelude.{◌≡◌};
 ghost use Rattle.exec_output.specs.Faults.{IsRunEnd};
-ghost use Rattle.ocfexec.specs.Starts.{IsFolderEnd};
+ghost use Rattle.ocfexec.specs.Starts.{IsFolderEnd, IsNotFound};
 
 use crate::emptied::not_emptied;
 use crate::journal::{found, told};
@@ -10,8 +10,9 @@ use crate::streams::{FirstError, tell_shown};
 use child_keeper::System;
 use disk_model::Disk;
 use exec_options::{Options, Subcommand};
-use exec_output::{Fault, show, show_one, status};
-use file_disk::{TellsError, read_parts};
+use exec_output::{Fault, show, status, status_json};
+use file_disk::{RamDisk, TellsError, read_parts};
+use ocf_types::Part;
 use std::io::{self, Write};
 
 // How often the files of a journal that reads as damaged are read, before that is told.
@@ -26,11 +27,11 @@ fn show_to<D: Disk + Drop, W: Write>(
 ) -> (D, Result<(), Fault>)
     ensures { IsRunEnd result.1 }
 {
-    match (options.subcommand, options.resource) {
-        (Subcommand::Status, _) if !options.json => {
-            status(rt.alloc(), disk, output, &look_of(rt, options))
+    match options.subcommand {
+        Subcommand::Status if options.json => {
+            status_json(rt.alloc(), disk, output, &look_of(rt, options))
         }
-        (Subcommand::Status, Some(id)) => show_one(rt.alloc(), disk, output, id),
+        Subcommand::Status => status(rt.alloc(), disk, output, &look_of(rt, options)),
         _ => show(rt.alloc(), disk, output),
     }
 }
@@ -51,28 +52,40 @@ pub fn show_on<D: Disk + TellsError + Drop>(
     told(system, options, &disk, ended)
 }
 
+// Whether neither part has a byte. A fault of the device is found once more by the opening.
+fn is_none<D: Disk>(disk: &mut D) -> bool {
+    matches!((disk.len(Part::A), disk.len(Part::B)), (Ok(0), Ok(0)))
+}
+
+// The parts in this directory as they are now. There is no status of a journal that was never made.
+fn parts_in(system: &System<'_>, options: Options, folder: &str) -> Result<RamDisk, Fault>
+    ensures { IsNotFound result }
+{
+    let rt = system.host();
+    let mut disk = found(
+        system,
+        folder,
+        not_emptied(read_parts(rt, rt.alloc(), folder)),
+    )?;
+    if matches!(options.subcommand, Subcommand::Status) && is_none(&mut disk) {
+        return Err(Fault::NoJournal);
+    }
+    Ok(disk)
+}
+
 /// Shows the journal in this directory, which another program may be writing. Damage is told where it is found each time that
 /// the files are read.
-#[tactic(auto, using(crate::proofs::StartLemmas::opened_ends, crate::proofs::StartLemmas::not_opened_ends))]
+#[tactic(auto, using(crate::proofs::StartLemmas::opened_ends, crate::proofs::StartLemmas::not_found_ends))]
 pub fn show_files(system: &System<'_>, options: Options, folder: &str) -> Result<(), Fault>
     ensures { IsFolderEnd result }
 {
-    let rt = system.host();
     for _ in 1..LOOKS {
-        let disk = found(
-            system,
-            folder,
-            not_emptied(read_parts(rt, rt.alloc(), folder)),
-        )?;
+        let disk = parts_in(system, options, folder)?;
         let ended = show_on(system, options, disk);
         if !matches!(ended, Err(Fault::Damaged(_))) {
             return ended;
         }
     }
-    let disk = found(
-        system,
-        folder,
-        not_emptied(read_parts(rt, rt.alloc(), folder)),
-    )?;
+    let disk = parts_in(system, options, folder)?;
     show_on(system, options, disk)
 }

@@ -8,10 +8,13 @@ pub returns-clause-app : goal.returns-clause-app
 returns-clause-app c =
     let one = app-arg _ _ c.in_ok-command.command
     (word_rule (codes "resource")) _ c.in_ok-command.ensures c.word.ensures.local c.word.ensures.rule refl in
-    IfOk-weaker c.arg-2.result _ _
-    (λ r h. app-arg _ _ r (flag_rule (codes "json")) _ h c.flag.ensures.local c.flag.ensures.rule one) c.arg-2.ensures
+    let two = app-arg _ _ c.in_ok-command-2.command
+    (flag_rule (codes "json")) _ c.in_ok-command-2.ensures c.flag.ensures.local c.flag.ensures.rule one in
+    IfOk-weaker c.arg-3.result _ _
+    (λ r h. app-arg _ _ r (flag_rule (codes "exit-code")) _ h c.flag-2.ensures.local c.flag-2.ensures.rule two) c.arg-3.ensures
 
 pub returns-clause-local : goal.returns-clause-local
 returns-clause-local c =
     let one = local-arg _ _ c.in_ok-command.command _ c.in_ok-command.ensures c.word.ensures.local refl in
-    IfOk-weaker c.arg-2.result _ _ (λ r h. local-arg _ _ r _ h c.flag.ensures.local one) c.arg-2.ensures
+    let two = local-arg _ _ c.in_ok-command-2.command _ c.in_ok-command-2.ensures c.flag.ensures.local one in
+    IfOk-weaker c.arg-3.result _ _ (λ r h. local-arg _ _ r _ h c.flag-2.ensures.local two) c.arg-3.ensures
