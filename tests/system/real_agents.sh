@@ -59,25 +59,32 @@ life() {
     done
 }
 
+# The actions of one agent, and their notices in short. Use: goes WHAT WANTED TYPE PARAMS ACTION..
+goes() {
+    what=$1
+    wanted=$2
+    shift 2
+    life "$@" | answers "$here/found"
+    found=$(notices "$here/found")
+    [ "$found" = "$wanted" ] && return
+    differs "$what" "$wanted" "$found"
+    return 1
+}
+
 # An agent that is started and stopped, each of them twice. Use: lives TYPE PARAMS
 lives() {
-    life "$1" "$2" monitor start start monitor stop stop monitor | answers "$here/found"
-    found=$(notices "$here/found")
-    wanted='monitor done 7 OCF_NOT_RUNNING
+    goes "$1" 'monitor done 7 OCF_NOT_RUNNING
 start done 0 OCF_SUCCESS
 start done 0 OCF_SUCCESS
 monitor done 0 OCF_SUCCESS
 stop done 0 OCF_SUCCESS
 stop done 0 OCF_SUCCESS
-monitor done 7 OCF_NOT_RUNNING'
-    if [ "$found" = "$wanted" ]; then lived=$((lived + 1)); else differs "$1" "$wanted" "$found"; fi
+monitor done 7 OCF_NOT_RUNNING' "$1" "$2" monitor start start monitor stop stop monitor && lived=$((lived + 1))
 }
 
 # One action, and its notice in short. Use: ends TYPE PARAMS ACTION WANTED
 ends() {
-    life "$1" "$2" "$3" | answers "$here/found"
-    found=$(notices "$here/found")
-    [ "$found" = "$4" ] || differs "$1 $3" "$4" "$found"
+    goes "$1 $3" "$4" "$1" "$2" "$3"
 }
 
 told=0
@@ -105,15 +112,12 @@ lives symlink "$symlink"
 lives AudibleAlarm ''
 
 # The roles of a promotable agent
-life Stateful "$stateful" start promote monitor demote monitor stop | answers "$here/found"
-found=$(notices "$here/found")
-wanted='start done 0 OCF_SUCCESS
+goes "the roles of Stateful" 'start done 0 OCF_SUCCESS
 promote done 0 OCF_SUCCESS
 monitor done 8 OCF_RUNNING_PROMOTED
 demote done 0 OCF_SUCCESS
 monitor done 0 OCF_SUCCESS
-stop done 0 OCF_SUCCESS'
-[ "$found" = "$wanted" ] || differs "the roles of Stateful" "$wanted" "$found"
+stop done 0 OCF_SUCCESS' Stateful "$stateful" start promote monitor demote monitor stop
 
 # What agents refuse, what is not there, and what takes too long
 ends Dummy "$dummy" validate-all 'validate-all done 0 OCF_SUCCESS'
