@@ -1,5 +1,5 @@
 //! Replies to questions.
-ghost use Rattle.std.specs.Prelude.{◌≡◌, map, IfOk};
+ghost use Rattle.std.specs.Prelude.{IsTrue, ◌≡◌, map, IfOk, OnErr};
 ghost use Rattle.ocf_types.specs.Answer.{info_of, reply_to};
 ghost use Rattle.recurring.specs.Monitors.{recurs};
 ghost use Rattle.exec_state.specs.Seen.{seen};
@@ -14,23 +14,25 @@ use ocf_types::{
 };
 use op_history::Ops;
 use recurring::Recurrings;
-use std::alloc::{AllocError, Allocator};
+use growth::{Grows, push};
+use std::alloc::AllocError;
 
 /// The results, oldest first.
 #[tactic(auto, using(crate::proofs::Choices::take_more_some))]
-fn results<A: Allocator + Copy>(alloc: A, ops: &Ops<A>) -> Result<Vec<Ended, A>, AllocError>
-    ensures { IfOk result (λ v. v.items ≡ ops.now.ended) }
+fn results<A: Grows>(alloc: A, ops: &Ops<A>) -> Result<Vec<Ended, A>, AllocError>
+    ensures results { IfOk result (λ v. v.items ≡ ops.now.ended) }
+    ensures memory { OnErr result (IsTrue A.refuses) }
 {
     let mut results = Vec::new(alloc);
     for at in 0..ops.ended_len() {
-        results.push(ops.ended_at(at))?;
+        push(&mut results, ops.ended_at(at))?;
     }
     Ok(results)
 }
 
 /// The call ids of the queued actions, in order.
 #[tactic(auto, using(crate::proofs::Choices::map_more_some))]
-fn queued<A: Allocator>(ops: &Ops<A>) -> ArrayVec<CallId, { QUEUE_LIMIT }>
+fn queued<A: Grows>(ops: &Ops<A>) -> ArrayVec<CallId, { QUEUE_LIMIT }>
     ensures { result.items ≡ map (λ o. o.call) ops.now.queue }
 {
     let mut calls = ArrayVec::new_in(());
@@ -51,10 +53,11 @@ fn recurring(monitors: &Recurrings) -> ArrayVec<Recur, { RECURRING_LIMIT }>
     list
 }
 
-impl<A: Allocator + Copy> Registered<A> {
+impl<A: Grows> Registered<A> {
     /// What it is, and what it does now.
     fn info(&self, alloc: A, id: &RscId) -> Result<Info<A>, AllocError>
-        ensures { IfOk result (λ i. i ≡ info_of id.now (seen self.now)) }
+        ensures info { IfOk result (λ i. i ≡ info_of id.now (seen self.now)) }
+        ensures memory { OnErr result (IsTrue A.refuses) }
     {
         Ok(InfoOf {
             id: id.copied(),
@@ -69,11 +72,12 @@ impl<A: Allocator + Copy> Registered<A> {
     }
 }
 
-impl<A: Allocator + Copy> State<A> {
+impl<A: Grows> State<A> {
     /// The reply to a question: it is refused for an unknown resource; in place of a reply, and of no refusal, it may be
     /// refused for want of memory.
     pub fn answer(&self, alloc: A, question: &Question) -> Reply<A>
-        ensures { IsReplyOrMemory (reply_to self.now.state question.now) result }
+        ensures reply { IsReplyOrMemory (reply_to self.now.state question.now) result }
+        ensures memory { result ≡ ReplyOf.Refused Refusal.Memory → IsTrue A.refuses }
     {
         match question {
             Question::List => match self.registry.ids(alloc) {

@@ -7,9 +7,9 @@ ghost use Rattle.exec_state.specs.Store.{dues, monitors_due_at};
 
 use crate::state::State;
 use ocf_types::{Change, Event, EventOf, Moment};
-use std::alloc::Allocator;
+use growth::Grows;
 
-impl<A: Allocator + Copy> State<A> {
+impl<A: Grows> State<A> {
     /// The boot that an opening at that moment records: just where an action is queued or running.
     pub fn boot(&self, now: u64) -> Option<Event<A>>
         ensures { result ≡ boot_event self.now.state (moment self.now.state now) }

@@ -9,10 +9,10 @@ use ocf_types::{
     CallId, Change, Check, Command, CommandOf, EVENT_LIMIT, Event, EventOf, Millis, NUM_MAX, Op,
     Params, QUEUE_LIMIT, Recur, Refusal, Registration, RscId, Step, Task,
 };
-use std::alloc::Allocator;
+use growth::Grows;
 
 /// The event, unless it is too large to be recorded.
-fn unless_too_large<A: Allocator>(event: Event<A>) -> Result<Event<A>, Refusal>
+fn unless_too_large<A: Grows>(event: Event<A>) -> Result<Event<A>, Refusal>
     ensures { result ≡ (if nat_lt EVENT_LIMIT (length (spelled_event event))
         then Err Refusal.TooLarge else Ok event) }
 {
@@ -22,7 +22,7 @@ fn unless_too_large<A: Allocator>(event: Event<A>) -> Result<Event<A>, Refusal>
     Ok(event)
 }
 
-impl<A: Allocator + Copy> State<A> {
+impl<A: Grows> State<A> {
     /// The event that the command asks for at that moment, in milliseconds since 1970, or the first refusal that it
     /// meets. It takes no memory: parameters are moved into the event.
     pub fn check(&self, now: u64, command: Command<A>) -> Result<Event<A>, Refusal>

@@ -9,10 +9,10 @@ ghost use Rattle.exec_state.specs.Resting.{Rests};
 
 use crate::registered::Registered;
 use crate::state::State;
+use growth::Grows;
 use ocf_types::{CallId, Moment, RscId, RunId, Running, StateView};
-use std::alloc::Allocator;
 
-impl<A: Allocator + Copy> State<A> {
+impl<A: Grows> State<A> {
     /// What the resource at a place begins at that moment, as it will run under that run number: the first queued
     /// action, else the recurring monitor that is due first; none where an action runs or where nothing is due.
     pub fn pick(&self, place: usize, run: RunId, at: Moment) -> Option<Running>
@@ -59,7 +59,7 @@ impl<A: Allocator + Copy> State<A> {
     }
 }
 
-impl<A: Allocator> Registered<A> {
+impl<A: Grows> Registered<A> {
     /// What it begins now, as it will run under that run number.
     fn pick(&self, run: RunId, at: Moment) -> Option<Running>
         ensures { (call : Option ℕ)

@@ -1,6 +1,6 @@
 //! The resources by id, in order of registration.
 ghost use Rattle.std.specs.Prelude.{ℕ, List, ◌≡◌, ◌<◌, ◌++◌, ◌∷◌, [], None, map, not, filter, length, nat_le, is_some, option_map, option_and_then};
-ghost use Rattle.std.specs.Prelude.{slice_index_or, IsTrue, IsSomeAnd, IsOk, IfOk, OnOk};
+ghost use Rattle.std.specs.Prelude.{slice_index_or, IsTrue, IsSomeAnd, IsOk, IfOk, OnErr, OnOk};
 ghost use Rattle.std.specs.Map.{keys_of, lookup};
 ghost use Rattle.std.specs.List.{flat_map, list_any, AllByRecursion, IsDistinct};
 ghost use Rattle.std.specs.Str.{bytes_eq};
@@ -24,6 +24,7 @@ use ocf_types::{
 };
 use op_history::Ops;
 use recurring::{DueIndex, Recurrings};
+use growth::{Grows, push};
 use std::alloc::{AllocError, Allocator, Global};
 use std::hash::{BuildHasherDefault, FoldHasher};
 use std::marker::Model;
@@ -64,7 +65,7 @@ impl<A: Allocator + Copy> Model for Registry<A> {
         × (r.dues.dues ≡ dues_by_id (monitors_all r.resources.entries)) };
 }
 
-impl<A: Allocator + Copy> Registry<A> {
+impl<A: Grows> Registry<A> {
     /// No resources. It takes no memory.
     #[tactic(auto, using(crate::proofs::Resting::rest_before_0))]
     pub(crate) fn new(alloc: A) -> Registry<A>
@@ -91,12 +92,14 @@ impl<A: Allocator + Copy> Registry<A> {
         ensures resources { IfOk result (λ r. r.resources ≡ parts.items) }
         ensures monitors { IfOk result
             (λ r. r.monitors ≡ map (λ e. (e.0, all_due_at due e.1.recurring)) parts.items) }
+        ensures memory { OnErr result (IsTrue A.refuses) }
     {
         let mut resources = IndexMap::new(alloc);
         let mut dues = DueIndex::new(alloc);
         for part in parts {
             let (id, resource) = Registered::from_parts(alloc, due, part)?;
             dues.reserve(1)?;
+            A::reserve_entries(&mut resources, 1)?;
             insert(&mut resources, &mut dues, id, resource)?;
         }
         Ok(Registry {
@@ -165,11 +168,12 @@ impl<A: Allocator + Copy> Registry<A> {
 
     /// The ids, in order of registration.
     pub(crate) fn ids(&self, alloc: A) -> Result<Vec<RscId, A>, AllocError>
-        ensures { IfOk result (λ v. v.items ≡ map (λ e. e.0) self.now.resources) }
+        ensures ids { IfOk result (λ v. v.items ≡ map (λ e. e.0) self.now.resources) }
+        ensures memory { OnErr result (IsTrue A.refuses) }
     {
         let mut ids = Vec::new(alloc);
         for id in self.resources.keys() {
-            ids.push(id.copied())?;
+            push(&mut ids, id.copied())?;
         }
         Ok(ids)
     }
@@ -186,8 +190,9 @@ impl<A: Allocator + Copy> Registry<A> {
         ensures ok { OnOk result (IsTrue self.new.ready) }
         ensures resources { self.new.resources ≡ self.old.resources }
         ensures monitors { self.new.monitors ≡ self.old.monitors }
+        ensures memory { OnErr result (IsTrue A.refuses) }
     {
-        self.resources.reserve(1)?;
+        A::reserve_entries(&mut self.resources, 1)?;
         self.dues.reserve(1)?;
         if self.next_ops.is_none() {
             self.next_ops = Some(Ops::new(*self.resources.allocator())?);
@@ -327,7 +332,7 @@ impl<A: Allocator + Copy> Registry<A> {
 }
 
 /// A moment before which none of these has anything to begin.
-fn rests_until<A: Allocator + Copy>(resources: &Resources<A>) -> u64
+fn rests_until<A: Grows>(resources: &Resources<A>) -> u64
     ensures { RestBefore (seen_all resources.now.entries)
         (monitors_all resources.now.entries) result }
 {
@@ -341,14 +346,14 @@ fn rests_until<A: Allocator + Copy>(resources: &Resources<A>) -> u64
 }
 
 /// Whether one of these has an action queued or running.
-fn is_any_busy<A: Allocator + Copy>(resources: &Resources<A>) -> bool
+fn is_any_busy<A: Grows>(resources: &Resources<A>) -> bool
     ensures { result ≡ list_any (λ r. is_busy r.ops) (values resources.now) }
 {
     resources.values().any(|resource| resource.ops.is_busy())
 }
 
 /// Adds a resource and its recurring monitors. The only error is want of memory, which does not come where there is room.
-fn insert<A: Allocator + Copy>(
+fn insert<A: Grows>(
     resources: &mut Resources<A>,
     dues: &mut DueIndex<A>,
     id: RscId,

@@ -3,9 +3,9 @@ use crate::state::State;
 use ocf_types::{
     AgentType, CallId, Ended, Moment, Op, Params, Provider, Recur, RscId, RunId, Running, StateView,
 };
-use std::alloc::Allocator;
+use growth::Grows;
 
-impl<A: Allocator + Copy> StateView for State<A> {
+impl<A: Grows> StateView for State<A> {
     type A = A;
 
     ghost plain = { λ s. s.state };

@@ -1,11 +1,12 @@
 //! Parameters, sorted by name.
 ghost use Rattle.std.specs.Prelude.{◌≡◌, ◌↔◌, ◌<◌, ◌++◌, [], ◌∷◌, None, true, false, length, count_by, IsOk, OnOk, OnErr};
-ghost use Rattle.std.specs.Prelude.{IfOk, IsTrue};
+ghost use Rattle.std.specs.Prelude.{Err, IfOk, IsTrue};
 ghost use Rattle.ocf_types.specs.Params.{AreParams, is_before, is_after, last_name, has_param, with_param};
 
 use crate::limits::PARAMS_LIMIT;
 use crate::param_name::ParamName;
 use crate::values::{ParamValue, ValueError};
+use growth::{Grows, push};
 use std::alloc::{AllocError, Allocator, Global};
 use std::marker::Model;
 
@@ -82,6 +83,9 @@ impl<A: Allocator> Params<A> {
         }
     }
 
+}
+
+impl<A: Grows> Params<A> {
     /// Appends a parameter whose name comes after all that are there.
     #[tactic(auto, using(crate::proofs::ParamsLemmas::AreParams_push))]
     pub fn push(&mut self, name: ParamName, value: ParamValue<A>) -> Result<(), AllocError>
@@ -89,10 +93,11 @@ impl<A: Allocator> Params<A> {
         requires after { IsTrue (is_after (last_name None self.old) name) }
         ensures ok { OnOk result (self.new ≡ self.old ++ (name, value) ∷ []) }
         ensures err { OnErr result (self.new ≡ self.old) }
+        ensures memory { OnErr result (IsTrue A.refuses) }
     {
         let _ = name.as_bytes();
         let _ = value.as_str();
-        self.entries.push((name, value))?;
+        push(&mut self.entries, (name, value))?;
         Ok(())
     }
 
@@ -104,6 +109,7 @@ impl<A: Allocator> Params<A> {
             ↔ ((length self.old ≡ PARAMS_LIMIT) × (has_param name self.old ≡ false)) }
         ensures known { has_param name self.old ≡ true → IsOk result }
         ensures err { OnErr result (self.new ≡ self.old) }
+        ensures memory { result ≡ Err ValueError.Memory → IsTrue A.refuses }
     {
         let _ = name.as_bytes();
         let _ = value.as_str();
@@ -115,21 +121,25 @@ impl<A: Allocator> Params<A> {
         if self.entries.len() == PARAMS_LIMIT {
             return Err(ValueError::BadValue);
         }
-        if self.entries.insert(place, (name, value)).is_err() {
+        if A::reserve(&mut self.entries, 1).is_err() {
             return Err(ValueError::Memory);
+        }
+        if self.entries.insert(place, (name, value)).is_err() {
+            unreachable!()
         }
         Ok(())
     }
 }
 
-impl<A: Allocator + Copy> Params<A> {
+impl<A: Grows> Params<A> {
     /// The same parameters again. The only error is want of memory.
     pub fn copied(&self, alloc: A) -> Result<Self, AllocError>
-        ensures { IfOk result (λ params. params ≡ self.now) }
+        ensures params { IfOk result (λ params. params ≡ self.now) }
+        ensures memory { OnErr result (IsTrue A.refuses) }
     {
         let mut entries = Vec::new(alloc);
         for (name, value) in self.entries.as_slice() {
-            entries.push((name.copied(), value.copied(alloc)?))?;
+            push(&mut entries, (name.copied(), value.copied(alloc)?))?;
         }
         Ok(Params { entries })
     }

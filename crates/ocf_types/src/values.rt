@@ -1,9 +1,10 @@
 //! Values of parameters.
-ghost use Rattle.std.specs.Prelude.{◌≡◌, ◌==◌, ◌≤◌, not, length, IsTrue, IfOk};
+ghost use Rattle.std.specs.Prelude.{◌≡◌, ◌==◌, ◌≤◌, not, length, Err, IsTrue, IfOk, OnErr};
 ghost use Rattle.std.specs.List.{list_all};
 ghost use Rattle.ocf_types.specs.Values.{is_param_value, IsValueOrRefused};
 
 use crate::limits::VALUE_LIMIT;
+use growth::{Grows, text_of};
 use std::alloc::{AllocError, Allocator, Global};
 use std::marker::Model;
 use std::str::from_utf8;
@@ -44,17 +45,18 @@ impl<A: Allocator> Model for ParamValue<A> {
     ghost invariant = { λ v. IsTrue (is_param_value (string_bytes v.text)) };
 }
 
-impl<A: Allocator> ParamValue<A> {
+impl<A: Grows> ParamValue<A> {
     /// The value that these bytes are. `BadValue` comes before any memory is asked for.
     #[tactic(auto, using(crate::proofs::ValueLemmas::is_value, crate::proofs::ValueLemmas::is_no_value))]
     pub fn new(alloc: A, bytes: &[u8]) -> Result<Self, ValueError>
-        ensures { IsValueOrRefused result bytes.now }
+        ensures value { IsValueOrRefused result bytes.now }
+        ensures memory { result ≡ Err ValueError.Memory → IsTrue A.refuses }
     {
         if bytes.len() > VALUE_LIMIT || !has_no_nul(bytes) {
             return Err(ValueError::BadValue);
         }
         match from_utf8(bytes) {
-            Ok(text) => match String::from_str(alloc, text) {
+            Ok(text) => match text_of(alloc, text) {
                 Ok(text) => Ok(ParamValue { text }),
                 Err(_) => Err(ValueError::Memory),
             },
@@ -62,6 +64,9 @@ impl<A: Allocator> ParamValue<A> {
         }
     }
 
+}
+
+impl<A: Allocator> ParamValue<A> {
     /// The text of the value.
     #[tactic(auto, using(crate::specs::LengthLaws::value_short))]
     pub fn as_str(&self) -> &str
@@ -72,11 +77,15 @@ impl<A: Allocator> ParamValue<A> {
         self.text.as_str()
     }
 
+}
+
+impl<A: Grows> ParamValue<A> {
     /// The same value again. The only error is want of memory.
     pub fn copied(&self, alloc: A) -> Result<Self, AllocError>
-        ensures { IfOk result (λ value. value ≡ self.now) }
+        ensures value { IfOk result (λ value. value ≡ self.now) }
+        ensures memory { OnErr result (IsTrue A.refuses) }
     {
-        let text = String::from_str(alloc, self.text.as_str())?;
+        let text = text_of(alloc, self.text.as_str())?;
         Ok(ParamValue { text })
     }
 }

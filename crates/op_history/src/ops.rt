@@ -1,5 +1,5 @@
 //! The operations of one resource.
-ghost use Rattle.std.specs.Prelude.{◌≡◌, ◌↔◌, ◌<◌, ◌≤◌, length, slice_get, IfOk, IsErr, OnOk, OnErr};
+ghost use Rattle.std.specs.Prelude.{IsTrue, ◌≡◌, ◌↔◌, ◌<◌, ◌≤◌, length, slice_get, IfOk, IsErr, OnOk, OnErr};
 ghost use Rattle.ocf_types.specs.Resource.{kept, no_history, is_busy, accepted, begun, ended, booted, forgotten};
 ghost use Rattle.ocf_types.specs.Resource.{failed_after, history_in, queued_of, withdrawn};
 ghost use Rattle.ocf_types.specs.declared.layout.Layout.TheVariants.{First};
@@ -12,6 +12,7 @@ use ocf_types::{
     CallId, Ended, HistoryParts, Layout, Moment, Op, Outcome, QUEUE_LIMIT, Recur, RunEnd, RunId,
     Running,
 };
+use growth::Grows;
 use std::alloc::{AllocError, Allocator, Global};
 use std::marker::Model;
 use thiserror::Error;
@@ -45,10 +46,11 @@ impl<A: Allocator> Model for Ops<A> {
     ghost view = { λ o. record { queue = o.queue.items; running = o.running; ended = o.ended; failed = o.failed } };
 }
 
-impl<A: Allocator> Ops<A> {
+impl<A: Grows> Ops<A> {
     /// The operations of a resource that is just registered: none. The only error is want of memory.
     pub fn new(alloc: A) -> Result<Ops<A>, AllocError>
-        ensures { IfOk result (λ o. o ≡ no_history) }
+        ensures none { IfOk result (λ o. o ≡ no_history) }
+        ensures memory { OnErr result (IsTrue A.refuses) }
     {
         Ok(Ops {
             queue: ArrayVec::new(),
@@ -63,7 +65,8 @@ impl<A: Allocator> Ops<A> {
     pub fn from_parts(alloc: A, parts: &HistoryParts<A>) -> Result<Ops<A>, AllocError>
         requires queue { length parts.now.queue ≤ QUEUE_LIMIT }
         requires ended { length parts.now.ended ≤ kept }
-        ensures { IfOk result (λ o. o ≡ parts.now) }
+        ensures parts { IfOk result (λ o. o ≡ parts.now) }
+        ensures memory { OnErr result (IsTrue A.refuses) }
     {
         let mut ended = Results::new(alloc)?;
         ended.push_all(parts.ended());
@@ -75,6 +78,9 @@ impl<A: Allocator> Ops<A> {
         })
     }
 
+}
+
+impl<A: Allocator> Ops<A> {
     /// How many actions are queued, at most [`QUEUE_LIMIT`].
     pub fn queue_len(&self) -> usize
         ensures value { result ≡ length self.now.queue }

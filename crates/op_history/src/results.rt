@@ -1,5 +1,5 @@
 //! The results that are kept.
-ghost use Rattle.std.specs.Prelude.{◌≡◌, ◌<◌, ◌≤◌, [], ◌∷◌, ◌++◌, length, map, slice_get, IfOk};
+ghost use Rattle.std.specs.Prelude.{IsTrue, ◌≡◌, ◌<◌, ◌≤◌, [], ◌∷◌, ◌++◌, length, map, slice_get, IfOk, OnErr};
 ghost use Rattle.std.specs.Prelude.{option_to_list};
 ghost use Rattle.ocf_types.specs.Resource.{kept, last_in, last_ended, ended_of, dropped_of};
 
@@ -7,6 +7,7 @@ use crate::entries::{dropped_of, ended_of};
 use crate::queued::Queued;
 use circular_buffer::HeapCircularBuffer;
 use ocf_types::{ENDED_KEPT, Ended, Layout, Moment, Outcome, Running};
+use growth::Grows;
 use std::alloc::{AllocError, Allocator, Global};
 use std::marker::Model;
 
@@ -28,14 +29,18 @@ impl<A: Allocator> Model for Results<A> {
     ghost invariant = { λ r. (r.ring.capacity ≡ kept) × (length r.ring.items ≤ kept) };
 }
 
-impl<A: Allocator> Results<A> {
+impl<A: Grows> Results<A> {
     /// No results, with the room for all that are kept.
     pub(crate) fn new(alloc: A) -> Result<Results<A>, AllocError>
-        ensures { IfOk result (λ r. r ≡ []) }
+        ensures none { IfOk result (λ r. r ≡ []) }
+        ensures memory { OnErr result (IsTrue A.refuses) }
     {
-        let ring = HeapCircularBuffer::with_capacity(alloc, ENDED_KEPT)?;
+        let ring = A::ring(alloc, ENDED_KEPT)?;
         Ok(Results { ring })
     }
+}
+
+impl<A: Allocator> Results<A> {
 
     /// How many results there are.
     pub(crate) fn len(&self) -> usize

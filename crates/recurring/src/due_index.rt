@@ -1,5 +1,5 @@
 //! The recurring monitors of all resources, by the moments at which they are due.
-ghost use Rattle.std.specs.Prelude.{◌≡◌, ◌<◌, ◌≤◌, ◌↔◌, ◌++◌, ◌∷◌, [], None, Any, IsTrue, IsSomeAnd, OnOk, filter, length, not};
+ghost use Rattle.std.specs.Prelude.{◌≡◌, ◌+◌, ◌<◌, ◌≤◌, ◌↔◌, ◌++◌, ◌∷◌, [], None, Any, IsTrue, IsSomeAnd, OnErr, OnOk, filter, length, not};
 ghost use Rattle.std.specs.Map.{lookup};
 ghost use Rattle.std.specs.Str.{bytes_eq};
 ghost use Rattle.ocf_types.specs.Due.{IsLeastDue};
@@ -10,11 +10,15 @@ ghost use Rattle.recurring.specs.DueIndex.{pairs_at, pairs_of_all, pairs_settled
 use crate::due_calls::DueCalls;
 use crate::first_moments::FirstMoments;
 use crate::recurrings::Recurrings;
+use growth::{GROWTH_LIMIT, Grows};
 use indexmap::IndexMap;
 use ocf_types::{CallId, Moment, RECURRING_LIMIT, RscId};
 use std::alloc::{AllocError, Allocator, Global};
 use std::hash::{BuildHasherDefault, FoldHasher};
 use std::marker::Model;
+
+/// How many resources the index keeps at most.
+pub const INDEX_LIMIT: usize = GROWTH_LIMIT / 2;
 
 /// The calls of each resource, in the order in which the resources were kept.
 type Resources<A> = IndexMap<RscId, DueCalls, BuildHasherDefault<FoldHasher>, A>;
@@ -44,7 +48,7 @@ impl<A: Allocator + Copy> Model for DueIndex<A> {
     ghost invariant = { λ x. IsTied x.resources.entries x.firsts };
 }
 
-impl<A: Allocator + Copy> DueIndex<A> {
+impl<A: Grows> DueIndex<A> {
     /// No resources. It takes no memory.
     pub fn new(alloc: A) -> DueIndex<A>
         ensures { result.dues ≡ [] }
@@ -55,16 +59,19 @@ impl<A: Allocator + Copy> DueIndex<A> {
         }
     }
 
-    /// Makes the room for that many more resources. The only error is want of memory.
+    /// Makes the room for that many more resources. The only error is want of memory; there is none for more than
+    /// [`INDEX_LIMIT`] resources in all.
     pub fn reserve(&mut self, more: usize) -> Result<(), AllocError>
         ensures room { OnOk result (more ≤ self.new.room) }
         ensures dues { self.new.dues ≡ self.old.dues }
+        ensures memory { OnErr result (length self.old.dues + more ≤ INDEX_LIMIT → IsTrue A.refuses) }
     {
-        self.resources.reserve(more)?;
-        let Some(places) = self.resources.len().checked_add(more) else {
+        let len = self.resources.len();
+        if len > INDEX_LIMIT || more > INDEX_LIMIT - len {
             return Err(AllocError);
-        };
-        self.firsts.grow(places)?;
+        }
+        A::reserve_entries(&mut self.resources, more)?;
+        self.firsts.grow(len + more)?;
         Ok(())
     }
 

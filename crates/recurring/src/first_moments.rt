@@ -1,7 +1,9 @@
 //! The first of many moments, kept while single ones change.
-ghost use Rattle.std.specs.Prelude.{◌≡◌, ◌≢◌, ◌+◌, ◌*◌, ◌/◌, ◌<◌, ◌≤◌, ℕ, [], length, drop, remove, slice_index_or, slice_set, None, IfOk, OnOk};
+ghost use Rattle.std.specs.Prelude.{◌≡◌, ◌≢◌, ◌+◌, ◌*◌, ◌/◌, ◌<◌, ◌≤◌, ℕ, [], length, drop, remove, slice_index_or, slice_set, None, IfOk, IsTrue, OnErr, OnOk};
 ghost use Rattle.recurring.specs.FirstMoments.{earlier, IsFirstOf, IsWon, IsTournament};
 
+use crate::due_index::INDEX_LIMIT;
+use growth::{Grows, append, fill};
 use std::alloc::{AllocError, Allocator, Global};
 use std::marker::Model;
 
@@ -25,7 +27,7 @@ impl<A: Allocator + Copy> Model for FirstMoments<A> {
     ghost invariant = { λ t. IsTournament t.places t.nodes.items };
 }
 
-impl<A: Allocator + Copy> FirstMoments<A> {
+impl<A: Grows> FirstMoments<A> {
     /// No places. It takes no memory.
     pub(crate) fn new(alloc: A) -> FirstMoments<A>
         ensures { result ≡ [] }
@@ -38,16 +40,18 @@ impl<A: Allocator + Copy> FirstMoments<A> {
 
     /// Makes at least that many places. The moments stay, and the new places have none. The only error is want of memory.
     pub(crate) fn grow(&mut self, places: usize) -> Result<(), AllocError>
+        requires limit { places ≤ INDEX_LIMIT }
         ensures room { OnOk result (places ≤ length self.new) }
         ensures kept { length self.old ≤ length self.new }
         ensures moments { (k : ℕ) → slice_index_or self.new k None
             ≡ slice_index_or self.old k None }
+        ensures memory { OnErr result (IsTrue A.refuses) }
     {
         if places <= self.places {
             return Ok(());
         }
         // At least twice as many as before, so that a place more costs little on average.
-        let places = places.max(self.nodes.len());
+        let places = places.max(self.nodes.len()).min(INDEX_LIMIT);
         let nodes = nodes_of(
             *self.nodes.allocator(),
             &self.nodes.as_slice()[self.places..],
@@ -93,23 +97,22 @@ impl<A: Allocator + Copy> FirstMoments<A> {
 
 /// The nodes of that many places, of which the first have these moments, and the others none. The only error is want of
 /// memory.
-fn nodes_of<A: Allocator + Copy>(
+fn nodes_of<A: Grows>(
     alloc: A,
     moments: &[Option<u64>],
     places: usize,
 ) -> Result<Vec<Option<u64>, A>, AllocError>
-    requires { length moments.now ≤ places }
+    requires moments { length moments.now ≤ places }
+    requires limit { places ≤ INDEX_LIMIT }
     ensures won { IfOk result (λ v. IsTournament places v.items) }
     ensures moments { IfOk result (λ v. (k : ℕ) → slice_index_or (drop places v.items) k None
         ≡ slice_index_or moments.now k None) }
+    ensures memory { OnErr result (IsTrue A.refuses) }
 {
-    let Some(len) = places.checked_mul(2) else {
-        return Err(AllocError);
-    };
-    let mut nodes = Vec::with_capacity(alloc, len)?;
-    nodes.resize(places, None)?;
-    nodes.extend_from_slice(moments)?;
-    nodes.resize(len, None)?;
+    let mut nodes = Vec::new(alloc);
+    fill(&mut nodes, places, None)?;
+    append(&mut nodes, moments)?;
+    fill(&mut nodes, 2 * places, None)?;
     lay(nodes.as_mut_slice(), places);
     Ok(nodes)
 }

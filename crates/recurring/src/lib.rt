@@ -8,6 +8,6 @@ mod first_moments;
 mod monitor;
 mod recurrings;
 
-pub use due_index::DueIndex;
+pub use due_index::{DueIndex, INDEX_LIMIT};
 pub use monitor::Monitor;
 pub use recurrings::{NoSuchRecurring, NotAdded, Recurrings};

@@ -66,8 +66,10 @@ invariant_of-self-2 g c =
     ∙ c.as_slice.ensures.len in
     let at_most : length ps ≤ 64 = c.self.invariant.at_most_64 in
     let room : length ps < 64 = omega (arith, at_most, len, c.len.ensures, c.if-len-eq-PARAMS_LIMIT.false) in
-    let new = pushed (is_ok c.insert.result) c.is_err.result ps c.insert.new.self.items
-    (insert ps n (name, value)) c.insert.ensures.items c.is_err.ensures.negation c.if-is_err.false in
+    let items : c.insert.new.self.items ≡ (if is_ok c.insert.result then insert ps n (name, value) else ps) =
+    c.insert.ensures.items ∙ ap (λ (xs : ParamList). if is_ok c.insert.result then insert xs n (name, value) else xs) c.reserve.ensures.items in
+    let new = pushed (is_ok c.insert.result) c.is_err-2.result ps c.insert.new.self.items
+    (insert ps n (name, value)) items c.is_err-2.ensures.negation c.if-is_err-2.false in
     subst AreParams (sym new) (insert_lawful name value ps n c.self.invariant named valued place gone room)
 
 pub returns-clause-ok : goal.returns-clause-ok
@@ -79,6 +81,8 @@ returns-clause-ok g c =
     let place = place_is name ps c.as_slice.result.now n c.lesser_names-place.ensures c.as_slice.ensures.value in
     let gone : has_param name ps ≡ false = sym (c.is_there.ensures ∙ ap (λ (xs : ParamList). has_param name xs) c.as_slice-2.ensures.value)
     ∙ c.if-is_there.false in
-    let new = pushed (is_ok c.insert.result) c.is_err.result ps c.insert.new.self.items
-    (insert ps n (name, value)) c.insert.ensures.items c.is_err.ensures.negation c.if-is_err.false in
+    let items : c.insert.new.self.items ≡ (if is_ok c.insert.result then insert ps n (name, value) else ps) =
+    c.insert.ensures.items ∙ ap (λ (xs : ParamList). if is_ok c.insert.result then insert xs n (name, value) else xs) c.reserve.ensures.items in
+    let new = pushed (is_ok c.insert.result) c.is_err-2.result ps c.insert.new.self.items
+    (insert ps n (name, value)) items c.is_err-2.ensures.negation c.if-is_err-2.false in
     new ∙ insert_new name ps c.self.invariant.sorted value n place gone ∙ ap (λ (xs : ParamList). with_param name value xs) c.self.view_is
