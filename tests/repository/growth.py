@@ -11,7 +11,7 @@ import sys
 sys.path[0] += "/../lib"
 import helper  # noqa: E402
 
-LEMMA = re.compile(r"\bspecs(::|\.)Refused\b|\brefuses_here\b")
+LEMMA = re.compile(r"\bgrowth\.specs\.Refused\b|\bspecs::Refused::refuses\b|\brefuses_here\b")
 CLAIM = re.compile(r"IsTrue\s*\(?[\w.]*\brefuses\b")
 CLAUSE = re.compile(r"^\s*(requires|ensures|ghost \w+ =|ghost \w+:|pub fn|fn|impl|\{)")
 TRUSTED_CALL = re.compile(r"\b\w+::library_growth\(")
