@@ -1,4 +1,5 @@
-//! Room for what is kept: growths that an allocator may refuse, of which it is known that it did.
+//! Growths of vectors, strings, maps and rings that an allocator may refuse. Contracts see that it did, so that a function can
+//! promise to answer want of memory only where a growth was refused.
 #![tactic(auto)]
 
 mod growth;
@@ -7,4 +8,4 @@ mod vectors;
 
 pub use growth::{GROWTH_LIMIT, Grows};
 pub use texts::{push_text, text_of};
-pub use vectors::{append, fill, push, vec_of, with_room};
+pub use vectors::{append, fill, push, vec_of, with_capacity};

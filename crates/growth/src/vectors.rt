@@ -1,68 +1,68 @@
-//! Vectors that grow.
+//! Growths of vectors.
 ghost use Rattle.std.specs.Prelude.{◌≡◌, ◌≤◌, ◌-◌, ◌++◌, ◌∷◌, [], if◌then◌else◌, is_ok, replicate, IfOk, IsTrue, OnErr, OnOk, vec_capacity, vec_len};
 
 use crate::{GROWTH_LIMIT, Grows};
 use std::alloc::AllocError;
 
-/// No elements, with the room for so many.
-pub fn with_room<T: Drop, A: Grows>(alloc: A, places: usize) -> Result<Vec<T, A>, AllocError>
-    requires limit { places ≤ GROWTH_LIMIT }
+/// An empty vector of at least that capacity.
+pub fn with_capacity<T: Drop, A: Grows>(alloc: A, capacity: usize) -> Result<Vec<T, A>, AllocError>
+    requires limit { capacity ≤ GROWTH_LIMIT }
     ensures items { IfOk result (λ v. v.items ≡ []) }
-    ensures capacity { IfOk result (λ v. places ≤ vec_capacity v) }
+    ensures capacity { IfOk result (λ v. capacity ≤ vec_capacity v) }
     ensures refused { OnErr result (IsTrue A.refuses) }
 {
-    let mut room = Vec::new(alloc);
-    A::reserve(&mut room, places)?;
-    Ok(room)
+    let mut vec = Vec::new(alloc);
+    A::reserve(&mut vec, capacity)?;
+    Ok(vec)
 }
 
-/// Puts a value behind the others.
-pub fn push<T: Drop, A: Grows>(room: &mut Vec<T, A>, value: T) -> Result<(), AllocError>
-    ensures items { room.new.items
-        ≡ (if is_ok result then room.old.items ++ value ∷ [] else room.old.items) }
-    ensures capacity { vec_capacity room.old ≤ vec_capacity room.new }
+/// Appends the value to the vector, which stays as it was where the growth is refused.
+pub fn push<T: Drop, A: Grows>(vec: &mut Vec<T, A>, value: T) -> Result<(), AllocError>
+    ensures items { vec.new.items
+        ≡ (if is_ok result then vec.old.items ++ value ∷ [] else vec.old.items) }
+    ensures capacity { vec_capacity vec.old ≤ vec_capacity vec.new }
     ensures refused { OnErr result (IsTrue A.refuses) }
 {
-    A::reserve(room, 1)?;
-    room.push_reserved(value);
+    A::reserve(vec, 1)?;
+    vec.push_reserved(value);
     Ok(())
 }
 
-/// Puts a list behind the others.
-pub fn append<T: Copy, A: Grows>(room: &mut Vec<T, A>, list: &[T]) -> Result<(), AllocError>
-    ensures items { room.new.items
-        ≡ (if is_ok result then room.old.items ++ list.now else room.old.items) }
-    ensures capacity { vec_capacity room.old ≤ vec_capacity room.new }
+/// Appends the list to the vector, which stays as it was where the growth is refused.
+pub fn append<T: Copy, A: Grows>(vec: &mut Vec<T, A>, list: &[T]) -> Result<(), AllocError>
+    ensures items { vec.new.items
+        ≡ (if is_ok result then vec.old.items ++ list.now else vec.old.items) }
+    ensures capacity { vec_capacity vec.old ≤ vec_capacity vec.new }
     ensures refused { OnErr result (IsTrue A.refuses) }
 {
-    A::reserve_for(room, list)?;
-    if room.extend_from_slice(list).is_err() {
+    A::reserve_for(vec, list)?;
+    if vec.extend_from_slice(list).is_err() {
         unreachable!()
     }
     Ok(())
 }
 
-/// A list of one's own.
+/// A vector of that list.
 pub fn vec_of<T: Copy, A: Grows>(alloc: A, list: &[T]) -> Result<Vec<T, A>, AllocError>
     ensures items { IfOk result (λ v. v.items ≡ list.now) }
     ensures refused { OnErr result (IsTrue A.refuses) }
 {
-    let mut room = Vec::new(alloc);
-    append(&mut room, list)?;
-    Ok(room)
+    let mut vec = Vec::new(alloc);
+    append(&mut vec, list)?;
+    Ok(vec)
 }
 
-/// Puts a value behind the others until there are that many: none where there are that many already.
-pub fn fill<T: Copy, A: Grows>(room: &mut Vec<T, A>, len: usize, value: T) -> Result<(), AllocError>
+/// Appends the value until the vector is of that length: not once where it is that long already.
+pub fn fill<T: Copy, A: Grows>(vec: &mut Vec<T, A>, len: usize, value: T) -> Result<(), AllocError>
     requires limit { len ≤ GROWTH_LIMIT }
     ensures items { OnOk result
-        (room.new.items ≡ room.old.items ++ replicate (len - vec_len room.old) value) }
+        (vec.new.items ≡ vec.old.items ++ replicate (len - vec_len vec.old) value) }
     ensures refused { OnErr result (IsTrue A.refuses) }
 {
-    let more = len.saturating_sub(room.len());
-    A::reserve(room, more)?;
+    let more = len.saturating_sub(vec.len());
+    A::reserve(vec, more)?;
     for _ in 0..more {
-        room.push_reserved(value);
+        vec.push_reserved(value);
     }
     Ok(())
 }
