@@ -1,7 +1,8 @@
 //! The room that a line is read into.
-ghost use Rattle.std.specs.Prelude.{◌≡◌, ◌≤◌, ◌↔◌, [], ◌++◌, IsTrue, IfOk, length, take, vec_len, vec_capacity};
+ghost use Rattle.std.specs.Prelude.{◌≡◌, ◌≤◌, ◌↔◌, [], ◌++◌, IsTrue, IfOk, OnErr, length, take, vec_len, vec_capacity};
 ghost use Rattle.exec_lines.specs.Lines.{line_room};
 
+use growth::{Grows, with_capacity};
 use ocf_types::LINE_LIMIT;
 use std::alloc::{AllocError, Allocator, Global};
 
@@ -17,16 +18,21 @@ pub struct LineBuffer<A: Allocator = Global> {
     ghost room: { line_room ≤ vec_capacity bytes },
 }
 
-impl<A: Allocator> LineBuffer<A> {
+impl<A: Grows> LineBuffer<A> {
     ghost use Rattle.exec_lines.specs.Buffer.{line_bytes};
 
-    /// A buffer with no line in it. It fails only where memory is refused.
+    /// A buffer with no line in it.
     pub fn new(alloc: A) -> Result<LineBuffer<A>, AllocError>
-        ensures { IfOk result (λ b. line_bytes b ≡ []) }
+        ensures empty { IfOk result (λ b. line_bytes b ≡ []) }
+        ensures memory { OnErr result (IsTrue A.refuses) }
     {
-        let bytes = Vec::with_capacity(alloc, ROOM)?;
+        let bytes = with_capacity(alloc, ROOM)?;
         Ok(LineBuffer { bytes })
     }
+}
+
+impl<A: Allocator> LineBuffer<A> {
+    ghost use Rattle.exec_lines.specs.Buffer.{line_bytes};
 
     /// The line that was read last, in bytes.
     pub fn line(&self) -> &[u8]
