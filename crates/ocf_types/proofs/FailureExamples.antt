@@ -1,5 +1,5 @@
 -- What has failed, computed on examples: by the code that is expected, and by how long it is remembered.
-use Rattle.std.proofs.Common.{◌≡◌, ℕ, List, [], ◌∷◌, Option, Some, None, refl}
+use Rattle.std.proofs.Common.{◌≡◌, ℕ, Option, Some, None, refl}
 use Rattle.ocf_types.specs.Resource.{History, no_history, accepted, begun, ended, booted, forgotten, history_in}
 use Rattle.ocf_types.specs.declared.action.Level.TheVariants.{Zero}
 use Rattle.ocf_types.specs.declared.action.Action.{Action}

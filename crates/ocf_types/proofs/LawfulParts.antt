@@ -1,5 +1,5 @@
 -- Parts of a lawful resource: they stay lawful later, and with one more.
-use Rattle.std.proofs.Common.{◌≡◌, ◌≢◌, nat_eq, ℕ, ◌-◌, ◌≤◌, ◌<◌, ◌==◌, Bool, true, false, cond, List, [], ◌∷◌, ◌++◌, map, length, find}
+use Rattle.std.proofs.Common.{◌≡◌, nat_eq, ℕ, ◌-◌, ◌≤◌, ◌<◌, ◌==◌, Bool, true, false, cond, List, [], ◌∷◌, ◌++◌, map, length, find}
 use Rattle.std.proofs.Common.{Option, Some, None, option_map, option_and_then, option_to_list, refl, ◌∙◌, arith, length-drop}
 use Rattle.std.specs.List.{AllByRecursion, IsDistinct, list_any}
 use Rattle.std.specs.Option.{option_or}
@@ -13,7 +13,7 @@ use Rattle.ocf_types.specs.declared.operation.Running.{Running}
 use Rattle.ocf_types.specs.declared.operation.Ended.{Ended}
 use Rattle.ocf_types.specs.declared.outcome.Outcome.{Outcome}
 use Rattle.ocf_types.specs.declared.outcome.RunEnd.{RunEnd}
-use Rattle.ocf_types.specs.declared.outcome.Outcome.TheVariants.{Run, Dropped, Cancelled}
+use Rattle.ocf_types.specs.declared.outcome.Outcome.TheVariants.{Run}
 use Rattle.ocf_types.specs.Limits.{event_limit}
 use Rattle.ocf_types.specs.Numbers.{IsDrawn}
 use Rattle.ocf_types.specs.Lawful.{IsLawfulOpIn, IsLawfulRecurIn, IsLawfulRegistration, IsRunEnd}

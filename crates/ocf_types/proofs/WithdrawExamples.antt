@@ -1,5 +1,5 @@
 -- What is withdrawn, and how many results are kept, computed on examples.
-use Rattle.std.proofs.Common.{◌≡◌, ℕ, suc, zero, List, [], ◌∷◌, map, length, Option, Some, None, Err, refl}
+use Rattle.std.proofs.Common.{◌≡◌, ℕ, suc, zero, List, [], ◌∷◌, map, length, Some, None, Err, refl}
 use Rattle.std.specs.Prelude.{codes, option_map, take}
 use Rattle.ocf_types.specs.declared.action.Action.TheVariants as action
 use Rattle.ocf_types.specs.declared.action.Task.{Task}

@@ -82,7 +82,6 @@ impl<A: Allocator> Params<A> {
             Some(last) => last.0.as_bytes().cmp(&name.as_bytes()).is_lt(),
         }
     }
-
 }
 
 impl<A: Grows> Params<A> {

@@ -63,7 +63,6 @@ impl<A: Grows> ParamValue<A> {
             Err(_) => Err(ValueError::BadValue),
         }
     }
-
 }
 
 impl<A: Allocator> ParamValue<A> {
@@ -76,7 +75,6 @@ impl<A: Allocator> ParamValue<A> {
     {
         self.text.as_str()
     }
-
 }
 
 impl<A: Grows> ParamValue<A> {

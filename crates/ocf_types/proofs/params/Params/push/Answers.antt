@@ -1,5 +1,5 @@
-use Rattle.std.proofs.Common.{◌≡◌, ℕ, List, length, ◌<◌, true, subst, sym, ap, rules, refl, None, ◌++◌, ◌∷◌, []}
-use Rattle.ocf_types.specs.Params.{ParamList, AreParams, is_after, last_name}
+use Rattle.std.proofs.Common.{◌≡◌, length, ◌<◌, true, rules, refl, None}
+use Rattle.ocf_types.specs.Params.{ParamList, is_after, last_name}
 use Rattle.ocf_types.proofs.ParamsLemmas.{AreParams_push}
 use Rattle.ocf_types.proofs.params.Params.push.Goals as goal
 
