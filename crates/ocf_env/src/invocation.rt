@@ -1,10 +1,11 @@
 //! Programs with their arguments and environments.
-ghost use Rattle.std.specs.Prelude.{◌≡◌, IfOk, Some, None};
+ghost use Rattle.std.specs.Prelude.{◌≡◌, IfOk, IsTrue, OnErr, Some, None};
 ghost use Rattle.ocf_env.specs.Programs.{agent_path, program_at, arguments_at};
 
 use crate::site::Site;
 use crate::text::{Text, ascii, copied};
 use crate::variables::Pairs;
+use growth::{Grows, push, push_text, text_of};
 use ocf_types::{AgentType, Provider};
 use std::alloc::{AllocError, Allocator, Global};
 use std::marker::Model;
@@ -50,33 +51,35 @@ impl<A: Allocator> Invocation<A> {
 
 /// The agent's file, `<root>/resource.d/<provider>/<type>`. OCF Resource Agent API 1.1, OCF_ROOT.
 #[tactic(auto, using(ocf_types::specs::NameLaws::providers, ocf_types::specs::NameLaws::agent_types))]
-pub fn agent_file<A: Allocator, S: Allocator>(
+pub fn agent_file<A: Grows, S: Allocator>(
     alloc: A,
     site: &Site<S>,
     provider: &Provider,
     agent: &AgentType,
 ) -> Result<Text<A>, AllocError>
-    ensures { IfOk result (λ f. f ≡ agent_path site.now.root provider.now agent.now) }
+    ensures file { IfOk result (λ f. f ≡ agent_path site.now.root provider.now agent.now) }
+    ensures memory { OnErr result (IsTrue A.refuses) }
 {
-    let mut file = String::from_str(alloc, site.root())?;
-    file.push_str("/resource.d/")?;
-    file.push_str(ascii(provider.as_bytes()))?;
-    file.push_str("/")?;
-    file.push_str(ascii(agent.as_bytes()))?;
+    let mut file = text_of(alloc, site.root())?;
+    push_text(&mut file, "/resource.d/")?;
+    push_text(&mut file, ascii(provider.as_bytes()))?;
+    push_text(&mut file, "/")?;
+    push_text(&mut file, ascii(agent.as_bytes()))?;
     Ok(Text::new(file))
 }
 
-fn direct<A: Allocator + Copy>(
+fn direct<A: Grows>(
     alloc: A,
     file: Text<A>,
     action: Text<A>,
     environment: Pairs<A>,
 ) -> Result<Invocation<A>, AllocError>
-    ensures { IfOk result (λ i. i
+    ensures call { IfOk result (λ i. i
         ≡ record { program = program_at None file; arguments = arguments_at None file action; environment = environment.items }) }
+    ensures memory { OnErr result (IsTrue A.refuses) }
 {
     let mut arguments = Vec::new(alloc);
-    arguments.push(action)?;
+    push(&mut arguments, action)?;
     Ok(Invocation {
         program: file,
         arguments,
@@ -84,24 +87,25 @@ fn direct<A: Allocator + Copy>(
     })
 }
 
-fn through<A: Allocator + Copy>(
+fn through<A: Grows>(
     alloc: A,
     via: &str,
     file: Text<A>,
     action: Text<A>,
     environment: Pairs<A>,
 ) -> Result<Invocation<A>, AllocError>
-    ensures { IfOk result (λ i. i
+    ensures call { IfOk result (λ i. i
         ≡ record {
           program = program_at (Some via.now) file;
           arguments = arguments_at (Some via.now) file action;
           environment = environment.items;
         }) }
+    ensures memory { OnErr result (IsTrue A.refuses) }
 {
     let program = copied(alloc, via)?;
     let mut arguments = Vec::new(alloc);
-    arguments.push(file)?;
-    arguments.push(action)?;
+    push(&mut arguments, file)?;
+    push(&mut arguments, action)?;
     Ok(Invocation {
         program,
         arguments,
@@ -110,19 +114,20 @@ fn through<A: Allocator + Copy>(
 }
 
 /// The call of an agent's file for an action: through the site's program, where it has one.
-pub fn called<A: Allocator + Copy, S: Allocator>(
+pub fn called<A: Grows, S: Allocator>(
     alloc: A,
     site: &Site<S>,
     file: Text<A>,
     action: &str,
     environment: Pairs<A>,
 ) -> Result<Invocation<A>, AllocError>
-    ensures { IfOk result (λ i. i
+    ensures call { IfOk result (λ i. i
         ≡ record {
           program = program_at site.now.via file;
           arguments = arguments_at site.now.via file action.now;
           environment = environment.items;
         }) }
+    ensures memory { OnErr result (IsTrue A.refuses) }
 {
     let action = copied(alloc, action)?;
     match site.via() {

@@ -1,5 +1,5 @@
 //! Calls of agents.
-ghost use Rattle.std.specs.Prelude.{◌≡◌, ◌↔◌, ℕ, List, codes, IfOk, Contains, IsTrue};
+ghost use Rattle.std.specs.Prelude.{◌≡◌, ◌↔◌, ℕ, List, codes, IfOk, OnErr, Contains, IsTrue};
 ghost use Rattle.ocf_env.specs.Instances.{registered};
 ghost use Rattle.ocf_env.specs.Invocations.{IsInvocation};
 ghost use Rattle.ocf_env.specs.Programs.{agent_path, program_at, arguments_at};
@@ -10,6 +10,7 @@ use crate::invocation::{Invocation, agent_file, called};
 use crate::meta_variables::add_meta;
 use crate::site::Site;
 use crate::variables::{Pairs, push_instance, push_last, push_level, push_params, push_version};
+use growth::Grows;
 use ocf_types::{AgentType, CallId, Params, Provider, RscId, RunId, Running, Task};
 use std::alloc::{AllocError, Allocator, Global};
 
@@ -36,7 +37,7 @@ pub struct LaunchOf<I> {
 /// A launch whose texts lie in memory of the allocator.
 pub type Launch<A = Global> = LaunchOf<Invocation<A>>;
 
-fn action_variables<A: Allocator + Copy, S: Allocator, P: Allocator>(
+fn action_variables<A: Grows, S: Allocator, P: Allocator>(
     alloc: A,
     site: &Site<S>,
     instance: &Instance<'_, Params<P>>,
@@ -46,6 +47,7 @@ fn action_variables<A: Allocator + Copy, S: Allocator, P: Allocator>(
     ensures variables { IfOk result
         (λ e. (name value : List ℕ) → Contains e.items (name, value)
         ↔ IsVariable site.now (registered instance.now) task name value) }
+    ensures memory { OnErr result (IsTrue A.refuses) }
 {
     let mut pairs = Vec::new(alloc);
     push_level(alloc, &mut pairs, task)?;
@@ -57,7 +59,7 @@ fn action_variables<A: Allocator + Copy, S: Allocator, P: Allocator>(
 }
 
 // What an action is given: its variables, and where the site says so Pacemaker's.
-fn given_variables<A: Allocator + Copy, S: Allocator, P: Allocator>(
+fn given_variables<A: Grows, S: Allocator, P: Allocator>(
     alloc: A,
     site: &Site<S>,
     instance: &Instance<'_, Params<P>>,
@@ -67,6 +69,7 @@ fn given_variables<A: Allocator + Copy, S: Allocator, P: Allocator>(
     ensures variables { IfOk result
         (λ e. (name value : List ℕ) → Contains e.items (name, value)
         ↔ IsGiven site.now (registered instance.now) running name value) }
+    ensures memory { OnErr result (IsTrue A.refuses) }
 {
     let mut pairs = action_variables(alloc, site, instance, running.task)?;
     if !site.meta() {
@@ -76,7 +79,7 @@ fn given_variables<A: Allocator + Copy, S: Allocator, P: Allocator>(
     Ok(pairs)
 }
 
-fn meta_variables<A: Allocator + Copy, S: Allocator>(
+fn meta_variables<A: Grows, S: Allocator>(
     alloc: A,
     site: &Site<S>,
     provider: &Provider,
@@ -86,6 +89,7 @@ fn meta_variables<A: Allocator + Copy, S: Allocator>(
     ensures variables { IfOk result
         (λ e. (name value : List ℕ) → Contains e.items (name, value)
         ↔ IsAgentVariable site.now provider.now agent.now name value) }
+    ensures memory { OnErr result (IsTrue A.refuses) }
 {
     let mut pairs = Vec::new(alloc);
     push_version(alloc, &mut pairs)?;
@@ -98,7 +102,7 @@ fn meta_variables<A: Allocator + Copy, S: Allocator>(
 /// OCF_RESKEY_ variable for each parameter. Where the site says so it also gets those of `IsMetaVariable`: the action's
 /// name, and its interval and timeout in milliseconds. Otherwise no OCF_RESKEY_CRM_meta_ variable is set but that of a
 /// parameter which an administrator named so, and that one is never replaced.
-pub fn launch<A: Allocator + Copy, S: Allocator, P: Allocator>(
+pub fn launch<A: Grows, S: Allocator, P: Allocator>(
     alloc: A,
     site: &Site<S>,
     instance: &Instance<'_, Params<P>>,
@@ -109,6 +113,7 @@ pub fn launch<A: Allocator + Copy, S: Allocator, P: Allocator>(
     ensures id { IfOk result (λ l. l.id ≡ instance.now.id.now) }
     ensures call { IfOk result (λ l. l.call ≡ running.call) }
     ensures run { IfOk result (λ l. l.run ≡ running.run) }
+    ensures memory { OnErr result (IsTrue A.refuses) }
 {
     let (task, call, run) = (running.task, running.call, running.run);
     let environment = given_variables(alloc, site, instance, running)?;
@@ -124,7 +129,7 @@ pub fn launch<A: Allocator + Copy, S: Allocator, P: Allocator>(
 
 /// The call that asks an agent for its metadata, which needs no instance: neither OCF_CHECK_LEVEL nor
 /// OCF_RESOURCE_INSTANCE is set, nor any OCF_RESKEY_ variable. OCF Resource Agent API 1.1, meta-data.
-pub fn launch_meta<A: Allocator + Copy, S: Allocator>(
+pub fn launch_meta<A: Grows, S: Allocator>(
     alloc: A,
     site: &Site<S>,
     provider: &Provider,
@@ -140,6 +145,7 @@ pub fn launch_meta<A: Allocator + Copy, S: Allocator>(
     ensures variables { IfOk result
         (λ i. (name value : List ℕ) → Contains i.environment (name, value)
         ↔ IsAgentVariable site.now provider.now agent.now name value) }
+    ensures memory { OnErr result (IsTrue A.refuses) }
 {
     let environment = meta_variables(alloc, site, provider, agent)?;
     let file = agent_file(alloc, site, provider, agent)?;

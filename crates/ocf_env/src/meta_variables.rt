@@ -1,11 +1,12 @@
 //! The variables that Pacemaker sets beside the standard's.
-ghost use Rattle.std.specs.Prelude.{◌≡◌, ◌↔◌, ℕ, List, IfOk, OnOk, Contains, IsTrue, bytes_eq, count_by};
+ghost use Rattle.std.specs.Prelude.{◌≡◌, ◌↔◌, ℕ, List, IfOk, OnErr, OnOk, Contains, IsTrue, bytes_eq, count_by};
 ghost use Rattle.std.specs.List.{list_any};
 ghost use Rattle.ocf_types.specs.Params.{is_before};
 ghost use Rattle.ocf_env.specs.Lists.{with_meta, with_new};
 
 use crate::text::{Text, copied};
 use crate::variables::Pairs;
+use growth::Grows;
 use itoa::Buffer;
 use ocf_types::Running;
 use std::alloc::{AllocError, Allocator};
@@ -32,31 +33,36 @@ fn is_there<A: Allocator>(pairs: &[(Text<A>, Text<A>)], name: &str) -> bool
 }
 
 // Adds a variable in its place by name, but where there is one of this name.
-fn add_new<A: Allocator + Copy>(
+fn add_new<A: Grows>(
     alloc: A,
     pairs: &mut Pairs<A>,
     name: &str,
     value: &str,
 ) -> Result<(), AllocError>
-    ensures { OnOk result (pairs.new.items ≡ with_new (name.now, value.now) pairs.old.items) }
+    ensures pairs { OnOk result (pairs.new.items ≡ with_new (name.now, value.now) pairs.old.items) }
+    ensures memory { OnErr result (IsTrue A.refuses) }
 {
     if is_there(pairs.as_slice(), name) {
         return Ok(());
     }
     let place = lesser_names(pairs.as_slice(), name);
     let pair = (copied(alloc, name)?, copied(alloc, value)?);
-    pairs.insert(place, pair)?;
+    A::reserve(pairs, 1)?;
+    if pairs.insert(place, pair).is_err() {
+        unreachable!()
+    }
     Ok(())
 }
 
 /// Adds the interval, the name and the timeout of an action, each in its place by name, but where there is a variable of this
 /// name. They are Pacemaker's own; agents of the package resource-agents read them, as in `ocf_is_probe`.
-pub fn add_meta<A: Allocator + Copy>(
+pub fn add_meta<A: Grows>(
     alloc: A,
     pairs: &mut Pairs<A>,
     running: Running,
 ) -> Result<(), AllocError>
-    ensures { OnOk result (pairs.new.items ≡ with_meta running pairs.old.items) }
+    ensures pairs { OnOk result (pairs.new.items ≡ with_meta running pairs.old.items) }
+    ensures memory { OnErr result (IsTrue A.refuses) }
 {
     let mut digits = Buffer::new();
     let interval = digits.format(running.interval);

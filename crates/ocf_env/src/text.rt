@@ -1,8 +1,9 @@
 //! Texts in memory of an allocator.
-ghost use Rattle.std.specs.Prelude.{◌≡◌, ◌++◌, IfOk};
+ghost use Rattle.std.specs.Prelude.{◌≡◌, ◌++◌, IfOk, IsTrue, OnErr};
 ghost use Rattle.std.specs.String.{string_bytes};
 ghost use Rattle.std.specs.Str.{IsAscii};
 
+use growth::{Grows, push_text, text_of};
 use std::alloc::{AllocError, Allocator, Global};
 use std::marker::Model;
 use std::str::from_utf8;
@@ -39,18 +40,20 @@ impl<A: Allocator> Text<A> {
 }
 
 /// A copy of a text.
-pub fn copied<A: Allocator>(alloc: A, text: &str) -> Result<Text<A>, AllocError>
-    ensures { IfOk result (λ t. t ≡ text.now) }
+pub fn copied<A: Grows>(alloc: A, text: &str) -> Result<Text<A>, AllocError>
+    ensures text { IfOk result (λ t. t ≡ text.now) }
+    ensures memory { OnErr result (IsTrue A.refuses) }
 {
-    Ok(Text::new(String::from_str(alloc, text)?))
+    Ok(Text::new(text_of(alloc, text)?))
 }
 
 /// Two texts in one.
-pub fn joined<A: Allocator>(alloc: A, head: &str, tail: &str) -> Result<Text<A>, AllocError>
-    ensures { IfOk result (λ t. t ≡ head.now ++ tail.now) }
+pub fn joined<A: Grows>(alloc: A, head: &str, tail: &str) -> Result<Text<A>, AllocError>
+    ensures text { IfOk result (λ t. t ≡ head.now ++ tail.now) }
+    ensures memory { OnErr result (IsTrue A.refuses) }
 {
-    let mut text = String::from_str(alloc, head)?;
-    text.push_str(tail)?;
+    let mut text = text_of(alloc, head)?;
+    push_text(&mut text, tail)?;
     Ok(Text::new(text))
 }
 

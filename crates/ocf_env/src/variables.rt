@@ -1,5 +1,5 @@
 //! Variables, in the order of their names.
-ghost use Rattle.std.specs.Prelude.{◌≡◌, ◌++◌, [], ◌∷◌, OnOk, decimal};
+ghost use Rattle.std.specs.Prelude.{◌≡◌, ◌++◌, [], ◌∷◌, IsTrue, OnErr, OnOk, decimal};
 ghost use Rattle.ocf_types.specs.Actions.{level_number};
 ghost use Rattle.ocf_types.specs.Params.{AreParams};
 ghost use Rattle.ocf_env.specs.Variables.{reskey};
@@ -7,23 +7,25 @@ ghost use Rattle.ocf_env.specs.Lists.{level_pairs, version_pairs, param_pairs, i
 
 use crate::site::Site;
 use crate::text::{Text, ascii, copied, joined};
+use growth::{Grows, push};
 use ocf_types::{AgentType, Level, ParamName, ParamValue, Params, Provider, RscId, Task};
 use std::alloc::{AllocError, Allocator};
 
 /// A list of variables that is being filled.
 pub type Pairs<A> = Vec<(Text<A>, Text<A>), A>;
 
-fn push_pair<A: Allocator + Copy>(
+fn push_pair<A: Grows>(
     alloc: A,
     pairs: &mut Pairs<A>,
     name: &str,
     value: &str,
 ) -> Result<(), AllocError>
-    ensures { OnOk result (pairs.new.items ≡ pairs.old.items ++ (name.now, value.now) ∷ []) }
+    ensures pairs { OnOk result (pairs.new.items ≡ pairs.old.items ++ (name.now, value.now) ∷ []) }
+    ensures memory { OnErr result (IsTrue A.refuses) }
 {
     let name = copied(alloc, name)?;
     let value = copied(alloc, value)?;
-    pairs.push((name, value))?;
+    push(pairs, (name, value))?;
     Ok(())
 }
 
@@ -38,12 +40,9 @@ fn level_text(level: Level) -> &'static str
 }
 
 /// Appends the level of a monitor. OCF Resource Agent API 1.1, OCF_CHECK_LEVEL.
-pub fn push_level<A: Allocator + Copy>(
-    alloc: A,
-    pairs: &mut Pairs<A>,
-    task: Task,
-) -> Result<(), AllocError>
-    ensures { OnOk result (pairs.new.items ≡ pairs.old.items ++ level_pairs task) }
+pub fn push_level<A: Grows>(alloc: A, pairs: &mut Pairs<A>, task: Task) -> Result<(), AllocError>
+    ensures pairs { OnOk result (pairs.new.items ≡ pairs.old.items ++ level_pairs task) }
+    ensures memory { OnErr result (IsTrue A.refuses) }
 {
     match task {
         Task::Monitor(check) => {
@@ -55,8 +54,9 @@ pub fn push_level<A: Allocator + Copy>(
 }
 
 /// Appends the version of the standard, 1.1. OCF Resource Agent API 1.1, OCF_RA_VERSION_MAJOR.
-pub fn push_version<A: Allocator + Copy>(alloc: A, pairs: &mut Pairs<A>) -> Result<(), AllocError>
-    ensures { OnOk result (pairs.new.items ≡ pairs.old.items ++ version_pairs) }
+pub fn push_version<A: Grows>(alloc: A, pairs: &mut Pairs<A>) -> Result<(), AllocError>
+    ensures pairs { OnOk result (pairs.new.items ≡ pairs.old.items ++ version_pairs) }
+    ensures memory { OnErr result (IsTrue A.refuses) }
 {
     push_pair(alloc, pairs, "OCF_RA_VERSION_MAJOR", "1")?;
     push_pair(alloc, pairs, "OCF_RA_VERSION_MINOR", "1")?;
@@ -64,28 +64,30 @@ pub fn push_version<A: Allocator + Copy>(alloc: A, pairs: &mut Pairs<A>) -> Resu
 }
 
 #[tactic(auto, using(ocf_types::specs::NameLaws::param_names))]
-fn push_param<A: Allocator + Copy, P: Allocator>(
+fn push_param<A: Grows, P: Allocator>(
     alloc: A,
     pairs: &mut Pairs<A>,
     param: &(ParamName, ParamValue<P>),
 ) -> Result<(), AllocError>
-    ensures { OnOk result (pairs.new.items
+    ensures pairs { OnOk result (pairs.new.items
         ≡ pairs.old.items ++ (reskey param.now.0, param.now.1) ∷ []) }
+    ensures memory { OnErr result (IsTrue A.refuses) }
 {
     let name = joined(alloc, "OCF_RESKEY_", ascii(param.0.as_bytes()))?;
     let value = copied(alloc, param.1.as_str())?;
-    pairs.push((name, value))?;
+    push(pairs, (name, value))?;
     Ok(())
 }
 
 /// Appends the parameters, which are sorted by name. OCF Resource Agent API 1.1, OCF_RESKEY_.
-pub fn push_params<A: Allocator + Copy, P: Allocator>(
+pub fn push_params<A: Grows, P: Allocator>(
     alloc: A,
     pairs: &mut Pairs<A>,
     params: &Params<P>,
 ) -> Result<(), AllocError>
-    ensures items { OnOk result (pairs.new.items ≡ pairs.old.items ++ param_pairs params.now) }
+    ensures pairs { OnOk result (pairs.new.items ≡ pairs.old.items ++ param_pairs params.now) }
     ensures lawful { AreParams params.now }
+    ensures memory { OnErr result (IsTrue A.refuses) }
 {
     for param in params.as_slice() {
         push_param(alloc, pairs, param)?;
@@ -95,26 +97,24 @@ pub fn push_params<A: Allocator + Copy, P: Allocator>(
 
 /// Appends the instance. OCF Resource Agent API 1.1, OCF_RESOURCE_INSTANCE.
 #[tactic(auto, using(ocf_types::specs::NameLaws::ids))]
-pub fn push_instance<A: Allocator + Copy>(
-    alloc: A,
-    pairs: &mut Pairs<A>,
-    id: &RscId,
-) -> Result<(), AllocError>
-    ensures { OnOk result (pairs.new.items ≡ pairs.old.items ++ instance_pair id.now ∷ []) }
+pub fn push_instance<A: Grows>(alloc: A, pairs: &mut Pairs<A>, id: &RscId) -> Result<(), AllocError>
+    ensures pairs { OnOk result (pairs.new.items ≡ pairs.old.items ++ instance_pair id.now ∷ []) }
+    ensures memory { OnErr result (IsTrue A.refuses) }
 {
     push_pair(alloc, pairs, "OCF_RESOURCE_INSTANCE", ascii(id.as_bytes()))?;
     Ok(())
 }
 
 #[tactic(auto, using(ocf_types::specs::NameLaws::providers, ocf_types::specs::NameLaws::agent_types))]
-fn push_agent<A: Allocator + Copy>(
+fn push_agent<A: Grows>(
     alloc: A,
     pairs: &mut Pairs<A>,
     provider: &Provider,
     agent: &AgentType,
 ) -> Result<(), AllocError>
-    ensures { OnOk result (pairs.new.items
+    ensures pairs { OnOk result (pairs.new.items
         ≡ pairs.old.items ++ agent_pairs provider.now agent.now) }
+    ensures memory { OnErr result (IsTrue A.refuses) }
 {
     push_pair(
         alloc,
@@ -126,27 +126,29 @@ fn push_agent<A: Allocator + Copy>(
     Ok(())
 }
 
-fn push_site<A: Allocator + Copy, S: Allocator>(
+fn push_site<A: Grows, S: Allocator>(
     alloc: A,
     pairs: &mut Pairs<A>,
     site: &Site<S>,
 ) -> Result<(), AllocError>
-    ensures { OnOk result (pairs.new.items ≡ pairs.old.items ++ site_pairs site.now) }
+    ensures pairs { OnOk result (pairs.new.items ≡ pairs.old.items ++ site_pairs site.now) }
+    ensures memory { OnErr result (IsTrue A.refuses) }
 {
     push_pair(alloc, pairs, "OCF_ROOT", site.root())?;
     push_pair(alloc, pairs, "PATH", site.path())
 }
 
 /// Appends what comes last: provider, type, root and path. OCF Resource Agent API 1.1, OCF_RESOURCE_TYPE.
-pub fn push_last<A: Allocator + Copy, S: Allocator>(
+pub fn push_last<A: Grows, S: Allocator>(
     alloc: A,
     pairs: &mut Pairs<A>,
     site: &Site<S>,
     provider: &Provider,
     agent: &AgentType,
 ) -> Result<(), AllocError>
-    ensures { OnOk result (pairs.new.items
+    ensures pairs { OnOk result (pairs.new.items
         ≡ pairs.old.items ++ last_pairs site.now provider.now agent.now) }
+    ensures memory { OnErr result (IsTrue A.refuses) }
 {
     push_agent(alloc, pairs, provider, agent)?;
     push_site(alloc, pairs, site)

@@ -14,11 +14,11 @@ returns-then-not-meta-clause-variables g c =
     )
 
 pub returns-clause-sorted : goal.returns-clause-sorted
-returns-clause-sorted g c = rw c.in_ok-add_meta.ensures (meta_order c.args.running c.in_ok-pairs.pairs.items c.in_ok-pairs.ensures.sorted)
+returns-clause-sorted g c = rw c.in_ok-add_meta.ensures.pairs (meta_order c.args.running c.in_ok-pairs.pairs.items c.in_ok-pairs.ensures.sorted)
 
 pub returns-clause-variables : goal.returns-clause-variables
 returns-clause-variables g c =
     let asked : c.args.site.now.meta ≡ true = search rules in
-    λ name value. rw c.in_ok-add_meta.ensures
+    λ name value. rw c.in_ok-add_meta.ensures.pairs
     (meta_members c.args.site.now (registered c.args.instance.now) c.args.running c.in_ok-pairs.pairs.items asked
     c.in_ok-pairs.ensures.variables name value)

@@ -7,8 +7,8 @@ use Rattle.ocf_env.proofs.launches.launch.Goals as goal
 pub returns-clause-invocation : goal.returns-clause-invocation
 returns-clause-invocation g c =
     let via = c.args.site.now.via in
-    let call = c.in_ok-invocation.ensures in
-    let file = c.in_ok-file.ensures in
+    let call = c.in_ok-invocation.ensures.call in
+    let file = c.in_ok-file.ensures.file in
     let word : c.word.result.now ≡ action_word (action_of c.args.running.task) = c.word.ensures ∙ ap action_word c.action.ensures in
     let same = ap (λ (i : Call). i.environment) call in
     record {

@@ -2,5 +2,5 @@ use Rattle.std.proofs.Common.{◌∙◌}
 use Rattle.ocf_env.proofs.PushLemmas.{valued}
 use Rattle.ocf_env.proofs.variables.push_instance.Goals as goal
 
-pub returns : goal.returns
-returns g c = valued _ _ _ _ _ c.in_ok-push_pair.ensures (c.ascii.ensures ∙ c.as_bytes.ensures.bytes)
+pub returns-clause-pairs : goal.returns-clause-pairs
+returns-clause-pairs g c = valued _ _ _ _ _ c.in_ok-push_pair.ensures.pairs (c.ascii.ensures ∙ c.as_bytes.ensures.bytes)
