@@ -8,13 +8,13 @@ ghost use Rattle.exec_state.specs.Answers.{IsReplyOrMemory};
 use crate::registered::Registered;
 use crate::state::State;
 use arrayvec::ArrayVec;
+use growth::{Grows, push};
 use ocf_types::{
     CallId, Ended, Info, InfoOf, Items, QUEUE_LIMIT, Question, RECURRING_LIMIT, Recur, Refusal,
     Reply, ReplyOf, RscId,
 };
 use op_history::Ops;
 use recurring::Recurrings;
-use growth::{Grows, push};
 use std::alloc::AllocError;
 
 /// The results, oldest first.

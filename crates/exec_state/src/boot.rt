@@ -6,8 +6,8 @@ ghost use Rattle.ocf_types.specs.Answer.{moment};
 ghost use Rattle.exec_state.specs.Store.{dues, monitors_due_at};
 
 use crate::state::State;
-use ocf_types::{Change, Event, EventOf, Moment};
 use growth::Grows;
+use ocf_types::{Change, Event, EventOf, Moment};
 
 impl<A: Grows> State<A> {
     /// The boot that an opening at that moment records: just where an action is queued or running.

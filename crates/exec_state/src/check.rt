@@ -5,11 +5,11 @@ ghost use Rattle.ocf_types.specs.Answer.{event_of};
 ghost use Rattle.ocf_types.specs.declared.command.CommandOf.TheVariants as command;
 
 use crate::state::State;
+use growth::Grows;
 use ocf_types::{
     CallId, Change, Check, Command, CommandOf, EVENT_LIMIT, Event, EventOf, Millis, NUM_MAX, Op,
     Params, QUEUE_LIMIT, Recur, Refusal, Registration, RscId, Step, Task,
 };
-use growth::Grows;
 
 /// The event, unless it is too large to be recorded.
 fn unless_too_large<A: Grows>(event: Event<A>) -> Result<Event<A>, Refusal>

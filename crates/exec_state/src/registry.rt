@@ -18,13 +18,13 @@ ghost use Rattle.exec_state.specs.Resting.{AllRest, RestBefore};
 ghost use Rattle.exec_state.specs.Store.{all_pairs, dues_by_id, monitors_at};
 
 use crate::registered::Registered;
+use growth::{Grows, push};
 use indexmap::IndexMap;
 use ocf_types::{
     CallId, Moment, Params, RESOURCES_LIMIT, Registration, ResourceParts, RscId, Step,
 };
 use op_history::Ops;
 use recurring::{DueIndex, Recurrings};
-use growth::{Grows, push};
 use std::alloc::{AllocError, Allocator, Global};
 use std::hash::{BuildHasherDefault, FoldHasher};
 use std::marker::Model;

@@ -1,9 +1,9 @@
 //! A state, number by number and item by item: a snapshot is written from it without a copy.
 use crate::state::State;
+use growth::Grows;
 use ocf_types::{
     AgentType, CallId, Ended, Moment, Op, Params, Provider, Recur, RscId, RunId, Running, StateView,
 };
-use growth::Grows;
 
 impl<A: Grows> StateView for State<A> {
     type A = A;

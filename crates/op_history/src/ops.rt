@@ -8,11 +8,11 @@ use crate::entries::{cancelled_of, failed_of, run_of_monitor, run_of_op};
 use crate::queued::{Queued, queue_of};
 use crate::results::Results;
 use arrayvec::ArrayVec;
+use growth::Grows;
 use ocf_types::{
     CallId, Ended, HistoryParts, Layout, Moment, Op, Outcome, QUEUE_LIMIT, Recur, RunEnd, RunId,
     Running,
 };
-use growth::Grows;
 use std::alloc::{AllocError, Allocator, Global};
 use std::marker::Model;
 use thiserror::Error;
@@ -77,7 +77,6 @@ impl<A: Grows> Ops<A> {
             failed: parts.failed(),
         })
     }
-
 }
 
 impl<A: Allocator> Ops<A> {

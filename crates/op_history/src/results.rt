@@ -6,8 +6,8 @@ ghost use Rattle.ocf_types.specs.Resource.{kept, last_in, last_ended, ended_of, 
 use crate::entries::{dropped_of, ended_of};
 use crate::queued::Queued;
 use circular_buffer::HeapCircularBuffer;
-use ocf_types::{ENDED_KEPT, Ended, Layout, Moment, Outcome, Running};
 use growth::Grows;
+use ocf_types::{ENDED_KEPT, Ended, Layout, Moment, Outcome, Running};
 use std::alloc::{AllocError, Allocator, Global};
 use std::marker::Model;
 
@@ -41,7 +41,6 @@ impl<A: Grows> Results<A> {
 }
 
 impl<A: Allocator> Results<A> {
-
     /// How many results there are.
     pub(crate) fn len(&self) -> usize
         ensures value { result ≡ length self.now }

@@ -1,5 +1,5 @@
 //! The first of many moments, kept while single ones change.
-ghost use Rattle.std.specs.Prelude.{◌≡◌, ◌≢◌, ◌+◌, ◌*◌, ◌/◌, ◌<◌, ◌≤◌, ℕ, [], length, drop, remove, slice_index_or, slice_set, None, IfOk, IsTrue, OnErr, OnOk};
+ghost use Rattle.std.specs.Prelude.{◌≡◌, ◌≢◌, ◌+◌, ◌*◌, ◌/◌, ◌<◌, ◌≤◌, ℕ, [], length, drop, remove, slice_index_or, slice_set, None, false, IfOk, IsTrue, OnErr, OnOk};
 ghost use Rattle.recurring.specs.FirstMoments.{earlier, IsFirstOf, IsWon, IsTournament};
 
 use crate::due_index::INDEX_LIMIT;
@@ -142,18 +142,26 @@ fn climb(nodes: &mut [Option<u64>], places: usize, changed: usize)
     let mut node = changed;
     while node > 1 {
         node /= 2;
-        play(nodes, node);
+        // A node that stays as it was concerns none above it.
+        if !play(nodes, node) {
+            return;
+        }
     }
 }
 
-/// Gives a node the earlier of the moments of the two below it.
-fn play(nodes: &mut [Option<u64>], node: usize)
+/// Gives a node the earlier of the moments of the two below it, and says whether that changed it.
+fn play(nodes: &mut [Option<u64>], node: usize) -> bool
     requires { 2 * node + 1 < length nodes.old }
-    ensures { nodes.new ≡ slice_set nodes.old node (earlier (slice_index_or nodes.old (2 * node) None)
+    ensures played { nodes.new ≡ slice_set nodes.old node (earlier (slice_index_or nodes.old (2 * node) None)
         (slice_index_or nodes.old (2 * node + 1) None)) }
+    ensures same { result ≡ false → nodes.new ≡ nodes.old }
 {
     let first = earlier(nodes[2 * node], nodes[2 * node + 1]);
+    if nodes[node] == first {
+        return false;
+    }
     nodes[node] = first;
+    true
 }
 
 /// The earlier of two moments that may be there.

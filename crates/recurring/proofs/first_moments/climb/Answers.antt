@@ -8,7 +8,7 @@ loop-node-preserved c =
     let xs : List (Option ℕ) = c.loop-node.nodes in
     let p : ℕ = c.loop-node.node / 2 in
     let h = c.loop-node.invariant in
-    rw c.play.ensures (record {
+    rw c.play.ensures.played (record {
       long = length-set xs p _ ∙ h.long;
       low = omega arith;
       high = omega arith;

@@ -8,7 +8,7 @@ loop-node-preserved c =
     let xs : List (Option ℕ) = c.loop-node.nodes in
     let p : ℕ = c.loop-node.node - 1 in
     let h = c.loop-node.invariant in
-    rw c.play.ensures (record {
+    rw c.play.ensures.played (record {
       long = length-set xs p _ ∙ h.long;
       high = omega arith;
       won = won-laid xs c.args.places p (omega arith) (omega arith) h.long (λ i from. h.won i (omega (arith, from)));
