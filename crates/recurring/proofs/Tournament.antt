@@ -1,9 +1,9 @@
 -- The laws of a tournament: what a played node wins, and that the first node has the first moment of all places.
-use Rattle.std.proofs.Common.{◌≡◌, ◌≢◌, ℕ, zero, suc, ◌+◌, ◌-◌, ◌*◌, ◌/◌, ◌<◌, ◌≤◌, min, List, [], ◌++◌, length, get_or, set, take, drop, remove, replicate, Option, Some, None}
+use Rattle.std.proofs.Common.{◌≡◌, ◌≢◌, ℕ, zero, suc, ◌+◌, ◌-◌, ◌*◌, ◌/◌, ◌<◌, ◌≤◌, min, List, [], ◌++◌, length, get_or, set, take, drop, remove, Option, Some, None}
 use Rattle.std.proofs.Common.{MatchOption, Contains, ◌⊎◌, inl, inr, refl, sym, ap, subst, ◌∙◌, arith}
 use Rattle.std.specs.Prelude.{⊤}
 use Rattle.std.proofs.lemmas.Bool.{cases_eq, cases_lt}
-use Rattle.std.proofs.lemmas.List.{get_or-set_same, get_or-set_other, get_or-drop, get_or_past, get_or_default, get_or-append-add, length-append, length-replicate, append_assoc, set-get_or, length-drop, length-take-le, drop-drop, take-append-drop, drop_at, with_items_is}
+use Rattle.std.proofs.lemmas.List.{get_or-set_same, get_or-set_other, get_or-drop, get_or_default, length-drop, length-take-le, drop-drop, take-append-drop, drop_at, with_items_is}
 use Rattle.std.proofs.lemmas.List.Edits.{remove-append_right}
 use Rattle.std.specs.Prelude.{Vec}
 use Rattle.std.specs.Vec.{with_items}
@@ -34,16 +34,6 @@ won-climbed xs n node above within long won i low high other = by (cases_eq i (n
     by (inl e) = rw e (won-played_here xs (node / 2) (omega arith) (omega arith))
     by (inr ne) =
         won-played_other xs (node / 2) i ne (λ e. other (omega (arith, e))) (λ e. other (omega (arith, e))) (won i low high ne)
-
--- a played node that stays as it was: then all are won
-pub won-stopped : (xs ys : List (Option ℕ)) (n node : ℕ) → 1 < node → node < 2 * n → length xs ≡ 2 * n
-    → ((i : ℕ) → 1 ≤ i → i < n → i ≢ node / 2 → IsWon xs i) → ys ≡ played xs (node / 2) → ys ≡ xs
-    → (i : ℕ) → 1 ≤ i → i < n → IsWon ys i
-won-stopped xs ys n node above within long won is same i low high = by (cases_eq i (node / 2))
-  where
-    by : (i ≡ node / 2) ⊎ (i ≡ node / 2 → ⊥) → IsWon ys i
-    by (inl e) = rw (is, e) (won-played_here xs (node / 2) (omega arith) (omega arith))
-    by (inr ne) = rw same (won i low high ne)
 
 -- one more node, from the last one to the first
 pub won-laid : (xs : List (Option ℕ)) (n p : ℕ) → 1 ≤ p → p < n → length xs ≡ 2 * n
@@ -188,35 +178,6 @@ leaves-removed xs n k some long within =
     = ap (λ (zs : List (Option ℕ)). remove zs (n + k)) (sym (take-append-drop n xs)) ∙ remove-append_right (take n xs) (drop n xs) n (n + k) front (omega arith) in
     zero_out ∙ ap (drop n) split ∙ drop_at (take n xs) (remove (drop n xs) (n + k - n)) n front
     ∙ ap (remove (drop n xs)) (let e : n + k - n ≡ k = omega arith in e)
-
--- behind a list there is no moment, however far it is filled up with none
-get_or-none : (m k : ℕ) → get_or (replicate m None) k None ≡ (None : Option ℕ)
-get_or-none zero k = refl
-get_or-none (suc m) zero = refl
-get_or-none (suc m) (suc k) = get_or-none m k
-
-get_or-filled : (s : List (Option ℕ)) (m k : ℕ) → get_or (s ++ replicate m None) k None ≡ get_or s k None
-get_or-filled [] m k = get_or-none m k
-get_or-filled (x ∷ s) m zero = refl
-get_or-filled (x ∷ s) m (suc k) = get_or-filled s m k
-
--- n nodes, the moments of some places, and none for the others
-abbrev pub filled : ℕ → List (Option ℕ) → List (Option ℕ)
-filled n s = (replicate n None ++ s) ++ replicate (2 * n - length (replicate n None ++ s)) None
-
-pub length-filled : (n : ℕ) (s : List (Option ℕ)) → length s ≤ n → length (filled n s) ≡ 2 * n
-length-filled n s short =
-    let front : List (Option ℕ) = replicate n None in
-    let behind : List (Option ℕ) = replicate (2 * n - length (front ++ s)) None in
-    omega (arith, short, length-append (front ++ s) behind, length-append front s, length-replicate n (None : Option ℕ), length-replicate (2 * n - length (front ++ s)) (None : Option ℕ))
-
-pub leaves-filled : (n : ℕ) (s : List (Option ℕ)) (k : ℕ) → get_or (drop n (filled n s)) k None ≡ get_or s k None
-leaves-filled n s k =
-    let front : List (Option ℕ) = replicate n None in
-    let behind : List (Option ℕ) = replicate (2 * n - length (front ++ s)) None in
-    ap (λ (xs : List (Option ℕ)). get_or (drop n xs) k None) (append_assoc front s behind)
-    ∙ ap (λ (xs : List (Option ℕ)). get_or xs k None) (drop_at front (s ++ behind) n (length-replicate n (None : Option ℕ)))
-    ∙ get_or-filled s (2 * n - length (front ++ s)) k
 
 -- no nodes are the tournament of no places
 pub no_nodes : IsTournament 0 []
