@@ -1,5 +1,5 @@
 //! The resources by id, in order of registration.
-ghost use Rattle.std.specs.Prelude.{ℕ, List, ◌≡◌, ◌<◌, ◌++◌, ◌∷◌, [], None, map, not, filter, length, nat_le, is_some, option_map, option_and_then};
+ghost use Rattle.std.specs.Prelude.{ℕ, List, ◌≡◌, ◌<◌, ◌≤◌, ◌++◌, ◌∷◌, [], None, map, not, filter, length, nat_le, is_some, option_map, option_and_then};
 ghost use Rattle.std.specs.Prelude.{slice_index_or, IsTrue, IsSomeAnd, IsOk, IfOk, OnErr, OnOk};
 ghost use Rattle.std.specs.Map.{keys_of, lookup};
 ghost use Rattle.std.specs.List.{flat_map, list_any, AllByRecursion, IsDistinct};
@@ -24,7 +24,7 @@ use ocf_types::{
     CallId, Moment, Params, RESOURCES_LIMIT, Registration, ResourceParts, RscId, Step,
 };
 use op_history::Ops;
-use recurring::{DueIndex, Recurrings};
+use recurring::{DueIndex, INDEX_LIMIT, Recurrings};
 use std::alloc::{AllocError, Allocator, Global};
 use std::hash::{BuildHasherDefault, FoldHasher};
 use std::marker::Model;
@@ -80,7 +80,8 @@ impl<A: Grows> Registry<A> {
         }
     }
 
-    /// The registry of these parts, every recurring monitor due at that moment. The only error is want of memory.
+    /// The registry of these parts, every recurring monitor due at that moment. The only error is want of memory; there is none
+    /// for more than [`INDEX_LIMIT`] resources.
     #[tactic(auto, using(crate::proofs::Resting::rest_before_0))]
     pub(crate) fn from_parts(
         alloc: A,
@@ -92,7 +93,7 @@ impl<A: Grows> Registry<A> {
         ensures resources { IfOk result (λ r. r.resources ≡ parts.items) }
         ensures monitors { IfOk result
             (λ r. r.monitors ≡ map (λ e. (e.0, all_due_at due e.1.recurring)) parts.items) }
-        ensures memory { OnErr result (IsTrue A.refuses) }
+        ensures memory { OnErr result (length parts.items ≤ INDEX_LIMIT → IsTrue A.refuses) }
     {
         let mut resources = IndexMap::new(alloc);
         let mut dues = DueIndex::new(alloc);
@@ -100,7 +101,7 @@ impl<A: Grows> Registry<A> {
             let (id, resource) = Registered::from_parts(alloc, due, part)?;
             dues.reserve(1)?;
             A::reserve_entries(&mut resources, 1)?;
-            insert(&mut resources, &mut dues, id, resource)?;
+            insert(&mut resources, &mut dues, id, resource);
         }
         Ok(Registry {
             resources,
@@ -185,12 +186,13 @@ impl<A: Grows> Registry<A> {
         is_any_busy(&self.resources)
     }
 
-    /// Makes the room for one more resource.
+    /// Makes the room for one more resource. The only error is want of memory; there is none for more than [`INDEX_LIMIT`]
+    /// resources.
     pub(crate) fn reserve(&mut self) -> Result<(), AllocError>
         ensures ok { OnOk result (IsTrue self.new.ready) }
         ensures resources { self.new.resources ≡ self.old.resources }
         ensures monitors { self.new.monitors ≡ self.old.monitors }
-        ensures memory { OnErr result (IsTrue A.refuses) }
+        ensures memory { OnErr result (length self.old.resources < INDEX_LIMIT → IsTrue A.refuses) }
     {
         A::reserve_entries(&mut self.resources, 1)?;
         self.dues.reserve(1)?;
@@ -214,9 +216,7 @@ impl<A: Grows> Registry<A> {
         };
         self.rests_until = 0;
         let (id, resource) = Registered::new(registration, ops, Recurrings::new());
-        if insert(&mut self.resources, &mut self.dues, id, resource).is_err() {
-            unreachable!()
-        }
+        insert(&mut self.resources, &mut self.dues, id, resource);
     }
 
     /// Removes the resource of that id. Those behind it move up.
@@ -246,8 +246,11 @@ impl<A: Grows> Registry<A> {
         let Some(resource) = self.resources.get_mut(id) else {
             unreachable!()
         };
+        let may_change = resource.may_change_monitors(&step);
         resource.take_step(at, step);
-        self.dues.renew(id, &resource.monitors);
+        if may_change {
+            self.dues.renew(id, &resource.monitors);
+        }
     }
 
     /// Boots every resource.
@@ -352,28 +355,26 @@ fn is_any_busy<A: Grows>(resources: &Resources<A>) -> bool
     resources.values().any(|resource| resource.ops.is_busy())
 }
 
-/// Adds a resource and its recurring monitors. The only error is want of memory, which does not come where there is room.
+/// Adds a resource and its recurring monitors, for which there is room.
 fn insert<A: Grows>(
     resources: &mut Resources<A>,
     dues: &mut DueIndex<A>,
     id: RscId,
     resource: Registered<A>,
-) -> Result<(), AllocError>
+)
     requires absent { lookup (bytes_eq id) (seen_all resources.old.entries) ≡ None }
     requires tied { dues.old.dues ≡ dues_by_id (monitors_all resources.old.entries) }
     requires room { 0 < dues.old.room }
-    ensures resources { OnOk result (seen_all resources.new.entries
-        ≡ seen_all resources.old.entries ++ (id, seen resource) ∷ []) }
-    ensures monitors { OnOk result
-        (monitors_all resources.new.entries
-        ≡ monitors_all resources.old.entries ++ (id, resource.monitors) ∷ []) }
-    ensures tied { OnOk result (dues.new.dues ≡ dues_by_id (monitors_all resources.new.entries)) }
-    ensures succeeds { 0 < spare resources.old → IsOk result }
+    requires spare { 0 < spare resources.old }
+    ensures resources { seen_all resources.new.entries
+        ≡ seen_all resources.old.entries ++ (id, seen resource) ∷ [] }
+    ensures monitors { monitors_all resources.new.entries
+        ≡ monitors_all resources.old.entries ++ (id, resource.monitors) ∷ [] }
+    ensures tied { dues.new.dues ≡ dues_by_id (monitors_all resources.new.entries) }
 {
     dues.keep(id.copied());
     dues.renew(&id, &resource.monitors);
-    match resources.insert(id, resource) {
-        Ok(_) => Ok(()),
-        Err(_) => Err(AllocError),
-    }
+    let Ok(_) = resources.insert(id, resource) else {
+        unreachable!()
+    };
 }

@@ -13,16 +13,16 @@ use Rattle.exec_state.specs.Store.{dues_by_id}
 use Rattle.exec_state.proofs.Dues.{at_id-last, dues_absent, dues_more}
 use Rattle.exec_state.proofs.registry.insert.Goals as goal
 
-pub returns-in-Ok-clause-resources : goal.returns-in-Ok-clause-resources
-returns-in-Ok-clause-resources g c =
+pub returns-clause-resources : goal.returns-clause-resources
+returns-clause-resources g c =
     let m = c.args.resources.now in
     let none : lookup (bytes_eq c.args.id) m.entries ≡ None
     = none_before seen _ (sym (lookup-map_values seen (bytes_eq c.args.id) m.entries) ∙ c.requires.absent) in
     ap seen_all c.in-Ok.ensures.entries ∙ ap seen_all (insert_entry-new bytes_eq m c.args.id c.args.resource none)
     ∙ map-append (λ e. (e.0, seen e.1)) m.entries ((c.args.id, c.args.resource) ∷ [])
 
-pub returns-in-Ok-clause-monitors : goal.returns-in-Ok-clause-monitors
-returns-in-Ok-clause-monitors g c =
+pub returns-clause-monitors : goal.returns-clause-monitors
+returns-clause-monitors g c =
     let m = c.args.resources.now in
     let none : lookup (bytes_eq c.args.id) m.entries ≡ None
     = none_before seen _ (sym (lookup-map_values seen (bytes_eq c.args.id) m.entries) ∙ c.requires.absent) in
@@ -34,8 +34,8 @@ keep-requires-clause-absent g c =
     rw c.copied.ensures (ap (lookup (bytes_eq c.args.id)) c.requires.tied
     ∙ dues_absent c.args.id c.args.resources.now.entries c.requires.absent)
 
-pub returns-in-Ok-clause-tied : goal.returns-in-Ok-clause-tied
-returns-in-Ok-clause-tied g c =
+pub returns-clause-tied : goal.returns-clause-tied
+returns-clause-tied g c =
     let id = c.args.id in
     let ms = c.args.resource.monitors in
     let before = monitors_all c.args.resources.now.entries in
@@ -45,4 +45,4 @@ returns-in-Ok-clause-tied g c =
     let none = dues_absent id c.args.resources.now.entries c.requires.absent in
     c.renew.ensures.dues ∙ ap (λ (xs : Dues). at_id id (λ ps. pairs ms) xs) kept
     ∙ at_id-last id (λ ps. pairs ms) (dues_by_id before) [] none
-    ∙ sym (dues_more before _ id ms (returns-in-Ok-clause-monitors g c))
+    ∙ sym (dues_more before _ id ms (returns-clause-monitors g c))

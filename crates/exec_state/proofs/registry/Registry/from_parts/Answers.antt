@@ -26,17 +26,17 @@ loop-part-preserved g c =
     let done = seen_all c.loop-part.resources.entries in
     let ms = monitors_all c.loop-part.resources.entries in
     let one : seen_all c.insert.new.resources.entries ≡ done ++ c.in-Some.part ∷ []
-    = (rw c.reserve_entries.ensures.entries at c.in_ok-insert.ensures.resources) ∙ ap (λ e. done ++ e ∷ []) c.in_ok-id.ensures.state in
+    = (rw c.reserve_entries.ensures.entries at c.insert.ensures.resources) ∙ ap (λ e. done ++ e ∷ []) c.in_ok-id.ensures.state in
     let monitors : monitors_all c.insert.new.resources.entries
     ≡ ms ++ (c.in-Some.part.0, all_due_at c.args.due c.in-Some.part.1.recurring) ∷ []
     = rw (← ap (λ e. e.0) c.in_ok-id.ensures.state, ← c.in_ok-id.ensures.monitors)
-    (rw c.reserve_entries.ensures.entries at c.in_ok-insert.ensures.monitors) in
+    (rw c.reserve_entries.ensures.entries at c.insert.ensures.monitors) in
     let before : done ++ c.in-Some.part ∷ into_iter_items c.next.new.self ≡ c.args.parts.items = rw
     (← c.in-Some.ensures.steps.0) c.loop-part.invariant.0 in (
       one_more _ done (into_iter_items c.next.new.self) c.args.parts.items c.in-Some.part one before,
       due_one_more c.args.due _ done _ ms c.in-Some.part one monitors c.loop-part.invariant.1,
       search rules,
-      c.in_ok-insert.ensures.tied,
+      c.insert.ensures.tied,
     )
 
 pub returns-clause-resources : goal.returns-clause-resources
