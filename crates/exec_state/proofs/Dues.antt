@@ -15,10 +15,10 @@ use Rattle.recurring.specs.declared.monitor.Monitor.{Monitor}
 use Rattle.recurring.specs.DueIndex.{Dues, pairs_at, pairs_of_all}
 use Rattle.recurring.specs.Monitors.{pairs}
 use Rattle.exec_state.specs.declared.registered.Registered.{Registered}
-use Rattle.exec_state.specs.Seen.{seen, seen_all, monitors_all, look_all}
+use Rattle.exec_state.specs.Seen.{seen, seen_all, monitors_of, monitors_all, look_all}
 use Rattle.exec_state.specs.Store.{Monitors, all_pairs, dues_by_id, monitors_at}
 use Rattle.exec_state.proofs.Choices.{none_before}
-use Rattle.exec_state.proofs.Entries.{IsAbsent, at_id-absent, look_all-set_value, look_all-remove_entry}
+use Rattle.exec_state.proofs.Entries.{IsAbsent, at_id-absent, look_all-set_value, look_all-same, look_all-remove_entry}
 use Rattle.exec_state.proofs.Lookups.{key_fact}
 
 -- the pairs of an entry's monitors
@@ -61,6 +61,12 @@ pub dues_written : {H : Type 0} (id : List ℕ) (es : List (List ℕ × Register
 dues_written id es v w distinct at =
     dues_seen (set_value (bytes_eq id) es w) ∙ look_all-set_value pairs_in id (λ ps. pairs w.monitors) es v w distinct at refl
     ∙ ap (λ (xs : Dues). at_id id (λ ps. pairs w.monitors) xs) (sym (dues_seen es))
+
+-- a resource whose monitors stay, written anew
+pub dues_same : {H : Type 0} (id : List ℕ) (es : List (List ℕ × Registered H)) (v w : Registered H)
+    → lookup (bytes_eq id) es ≡ Some v → w.monitors ≡ v.monitors
+    → dues_by_id (monitors_all (set_value (bytes_eq id) es w)) ≡ dues_by_id (monitors_all es)
+dues_same id es v w at same = ap dues_by_id (look_all-same monitors_of id es v w at same)
 
 -- without a resource
 pub dues_without : {H : Type 0} (id : List ℕ) (es : List (List ℕ × Registered H)) → IsDistinct bytes_eq (keys_of es)

@@ -82,6 +82,23 @@ module _ {H A : Type 0} (look : Registered H → A) where
           (sym (at_id-absent id f (look_all look es) (absent_seen id es (absent_behind id e es distinct same)))))
       by false other rest = rw other (ap (λ (xs : List (List ℕ × A)). (e.0, look e.1) ∷ xs) (rest (rw other at at) is))
 
+  -- a write at the id that is not seen
+  pub look_all-same : (id : List ℕ) (es : List (List ℕ × Registered H)) (v w : Registered H)
+      → lookup (bytes_eq id) es ≡ Some v → look w ≡ look v
+      → look_all look (set_value (bytes_eq id) es w) ≡ look_all look es
+  look_all-same id [] v w at is = refl
+  look_all-same id (e ∷ es) v w at is = by (bytes_eq id e.0) refl (look_all-same id es v w)
+    where
+      by : (b : Bool) → bytes_eq id e.0 ≡ b
+          → (lookup (bytes_eq id) es ≡ Some v → look w ≡ look v
+          → look_all look (set_value (bytes_eq id) es w) ≡ look_all look es)
+          → look_all look (set_value (bytes_eq id) (e ∷ es) w) ≡ look_all look (e ∷ es)
+      by true same rest =
+          let here : Some e.1 ≡ Some v = rw same at at in
+          let value : e.1 ≡ v = cc in
+          rw same (ap (λ (r : A). (e.0, r) ∷ look_all look es) (is ∙ ap look (sym value)))
+      by false other rest = rw other (ap (λ (xs : List (List ℕ × A)). (e.0, look e.1) ∷ xs) (rest (rw other at at) is))
+
   -- without the id
   pub look_all-remove_entry : (id : List ℕ) (es : List (List ℕ × Registered H)) → IsDistinct bytes_eq (keys_of es)
       → look_all look (remove_entry (bytes_eq id) es) ≡ filter (λ e. not (bytes_eq id e.0)) (look_all look es)

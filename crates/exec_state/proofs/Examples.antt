@@ -30,6 +30,7 @@ small = record {
   };
   monitors = (r1, record { recur = monitor; due = 40 } ∷ []) ∷ [];
   ready = false;
+  refuses = false;
 }
 
 -- the moment of the monitor, and none for another call or another id

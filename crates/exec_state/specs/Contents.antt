@@ -9,10 +9,11 @@ pub record Contents : Type 0 where
   pub monitors : Monitors
   pub ready : Bool
 
--- the state machine with these next numbers, this clock and this registry
-abbrev pub store_of : ℕ → ℕ → ℕ → Contents → Store
-store_of next_call next_run clock contents = record {
+-- the state machine with these next numbers, this clock and this registry, of an allocator that refuses or not
+abbrev pub store_of : Bool → ℕ → ℕ → ℕ → Contents → Store
+store_of refuses next_call next_run clock contents = record {
   state = record { next_call = next_call; next_run = next_run; clock = clock; resources = contents.resources };
   monitors = contents.monitors;
   ready = contents.ready;
+  refuses = refuses;
 }

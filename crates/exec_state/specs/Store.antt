@@ -1,5 +1,5 @@
--- What contracts see of the state machine: the state that the journal keeps, when each recurring monitor is due, and
--- whether a resource can be registered without memory.
+-- What contracts see of the state machine: the state that the journal keeps, when each recurring monitor is due, whether
+-- a resource can be registered without memory, and whether its allocator refuses growths.
 use Rattle.std.specs.Prelude.{◌≡◌, ℕ, ◌==◌, Bool, List, [], map, find, Option, IsTrue, MatchOption, None, ⊤, option_map, option_and_then, unwrap_or}
 use Rattle.std.specs.List.{flat_map}
 use Rattle.std.specs.Map.{lookup}
@@ -23,6 +23,7 @@ pub record Store : Type 0 where
   pub state : State
   pub monitors : Monitors
   pub ready : Bool
+  pub refuses : Bool
 
 -- the room that a change needs: that of a new resource
 abbrev pub IsReadyFor : Store → Change → Type 0

@@ -30,6 +30,7 @@ impl<A: Grows> State<A> {
         ensures state { self.new.state ≡ self.old.state }
         ensures monitors { self.new.monitors ≡ monitors_due_at at self.old.state }
         ensures due { dues self.new ≡ due_at self.old.state at }
+        ensures allocator { self.new.refuses ≡ self.old.refuses }
     {
         self.registry.restart(at);
         self.registry.known();

@@ -1,9 +1,12 @@
-use Rattle.std.proofs.Common.{◌≡◌, ◌∙◌, ℕ, List, [], ◌∷◌, ◌++◌, sym, ap, append-nil, rules}
+use Rattle.std.proofs.Common.{◌≡◌, ◌≤◌, ◌+◌, IsTrue, ◌∙◌, ℕ, suc, arith, length, List, [], ◌∷◌, ◌++◌, sym, ap, append-nil, rules}
 use Rattle.std.specs.Vec.Iter.{into_iter_items}
-use Rattle.std.proofs.lemmas.List.{nil_from_length}
+use Rattle.std.proofs.lemmas.List.{nil_from_length, length-append, length-map}
 use Rattle.ocf_types.specs.Resource.{Resource}
-use Rattle.recurring.specs.Monitors.{all_due_at}
-use Rattle.exec_state.specs.Seen.{seen_all, monitors_all, FitsRoom}
+use Rattle.recurring.specs.declared.monitor.Monitor.{Monitor}
+use Rattle.recurring.specs.Monitors.{all_due_at, pairs}
+use Rattle.recurring.specs.declared.due_index.TheConstants.{INDEX_LIMIT}
+use Rattle.exec_state.specs.Seen.{seen, seen_all, monitors_of, monitors_all, FitsRoom}
+use Rattle.exec_state.proofs.Entries.{length-look_all}
 use Rattle.exec_state.proofs.Restored.{absent_next, fact_next, due_by_id, one_more, due_one_more}
 use Rattle.exec_state.proofs.registry.Registry.from_parts.Goals as goal
 
@@ -48,3 +51,24 @@ returns-clause-resources g c =
 
 pub returns-clause-monitors : goal.returns-clause-monitors
 returns-clause-monitors g c = c.loop-part.invariant.1 ∙ ap (due_by_id c.args.due) (returns-clause-resources g c)
+
+-- fewer than the parts have been added
+pub returns-in_err-reserve-clause-memory : goal.returns-in_err-reserve-clause-memory
+returns-in_err-reserve-clause-memory g c =
+    let done = seen_all c.loop-part.resources.entries in
+    let ms = monitors_all c.loop-part.resources.entries in
+    let rest = into_iter_items c.loop-part.part-iterator in
+    let some : length rest ≡ suc (length _) = ap length c.in-Some.ensures.steps.0 in
+    let few : length c.args.parts.items ≤ INDEX_LIMIT → length c.loop-part.dues.dues + 1 ≤ INDEX_LIMIT = λ le. omega (
+      arith,
+      le,
+      some,
+      ap length c.loop-part.invariant.0,
+      length-append done rest,
+      ap length c.loop-part.invariant.3,
+      length-map {B = List ℕ × List (ℕ × ℕ)} ms (λ (e : List ℕ × List Monitor). (e.0, pairs e.1)),
+      length-look_all seen c.loop-part.resources.entries,
+      length-look_all monitors_of c.loop-part.resources.entries,
+    ) in
+    let refused : length c.args.parts.items ≤ INDEX_LIMIT → IsTrue g.A.Grows.refuses = λ le. c.in_err-reserve.ensures.memory (few le) in
+    search rules

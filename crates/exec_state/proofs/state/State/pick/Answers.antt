@@ -10,7 +10,7 @@ use Rattle.exec_state.proofs.state.State.pick.Goals as goal
 
 pub returns : goal.returns
 returns g c =
-    let s : Store = store_of c.self.inside.next_call c.self.inside.next_run c.self.inside.clock c.self.inside.registry in
+    let s : Store = store_of g.A.Grows.refuses c.self.inside.next_call c.self.inside.next_run c.self.inside.clock c.self.inside.registry in
     let id : List ℕ = c.entry.result.0.now in
     let r : Resource = seen c.entry.result.1.now in
     let call : Option ℕ = c.pick.ensures.0 in

@@ -5,5 +5,5 @@ use Rattle.exec_state.proofs.state.State.rests.Goals as goal
 
 pub returns : goal.returns
 returns g c = λ known.
-    let s : Store = store_of c.self.inside.next_call c.self.inside.next_run c.self.inside.clock c.self.inside.registry in
+    let s : Store = store_of g.A.Grows.refuses c.self.inside.next_call c.self.inside.next_run c.self.inside.clock c.self.inside.registry in
     rw (← c.self.view_is) (rests_all s c.args.now c.self.invariant (c.rests.ensures known))
