@@ -1,5 +1,5 @@
 -- The ends of a turn.
-use Rattle.std.proofs.Common.{◌≡◌, ⊎_elim, inl, inr, ℕ, List, [], ◌++◌, Result, Ok, Err, IsErr, map, refl, sym, ◌∙◌, ap, subst, append_assoc, append-nil, arith}
+use Rattle.std.proofs.Common.{◌≡◌, ⊎_elim, inl, inr, ℕ, Bool, List, [], ◌++◌, Result, Ok, Err, IsErr, map, refl, sym, ◌∙◌, ap, subst, append_assoc, append-nil, arith}
 use Rattle.ocf_types.specs.Due.{Due}
 use Rattle.ocf_types.specs.Kinds.{Event}
 use Rattle.ocf_types.specs.Laws.{after_all-append}
@@ -48,12 +48,12 @@ book_full kind look k x from does leaves roomy = record {
   roomy = roomy;
 }
 
-module _ {D : Type 0} (look : D → View) (at : ℕ) (k0 k1 : D) (s0 s1 : State) (d0 d1 : Due) (p0 p1 : Place) (from c1 : ChildrenView)
+module _ {D : Type 0} (look : D → View) (at : ℕ) (k0 k1 : D) (s0 s1 : State) (d0 d1 : Due) (p0 p1 : Place) (a0 a1 : Bool) (from c1 : ChildrenView)
     (n1 : List Notice) where
   -- the row of results failed
-  results_failed : (kind : TurnKind) (f : DiskFault) (p : PollsRow look k0 k1 (scene s0 d0 p0 at) (scene s1 d1 p1 at) from c1 n1 (Err f))
-      → kind turn_end.Disk (scene s0 d0 p0 at) (polls at p.answers) [] (results at p.answers) n1
-      → TurnsAs kind look k0 k1 (scene s0 d0 p0 at) s1 d1 from c1 n1 turn_end.Disk
+  results_failed : (kind : TurnKind) (f : DiskFault) (p : PollsRow look k0 k1 (scene s0 d0 p0 at a0) (scene s1 d1 p1 at a1) from c1 n1 (Err f))
+      → kind turn_end.Disk (scene s0 d0 p0 at a0) (polls at p.answers) [] (results at p.answers) n1
+      → TurnsAs kind look k0 k1 (scene s0 d0 p0 at a0) s1 d1 from c1 n1 turn_end.Disk
   results_failed kind f p does = record {
     entries = polls at p.answers;
     events = [];
@@ -71,8 +71,8 @@ module _ {D : Type 0} (look : D → View) (at : ℕ) (k0 k1 : D) (s0 s1 : State)
   }
 
   -- the row of results was recorded, and nothing begins
-  results_alone : (u : Unit) → PollsRow look k0 k1 (scene s0 d0 p0 at) (scene s1 d1 p1 at) from c1 n1 (Ok u)
-      → Finishes look k0 k1 (scene s0 d0 p0 at) s1 d1 from c1 n1 turn_end.Done
+  results_alone : (u : Unit) → PollsRow look k0 k1 (scene s0 d0 p0 at a0) (scene s1 d1 p1 at a1) from c1 n1 (Ok u)
+      → Finishes look k0 k1 (scene s0 d0 p0 at a0) s1 d1 from c1 n1 turn_end.Done
   results_alone u p = record {
     entries = polls at p.answers;
     events = results at p.answers;
@@ -89,7 +89,7 @@ module _ {D : Type 0} (look : D → View) (at : ℕ) (k0 k1 : D) (s0 s1 : State)
     roomy = p.roomy;
   }
 
-  module _ (u : Unit) (p : PollsRow look k0 k1 (scene s0 d0 p0 at) (scene s1 d1 p1 at) from c1 n1 (Ok u)) (k2 : D) (s2 : State) (d2 : Due) (p2 : Place)
+  module _ (u : Unit) (p : PollsRow look k0 k1 (scene s0 d0 p0 at a0) (scene s1 d1 p1 at a1) from c1 n1 (Ok u)) (k2 : D) (s2 : State) (d2 : Due) (p2 : Place) (a2 : Bool)
       (begun : List Active) where
     roomy12 : CrashesTo (look k1) (look k2) Roomy → CrashesTo (look k0) (look k2) Roomy
     roomy12 roomy2 = runs_joined (look k0) (look k1) (look k2) Roomy p.roomy roomy2
@@ -97,12 +97,12 @@ module _ {D : Type 0} (look : D → View) (at : ℕ) (k0 k1 : D) (s0 s1 : State)
     due1 : d1 ≡ due_after_all s0 d0 (results at p.answers)
     due1 = ap (λ (x : Scene). x.due) p.moves
 
-    picks : (end : TurnEnd) → PickedAt end (scene s1 d1 p1 at) begun → PicksBehind end (scene s0 d0 p0 at) p.answers begun
+    picks : (end : TurnEnd) → PickedAt end (scene s1 d1 p1 at a1) begun → PicksBehind end (scene s0 d0 p0 at a0) p.answers begun
     picks end picked = subst (λ (x : Scene). PickedAt end x begun) p.moves picked
 
     -- the row of begins failed
-    begins_failed : (f : DiskFault) → BeginsRow look k1 k2 (scene s1 d1 p1 at) (scene s2 d2 p2 at) begun (Err f)
-        → Turns look k0 k2 (scene s0 d0 p0 at) s2 d2 from c1 n1 turn_end.Disk
+    begins_failed : (f : DiskFault) → BeginsRow look k1 k2 (scene s1 d1 p1 at a1) (scene s2 d2 p2 at a2) begun (Err f)
+        → Turns look k0 k2 (scene s0 d0 p0 at a0) s2 d2 from c1 n1 turn_end.Disk
     begins_failed f b =
         let row = b.recorded in
         let both = joined (look k0) (look k1) (look k2) s0 s1 s2 (polls at p.answers) [] (results at p.answers) [] (begins at begun) p.crash row.crash in
@@ -125,8 +125,8 @@ module _ {D : Type 0} (look : D → View) (at : ℕ) (k0 k1 : D) (s0 s1 : State)
           roomy = roomy12 row.roomy;
         }
 
-    module _ (end : TurnEnd) (b : BeginsRow look k1 k2 (scene s1 d1 p1 at) (scene s2 d2 p2 at) begun (Ok end))
-        (lawful : (look k2).honest → Lawful (look k2)) (k3 : D) (s3 : State) (d3 : Due) (p3 : Place) (c2 : ChildrenView) (n3 : List Notice) where
+    module _ (end : TurnEnd) (b : BeginsRow look k1 k2 (scene s1 d1 p1 at a1) (scene s2 d2 p2 at a2) begun (Ok end))
+        (lawful : (look k2).honest → Lawful (look k2)) (k3 : D) (s3 : State) (d3 : Due) (p3 : Place) (a3 : Bool) (c2 : ChildrenView) (n3 : List Notice) where
       abbrev before : List Event
       before = results at p.answers ++ begins at begun
 
@@ -146,8 +146,8 @@ module _ {D : Type 0} (look : D → View) (at : ℕ) (k0 k1 : D) (s0 s1 : State)
       state2 = ap (λ (x : Scene). x.state) b.recorded.moves
 
       -- what ended the picks is what is told
-      picked : PickedAt end (scene s1 d1 p1 at) begun
-      picked = subst (λ (e : TurnEnd). PickedAt e (scene s1 d1 p1 at) begun) (sym b.ended) b.picked
+      picked : PickedAt end (scene s1 d1 p1 at a1) begun
+      picked = subst (λ (e : TurnEnd). PickedAt e (scene s1 d1 p1 at a1) begun) (sym b.ended) b.picked
 
       module _ (answers : List Started) (each : map (λ a. a.what) answers ≡ begun)
           (book2 : c2.book ≡ c1.book ++ starts (look k2).clock answers) where
@@ -193,7 +193,7 @@ module _ {D : Type 0} (look : D → View) (at : ℕ) (k0 k1 : D) (s0 s1 : State)
             })
             (asked_in (polls at p.answers) (starts (look k2).clock answers) run u asked)
 
-        abbrev all_told : Told end (scene s0 d0 p0 at)
+        abbrev all_told : Told end (scene s0 d0 p0 at a0)
         all_told = record {
           polled = p.answers;
           begun = begun;
@@ -205,8 +205,8 @@ module _ {D : Type 0} (look : D → View) (at : ℕ) (k0 k1 : D) (s0 s1 : State)
         }
 
       -- the row of refused starts failed
-      refusals_failed : (f : DiskFault) → StartsRow look k2 k3 (scene s2 d2 p2 at) (scene s3 d3 p3 at) begun c1 c2 n1 n3 (Err f)
-          → Turns look k0 k3 (scene s0 d0 p0 at) s3 d3 from c2 n3 turn_end.Disk
+      refusals_failed : (f : DiskFault) → StartsRow look k2 k3 (scene s2 d2 p2 at a2) (scene s3 d3 p3 at a3) begun c1 c2 n1 n3 (Err f)
+          → Turns look k0 k3 (scene s0 d0 p0 at a0) s3 d3 from c2 n3 turn_end.Disk
       refusals_failed f x = let row = x.recorded in record {
         entries = entries x.answers x.each x.book;
         events = before;
@@ -233,27 +233,27 @@ module _ {D : Type 0} (look : D → View) (at : ℕ) (k0 k1 : D) (s0 s1 : State)
       }
 
       is_whole : (e : TurnEnd) (x : Scene) (es : List Entry) (events pending : List Event) (told : List Notice)
-          → PickedAt e (scene s1 d1 p1 at) begun → Whole e x es events pending told → IsTurn e x es events pending told
+          → PickedAt e (scene s1 d1 p1 at a1) begun → Whole e x es events pending told → IsTurn e x es events pending told
       is_whole turn_end.Done x es events pending told h done = done
       is_whole turn_end.RunsSpent x es events pending told h done = done
       is_whole turn_end.Full x es events pending told h done = done
       is_whole turn_end.Memory x es events pending told h done = done
-      is_whole turn_end.Closed x es events pending told h done = absurd h.0
-      is_whole turn_end.BookFull x es events pending told h done = absurd h.0
-      is_whole turn_end.Disk x es events pending told h done = absurd h.0
+      is_whole turn_end.Closed x es events pending told h done = absurd h.0.0
+      is_whole turn_end.BookFull x es events pending told h done = absurd h.0.0
+      is_whole turn_end.Disk x es events pending told h done = absurd h.0.0
 
-      not_disk : (e : TurnEnd) → PickedAt e (scene s1 d1 p1 at) begun → e ≡ turn_end.Disk → ⊥
+      not_disk : (e : TurnEnd) → PickedAt e (scene s1 d1 p1 at a1) begun → e ≡ turn_end.Disk → ⊥
       not_disk turn_end.Done h is = cc
       not_disk turn_end.RunsSpent h is = cc
       not_disk turn_end.Full h is = cc
       not_disk turn_end.Memory h is = cc
-      not_disk turn_end.Closed h is = absurd h.0
-      not_disk turn_end.BookFull h is = absurd h.0
-      not_disk turn_end.Disk h is = absurd h.0
+      not_disk turn_end.Closed h is = absurd h.0.0
+      not_disk turn_end.BookFull h is = absurd h.0.0
+      not_disk turn_end.Disk h is = absurd h.0.0
 
       -- all of it went well
-      all_recorded : (z : Unit) → StartsRow look k2 k3 (scene s2 d2 p2 at) (scene s3 d3 p3 at) begun c1 c2 n1 n3 (Ok z)
-          → Turns look k0 k3 (scene s0 d0 p0 at) s3 d3 from c2 n3 end
+      all_recorded : (z : Unit) → StartsRow look k2 k3 (scene s2 d2 p2 at a2) (scene s3 d3 p3 at a3) begun c1 c2 n1 n3 (Ok z)
+          → Turns look k0 k3 (scene s0 d0 p0 at a0) s3 d3 from c2 n3 end
       all_recorded z x =
           let row = x.recorded in
           let due3 : d3 ≡ due_after_all s0 d0 (before ++ refusals at x.answers) = ap (λ (y : Scene). y.due) row.moves
@@ -270,7 +270,7 @@ module _ {D : Type 0} (look : D → View) (at : ℕ) (k0 k1 : D) (s0 s1 : State)
             book = book_all x.answers x.each x.book;
             log = log_all x.answers x.each x.book x.log;
             site = x.site ∙ p.site;
-            does = is_whole end (scene s0 d0 p0 at) es (before ++ refusals at x.answers) [] n3 picked (
+            does = is_whole end (scene s0 d0 p0 at a0) es (before ++ refusals at x.answers) [] n3 picked (
               all_told x.answers x.each x.book,
               refl,
               refl,
@@ -287,47 +287,47 @@ module _ {D : Type 0} (look : D → View) (at : ℕ) (k0 k1 : D) (s0 s1 : State)
           }
 
 -- The same, by what the steps say.
-pub no_results : {D : Type 0} {look : D → View} {at : ℕ} {k0 k1 : D} {s0 s1 : State} {d0 d1 : Due} {p0 p1 : Place} {from c1 : ChildrenView}
-    {n1 : List Notice} {f : DiskFault} → PollsRow look k0 k1 (scene s0 d0 p0 at) (scene s1 d1 p1 at) from c1 n1 (Err f)
-    → Turns look k0 k1 (scene s0 d0 p0 at) s1 d1 from c1 n1 turn_end.Disk
+pub no_results : {D : Type 0} {look : D → View} {at : ℕ} {k0 k1 : D} {s0 s1 : State} {d0 d1 : Due} {p0 p1 : Place} {a0 a1 : Bool} {from c1 : ChildrenView}
+    {n1 : List Notice} {f : DiskFault} → PollsRow look k0 k1 (scene s0 d0 p0 at a0) (scene s1 d1 p1 at a1) from c1 n1 (Err f)
+    → Turns look k0 k1 (scene s0 d0 p0 at a0) s1 d1 from c1 n1 turn_end.Disk
 no_results polled =
-    results_failed _ _ _ _ _ _ _ _ _ _ _ _ _ IsTurn _ polled (inl (polled.answers, polled.each, refl, refl, refl, polled.told_is))
+    results_failed _ _ _ _ _ _ _ _ _ _ _ _ _ _ _ IsTurn _ polled (inl (polled.answers, polled.each, refl, refl, refl, polled.told_is))
 
-pub finish_failed : {D : Type 0} {look : D → View} {at : ℕ} {k0 k1 : D} {s0 s1 : State} {d0 d1 : Due} {p0 p1 : Place} {from c1 : ChildrenView}
-    {n1 : List Notice} {f : DiskFault} → PollsRow look k0 k1 (scene s0 d0 p0 at) (scene s1 d1 p1 at) from c1 n1 (Err f)
-    → Finishes look k0 k1 (scene s0 d0 p0 at) s1 d1 from c1 n1 turn_end.Disk
+pub finish_failed : {D : Type 0} {look : D → View} {at : ℕ} {k0 k1 : D} {s0 s1 : State} {d0 d1 : Due} {p0 p1 : Place} {a0 a1 : Bool} {from c1 : ChildrenView}
+    {n1 : List Notice} {f : DiskFault} → PollsRow look k0 k1 (scene s0 d0 p0 at a0) (scene s1 d1 p1 at a1) from c1 n1 (Err f)
+    → Finishes look k0 k1 (scene s0 d0 p0 at a0) s1 d1 from c1 n1 turn_end.Disk
 finish_failed polled =
-    results_failed _ _ _ _ _ _ _ _ _ _ _ _ _ IsFinish _ polled (polled.answers, polled.each, refl, refl, refl, polled.told_is)
+    results_failed _ _ _ _ _ _ _ _ _ _ _ _ _ _ _ IsFinish _ polled (polled.answers, polled.each, refl, refl, refl, polled.told_is)
 
-pub finish_done : {D : Type 0} {look : D → View} {at : ℕ} {k0 k1 : D} {s0 s1 : State} {d0 d1 : Due} {p0 p1 : Place} {from c1 : ChildrenView}
-    {n1 : List Notice} {u : Unit} → PollsRow look k0 k1 (scene s0 d0 p0 at) (scene s1 d1 p1 at) from c1 n1 (Ok u)
-    → Finishes look k0 k1 (scene s0 d0 p0 at) s1 d1 from c1 n1 turn_end.Done
-finish_done polled = results_alone _ _ _ _ _ _ _ _ _ _ _ _ _ _ polled
+pub finish_done : {D : Type 0} {look : D → View} {at : ℕ} {k0 k1 : D} {s0 s1 : State} {d0 d1 : Due} {p0 p1 : Place} {a0 a1 : Bool} {from c1 : ChildrenView}
+    {n1 : List Notice} {u : Unit} → PollsRow look k0 k1 (scene s0 d0 p0 at a0) (scene s1 d1 p1 at a1) from c1 n1 (Ok u)
+    → Finishes look k0 k1 (scene s0 d0 p0 at a0) s1 d1 from c1 n1 turn_end.Done
+finish_done polled = results_alone _ _ _ _ _ _ _ _ _ _ _ _ _ _ _ _ polled
 
-pub no_begins : {D : Type 0} {look : D → View} {at : ℕ} {k0 k1 k2 : D} {s0 s1 s2 : State} {d0 d1 d2 : Due} {p0 p1 p2 : Place} {from c1 : ChildrenView}
+pub no_begins : {D : Type 0} {look : D → View} {at : ℕ} {k0 k1 k2 : D} {s0 s1 s2 : State} {d0 d1 d2 : Due} {p0 p1 p2 : Place} {a0 a1 a2 : Bool} {from c1 : ChildrenView}
     {n1 : List Notice} {begun : List Active} {f : DiskFault} {u : Unit}
-    → PollsRow look k0 k1 (scene s0 d0 p0 at) (scene s1 d1 p1 at) from c1 n1 (Ok u)
-    → BeginsRow look k1 k2 (scene s1 d1 p1 at) (scene s2 d2 p2 at) begun (Err f)
-    → Turns look k0 k2 (scene s0 d0 p0 at) s2 d2 from c1 n1 turn_end.Disk
-no_begins polled begins = begins_failed _ _ _ _ _ _ _ _ _ _ _ _ _ _ polled _ _ _ _ _ _ begins
+    → PollsRow look k0 k1 (scene s0 d0 p0 at a0) (scene s1 d1 p1 at a1) from c1 n1 (Ok u)
+    → BeginsRow look k1 k2 (scene s1 d1 p1 at a1) (scene s2 d2 p2 at a2) begun (Err f)
+    → Turns look k0 k2 (scene s0 d0 p0 at a0) s2 d2 from c1 n1 turn_end.Disk
+no_begins polled begins = begins_failed _ _ _ _ _ _ _ _ _ _ _ _ _ _ _ _ polled _ _ _ _ _ _ _ begins
 
-pub no_refusals : {D : Type 0} {look : D → View} {at : ℕ} {k0 k1 k2 k3 : D} {s0 s1 s2 s3 : State} {d0 d1 d2 d3 : Due} {p0 p1 p2 p3 : Place}
+pub no_refusals : {D : Type 0} {look : D → View} {at : ℕ} {k0 k1 k2 k3 : D} {s0 s1 s2 s3 : State} {d0 d1 d2 d3 : Due} {p0 p1 p2 p3 : Place} {a0 a1 a2 a3 : Bool}
     {from c1 c2 : ChildrenView} {n1 n3 : List Notice} {begun : List Active} {end : TurnEnd} {f : DiskFault} {u : Unit}
-    → ((look k2).honest → Lawful (look k2)) → PollsRow look k0 k1 (scene s0 d0 p0 at) (scene s1 d1 p1 at) from c1 n1 (Ok u)
-    → BeginsRow look k1 k2 (scene s1 d1 p1 at) (scene s2 d2 p2 at) begun (Ok end)
-    → StartsRow look k2 k3 (scene s2 d2 p2 at) (scene s3 d3 p3 at) begun c1 c2 n1 n3 (Err f)
-    → Turns look k0 k3 (scene s0 d0 p0 at) s3 d3 from c2 n3 turn_end.Disk
+    → ((look k2).honest → Lawful (look k2)) → PollsRow look k0 k1 (scene s0 d0 p0 at a0) (scene s1 d1 p1 at a1) from c1 n1 (Ok u)
+    → BeginsRow look k1 k2 (scene s1 d1 p1 at a1) (scene s2 d2 p2 at a2) begun (Ok end)
+    → StartsRow look k2 k3 (scene s2 d2 p2 at a2) (scene s3 d3 p3 at a3) begun c1 c2 n1 n3 (Err f)
+    → Turns look k0 k3 (scene s0 d0 p0 at a0) s3 d3 from c2 n3 turn_end.Disk
 no_refusals lawful polled begins starts =
-    refusals_failed _ _ _ _ _ _ _ _ _ _ _ _ _ _ polled _ _ _ _ _ _ begins lawful _ _ _ _ _ _ _ starts
+    refusals_failed _ _ _ _ _ _ _ _ _ _ _ _ _ _ _ _ polled _ _ _ _ _ _ _ begins lawful _ _ _ _ _ _ _ _ starts
 
-pub whole_turn : {D : Type 0} {look : D → View} {at : ℕ} {k0 k1 k2 k3 : D} {s0 s1 s2 s3 : State} {d0 d1 d2 d3 : Due} {p0 p1 p2 p3 : Place}
+pub whole_turn : {D : Type 0} {look : D → View} {at : ℕ} {k0 k1 k2 k3 : D} {s0 s1 s2 s3 : State} {d0 d1 d2 d3 : Due} {p0 p1 p2 p3 : Place} {a0 a1 a2 a3 : Bool}
     {from c1 c2 : ChildrenView} {n1 n3 : List Notice} {begun : List Active} {end : TurnEnd} {u z : Unit}
-    → ((look k2).honest → Lawful (look k2)) → PollsRow look k0 k1 (scene s0 d0 p0 at) (scene s1 d1 p1 at) from c1 n1 (Ok u)
-    → BeginsRow look k1 k2 (scene s1 d1 p1 at) (scene s2 d2 p2 at) begun (Ok end)
-    → StartsRow look k2 k3 (scene s2 d2 p2 at) (scene s3 d3 p3 at) begun c1 c2 n1 n3 (Ok z)
-    → Turns look k0 k3 (scene s0 d0 p0 at) s3 d3 from c2 n3 end
+    → ((look k2).honest → Lawful (look k2)) → PollsRow look k0 k1 (scene s0 d0 p0 at a0) (scene s1 d1 p1 at a1) from c1 n1 (Ok u)
+    → BeginsRow look k1 k2 (scene s1 d1 p1 at a1) (scene s2 d2 p2 at a2) begun (Ok end)
+    → StartsRow look k2 k3 (scene s2 d2 p2 at a2) (scene s3 d3 p3 at a3) begun c1 c2 n1 n3 (Ok z)
+    → Turns look k0 k3 (scene s0 d0 p0 at a0) s3 d3 from c2 n3 end
 whole_turn lawful polled begins starts =
-    all_recorded _ _ _ _ _ _ _ _ _ _ _ _ _ _ polled _ _ _ _ _ _ begins lawful _ _ _ _ _ _ _ starts
+    all_recorded _ _ _ _ _ _ _ _ _ _ _ _ _ _ _ _ polled _ _ _ _ _ _ _ begins lawful _ _ _ _ _ _ _ _ starts
 
 -- the same with other notices
 pub polled_told : {D : Type 0} {look : D → View} {k l : D} {x y : Scene} {from to : ChildrenView} {n m : List Notice} {r : Result Unit DiskFault}
@@ -344,7 +344,7 @@ failed_end (Err f) bad turns = turns
 -- what ends picks is neither a full book nor a disk fault
 pub picks_ended : {D : Type 0} {look : D → View} {k l : D} {x y : Scene} {begun : List Active} {end : TurnEnd}
     → BeginsRow look k l x y begun (Ok end) → (end ≡ turn_end.BookFull → ⊥) × (end ≡ turn_end.Disk → ⊥)
-picks_ended {x = x} {begun = begun} {end = end} b = (λ is. (so is).0, λ is. (so is).0)
+picks_ended {x = x} {begun = begun} {end = end} b = (λ is. (so is).0.0, λ is. (so is).0.0)
   where
     so : {told : TurnEnd} → end ≡ told → PickedAt told x begun
     so is = subst (λ (e : TurnEnd). PickedAt e x begun) (sym b.ended ∙ is) b.picked

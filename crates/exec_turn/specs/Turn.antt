@@ -1,6 +1,6 @@
 -- A turn, and one that begins nothing: from what the children answered, its entries in their book, its events, the row that a
 -- disk fault left pending, and what is told.
-use Rattle.std.specs.Prelude.{◌≡◌, ◌⊎◌, ℕ, List, [], ◌++◌, map}
+use Rattle.std.specs.Prelude.{◌≡◌, ◌⊎◌, ℕ, List, [], ◌++◌, map, IsTrue}
 use Rattle.std.specs.List.{AllByRecursion}
 use Rattle.ocf_types.specs.Kinds.{Event}
 use Rattle.ocf_types.specs.declared.reply.TurnEnd.{TurnEnd}
@@ -22,9 +22,9 @@ pub record EachPolled (x : Scene) (ps : List Polled) : Type 0 where
   pub each : map (λ p. p.who) ps ≡ active x.state
   pub bytes : AllByRecursion (λ p. IsPoll p.poll) ps
 
--- what is begun here, by what ended the picks
+-- what is begun here, by what ended the picks; want of memory ends them only where the allocator refuses growths
 abbrev pub PickedAt : TurnEnd → Scene → List Active → Type 0
-PickedAt end x bs = Picked end x.state x.due x.place.tail x.at bs
+PickedAt end x bs = Picked end x.state x.due x.place.tail x.at bs × (end ≡ turn_end.Memory → IsTrue x.refuses)
 
 -- the same behind the row of results of these polls
 abbrev pub PicksBehind : TurnEnd → Scene → List Polled → List Active → Type 0

@@ -13,11 +13,11 @@ use disk_model::{Disk, DiskFault};
 use exec_journal::laws::what_stands;
 use exec_ledger::Ledger;
 use exec_state::State;
+use growth::Grows;
 use ocf_types::{StateView, TurnEnd};
-use std::alloc::Allocator;
 
 /// Whether an action of any resource runs.
-pub fn runs_any<A: Allocator + Copy>(state: &State<A>) -> bool
+pub fn runs_any<A: Grows>(state: &State<A>) -> bool
     ensures value { result ≡ any_running state.now.state }
 {
     for place in 0..state.len() {
@@ -34,7 +34,7 @@ pub fn runs_any<A: Allocator + Copy>(state: &State<A>) -> bool
 /// What ends is recorded before it is told. It ends with `BookFull`, having done nothing, where the children's book takes less
 /// than two entries a resource; with `Disk` where the journal's device failed, which closes the ledger; and else with `Done`. It
 /// takes no memory.
-pub fn finish_turn<D: Disk + Drop, C: Children, A: Allocator + Copy>(
+pub fn finish_turn<D: Disk + Drop, C: Children, A: Grows>(
     ledger: &mut Ledger<D, A>,
     children: &mut C,
     rows: &mut TurnBuffers<A>,

@@ -1,5 +1,5 @@
 //! The picks of a turn.
-ghost use Rattle.std.specs.Prelude.{◌≡◌, ◌<◌, ◌≤◌, IfOk, length, vec_len};
+ghost use Rattle.std.specs.Prelude.{◌≡◌, ◌<◌, ◌≤◌, IfOk, IsTrue, OnErr, length, vec_len};
 ghost use Rattle.std.specs.List.{AllByRecursion};
 ghost use Rattle.std.specs.Vec.{vec_capacity};
 ghost use Rattle.exec_journal.specs.Journal.{journal_place};
@@ -13,6 +13,7 @@ ghost use Rattle.exec_turn.specs.Picks.{Picked, begin_of, begins};
 use disk_model::Disk;
 use exec_journal::Journal;
 use exec_state::State;
+use growth::Grows;
 use ocf_env::{Instance, Invocation, LaunchOf, Site, launch};
 use ocf_types::laws::lengths;
 use ocf_types::{Change, Event, EventOf, Moment, RunId, Running, StateView, Step, TurnEnd};
@@ -29,12 +30,7 @@ pub(crate) struct StartOf<I> {
 pub(crate) type Start<A = Global> = StartOf<Invocation<A>>;
 
 // The begin of an action of the resource at a place.
-fn begin_at<A: Allocator + Copy>(
-    state: &State<A>,
-    place: usize,
-    running: &Running,
-    at: Moment,
-) -> Event<A>
+fn begin_at<A: Grows>(state: &State<A>, place: usize, running: &Running, at: Moment) -> Event<A>
     requires place { place < length state.now.state.resources }
     ensures begin { result
         ≡ begin_of at (record { id = id_at state.now.state place; running = running.now }) }
@@ -53,7 +49,7 @@ fn begin_at<A: Allocator + Copy>(
 }
 
 // The start of an action of the resource at a place: the only error is want of memory.
-fn start_of<A: Allocator + Copy, S: Allocator>(
+fn start_of<A: Grows, S: Allocator>(
     alloc: A,
     site: &Site<S>,
     state: &State<A>,
@@ -65,6 +61,7 @@ fn start_of<A: Allocator + Copy, S: Allocator>(
     ensures what { IfOk result
         (λ start. what_starts start
         ≡ record { id = id_at state.now.state place; running = running }) }
+    ensures memory { OnErr result (IsTrue A.refuses) }
 {
     state.known();
     let instance = Instance {
@@ -81,7 +78,7 @@ fn start_of<A: Allocator + Copy, S: Allocator>(
 /// Picks what each resource has to begin, in order of registration: the row of their begins, and what is to be started
 /// then. It ends before the first pick that finds no run number, no room in the journal, or no memory for its launch. Where
 /// it is known that nothing is to begin, no resource is asked.
-pub(crate) fn pick_all<D: Disk + Drop, A: Allocator + Copy, S: Allocator>(
+pub(crate) fn pick_all<D: Disk + Drop, A: Grows, S: Allocator>(
     alloc: A,
     site: &Site<S>,
     state: &State<A>,
@@ -94,6 +91,7 @@ pub(crate) fn pick_all<D: Disk + Drop, A: Allocator + Copy, S: Allocator>(
     requires start_room { length state.now.state.resources ≤ vec_capacity starts.old }
     ensures picked { Picked result state.now.state (dues state.now)
         (journal_place journal.now).tail at (all_starting starts.new.items) }
+    ensures memory { result ≡ TurnEnd.Memory → IsTrue A.refuses }
     ensures row { row.new.items ≡ begins at (all_starting starts.new.items) }
     ensures are_starts { AllByRecursion (IsStart site.now state.now.state) starts.new.items }
     ensures few { vec_len starts.new ≤ length state.now.state.resources }

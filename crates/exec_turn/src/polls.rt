@@ -14,11 +14,11 @@ ghost use Rattle.exec_turn.specs.Polls.{IsPoll, Polls, ending, is_late, polled_o
 
 use child_model::{Children, Poll};
 use exec_state::State;
+use growth::Grows;
 use ocf_types::{
     Change, Event, EventOf, Moment, Notice, Outcome, RunEnd, Running, StateView, Step,
 };
 use op_history::ended_of;
-use std::alloc::Allocator;
 
 // Whether the timeout of an action has passed.
 fn is_late(running: &Running, at: Moment) -> bool
@@ -51,7 +51,7 @@ fn ask<C: Children>(children: &mut C, running: &Running, at: Moment) -> Option<R
 
 // Polls what runs in the resource at a place: its result, where it has ended, goes to the end of the row, and what is told
 // of it to the end of the notices.
-fn poll_at<C: Children, A: Allocator + Copy>(
+fn poll_at<C: Children, A: Grows>(
     state: &State<A>,
     place: usize,
     children: &mut C,
@@ -91,7 +91,7 @@ fn poll_at<C: Children, A: Allocator + Copy>(
 
 /// Polls every action that runs, in order of registration: the row of their results, and what is told of them. What was
 /// killed has ended when it returns.
-pub(crate) fn poll_all<C: Children, A: Allocator + Copy>(
+pub(crate) fn poll_all<C: Children, A: Grows>(
     state: &State<A>,
     children: &mut C,
     at: Moment,

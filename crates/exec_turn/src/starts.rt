@@ -17,12 +17,12 @@ use child_model::Children;
 use disk_model::Disk;
 use exec_journal::Journal;
 use exec_state::State;
+use growth::Grows;
 use ocf_types::{Change, Event, EventOf, Moment, Notice, Outcome, RunEnd, Step};
 use op_history::ended_of;
-use std::alloc::Allocator;
 
 // Starts one of them: where that is refused, its result is in the row, and what is told of it among the notices.
-fn start_one<D: Disk + Drop, C: Children, A: Allocator + Copy>(
+fn start_one<D: Disk + Drop, C: Children, A: Grows>(
     state: &State<A>,
     journal: &Journal<D, A>,
     children: &mut C,
@@ -65,7 +65,7 @@ fn start_one<D: Disk + Drop, C: Children, A: Allocator + Copy>(
 
 /// Starts each of these, in order, where the journal is settled at a state in which all of them run: the row of results of
 /// those that were refused, and what is told of them.
-pub(crate) fn start_all<D: Disk + Drop, C: Children, A: Allocator + Copy>(
+pub(crate) fn start_all<D: Disk + Drop, C: Children, A: Grows>(
     state: &State<A>,
     journal: &Journal<D, A>,
     children: &mut C,
