@@ -7,3 +7,4 @@ pub mod History
 pub mod Machines
 pub mod Sharing
 pub mod Reports
+pub mod Memory

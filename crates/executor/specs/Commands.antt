@@ -8,11 +8,14 @@ use Rattle.ocf_types.specs.declared.reply.ReplyOf.TheVariants.{Refused}
 use Rattle.disk_model.specs.View.{View}
 use Rattle.exec_state.specs.Answers.{IsReplyOrMemory}
 use Rattle.exec_ledger.specs.Commands.{Obeys}
+use Rattle.exec_ledger.specs.Replies.{MemoryOnlyIf}
 use Rattle.executor.specs.Sights.{Beside, Sight, ledger_of}
 
--- what an open executor does with a request at this moment: a question is answered from its state
+-- what an open executor does with a request at this moment: a question is answered from its state, of want of memory only where
+-- the allocator refuses growths
 abbrev pub ServesOpen : {D : Type 0} → (D → View) → ℕ → Request → Sight D → Sight D → Reply → Type 0
-ServesOpen look now (asked.Question question) old new reply = IsReplyOrMemory (reply_to old.state question) reply × (new ≡ old)
+ServesOpen look now (asked.Question question) old new reply =
+    IsReplyOrMemory (reply_to old.state question) reply × (new ≡ old) × MemoryOnlyIf old.refuses reply
 ServesOpen look now (asked.Command command) old new reply =
     Obeys look (event_of old.state now command) (ledger_of old) (ledger_of new) reply × Beside old new
 

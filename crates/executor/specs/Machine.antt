@@ -1,12 +1,12 @@
 -- The machine of an executor, a labelled transition system: each call is a step, whose label says what was asked and answered, the
 -- answers of agent processes in it, and the notices of a turn. It knows no disk and no journal. `Runs` says what crashes and openings do.
-use Rattle.std.specs.Prelude.{◌≡◌, ◌≢◌, ◌⊎◌, ◌↔◌, ◌*◌, ◌<◌, ℕ, Bool, true, false, List, [], ◌∷◌, ◌++◌, length, Ok, ⊤}
+use Rattle.std.specs.Prelude.{◌≡◌, ◌≢◌, ◌⊎◌, ◌↔◌, ◌*◌, ◌<◌, ℕ, Bool, true, false, List, [], ◌∷◌, ◌++◌, length, Ok, Contains, IsTrue, ⊤}
 use Rattle.ocf_types.specs.Answer.{event_of, moment, reply_to}
 use Rattle.ocf_types.specs.Due.{Due}
 use Rattle.ocf_types.specs.Kinds.{Command, Event, Reply}
 use Rattle.ocf_types.specs.State.{State, after_all}
 use Rattle.ocf_types.specs.declared.command.RequestOf.TheVariants as asked
-use Rattle.ocf_types.specs.declared.refusal.Refusal.TheVariants.{JournalFull}
+use Rattle.ocf_types.specs.declared.refusal.Refusal.TheVariants.{JournalFull, Memory}
 use Rattle.ocf_types.specs.declared.reply.Notice.{Notice}
 use Rattle.ocf_types.specs.declared.reply.ReplyOf.TheVariants.{Refused, Turn}
 use Rattle.ocf_types.specs.declared.reply.TidyEnd.{TidyEnd}
@@ -26,11 +26,12 @@ use Rattle.executor.specs.Lives.{Abandoned, Cleared, Exchange, Finished, Row, Ti
 use Rattle.executor.specs.Sessions.{closed_reply}
 use Rattle.executor.specs.declared.session.InputOf.TheVariants as input
 
--- whether it takes requests, its state, and when each recurring monitor is due
+-- whether it takes requests, its state, when each recurring monitor is due, and whether its allocator refuses growths
 pub record Machine : Type 0 where
   pub is_open : Bool
   pub state : State
   pub due : Due
+  pub refuses : Bool
 
 -- The label of a step: what was asked and answered; the starts, polls and kills of agent processes in it, each with its answer; the
 -- notices of a turn; and what the machine does not keep itself: how many answers the book of agent processes took before the step, where
@@ -49,8 +50,19 @@ pub record Left : Type 0 where
   pub pending : List Event
 
 -- One thing a machine does not know is what memory there is: a question or a registration may be refused for want of it
--- (`IsReplyOrMemory`, `Adds`), and a turn that says so begins fewer of the actions that come next, the first of them (`PickedAs`). The
--- other is what a device that failed a call has done of it: the machine is closed, and these events are pending.
+-- (`IsReplyOrMemory`, `Adds`), and a turn that says so begins fewer of the actions that come next, the first of them (`PickedAt`). A call
+-- that tells of it:
+abbrev pub LacksMemory : Exchange → Type 0
+LacksMemory (Took (input.Request now request) reply) = reply ≡ Refused Memory
+LacksMemory (Took (input.Turn now) reply) = reply ≡ Turn turn_end.Memory
+LacksMemory (Row now commands replies) = Contains replies (Refused Memory)
+LacksMemory _ = ⊥
+
+-- It does so only where the allocator refuses growths.
+abbrev pub LacksOnlyIf : Bool → Exchange → Type 0
+LacksOnlyIf refuses e = LacksMemory e → IsTrue refuses
+
+-- The other is what a device that failed a call has done of it: the machine is closed, and these events are pending.
 abbrev pub Closes : List Event → Machine → Left → Type 0
 Closes es n left = (n.is_open ≡ false) × (left ≡ record { events = []; pending = es })
 
@@ -77,7 +89,7 @@ TakesOne l now c r m n left = TakesAll l now (c ∷ []) (r ∷ []) m n left
 -- A turn of a kind at a moment, for which the book has to take so many answers for each resource.
 pub record MovesTurn (kind : TurnKind) (each : ℕ) (end : TurnEnd) (at : ℕ) (l : Label) (m n : Machine) (left : Left) : Type 0 where
   -- what agent processes answered makes its events and its notices
-  pub turns : kind end (scene m.state m.due l.place at) l.answers left.events left.pending l.notices
+  pub turns : kind end (scene m.state m.due l.place at m.refuses) l.answers left.events left.pending l.notices
   pub goes_on : n ≡ record (after_events m left.events) { is_open = n.is_open }
   -- nothing is done exactly when the book takes less, and a fault of the disk closes the machine, and nothing else
   pub full : (end ≡ turn_end.BookFull) ↔ (l.room < each * length m.state.resources)
@@ -116,7 +128,7 @@ AnswersClosed (Tidied end) = end ≡ tidy.Closed
 AnswersClosed _ = ⊤
 
 abbrev pub MovesWhile : Bool → Label → Machine → Machine → Left → Type 0
-MovesWhile true l m n left = MovesOpen l.exchange l m n left
+MovesWhile true l m n left = MovesOpen l.exchange l m n left × LacksOnlyIf m.refuses l.exchange
 MovesWhile false l m n left = IsQuiet l × AnswersClosed l.exchange × Closes [] n left
 
 -- one call after the other

@@ -1,5 +1,5 @@
 -- Behaviours of the machine: openings, calls and crashes, one incarnation after another.
-use Rattle.std.specs.Prelude.{◌≡◌, ◌⊎◌, ◌≤◌, ℕ, true, List, [], ◌∷◌, ◌++◌, Option}
+use Rattle.std.specs.Prelude.{◌≡◌, ◌⊎◌, ◌≤◌, ℕ, Bool, true, List, [], ◌∷◌, ◌++◌, Option}
 use Rattle.std.specs.List.{flat_map}
 use Rattle.ocf_types.specs.Answer.{moment}
 use Rattle.ocf_types.specs.Due.{due_at}
@@ -16,7 +16,7 @@ use Rattle.executor.specs.Reports.{dropped, interrupted}
 use Rattle.executor.specs.declared.opening.OpenError.{OpenError}
 
 -- a service as it is seen: its moment, what its opening reported as interrupted and as dropped, the calls that returned, those under way
--- at the crash, and how many device calls the disk had had then
+-- at the crash, how many device calls the disk had had then, and whether its allocator refuses growths
 pub record SeenService : Type 0 where
   pub now : ℕ
   pub ran : List Notice
@@ -24,6 +24,7 @@ pub record SeenService : Type 0 where
   pub calls : List Label
   pub begun : List Label
   pub stop : ℕ
+  pub refuses : Bool
 
 -- an incarnation as it is seen: an opening that was refused, or in which the crash came, at a moment; or a service
 pub data Seen : Type 0 where
@@ -31,8 +32,9 @@ pub data Seen : Type 0 where
   Serving : SeenService → Seen
 
 -- the machine as it is opened on a state: what ran or was queued has ended, and all monitors are due
-abbrev pub opened_on : State → ℕ → Machine
-opened_on s now = record { is_open = true; state = booted s now; due = due_at (booted s now) (moment s now) }
+abbrev pub opened_on : State → ℕ → Bool → Machine
+opened_on s now refuses =
+    record { is_open = true; state = booted s now; due = due_at (booted s now) (moment s now); refuses = refuses }
 
 -- so much of what calls left remains after a crash: all that was recorded when they returned, and a prefix of the rest
 abbrev pub StandsOf : Left → Left → List Event → Type 0
@@ -55,7 +57,7 @@ pub record Remains (x : SeenService) (s : State) (p : List Event) : Type 0 where
   pub last : Machine
   pub done : Left
   pub under_way : Left
-  pub moves : MovesAll x.calls (opened_on s x.now) returned done
+  pub moves : MovesAll x.calls (opened_on s x.now x.refuses) returned done
   pub goes_on : MovesAll x.begun returned last under_way
   pub stands : StandsOf done under_way p
   pub begins : HasBegins x p

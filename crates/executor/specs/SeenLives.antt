@@ -44,6 +44,7 @@ seen look start (InService x ∷ older) is = Serving (record {
   calls = labels look x.opened is.2.calls x.returned x.done is.2.returns;
   begun = labels look x.returned is.2.begun x.last x.under_way is.2.goes_on;
   stop = x.stop;
+  refuses = x.opened.refuses;
 }) ∷ seen look start older is.0
 
 -- what the openings of these incarnations reported as interrupted, the first one's first

@@ -15,8 +15,8 @@ use Rattle.exec_ledger.specs.Held.{Held}
 use Rattle.executor.specs.Reports.{ReportView}
 
 -- whether it takes requests, its state, its recurring monitors with their due moments, the disk that it works on, where the
--- journal's next record goes, its children, the site at which it starts agents, what the last turn told, and what its opening
--- reported
+-- journal's next record goes, its children, the site at which it starts agents, what the last turn told, what its opening
+-- reported, and whether its allocator refuses growths
 pub record Sight (D : Type 0) : Type 0 where
   pub is_open : Bool
   pub state : State
@@ -27,6 +27,7 @@ pub record Sight (D : Type 0) : Type 0 where
   pub site : SiteView
   pub told : List Notice
   pub reported : ReportView
+  pub refuses : Bool
 
 abbrev pub sight : {D : Type 0} → Held D → ChildrenView → SiteView → List Notice → ReportView → Sight D
 sight h children site told reported = record {
@@ -39,11 +40,19 @@ sight h children site told reported = record {
   site = site;
   told = told;
   reported = reported;
+  refuses = h.refuses;
 }
 
 -- what its ledger holds
 abbrev pub ledger_of : {D : Type 0} → Sight D → Held D
-ledger_of x = record { is_open = x.is_open; state = x.state; monitors = x.monitors; disk = x.disk; place = x.place }
+ledger_of x = record {
+  is_open = x.is_open;
+  state = x.state;
+  monitors = x.monitors;
+  disk = x.disk;
+  place = x.place;
+  refuses = x.refuses;
+}
 
 -- all that stands beside the ledger is as it was
 pub record Beside {D : Type 0} (old new : Sight D) : Type 0 where

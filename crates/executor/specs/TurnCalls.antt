@@ -14,9 +14,10 @@ use Rattle.executor.specs.Sights.{Sight, due_in}
 -- sight of it to another.
 pub record MakesTurn {D : Type 0} (kind : TurnKind) (entries : ℕ) (look : D → View) (now : ℕ) (old new : Sight D) (end : TurnEnd) : Type 0 where
   pub turns : TurnsAs kind look old.disk new.disk
-      (scene old.state (due_in old) old.place (moment old.state now)) new.state (due_in new) old.children new.children new.told end
-  -- what it starts is started at its site, which stays; so does what its opening reported
+      (scene old.state (due_in old) old.place (moment old.state now) old.refuses) new.state (due_in new) old.children new.children new.told end
+  -- what it starts is started at its site, which stays; so do its allocator, and what its opening reported
   pub site : new.site ≡ old.site
+  pub allocator : new.refuses ≡ old.refuses
   pub reported : new.reported ≡ old.reported
   -- nothing is done just where the book takes less than these entries
   pub full : (end ≡ BookFull) ↔ (old.children.room < entries * length old.state.resources)

@@ -4,8 +4,9 @@ use child_model::Children;
 use disk_model::Disk;
 use exec_ledger::Ledger;
 use exec_turn::TurnBuffers;
+use growth::Grows;
 use ocf_env::Site;
-use std::alloc::{Allocator, Global};
+use std::alloc::Global;
 use std::marker::Model;
 
 /// A local executor of OCF resource agents over a journal and children. A disk fault closes it; it is opened again by its
@@ -14,7 +15,7 @@ use std::marker::Model;
 /// While it is open its journal is settled at its state, and has room for the results of what runs and for a boot: that is what
 /// its ledger keeps. Beside that the agents of all that runs live.
 #[derive(Drop)]
-pub struct Executor<D: Disk + Drop, C: Children + Drop, A: Allocator + Copy = Global> {
+pub struct Executor<D: Disk + Drop, C: Children + Drop, A: Grows = Global> {
     pub(crate) ledger: Ledger<D, A>,
     pub(crate) children: C,
     pub(crate) site: Site<A>,
@@ -23,7 +24,7 @@ pub struct Executor<D: Disk + Drop, C: Children + Drop, A: Allocator + Copy = Gl
     pub(crate) alloc: A,
 }
 
-impl<D: Disk + Drop, C: Children + Drop, A: Allocator + Copy> Model for Executor<D, C, A> {
+impl<D: Disk + Drop, C: Children + Drop, A: Grows> Model for Executor<D, C, A> {
     ghost use Rattle.exec_turn.specs.Turns.{told_of};
     ghost use Rattle.executor.specs.Reports.{reported_of};
     ghost use Rattle.executor.specs.Sights.{IsTended, Sight, sight};

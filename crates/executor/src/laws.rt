@@ -1,5 +1,5 @@
 //! Laws of sessions and of whole lives, each the contract of a function that does nothing.
-ghost use Rattle.std.specs.Prelude.{◌≡◌, ◌≢◌, ◌≤◌, ◌++◌, ℕ, List, Option, [], Some};
+ghost use Rattle.std.specs.Prelude.{◌≡◌, ◌≢◌, ◌≤◌, ◌++◌, ℕ, List, Option, IsTrue, [], Some, false};
 ghost use Rattle.std.specs.List.{AllByRecursion};
 ghost use Rattle.ocf_types.specs.Kinds.{Command, Event, Reply};
 ghost use Rattle.ocf_types.specs.LawfulState.{IsLawfulState};
@@ -14,7 +14,8 @@ ghost use Rattle.exec_journal.specs.Opening.{Opens};
 ghost use Rattle.exec_journal.specs.Room.{Roomy};
 ghost use Rattle.exec_turn.specs.AgentsLive.{AgentsLive};
 ghost use Rattle.executor.specs.Joins.{StandsAt, as_calls};
-ghost use Rattle.executor.specs.Lives.{BeginsAs, Calls, Exchange, GoesOnFrom, InOpening, IsLife, LifeLeaves, Lived, OpensBehind, Sat, Sitting};
+ghost use Rattle.executor.specs.Lives.{BeginsAs, Calls, Does, Exchange, GoesOnFrom, InOpening, IsLife, LifeLeaves, Lived, OpensBehind, Sat, Sitting};
+ghost use Rattle.executor.specs.Machine.{LacksMemory};
 ghost use Rattle.executor.specs.Openings.{NotOpened, Opened};
 ghost use Rattle.executor.specs.Promise.{IsKept};
 ghost use Rattle.executor.specs.Runs.{Runs};
@@ -83,6 +84,14 @@ pub fn session_is_calls<D: Disk>()
 pub fn report_stays<D: Disk>()
     ensures { (x y : Sight D) (calls : List Exchange) (d : Effects) → Calls D.view x calls y d
         → y.reported ≡ x.reported }
+{}
+
+/// Want of memory is told only where the executor's allocator refuses growths: with one that refuses none no call tells of it.
+pub fn memory_is_there<D: Disk>()
+    ensures told { (x y : Sight D) (call : Exchange) (d : Effects) → Does D.view call x y d
+        → LacksMemory call → IsTrue x.refuses }
+    ensures none { (x y : Sight D) (calls : List Exchange) (d : Effects) → Calls D.view x calls y d
+        → x.refuses ≡ false → AllByRecursion (λ call. LacksMemory call → ⊥) calls }
 {}
 
 /// A state is apart that is lawful and whose running actions each have an agent of their own: so is each state of an open

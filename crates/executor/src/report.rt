@@ -1,9 +1,10 @@
 //! What an opening says of the actions that a stopped executor left.
-ghost use Rattle.std.specs.Prelude.{◌≡◌, ◌++◌, ◌<◌, IfOk, OnOk, length};
+ghost use Rattle.std.specs.Prelude.{◌≡◌, ◌++◌, ◌<◌, IfOk, IsTrue, OnErr, OnOk, length};
 ghost use Rattle.ocf_types.specs.Places.{entry_at};
 ghost use Rattle.executor.specs.Reports.{dropped, dropped_in, interrupted, interrupted_in};
 
 use exec_state::State;
+use growth::{Grows, push};
 use ocf_types::{Moment, Notice, Outcome, StateView};
 use op_history::{dropped_of, ended_of};
 use past::Past;
@@ -36,7 +37,7 @@ fn noted(notices: &[Notice]) -> Past<Notice>
 }
 
 // A notice of what runs in the resource at a place.
-fn push_interrupted<A: Allocator + Copy>(
+fn push_interrupted<A: Grows>(
     notices: &mut Vec<Notice, A>,
     state: &State<A>,
     place: usize,
@@ -45,18 +46,19 @@ fn push_interrupted<A: Allocator + Copy>(
     requires place { place < length state.now.state.resources }
     ensures pushed { OnOk result (notices.new.items
         ≡ notices.old.items ++ interrupted_in at (entry_at state.now.state place)) }
+    ensures memory { OnErr result (IsTrue A.refuses) }
 {
     if let Some(running) = state.running_at(place) {
         let result = ended_of(running, Outcome::Interrupted, at);
         let id = state.id_at(place).copied();
-        notices.push(Notice { id, result })?;
+        push(notices, Notice { id, result })?;
     }
     Ok(())
 }
 
 // Notices of what is queued in the resource at a place.
 #[tactic(auto, using(crate::proofs::Openings::Reporting::drop_more))]
-fn push_dropped<A: Allocator + Copy>(
+fn push_dropped<A: Grows>(
     notices: &mut Vec<Notice, A>,
     state: &State<A>,
     place: usize,
@@ -65,22 +67,24 @@ fn push_dropped<A: Allocator + Copy>(
     requires place { place < length state.now.state.resources }
     ensures pushed { OnOk result (notices.new.items
         ≡ notices.old.items ++ dropped_in at (entry_at state.now.state place)) }
+    ensures memory { OnErr result (IsTrue A.refuses) }
 {
     for i in 0..state.queue_len(place) {
         let result = dropped_of(state.queued_at(place, i), at);
         let id = state.id_at(place).copied();
-        notices.push(Notice { id, result })?;
+        push(notices, Notice { id, result })?;
     }
     Ok(())
 }
 
-impl<A: Allocator + Copy> Report<A> {
+impl<A: Grows> Report<A> {
     /// What an opening at that moment says of the state that it found. The only error is want of memory.
     #[tactic(auto, using(crate::proofs::Openings::Reporting::told_more))]
     pub(crate) fn of(alloc: A, state: &State<A>, at: Moment) -> Result<Report<A>, AllocError>
         ensures interrupted { IfOk result
             (λ r. r.interrupted.items ≡ interrupted state.now.state at) }
         ensures dropped { IfOk result (λ r. r.dropped.items ≡ dropped state.now.state at) }
+        ensures memory { OnErr result (IsTrue A.refuses) }
     {
         let mut interrupted = Vec::new(alloc);
         let mut dropped = Vec::new(alloc);

@@ -1,5 +1,5 @@
 //! Sessions: many inputs at once.
-ghost use Rattle.std.specs.Prelude.{◌≡◌, ◌++◌, IfErr, OnOk, List};
+ghost use Rattle.std.specs.Prelude.{◌≡◌, ◌++◌, IfErr, IsTrue, OnErr, OnOk, List};
 ghost use Rattle.ocf_types.specs.Kinds.{Reply};
 ghost use Rattle.executor.specs.Sessions.{Effects, Sits, Takes};
 
@@ -7,8 +7,9 @@ use crate::Executor;
 use child_model::Children;
 use disk_model::Disk;
 use exec_journal::laws::what_stands;
+use growth::Grows;
 use ocf_types::{Params, Reply, ReplyOf, RequestOf};
-use std::alloc::{Allocator, Global};
+use std::alloc::Global;
 
 /// What an executor is handed, at a moment in milliseconds since 1970. `P` is the type of parameters.
 #[derive(Drop)]
@@ -22,7 +23,7 @@ pub enum InputOf<P> {
 /// An input whose parameters lie in memory of the allocator.
 pub type Input<A = Global> = InputOf<Params<A>>;
 
-impl<D: Disk + Drop, C: Children + Drop, A: Allocator + Copy> Executor<D, C, A> {
+impl<D: Disk + Drop, C: Children + Drop, A: Grows> Executor<D, C, A> {
     // Takes one input.
     fn take(&mut self, input: Input<A>) -> Reply<A>
         ensures takes { (effects : Effects) × Takes D.view input self.old self.new result effects }
@@ -36,7 +37,7 @@ impl<D: Disk + Drop, C: Children + Drop, A: Allocator + Copy> Executor<D, C, A> 
     /// Takes inputs one after the other, and puts one reply to each behind the replies that are there: that of a turn is
     /// how it ended. The notices are those of the last turn.
     ///
-    /// Where there is no memory for the replies nothing is done, and the inputs are handed back.
+    /// Where a growth for the replies is refused nothing is done, and the inputs are handed back.
     pub fn session(
         &mut self,
         inputs: Vec<Input<A>, A>,
@@ -50,10 +51,11 @@ impl<D: Disk + Drop, C: Children + Drop, A: Allocator + Copy> Executor<D, C, A> 
         ensures refused { IfErr result
             (λ back. (back ≡ inputs) × (self.new ≡ self.old)
             × (replies.new.items ≡ replies.old.items)) }
+        ensures memory { OnErr result (IsTrue A.refuses) }
     {
         what_stands();
         self.known();
-        let Ok(()) = replies.try_reserve(inputs.len()) else {
+        let Ok(()) = A::reserve_for(replies, inputs.as_slice()) else {
             return Err(inputs);
         };
         for input in inputs {

@@ -7,10 +7,10 @@ use crate::Executor;
 use child_model::{Children, Entry};
 use disk_model::Disk;
 use exec_turn::{finish_turn, runs_any, take_turn};
+use growth::Grows;
 use ocf_types::{Notice, TurnEnd};
-use std::alloc::Allocator;
 
-impl<D: Disk + Drop, C: Children + Drop, A: Allocator + Copy> Executor<D, C, A> {
+impl<D: Disk + Drop, C: Children + Drop, A: Grows> Executor<D, C, A> {
     /// A turn at a moment in milliseconds since 1970: polls what runs, begins what has to begin, and starts it.
     ///
     /// What ends is recorded before it is told, and what begins before it is started. A disk fault closes the executor. A
@@ -21,13 +21,16 @@ impl<D: Disk + Drop, C: Children + Drop, A: Allocator + Copy> Executor<D, C, A> 
         if !self.ledger.is_open() {
             return TurnEnd::Closed;
         }
-        take_turn(
+        self.ledger.known();
+        let end = take_turn(
             &self.site,
             &mut self.ledger,
             &mut self.children,
             &mut self.rows,
             now,
-        )
+        );
+        self.ledger.known();
+        end
     }
 
     /// A turn that begins nothing, at a moment in milliseconds since 1970: polls what runs, kills what runs past its timeout, and
@@ -40,7 +43,10 @@ impl<D: Disk + Drop, C: Children + Drop, A: Allocator + Copy> Executor<D, C, A> 
         if !self.ledger.is_open() {
             return TurnEnd::Closed;
         }
-        finish_turn(&mut self.ledger, &mut self.children, &mut self.rows, now)
+        self.ledger.known();
+        let end = finish_turn(&mut self.ledger, &mut self.children, &mut self.rows, now);
+        self.ledger.known();
+        end
     }
 
     /// Whether an action of any resource runs.

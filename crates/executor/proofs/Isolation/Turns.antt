@@ -76,7 +76,7 @@ AllBeginOwn mine id es = AllByRecursion (λ e. BeginsOwn mine id e.change) es
 -- A turn that ended done, at the moment that was handed in.
 pub record TurnDone {D : Type 0} (now : ℕ) (old new : Sight D) (given : Reply) (effects : Effects) : Type 0 where
   pub done : given ≡ reply.Turn Done
-  pub t : Told Done (scene old.state (due_in old) old.place (cut now))
+  pub t : Told Done (scene old.state (due_in old) old.place (cut now) old.refuses)
   pub entries : effects.entries ≡ polls (cut now) t.polled ++ starts t.clock t.started
   pub events : effects.events ≡ results (cut now) t.polled ++ (begins (cut now) t.begun ++ refusals (cut now) t.started)
   pub state : new.state ≡ after_all old.state effects.events
@@ -88,11 +88,11 @@ pub turn_done : {D : Type 0} (look : D → View) (now : ℕ) (old new : Sight D)
 turn_done {D} look now old new given effects clock plain takes =
     let turns = takes.takes.turns in
     let is_done : takes.end ≡ Done = subst IsPlain takes.replies plain in
-    let raw : Whole Done (scene old.state (due_in old) old.place (moment old.state now)) turns.entries turns.events turns.pending new.told =
+    let raw : Whole Done (scene old.state (due_in old) old.place (moment old.state now) old.refuses) turns.entries turns.events turns.pending new.told =
     subst (λ (e : TurnEnd). IsTurn e
-    (scene old.state (due_in old) old.place (moment old.state now)) turns.entries turns.events turns.pending new.told) is_done turns.does in
-    let whole : Whole Done (scene old.state (due_in old) old.place (cut now)) turns.entries turns.events turns.pending new.told =
-    subst (λ (at : ℕ). Whole Done (scene old.state (due_in old) old.place at) turns.entries turns.events turns.pending new.told)
+    (scene old.state (due_in old) old.place (moment old.state now) old.refuses) turns.entries turns.events turns.pending new.told) is_done turns.does in
+    let whole : Whole Done (scene old.state (due_in old) old.place (cut now) old.refuses) turns.entries turns.events turns.pending new.told =
+    subst (λ (at : ℕ). Whole Done (scene old.state (due_in old) old.place at old.refuses) turns.entries turns.events turns.pending new.told)
     (moment_is old.state now clock) raw in
     let row : effects.events ≡ turns.events = ap (λ (x : Effects). x.events) takes.does in record {
       done = takes.replies ∙ ap (λ (e : TurnEnd). reply.Turn e) is_done;
@@ -121,7 +121,7 @@ module _ {D : Type 0} (now : ℕ) (old new : Sight D) (given : Reply) (effects :
 
   picks : ArePicks moments at mid.next_run mid.resources turn.t.begun
   unfolding at moments mid
-  picks = turn.t.picked.0
+  picks = turn.t.picked.0.0
 
   results_new : AreFresh old.state (results at turn.t.polled)
   results_new = ends_fresh at (results at turn.t.polled) (results_end at turn.t.polled) old.state

@@ -34,16 +34,17 @@ use Rattle.exec_ledger.specs.Tidying.{Tidies}
 use Rattle.executor.specs.TidyCalls.{TidiesWhile}
 use Rattle.executor.specs.TurnCalls.{MakesTurn}
 use Rattle.executor.specs.declared.session.InputOf.TheVariants as input
+use Rattle.executor.proofs.Memory.{memory_told}
 
 -- an executor as the machine, and what its calls left
 abbrev pub machine_of : {D : Type 0} → Sight D → Machine
-machine_of x = record { is_open = x.is_open; state = x.state; due = due_in x }
+machine_of x = record { is_open = x.is_open; state = x.state; due = due_in x; refuses = x.refuses }
 
 abbrev pub left_of : Effects → Left
 left_of d = record { events = d.events; pending = d.pending }
 
-pub same_machine : (m n : Machine) → m.is_open ≡ n.is_open → m.state ≡ n.state → m.due ≡ n.due → m ≡ n
-same_machine m n o s d = λ k. record { is_open = o k; state = s k; due = d k }
+pub same_machine : (m n : Machine) → m.is_open ≡ n.is_open → m.state ≡ n.state → m.due ≡ n.due → m.refuses ≡ n.refuses → m ≡ n
+same_machine m n o s d a = λ k. record { is_open = o k; state = s k; due = d k; refuses = a k }
 
 same_left : (a b : Left) → a.events ≡ b.events → a.pending ≡ b.pending → a ≡ b
 same_left a b e p = λ k. record { events = e k; pending = p k }
@@ -108,7 +109,7 @@ module _ {D : Type 0} (look : D → View) where
               refl,
               (
                 same_machine (machine_of y) _ (open_still ∙ sym was) (r.crash.state ∙ ap (after_all x.state) row)
-                    (r.due ∙ ap (λ (a : Reply). due_left x.state e a (due_in x)) told ∙ so.2),
+                    (r.due ∙ ap (λ (a : Reply). due_left x.state e a (due_in x)) told ∙ so.2) r.allocator,
                 same_left _ _ row (ap (pending e) told ∙ so.1),
               ),
             ),
@@ -119,7 +120,7 @@ module _ {D : Type 0} (look : D → View) where
           inl (
             reply ∷ [],
             [],
-            answers x.state now c reply [] (Ok e) is (inr (memory, r.memory memory, refl)),
+            answers x.state now c reply [] (Ok e) is (inr (memory, (r.memory memory).0, refl)),
             inl (
               refl,
               (ap machine_of (same_sight x y (r.unchanged (inr memory)) beside), same_left _ _ (ap (recorded e) memory) (ap (pending e) memory)),
@@ -160,7 +161,7 @@ module _ {D : Type 0} (look : D → View) where
       refl,
       (
         same_machine (machine_of y) _ (is ∙ sym t.takes.was_open) (ap (λ (h : Held D). h.state) t.takes.records.went.same)
-            t.takes.records.went.due,
+            t.takes.records.went.due (ap (λ (h : Held D). h.refuses) t.takes.records.went.same),
         refl,
       ),
     ),
@@ -190,7 +191,7 @@ module _ {D : Type 0} (look : D → View) where
       (machine_of x) (machine_of y) (record { events = t.turns.events; pending = t.turns.pending })
   turn_so kind each now x y end e t = record {
     turns = t.turns.does;
-    goes_on = same_machine (machine_of y) _ refl t.turns.crash.state t.turns.due_is;
+    goes_on = same_machine (machine_of y) _ refl t.turns.crash.state t.turns.due_is t.allocator;
     full = t.full;
     closes = t.closes;
     cause = t.turns.cause;
@@ -217,7 +218,7 @@ module _ {D : Type 0} (look : D → View) where
       → d ≡ no_effects → x.is_open ≡ true → GoesOn [] (machine_of x) (machine_of y) (left_of d)
   tidied_open x y d end other t none was = (
     same_machine (machine_of y) _ (is_true y.is_open (λ shut. other (t.closes.0 shut)) ∙ sym was) (ap (λ (h : Held D). h.state) t.same)
-        (ap held_due t.same),
+        (ap held_due t.same) (ap (λ (h : Held D). h.refuses) t.same),
     ap left_of none,
   )
 
@@ -274,7 +275,7 @@ module _ {D : Type 0} (look : D → View) where
 
   moves : (o : Bool) (e : Exchange) (x y : Sight D) (d : Effects) → x.is_open ≡ o → Does look e x y d
       → MovesWhile o (label_in look o e x y d) (machine_of x) (machine_of y) (left_of d)
-  moves true e x y d was does = moves_open e x y d was does
+  moves true e x y d was does = (moves_open e x y d was does, memory_told look e x y d does)
   moves false e x y d was does =
       let m = moves_closed e x y d was does in ((m.0, refl), m.1, m.2)
 

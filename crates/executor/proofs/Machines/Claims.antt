@@ -193,11 +193,11 @@ open_recorded (Took (input.Request now (asked.Question q)) r) l m n left h = unn
 open_recorded (Took (input.Request now (asked.Command c)) r) l m n left h =
     unnoticed m.state (acknowledgements now (c ∷ []) (r ∷ [])) l.notices left.events h.0.1 (one_taken l now c r m n left h.1)
 open_recorded (Took (input.Turn now) r) l m n left (end, replies, t) =
-    turn_recorded end (scene m.state m.due l.place (moment m.state now)) l.answers left.events left.pending l.notices t.turns
+    turn_recorded end (scene m.state m.due l.place (moment m.state now) m.refuses) l.answers left.events left.pending l.notices t.turns
 open_recorded (Row now cs rs) l m n left h =
     unnoticed m.state (acknowledgements now cs rs) l.notices left.events h.0.1 (takes_recorded l now cs rs m n left h.1)
 open_recorded (Finished now end) l m n left t =
-    finish_recorded end (scene m.state m.due l.place (moment m.state now)) l.answers left.events left.pending l.notices t.turns
+    finish_recorded end (scene m.state m.due l.place (moment m.state now) m.refuses) l.answers left.events left.pending l.notices t.turns
 open_recorded (Tidied end) l m n left h = unnoticed m.state [] l.notices left.events h.0.1 tt
 open_recorded Cleared l m n left h = unnoticed m.state [] l.notices left.events h.0.1 tt
 open_recorded Abandoned l m n left h = unnoticed m.state [] l.notices left.events h.0.1 tt
@@ -214,7 +214,7 @@ closed_claims Cleared ns h none = ap (map Ended) none
 closed_claims Abandoned ns h none = ap (map Ended) none
 
 step_recorded : (o : Bool) (l : Label) (m n : Machine) (left : Left) → MovesWhile o l m n left → AllRecorded m.state (claims_of l) left.events
-step_recorded true l m n left h = open_recorded l.exchange l m n left h
+step_recorded true l m n left h = open_recorded l.exchange l m n left h.0
 step_recorded false l m n left h =
     none_claimed m.state (claims_of l) left.events (closed_claims l.exchange l.notices h.1 h.0.1)
 
@@ -250,7 +250,7 @@ service_recorded : (x : SeenService) (s : State) (p : List Event) → Remains x 
     → AllRecorded s (flat_map claims_of x.calls) (boots s x.now ++ p)
 service_recorded x s p r =
     let cs = flat_map claims_of x.calls in
-    let first = all_claims x.calls (opened_on s x.now) r.returned r.done r.moves in
+    let first = all_claims x.calls (opened_on s x.now x.refuses) r.returned r.done r.moves in
     let here : AllRecorded (booted s x.now) cs p =
     subst (AllRecorded (booted s x.now) cs) (sym r.stands.2) (recorded_more (booted s x.now) cs r.done.events r.stands.0 first) in
     recorded_later s cs (boots s x.now) p (subst (λ (t : State). AllRecorded t cs p) (sym (boots_is s x.now)) here)

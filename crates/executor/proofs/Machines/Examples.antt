@@ -62,15 +62,15 @@ turned end answers room notices =
 
 -- an open machine with one action in its queue, of which nothing runs
 abbrev waiting : Machine
-waiting = record { is_open = true; state = after_all empty (registered ∷ asked 1 ∷ []); due = λ id call. None }
+waiting = record { is_open = true; state = after_all empty (registered ∷ asked 1 ∷ []); due = λ id call. None; refuses = false }
 
 -- what a turn that ends done was told
 done_so : (answers : List Entry) (room : ℕ) (notices : List Notice) (m n : Machine) (left : Left)
     → MovesWhile true (turned turn_end.Done answers room notices) m n left
     → (x : Scene) × (x.state ≡ m.state) × Whole turn_end.Done x answers left.events left.pending notices
-done_so answers room notices m n left (end, is, t) =
+done_so answers room notices m n left ((end, is, t), memory) =
     let same : end ≡ turn_end.Done = (let told : reply.Turn turn_end.Done ≡ reply.Turn end = is in cc) in
-    let x : Scene = scene m.state m.due first_place (moment m.state 10) in
+    let x : Scene = scene m.state m.due first_place (moment m.state 10) m.refuses in
     (x, refl, subst (λ (e : TurnEnd). IsTurn e x answers left.events left.pending notices) same t.turns)
 
 -- a notice that no answer gives
@@ -103,9 +103,14 @@ unbegun e room notices pending n moves =
 -- the book told as full where it takes three answers for each resource
 full_with_room : (answers : List Entry) (notices : List Notice) (n : Machine) (left : Left)
     → MovesWhile true (turned turn_end.BookFull answers 3 notices) waiting n left → ⊥
-full_with_room answers notices n left (end, is, t) =
+full_with_room answers notices n left ((end, is, t), memory) =
     let same : end ≡ turn_end.BookFull = (let told : reply.Turn turn_end.BookFull ≡ reply.Turn end = is in cc) in
     let less : 3 < 3 = t.full.0 same in omega (arith, less)
+
+-- want of memory of which no growth was refused
+memory_at_once : (answers : List Entry) (room : ℕ) (notices : List Notice) (n : Machine) (left : Left)
+    → MovesWhile true (turned turn_end.Memory answers room notices) waiting n left → ⊥
+memory_at_once answers room notices n left moves = let bad : false ≡ true = moves.1 refl in cc
 
 -- a crash after which the begin of an agent that was started is lost
 abbrev started : SeenService
@@ -116,6 +121,7 @@ started = record {
   calls = turned turn_end.Done (record { run = 1; at = 3; answer = start_answer (Ok tt) } ∷ []) 256 [] ∷ [];
   begun = [];
   stop = 5;
+  refuses = false;
 }
 
 lost : HasBegins started (registered ∷ asked 1 ∷ []) → ⊥

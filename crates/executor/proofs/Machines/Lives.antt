@@ -86,9 +86,9 @@ module _ {D : Type 0} (look : D → View) (law : WhatStands) (once : OneFinding)
   -- an executor as it was opened
   opened_so : (x : Service D) (s : Serves look x) (t : State) → x.opened.state ≡ booted t x.now
       → due_in x.opened ≡ due_at x.opened.state (moment t x.now)
-      → machine_of x.opened ≡ opened_on t x.now
-  opened_so x s t state due = same_machine (machine_of x.opened) (opened_on t x.now) s.opens.over.is_open state
-      (due ∙ ap (λ (u : State). due_at u (moment t x.now)) state)
+      → machine_of x.opened ≡ opened_on t x.now x.opened.refuses
+  opened_so x s t state due = same_machine (machine_of x.opened) (opened_on t x.now x.opened.refuses) s.opens.over.is_open state
+      (due ∙ ap (λ (u : State). due_at u (moment t x.now)) state) refl
 
   -- what is seen of a service
   abbrev view_of : (x : Service D) → Serves look x → SeenService
@@ -99,6 +99,7 @@ module _ {D : Type 0} (look : D → View) (law : WhatStands) (once : OneFinding)
     calls = labels look x.opened s.calls x.returned x.done s.returns;
     begun = labels look x.returned s.begun x.last x.under_way s.goes_on;
     stop = x.stop;
+    refuses = x.opened.refuses;
   }
 
   -- the answers in it are those that its children gave
@@ -110,7 +111,7 @@ module _ {D : Type 0} (look : D → View) (law : WhatStands) (once : OneFinding)
 
   -- so much of it remains
   remains_so : (x : Service D) (s : Serves look x) (t : State) (p : List Event) → s.was_running ≡ interrupted t (moment t x.now)
-      → s.was_queued ≡ dropped t (moment t x.now) → machine_of x.opened ≡ opened_on t x.now → Stands x p → Remains (view_of x s) t p
+      → s.was_queued ≡ dropped t (moment t x.now) → machine_of x.opened ≡ opened_on t x.now x.opened.refuses → Stands x p → Remains (view_of x s) t p
   remains_so x s t p ran queued machine stands = record {
     ran = ran;
     queued = queued;

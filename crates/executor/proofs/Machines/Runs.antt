@@ -98,13 +98,13 @@ results_follow at s ps each fine =
 picks_so : (end : TurnEnd) (x : Scene) (bs : List Active) → PickedAt end x bs
     → (out : List Active) × ArePicks x.due x.at x.state.next_run x.state.resources (bs ++ out) × (x.state.next_run + length bs ≤ num_max)
 picks_so turn_end.Done x bs p =
-    ([], subst (ArePicks x.due x.at x.state.next_run x.state.resources) (sym (append-nil bs)) p.0, p.1.runs)
-picks_so turn_end.RunsSpent x bs p = (p.0.next ∷ p.0.later, p.0.picks, p.1.runs)
-picks_so turn_end.Full x bs p = (p.0.next ∷ p.0.later, p.0.picks, p.1.runs)
-picks_so turn_end.Memory x bs p = (p.0.next ∷ p.0.later, p.0.picks, p.1.runs)
-picks_so turn_end.Closed x bs p = absurd p.0
-picks_so turn_end.BookFull x bs p = absurd p.0
-picks_so turn_end.Disk x bs p = absurd p.0
+    ([], subst (ArePicks x.due x.at x.state.next_run x.state.resources) (sym (append-nil bs)) p.0.0, p.0.1.runs)
+picks_so turn_end.RunsSpent x bs p = (p.0.0.next ∷ p.0.0.later, p.0.0.picks, p.0.1.runs)
+picks_so turn_end.Full x bs p = (p.0.0.next ∷ p.0.0.later, p.0.0.picks, p.0.1.runs)
+picks_so turn_end.Memory x bs p = (p.0.0.next ∷ p.0.0.later, p.0.0.picks, p.0.1.runs)
+picks_so turn_end.Closed x bs p = absurd p.0.0
+picks_so turn_end.BookFull x bs p = absurd p.0.0
+picks_so turn_end.Disk x bs p = absurd p.0.0
 
 begun_so : (end : TurnEnd) (x : Scene) (bs : List Active) → PickedAt end x bs → Fine x.state → BegunSo x.state x.at bs
 begun_so end x bs picked fine =
@@ -253,17 +253,17 @@ moves_open (Took (input.Request now (asked.Command c)) reply) l m n left opened 
 moves_open (Took (input.Request now (asked.Command c)) reply) l m n left opened (quiet, inr full) = goes_on m n [] left opened full.4 (λ fine. tt)
 moves_open (Took (input.Turn now) reply) l m n left opened (end, replies, t) =
     turn_went IsTurn 3 end (moment m.state now) l m n left opened t
-    (turn_follows end (scene m.state m.due l.place (moment m.state now)) l.answers left.events left.pending l.notices t.turns)
+    (turn_follows end (scene m.state m.due l.place (moment m.state now) m.refuses) l.answers left.events left.pending l.notices t.turns)
 moves_open (Row now cs rs) l m n left opened takes = takes_all l m n now cs rs left opened takes.1
 moves_open (Finished now end) l m n left opened t =
     turn_went IsFinish 2 end (moment m.state now) l m n left opened t
-    (finish_follows end (scene m.state m.due l.place (moment m.state now)) l.answers left.events left.pending l.notices t.turns)
+    (finish_follows end (scene m.state m.due l.place (moment m.state now) m.refuses) l.answers left.events left.pending l.notices t.turns)
 moves_open (Tidied end) l m n left opened (quiet, ends) = tidied end l m n left opened ends
 moves_open Cleared l m n left opened crash = goes_on m n [] left opened crash.1 (λ fine. tt)
 moves_open Abandoned l m n left opened fails = went_wrong m n [] [] left opened fails.1.0 fails.1.1 (λ fine. tt)
 
 pub moves_so : (o : Bool) (l : Label) (m n : Machine) (left : Left) → m.is_open ≡ o → MovesWhile o l m n left → Went m n left
-moves_so true l m n left opened h = moves_open l.exchange l m n left opened h
+moves_so true l m n left opened h = moves_open l.exchange l m n left opened h.0
 moves_so false l m n left shut h = subst (Went m n) (sym h.2.1) (record {
   follow = λ o fine. tt;
   onward = λ o. absurd (false≢true (sym h.2.0 ∙ o));
@@ -329,7 +329,7 @@ sits_follow (Serving x) s zs fine (p, r, is) =
     let boot = boots_follow s x.now in
     let open_state : after_all s (boots s x.now) ≡ booted s x.now = boots_is s x.now in
     let fine2 : Fine (booted s x.now) = subst Fine open_state (fine_on s (boots s x.now) boot fine) in
-    let went = went_both (opened_on s x.now) r.returned r.last r.done r.under_way (moves_all_so x.calls (opened_on s x.now) r.returned r.done r.moves)
+    let went = went_both (opened_on s x.now x.refuses) r.returned r.last r.done r.under_way (moves_all_so x.calls (opened_on s x.now x.refuses) r.returned r.done r.moves)
     (moves_all_so x.begun r.returned r.last r.under_way r.goes_on) in
     let all = went.follow refl fine2 in
     let first : Follow (booted s x.now) p =

@@ -40,7 +40,7 @@ abbrev left_by : Event → Left
 left_by e = record { events = e ∷ []; pending = [] }
 
 abbrev at_first : Machine
-at_first = opened_on start 0
+at_first = opened_on start 0 false
 
 abbrev with_action : Machine
 with_action = after_events at_first (exec_event 1 ∷ [])
@@ -79,42 +79,48 @@ module _ (p : Place) (fits : IsTooLong p.tail (begins_at 10 (begun ∷ [])) → 
 
   ask_moves : MovesWhile true asks at_first with_action (left_by (exec_event 1))
   ask_moves = (
-    (refl, refl),
-    inl (
-      acknowledged (exec_event 1).change ∷ [],
-      exec_event 1 ∷ [],
-      (exec_event 1 ∷ [], [], inl (refl, refl), refl, refl),
-      inl (refl, (refl, refl)),
+    (
+      (refl, refl),
+      inl (
+        acknowledged (exec_event 1).change ∷ [],
+        exec_event 1 ∷ [],
+        (exec_event 1 ∷ [], [], inl (refl, refl), refl, refl),
+        inl (refl, (refl, refl)),
+      ),
     ),
+    λ bad. absurd (cc),
   )
 
-  abbrev told : Told turn_end.Done (scene with_action.state with_action.due p 10)
+  abbrev told : Told turn_end.Done (scene with_action.state with_action.due p 10 false)
   told = record {
     polled = [];
     begun = begun ∷ [];
     started = record { what = begun; answer = Ok tt } ∷ [];
     clock = 7;
     each_polled = record { each = refl; bytes = tt };
-    picked = ((Some 1, [], refl, refl, refl), record { runs = omega arith; room = λ some bad. fits bad });
+    picked = (((Some 1, [], refl, refl, refl), record { runs = omega arith; room = λ some bad. fits bad }), λ bad. absurd (cc));
     each_started = refl;
   }
 
   turn_moves : MovesWhile true turns with_action with_run (left_by (begins 1 1))
   turn_moves = (
-    turn_end.Done,
-    refl,
-    record {
-      turns = (told, refl, refl, refl, refl);
-      goes_on = refl;
-      full = ((λ is. absurd (cc)), (λ less. let l : 256 < 3 = less in absurd (omega (arith, l))));
-      closes = ((λ is. absurd (cc)), (λ is. absurd (cc)));
-      cause = λ is. absurd (cc);
-    },
+    (
+      turn_end.Done,
+      refl,
+      record {
+        turns = (told, refl, refl, refl, refl);
+        goes_on = refl;
+        full = ((λ is. absurd (cc)), (λ less. let l : 256 < 3 = less in absurd (omega (arith, l))));
+        closes = ((λ is. absurd (cc)), (λ is. absurd (cc)));
+        cause = λ is. absurd (cc);
+      },
+    ),
+    λ bad. absurd (cc),
   )
 
   -- the first incarnation
   abbrev first : SeenService
-  first = record { now = 0; ran = []; queued = []; calls = asks ∷ []; begun = turns ∷ []; stop = 7 }
+  first = record { now = 0; ran = []; queued = []; calls = asks ∷ []; begun = turns ∷ []; stop = 7; refuses = false }
 
   abbrev recorded : List Event
   recorded = exec_event 1 ∷ begins 1 1 ∷ []
@@ -150,14 +156,15 @@ module _ (p : Place) (fits : IsTooLong p.tail (begins_at 10 (begun ∷ [])) → 
     calls = [];
     begun = [];
     stop = 0;
+    refuses = false;
   }
 
   second_remains : Remains second (after_all start recorded) []
   second_remains = record {
     ran = refl;
     queued = refl;
-    returned = opened_on (after_all start recorded) 30;
-    last = opened_on (after_all start recorded) 30;
+    returned = opened_on (after_all start recorded) 30 false;
+    last = opened_on (after_all start recorded) 30 false;
     done = nothing;
     under_way = nothing;
     moves = (refl, refl);

@@ -16,7 +16,7 @@ finish_turn-requires-clause-matched g c = (c.self.invariant (sym c.is_open.ensur
 pub invariant_of-self : goal.invariant_of-self
 invariant_of-self g c is_open =
     let tends = c.self.invariant (sym c.is_open.ensures.value ∙ c.if-not-is_open.false) in
-    let turn = c.finish_turn.ensures in
+    let turn = c.finish_turn-end.ensures in
     record {
       matched = turn.matched (λ disk. true≢false (sym is_open ∙ turn.closes.1 disk));
       admits = subst (λ w. Admits w c.self.inside.site) (sym turn.finishes.site) tends.admits;
@@ -26,12 +26,13 @@ pub returns : goal.returns
 returns g c =
     let e = c.self.inside in
     let x = sight e.ledger (g.C.Children.view e.children) e.site (told_of e.rows) (reported_of e.reported) in
-    let y = sight c.finish_turn.new.ledger (g.C.Children.view c.finish_turn.new.children) e.site (told_of c.finish_turn.new.rows) (reported_of e.reported) in
+    let y = sight c.finish_turn-end.new.ledger (g.C.Children.view c.finish_turn-end.new.children) e.site (told_of c.finish_turn-end.new.rows) (reported_of e.reported) in
     let was : x.is_open ≡ true = sym c.is_open.ensures.value ∙ c.if-not-is_open.false in
-    let turn = c.finish_turn.ensures in
-    let takes : FinishesTurn g.D.Disk.view c.args.now x y c.finish_turn.result = record {
+    let turn = c.finish_turn-end.ensures in
+    let takes : FinishesTurn g.D.Disk.view c.args.now x y c.finish_turn-end.result = record {
       turns = turn.finishes;
       site = refl;
+      allocator = c.known-2.ensures.allocator ∙ sym c.known.ensures.allocator;
       reported = refl;
       full = turn.full;
       unchanged = λ is.
@@ -42,6 +43,6 @@ returns g c =
       closes = turn.closes;
     } in
     record {
-      finishes = subst (λ (z : Sight _). FinishesWhile z.is_open g.D.Disk.view c.args.now z y c.finish_turn.result) c.self.view_is
-          (subst (λ (b : Bool). FinishesWhile b g.D.Disk.view c.args.now x y c.finish_turn.result) (sym was) takes);
+      finishes = subst (λ (z : Sight _). FinishesWhile z.is_open g.D.Disk.view c.args.now z y c.finish_turn-end.result) c.self.view_is
+          (subst (λ (b : Bool). FinishesWhile b g.D.Disk.view c.args.now x y c.finish_turn-end.result) (sym was) takes);
     }

@@ -21,7 +21,7 @@ loop-input-init g c =
       room = search rules;
       sits = (
         [],
-        c.try_reserve.ensures.items
+        c.reserve_for.ensures.items
             ∙ sym (append-nil c.args.replies.now.items),
         sits_start g.D.Disk.view law x (g.met.D.Disk.lawful x.disk) c.known.ensures.sound,
       );

@@ -19,7 +19,7 @@ take_turn-requires-clause-site g c = (c.self.invariant (sym c.is_open.ensures.va
 pub invariant_of-self : goal.invariant_of-self
 invariant_of-self g c is_open =
     let tends = c.self.invariant (sym c.is_open.ensures.value ∙ c.if-not-is_open.false) in
-    let turn = c.take_turn.ensures in
+    let turn = c.take_turn-end.ensures in
     record {
       matched = turn.matched (λ disk. true≢false (sym is_open ∙ turn.closes.1 disk));
       admits = subst (λ w. Admits w c.self.inside.site) (sym turn.turns.site) tends.admits;
@@ -29,12 +29,13 @@ pub returns : goal.returns
 returns g c =
     let e = c.self.inside in
     let x = sight e.ledger (g.C.Children.view e.children) e.site (told_of e.rows) (reported_of e.reported) in
-    let y = sight c.take_turn.new.ledger (g.C.Children.view c.take_turn.new.children) e.site (told_of c.take_turn.new.rows) (reported_of e.reported) in
+    let y = sight c.take_turn-end.new.ledger (g.C.Children.view c.take_turn-end.new.children) e.site (told_of c.take_turn-end.new.rows) (reported_of e.reported) in
     let was : x.is_open ≡ true = sym c.is_open.ensures.value ∙ c.if-not-is_open.false in
-    let turn = c.take_turn.ensures in
-    let takes : TakesTurn g.D.Disk.view c.args.now x y c.take_turn.result = record {
+    let turn = c.take_turn-end.ensures in
+    let takes : TakesTurn g.D.Disk.view c.args.now x y c.take_turn-end.result = record {
       turns = turn.turns;
       site = refl;
+      allocator = c.known-2.ensures.allocator ∙ sym c.known.ensures.allocator;
       reported = refl;
       full = turn.full;
       unchanged = λ is.
@@ -45,6 +46,6 @@ returns g c =
       closes = turn.closes;
     } in
     record {
-      turns = subst (λ (z : Sight _). TurnsWhile z.is_open g.D.Disk.view c.args.now z y c.take_turn.result) c.self.view_is
-          (subst (λ (b : Bool). TurnsWhile b g.D.Disk.view c.args.now x y c.take_turn.result) (sym was) takes);
+      turns = subst (λ (z : Sight _). TurnsWhile z.is_open g.D.Disk.view c.args.now z y c.take_turn-end.result) c.self.view_is
+          (subst (λ (b : Bool). TurnsWhile b g.D.Disk.view c.args.now x y c.take_turn-end.result) (sym was) takes);
     }
