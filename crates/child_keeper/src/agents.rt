@@ -1,5 +1,5 @@
 // The children that live, each under its run.
-ghost use Rattle.std.specs.Prelude.{◌≡◌, ◌↔◌, ◌+◌, ◌<◌, ◌≤◌, ◌==◌, ◌++◌, [], ◌∷◌, Contains, IfNone, IfOk, IfSome, IsTrue, OnSome};
+ghost use Rattle.std.specs.Prelude.{◌≡◌, ◌↔◌, ◌+◌, ◌<◌, ◌≤◌, ◌==◌, ◌++◌, [], ◌∷◌, Contains, IfNone, IfOk, IfSome, IsTrue, OnErr, OnSome};
 ghost use Rattle.std.specs.Prelude.{Some, length, slice_get, vec_len};
 ghost use Rattle.std.specs.List.{position_from};
 ghost use Rattle.std.specs.Vec.{vec_capacity};
@@ -7,6 +7,7 @@ ghost use Rattle.child_keeper.specs.Agents.{others_of, runs_of};
 ghost use Rattle.child_model.specs.Children.{live_limit, without_run};
 
 use crate::live::LIVE_LIMIT;
+use growth::{Grows, with_room};
 use ocf_types::{RscId, RunId};
 use process_ends::still_runs;
 use std::alloc::{AllocError, Allocator};
@@ -41,15 +42,18 @@ fn kill_each<P: OpenProcess + Drop>(agents: &mut [Agent<P>]) {
     }
 }
 
-impl<P: OpenProcess + Drop, A: Allocator> Agents<P, A> {
+impl<P: OpenProcess + Drop, A: Grows> Agents<P, A> {
     /// None, with room for all that may live. It fails only where memory is refused.
     pub fn new(alloc: A) -> Result<Agents<P, A>, AllocError>
         ensures none { IfOk result (λ a. runs_of a.agents.items ≡ []) }
+        ensures memory { OnErr result (IsTrue A.refuses) }
     {
-        let agents = Vec::with_capacity(alloc, LIVE_LIMIT)?;
+        let agents = with_room(alloc, LIVE_LIMIT)?;
         Ok(Agents { agents })
     }
+}
 
+impl<P: OpenProcess + Drop, A: Allocator> Agents<P, A> {
     /// One child more. It takes no memory.
     pub fn add(&mut self, agent: Agent<P>)
         requires few { length (runs_of self.old.agents.items) < LIVE_LIMIT }

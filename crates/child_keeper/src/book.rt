@@ -1,8 +1,9 @@
 // The book of answers, and their log.
-ghost use Rattle.std.specs.Prelude.{◌≡◌, ◌+◌, ◌<◌, ◌≤◌, ◌++◌, [], ◌∷◌, IfOk, length, vec_len};
+ghost use Rattle.std.specs.Prelude.{◌≡◌, ◌+◌, ◌<◌, ◌≤◌, ◌++◌, [], ◌∷◌, IfOk, IsTrue, OnErr, length, vec_len};
 ghost use Rattle.std.specs.Vec.{vec_capacity};
 
 use crate::Entry;
+use growth::{GROWTH_LIMIT, Grows, with_room};
 use past::Past;
 use std::alloc::{AllocError, Allocator};
 
@@ -16,18 +17,24 @@ pub struct Book<A: Allocator> {
     pub ghost fits: { vec_len entries + room ≤ vec_capacity entries },
 }
 
-impl<A: Allocator> Book<A> {
-    /// A book for so many entries. It fails only where memory is refused.
+impl<A: Grows> Book<A> {
+    /// A book for so many entries. It fails only where memory is refused; there is none for more than [`GROWTH_LIMIT`] entries.
     pub fn new(alloc: A, room: usize) -> Result<Book<A>, AllocError>
         ensures empty { IfOk result (λ b. b.entries.items ≡ []) }
         ensures no_log { IfOk result (λ b. b.log.items ≡ []) }
         ensures room { IfOk result (λ b. b.room ≡ room) }
+        ensures memory { OnErr result (room ≤ GROWTH_LIMIT → IsTrue A.refuses) }
     {
-        let entries = Vec::with_capacity(alloc, room)?;
+        if room > GROWTH_LIMIT {
+            return Err(AllocError);
+        }
+        let entries = with_room(alloc, room)?;
         let log = Past::new();
         Ok(Book { entries, room, log })
     }
+}
 
+impl<A: Allocator> Book<A> {
     /// One entry more. It takes no memory.
     pub fn note(&mut self, entry: Entry)
         requires room { 0 < self.old.room }

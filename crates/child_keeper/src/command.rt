@@ -1,9 +1,10 @@
 // The command that is started for an invocation.
-ghost use Rattle.std.specs.Prelude.{◌≡◌, ◌++◌, ◌∷◌, [], ℕ, List, IfOk, OnOk, None, Some, bytes_eq, codes, if◌then◌else◌, true};
+ghost use Rattle.std.specs.Prelude.{◌≡◌, ◌++◌, ◌∷◌, [], ℕ, List, IfOk, IsTrue, OnErr, OnOk, None, Some, bytes_eq, codes, if◌then◌else◌, true};
 ghost use Rattle.std.specs.Process.{SameDir, SameEnv, SameProgramAndArgs, clears_env, command_args, command_dir, command_program};
 ghost use Rattle.std.specs.Process.{command_var, var_after};
 ghost use Rattle.child_keeper.specs.Commands.{Asks};
 
+use growth::Grows;
 use ocf_env::{Invocation, Text};
 use std::alloc::{AllocError, Allocator};
 use std::process::{Command, Stdio};
@@ -11,21 +12,19 @@ use std::process::{Command, Stdio};
 // Each agent runs in this folder, so that it keeps no other from being unmounted.
 const FOLDER: &str = "/";
 
-fn push_argument<A: Allocator + Copy>(
-    command: &mut Command<A>,
-    argument: &str,
-) -> Result<(), AllocError>
+fn push_argument<A: Grows>(command: &mut Command<A>, argument: &str) -> Result<(), AllocError>
     ensures program { OnOk result (command_program command.new ≡ command_program command.old) }
     ensures arguments { OnOk result (command_args command.new
         ≡ command_args command.old ++ argument.now ∷ []) }
     ensures environment { OnOk result (SameEnv command.old command.new) }
     ensures folder { OnOk result (SameDir command.old command.new) }
+    ensures memory { OnErr result (IsTrue A.refuses) }
 {
-    command.arg(argument)?;
+    A::library_growth(command.arg(argument))?;
     Ok(())
 }
 
-fn push_arguments<A: Allocator + Copy, L: Allocator>(
+fn push_arguments<A: Grows, L: Allocator>(
     command: &mut Command<A>,
     arguments: &[Text<L>],
 ) -> Result<(), AllocError>
@@ -34,6 +33,7 @@ fn push_arguments<A: Allocator + Copy, L: Allocator>(
         ≡ command_args command.old ++ arguments.now) }
     ensures environment { OnOk result (SameEnv command.old command.new) }
     ensures folder { OnOk result (SameDir command.old command.new) }
+    ensures memory { OnErr result (IsTrue A.refuses) }
 {
     for argument in arguments {
         push_argument(command, argument.as_str())?;
@@ -41,7 +41,7 @@ fn push_arguments<A: Allocator + Copy, L: Allocator>(
     Ok(())
 }
 
-fn set_variable<A: Allocator + Copy>(
+fn set_variable<A: Grows>(
     command: &mut Command<A>,
     name: &str,
     value: &str,
@@ -52,12 +52,13 @@ fn set_variable<A: Allocator + Copy>(
         ≡ (if bytes_eq name.now k then Some (Some value.now) else command_var command.old k)) }
     ensures cleared { OnOk result (clears_env command.new ≡ clears_env command.old) }
     ensures folder { OnOk result (SameDir command.old command.new) }
+    ensures memory { OnErr result (IsTrue A.refuses) }
 {
-    command.env(name, value)?;
+    A::library_growth(command.env(name, value))?;
     Ok(())
 }
 
-fn push_variables<A: Allocator + Copy, L: Allocator>(
+fn push_variables<A: Grows, L: Allocator>(
     command: &mut Command<A>,
     variables: &[(Text<L>, Text<L>)],
 ) -> Result<(), AllocError>
@@ -67,6 +68,7 @@ fn push_variables<A: Allocator + Copy, L: Allocator>(
         ≡ var_after Some Some name (command_var command.old name) variables.now) }
     ensures cleared { OnOk result (clears_env command.new ≡ clears_env command.old) }
     ensures folder { OnOk result (SameDir command.old command.new) }
+    ensures memory { OnErr result (IsTrue A.refuses) }
 {
     for (name, value) in variables {
         set_variable(command, name.as_str(), value.as_str())?;
@@ -75,21 +77,22 @@ fn push_variables<A: Allocator + Copy, L: Allocator>(
 }
 
 // A command with neither arguments nor variables.
-fn bare<A: Allocator + Copy>(alloc: A, program: &str) -> Result<Command<A>, AllocError>
+fn bare<A: Grows>(alloc: A, program: &str) -> Result<Command<A>, AllocError>
     ensures program { IfOk result (λ c. command_program c ≡ program.now) }
     ensures arguments { IfOk result (λ c. command_args c ≡ []) }
     ensures cleared { IfOk result (λ c. clears_env c ≡ true) }
     ensures variables { IfOk result (λ c. (name : List ℕ) → command_var c name ≡ None) }
     ensures folder { IfOk result (λ c. command_dir c ≡ Some (codes "/")) }
+    ensures memory { OnErr result (IsTrue A.refuses) }
 {
-    let mut command = Command::new(alloc, program)?;
+    let mut command = A::library_growth(Command::new(alloc, program))?;
     command.env_clear();
-    command.current_dir(FOLDER)?;
+    A::library_growth(command.current_dir(FOLDER))?;
     Ok(command)
 }
 
 /// Has a command write its output and its errors there.
-pub fn write_to<A: Allocator + Copy>(command: &mut Command<A>, output: Stdio, errors: Stdio)
+pub fn write_to<A: Grows>(command: &mut Command<A>, output: Stdio, errors: Stdio)
     ensures call { SameProgramAndArgs command.old command.new }
     ensures environment { SameEnv command.old command.new }
     ensures folder { SameDir command.old command.new }
@@ -99,7 +102,7 @@ pub fn write_to<A: Allocator + Copy>(command: &mut Command<A>, output: Stdio, er
 }
 
 // With nothing to read and nowhere to write.
-fn silence<A: Allocator + Copy>(command: &mut Command<A>)
+fn silence<A: Grows>(command: &mut Command<A>)
     ensures call { SameProgramAndArgs command.old command.new }
     ensures environment { SameEnv command.old command.new }
     ensures folder { SameDir command.old command.new }
@@ -111,11 +114,12 @@ fn silence<A: Allocator + Copy>(command: &mut Command<A>)
 
 /// The command of an invocation: its program with its arguments, its variables and no other, in the root folder, with
 /// nothing to read and nowhere to write.
-pub fn command_of<A: Allocator + Copy, L: Allocator>(
+pub fn command_of<A: Grows, L: Allocator>(
     alloc: A,
     invocation: &Invocation<L>,
 ) -> Result<Command<A>, AllocError>
-    ensures { IfOk result (λ c. Asks c invocation.now) }
+    ensures asks { IfOk result (λ c. Asks c invocation.now) }
+    ensures memory { OnErr result (IsTrue A.refuses) }
 {
     let mut command = bare(alloc, invocation.program())?;
     push_arguments(&mut command, invocation.arguments())?;

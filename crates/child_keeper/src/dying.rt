@@ -1,10 +1,11 @@
 //! Agents that were killed and live on.
-ghost use Rattle.std.specs.Prelude.{◌≡◌, ◌<◌, ◌≤◌, ◌++◌, [], ◌∷◌, IfOk, List};
+ghost use Rattle.std.specs.Prelude.{◌≡◌, ◌<◌, ◌≤◌, ◌++◌, [], ◌∷◌, IfOk, IsTrue, List, OnErr};
 ghost use Rattle.std.specs.VecDeque.{deque_capacity, deque_items, deque_len};
 ghost use Rattle.child_model.specs.Children.{live_limit};
 
 use crate::agents::Agent;
 use crate::live::LIVE_LIMIT;
+use growth::Grows;
 use ocf_types::RscId;
 use process_ends::still_runs;
 use std::alloc::{AllocError, Allocator};
@@ -20,15 +21,18 @@ pub struct Dying<P: OpenProcess + Drop, A: Allocator> {
     pub ghost few: { deque_len agents ≤ live_limit },
 }
 
-impl<P: OpenProcess + Drop, A: Allocator> Dying<P, A> {
+impl<P: OpenProcess + Drop, A: Grows> Dying<P, A> {
     /// None, with room for as many as may live. It fails only where memory is refused.
     pub fn new(alloc: A) -> Result<Dying<P, A>, AllocError>
         ensures none { IfOk result (λ d. deque_items d.agents ≡ []) }
+        ensures memory { OnErr result (IsTrue A.refuses) }
     {
-        let agents = VecDeque::with_capacity(alloc, LIVE_LIMIT)?;
+        let agents = A::library_growth(VecDeque::with_capacity(alloc, LIVE_LIMIT))?;
         Ok(Dying { agents })
     }
+}
 
+impl<P: OpenProcess + Drop, A: Allocator> Dying<P, A> {
     /// Asks each agent whether it has ended, and keeps those that have not. It never waits.
     pub fn sweep(&mut self)
         ensures fewer { deque_len self.new.agents ≤ deque_len self.old.agents }

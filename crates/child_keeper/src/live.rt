@@ -1,8 +1,9 @@
 // The runs whose children live.
-ghost use Rattle.std.specs.Prelude.{◌≡◌, ◌↔◌, ◌<◌, ◌≤◌, ◌++◌, [], ◌∷◌, Contains, IfOk, IsTrue, length};
+ghost use Rattle.std.specs.Prelude.{◌≡◌, ◌↔◌, ◌<◌, ◌≤◌, ◌++◌, [], ◌∷◌, Contains, IfOk, IsTrue, OnErr, length};
 ghost use Rattle.std.specs.Vec.{vec_capacity};
 ghost use Rattle.child_model.specs.Children.{without_run, live_limit};
 
+use growth::{Grows, with_room};
 use ocf_types::{RESOURCES_LIMIT, RunId};
 use std::alloc::{AllocError, Allocator};
 
@@ -16,15 +17,18 @@ pub struct LiveRuns<A: Allocator> {
     pub ghost room: { live_limit ≤ vec_capacity runs },
 }
 
-impl<A: Allocator> LiveRuns<A> {
+impl<A: Grows> LiveRuns<A> {
     /// None, with room for all that may live. It fails only where memory is refused.
     pub fn new(alloc: A) -> Result<LiveRuns<A>, AllocError>
         ensures empty { IfOk result (λ l. l.runs.items ≡ []) }
+        ensures memory { OnErr result (IsTrue A.refuses) }
     {
-        let runs = Vec::with_capacity(alloc, LIVE_LIMIT)?;
+        let runs = with_room(alloc, LIVE_LIMIT)?;
         Ok(LiveRuns { runs })
     }
+}
 
+impl<A: Allocator> LiveRuns<A> {
     /// One live run more. It takes no memory.
     pub fn add(&mut self, run: RunId)
         requires few { length self.old.runs.items < LIVE_LIMIT }

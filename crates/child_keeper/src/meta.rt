@@ -1,10 +1,11 @@
 //! The metadata of agents.
-ghost use Rattle.std.specs.Prelude.{◌≢◌, ◌≤◌, IfErr, IfOk, vec_len};
+ghost use Rattle.std.specs.Prelude.{◌≡◌, ◌≢◌, ◌≤◌, IfErr, IfOk, IsTrue, vec_len};
 ghost use Rattle.ocf_types.specs.Limits.{metadata_limit};
 ghost use Rattle.ocf_types.specs.declared.outcome.MetaFault.TheVariants.{Failed};
 
 use crate::meta_child::{MetaChild, MetaPoll};
 use crate::waited::Waited;
+use growth::Grows;
 use ocf_env::Site;
 use ocf_types::{AgentType, MetaFault, Provider};
 use proc_files::ProcFiles;
@@ -23,7 +24,7 @@ use std::rt::Clock;
 pub fn run_meta<
     P: OpenProcess + Drop,
     R: Processes<Started = P> + Clock + Eprint + ProcFiles,
-    A: Allocator + Copy,
+    A: Grows,
     S: Allocator,
 >(
     rt: &R,
@@ -37,6 +38,7 @@ where
     P::Stdout: Waited,
     ensures length { IfOk result (λ metadata. vec_len metadata ≤ metadata_limit) }
     ensures failed { IfErr result (λ fault. fault ≢ Failed 0) }
+    ensures memory { IfErr result (λ fault. fault ≡ MetaFault.Memory → IsTrue A.refuses) }
 {
     let mut child = MetaChild::start(rt, alloc, site, provider, agent, limit)?;
     let mut pauses = Pauses::within(limit.unwrap_or(u32::MAX));

@@ -1,5 +1,5 @@
 //! An agent that is asked for its metadata.
-ghost use Rattle.std.specs.Prelude.{◌≡◌, ◌≢◌, ◌<◌, ◌≤◌, [], true, false, IfErr, IfOk, IfSome, None, Ok, vec_len};
+ghost use Rattle.std.specs.Prelude.{◌≡◌, ◌≢◌, ◌<◌, ◌≤◌, [], true, false, IfErr, IfOk, IfSome, IsTrue, None, Ok, OnErr, vec_len};
 ghost use Rattle.std.specs.Io.KnownBytes.{IsAtEnd};
 ghost use Rattle.std.specs.Process.{child_status};
 ghost use Rattle.ocf_types.specs.Limits.{metadata_limit};
@@ -14,6 +14,7 @@ use crate::ends::end_of;
 use crate::meta_output::{MetaOutput, Progress};
 use crate::refused::{name_text, refused};
 use crate::waited::Waited;
+use growth::Grows;
 use ocf_env::{Site, launch_meta};
 use ocf_types::{AgentType, MetaFault, Provider, StartFault};
 use proc_files::ProcFiles;
@@ -43,12 +44,14 @@ pub enum MetaPoll<P: OpenProcess, A: Allocator> {
 }
 
 // The command that asks an agent for its metadata, with a pipe to write them to.
-fn meta_command<A: Allocator + Copy, S: Allocator>(
+fn meta_command<A: Grows, S: Allocator>(
     alloc: A,
     site: &Site<S>,
     provider: &Provider,
     agent: &AgentType,
-) -> Result<Command<A>, AllocError> {
+) -> Result<Command<A>, AllocError>
+    ensures memory { OnErr result (IsTrue A.refuses) }
+{
     let invocation = launch_meta(alloc, site, provider, agent)?;
     let mut command = command_of(alloc, &invocation)?;
     command.stdout(Stdio::piped());
@@ -81,6 +84,7 @@ fn exit_code<P: OpenProcess>(child: &mut Child<P>) -> Result<Option<u8>, MetaFau
     ensures ended { IfOk result
         (λ ended. IfSome ended (λ code. EndedWith (child_status child.new) code)) }
     ensures failed { IfErr result (λ fault. fault ≢ Failed 0) }
+    ensures memory { IfErr result (λ fault. fault ≢ MetaFault.Memory) }
 {
     match child.try_wait() {
         Ok(None) => Ok(None),
@@ -100,6 +104,7 @@ fn code_now<P: OpenProcess>(
     ensures ended { IfOk result (λ ended. IfSome ended
         (λ code. (progress ≡ Progress.Ended) × EndedWith (child_status child.new) code)) }
     ensures failed { IfErr result (λ fault. fault ≢ Failed 0) }
+    ensures memory { IfErr result (λ fault. fault ≢ MetaFault.Memory) }
 {
     let code = match progress {
         Progress::Open => None,
@@ -119,6 +124,7 @@ fn answer_of<A: Allocator>(output: MetaOutput<A>, code: u8) -> Result<Vec<u8, A>
     ensures code { 0 < code → result ≡ Err (Failed code) }
     ensures too_long { code ≡ 0 → output.is_whole ≡ false → result ≡ Err TooLong }
     ensures failed { IfErr result (λ fault. fault ≢ Failed 0) }
+    ensures memory { IfErr result (λ fault. fault ≢ MetaFault.Memory) }
 {
     match (code, output.is_whole) {
         (1.., _) => Err(MetaFault::Failed(code)),
@@ -142,7 +148,7 @@ fn read_from<S: Read + Waited, A: Allocator>(
     }
 }
 
-impl<P: OpenProcess + Drop, A: Allocator + Copy> MetaChild<P, A>
+impl<P: OpenProcess + Drop, A: Grows> MetaChild<P, A>
 where
     P::Stdout: Waited,
 {
@@ -159,6 +165,7 @@ where
         ensures none { IfOk result (λ child. (asked_of P.Stdout.remaining child).kept ≡ []) }
         ensures whole { IfOk result (λ child. (asked_of P.Stdout.remaining child).is_whole ≡ true) }
         ensures failed { IfErr result (λ fault. fault ≢ Failed 0) }
+        ensures memory { IfErr result (λ fault. fault ≡ MetaFault.Memory → IsTrue A.refuses) }
     {
         let Ok(output) = MetaOutput::new(alloc) else {
             return Err(MetaFault::Memory);
@@ -190,6 +197,8 @@ where
         ensures length { IfAnswered result
             (λ answer. IfOk answer (λ metadata. vec_len metadata ≤ metadata_limit)) }
         ensures failed { IfAnswered result (λ answer. IfErr answer (λ fault. fault ≢ Failed 0)) }
+        ensures memory { IfAnswered result
+            (λ answer. IfErr answer (λ fault. fault ≢ MetaFault.Memory)) }
         ensures polls { PollsTo P.Stdout.remaining self result }
     {
         self.progress = read_from(&mut self.stdout, &mut self.output);

@@ -1,9 +1,10 @@
 //! What an agent writes that is asked for its metadata.
-ghost use Rattle.std.specs.Prelude.{◌≡◌, ◌≤◌, ◌++◌, [], true, IfOk, vec_len};
+ghost use Rattle.std.specs.Prelude.{◌≡◌, ◌≤◌, ◌++◌, [], true, IfOk, IsTrue, OnErr, vec_len};
 ghost use Rattle.std.specs.Io.KnownBytes.{IsAtEnd};
 ghost use Rattle.ocf_types.specs.Limits.{metadata_limit};
 
 use crate::waited::Waited;
+use growth::{Grows, with_room};
 use ocf_types::METADATA_LIMIT;
 use std::alloc::{AllocError, Allocator};
 use std::io::{ErrorKind, Read};
@@ -34,19 +35,22 @@ pub struct MetaOutput<A: Allocator> {
     pub ghost short: { vec_len bytes ≤ metadata_limit },
 }
 
-impl<A: Allocator> MetaOutput<A> {
-    ghost use Rattle.child_keeper.specs.MetaOutputs.{KeepsAll};
-
+impl<A: Grows> MetaOutput<A> {
     /// Nothing was read, and there is room for all. It fails only where memory is refused.
     pub fn new(alloc: A) -> Result<MetaOutput<A>, AllocError>
         ensures none { IfOk result (λ output. output.bytes.items ≡ []) }
         ensures whole { IfOk result (λ output. output.is_whole ≡ true) }
+        ensures memory { OnErr result (IsTrue A.refuses) }
     {
         Ok(MetaOutput {
-            bytes: Vec::with_capacity(alloc, METADATA_LIMIT)?,
+            bytes: with_room(alloc, METADATA_LIMIT)?,
             is_whole: true,
         })
     }
+}
+
+impl<A: Allocator> MetaOutput<A> {
+    ghost use Rattle.child_keeper.specs.MetaOutputs.{KeepsAll};
 
     // Keeps what was read next, where it fits.
     fn keep(&mut self, chunk: &[u8])

@@ -1,5 +1,5 @@
 //! Children of the system.
-ghost use Rattle.std.specs.Prelude.{◌≡◌, ◌<◌, [], Contains, IfOk, None};
+ghost use Rattle.std.specs.Prelude.{◌≡◌, ◌<◌, ◌≤◌, [], Contains, IfOk, IsTrue, None, OnErr};
 ghost use Rattle.child_keeper.specs.Agents.{runs_of};
 ghost use Rattle.child_model.specs.Children.{without_run};
 
@@ -15,6 +15,7 @@ use crate::refused::{name_text, refused};
 use crate::{Answer, Children, Entry, KillFault, Poll};
 use disk_model::Disk;
 use exec_journal::Journal;
+use growth::{GROWTH_LIMIT, Grows};
 use ocf_env::{Invocation, Launch};
 use ocf_types::{RunId, StartFault};
 use proc_files::ProcFiles;
@@ -49,17 +50,15 @@ pub struct Processes<R: process::Processes + Drop, A: Allocator + Copy = Global>
     last_run: u64,
 }
 
-impl<R: process::Processes + Clock + Eprint + ProcFiles + Drop, A: Allocator + Copy> Processes<
-    R,
-    A,
-> {
+impl<R: process::Processes + Clock + Eprint + ProcFiles + Drop, A: Grows> Processes<R, A> {
     ghost use Rattle.child_keeper.specs.Processes.{processes_of};
 
     /// No children yet, which will write to the log, with a book of so many entries. The room for the book and for all that may
-    /// live is made here. It fails only where memory is refused.
+    /// live is made here. It fails only where memory is refused; there is none for a book of more than [`GROWTH_LIMIT`] entries.
     pub fn new(rt: R, alloc: A, log: Log, book: usize) -> Result<Processes<R, A>, AllocError>
         ensures children { IfOk result
             (λ p. processes_of p ≡ record { book = []; log = []; room = book; last_run = 0; live = []; site = None }) }
+        ensures memory { OnErr result (book ≤ GROWTH_LIMIT → IsTrue A.refuses) }
     {
         Ok(Processes {
             rt,

@@ -1,5 +1,5 @@
 //! Children that play a script.
-ghost use Rattle.std.specs.Prelude.{◌≡◌, ◌-◌, ◌<◌, ◌==◌, [], Contains, IfOk, None, drop, length};
+ghost use Rattle.std.specs.Prelude.{◌≡◌, ◌-◌, ◌<◌, ◌==◌, ◌≤◌, [], Contains, IfOk, IsTrue, None, OnErr, drop, length};
 ghost use Rattle.std.specs.VecDeque.{deque_items};
 ghost use Rattle.exec_journal.specs.Journal.{journal_disk};
 ghost use Rattle.child_model.specs.Children.{after_kill, after_poll, after_start, live_limit};
@@ -11,6 +11,7 @@ use crate::live::LiveRuns;
 use crate::{Answer, Children, Entry, KillFault, Poll, Script};
 use disk_model::Disk;
 use exec_journal::Journal;
+use growth::{GROWTH_LIMIT, Grows};
 use ocf_env::Launch;
 use ocf_types::{RunId, StartFault};
 use std::alloc::{AllocError, Allocator, Global};
@@ -26,14 +27,16 @@ pub struct Scripted<A: Allocator = Global> {
     last_run: u64,
 }
 
-impl<A: Allocator + Copy> Scripted<A> {
+impl<A: Grows> Scripted<A> {
     ghost use Rattle.child_keeper.specs.Scripted.{children_of, planned_in, script_of, script_view};
 
-    /// Children that play a script, with a book of so many entries. It fails only where memory is refused.
+    /// Children that play a script, with a book of so many entries. It fails only where memory is refused; there is none for a
+    /// book of more than [`GROWTH_LIMIT`] entries.
     pub fn new(alloc: A, script: Script<A>, book: usize) -> Result<Scripted<A>, AllocError>
         ensures children { IfOk result
             (λ c. children_of c ≡ record { book = []; log = []; room = book; last_run = 0; live = []; site = None }) }
         ensures script { IfOk result (λ c. script_of c ≡ script_view script) }
+        ensures memory { OnErr result (book ≤ GROWTH_LIMIT → IsTrue A.refuses) }
     {
         Ok(Scripted {
             script,
