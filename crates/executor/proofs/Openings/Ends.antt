@@ -318,3 +318,13 @@ module _ {D : Type 0} (look : D → View) (law : WhatStands) (once : (c : Image)
 pub if_err : {T E : Type 0} (r : Result T E) (f : E) (P : E → Type 0) → IsErrAnd r (λ e. e ≡ f) → P f → IfErr r P
 if_err (Ok x) f P none p = absurd none
 if_err (Err e) f P is p = subst P (sym is) p
+
+-- of an opening that was refused for want of memory the journal's was, and no boot's
+pub told_memory : (f : JournalFault) → told_fault f ≡ why.Memory → f ≡ journal.Memory
+told_memory journal.Disk is = absurd cc
+told_memory (journal.Damaged d) is = absurd cc
+told_memory journal.Memory is = refl
+
+pub never_memory : (f : SlotFault) → told_slot f ≡ why.Memory → ⊥
+never_memory slot.Disk is = cc
+never_memory slot.Full is = cc

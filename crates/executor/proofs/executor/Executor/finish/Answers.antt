@@ -10,8 +10,8 @@ use Rattle.executor.specs.Sights.{Sight, sight}
 use Rattle.executor.specs.TurnCalls.{FinishesTurn, FinishesWhile}
 use Rattle.executor.proofs.executor.Executor.finish.Goals as goal
 
-pub finish_turn-requires-clause-matched : goal.finish_turn-requires-clause-matched
-finish_turn-requires-clause-matched g c = (c.self.invariant (sym c.is_open.ensures.value ∙ c.if-not-is_open.false)).matched
+pub finish_turn-end-requires-clause-matched : goal.finish_turn-end-requires-clause-matched
+finish_turn-end-requires-clause-matched g c = (c.self.invariant (sym c.is_open.ensures.value ∙ c.if-not-is_open.false)).matched
 
 pub invariant_of-self : goal.invariant_of-self
 invariant_of-self g c is_open =

@@ -10,11 +10,11 @@ use Rattle.executor.specs.Sights.{Sight, sight}
 use Rattle.executor.specs.TurnCalls.{TakesTurn, TurnsWhile}
 use Rattle.executor.proofs.executor.Executor.turn.Goals as goal
 
-pub take_turn-requires-clause-matched : goal.take_turn-requires-clause-matched
-take_turn-requires-clause-matched g c = (c.self.invariant (sym c.is_open.ensures.value ∙ c.if-not-is_open.false)).matched
+pub take_turn-end-requires-clause-matched : goal.take_turn-end-requires-clause-matched
+take_turn-end-requires-clause-matched g c = (c.self.invariant (sym c.is_open.ensures.value ∙ c.if-not-is_open.false)).matched
 
-pub take_turn-requires-clause-site : goal.take_turn-requires-clause-site
-take_turn-requires-clause-site g c = (c.self.invariant (sym c.is_open.ensures.value ∙ c.if-not-is_open.false)).admits
+pub take_turn-end-requires-clause-site : goal.take_turn-end-requires-clause-site
+take_turn-end-requires-clause-site g c = (c.self.invariant (sym c.is_open.ensures.value ∙ c.if-not-is_open.false)).admits
 
 pub invariant_of-self : goal.invariant_of-self
 invariant_of-self g c is_open =
