@@ -7,7 +7,7 @@ ghost use Rattle.child_keeper.specs.Agents.{others_of, runs_of};
 ghost use Rattle.child_model.specs.Children.{live_limit, without_run};
 
 use crate::live::LIVE_LIMIT;
-use growth::{Grows, with_room};
+use growth::{Grows, with_capacity};
 use ocf_types::{RscId, RunId};
 use process_ends::still_runs;
 use std::alloc::{AllocError, Allocator};
@@ -48,7 +48,7 @@ impl<P: OpenProcess + Drop, A: Grows> Agents<P, A> {
         ensures none { IfOk result (λ a. runs_of a.agents.items ≡ []) }
         ensures memory { OnErr result (IsTrue A.refuses) }
     {
-        let agents = with_room(alloc, LIVE_LIMIT)?;
+        let agents = with_capacity(alloc, LIVE_LIMIT)?;
         Ok(Agents { agents })
     }
 }

@@ -3,7 +3,7 @@ ghost use Rattle.std.specs.Prelude.{◌≡◌, ◌+◌, ◌<◌, ◌≤◌, ◌+
 ghost use Rattle.std.specs.Vec.{vec_capacity};
 
 use crate::Entry;
-use growth::{GROWTH_LIMIT, Grows, with_room};
+use growth::{GROWTH_LIMIT, Grows, with_capacity};
 use past::Past;
 use std::alloc::{AllocError, Allocator};
 
@@ -28,7 +28,7 @@ impl<A: Grows> Book<A> {
         if room > GROWTH_LIMIT {
             return Err(AllocError);
         }
-        let entries = with_room(alloc, room)?;
+        let entries = with_capacity(alloc, room)?;
         let log = Past::new();
         Ok(Book { entries, room, log })
     }

@@ -3,7 +3,7 @@ ghost use Rattle.std.specs.Prelude.{◌≡◌, ◌↔◌, ◌<◌, ◌≤◌, �
 ghost use Rattle.std.specs.Vec.{vec_capacity};
 ghost use Rattle.child_model.specs.Children.{without_run, live_limit};
 
-use growth::{Grows, with_room};
+use growth::{Grows, with_capacity};
 use ocf_types::{RESOURCES_LIMIT, RunId};
 use std::alloc::{AllocError, Allocator};
 
@@ -23,7 +23,7 @@ impl<A: Grows> LiveRuns<A> {
         ensures empty { IfOk result (λ l. l.runs.items ≡ []) }
         ensures memory { OnErr result (IsTrue A.refuses) }
     {
-        let runs = with_room(alloc, LIVE_LIMIT)?;
+        let runs = with_capacity(alloc, LIVE_LIMIT)?;
         Ok(LiveRuns { runs })
     }
 }

@@ -4,7 +4,7 @@ ghost use Rattle.std.specs.Io.KnownBytes.{IsAtEnd};
 ghost use Rattle.ocf_types.specs.Limits.{metadata_limit};
 
 use crate::waited::Waited;
-use growth::{Grows, with_room};
+use growth::{Grows, with_capacity};
 use ocf_types::METADATA_LIMIT;
 use std::alloc::{AllocError, Allocator};
 use std::io::{ErrorKind, Read};
@@ -43,7 +43,7 @@ impl<A: Grows> MetaOutput<A> {
         ensures memory { OnErr result (IsTrue A.refuses) }
     {
         Ok(MetaOutput {
-            bytes: with_room(alloc, METADATA_LIMIT)?,
+            bytes: with_capacity(alloc, METADATA_LIMIT)?,
             is_whole: true,
         })
     }
