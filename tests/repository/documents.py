@@ -1,8 +1,9 @@
 #!/usr/bin/env python3
 """The names in the documents: each path, file, edit, item of a crate, target of make, subcommand and option that README.md,
-CONTRIBUTING.md, docs/ and mutants/README.md name in backticks is there, and each other word in backticks stands somewhere in the
-repository beside the documents; in a section or a row of one crate it stands in that crate. The manual page has the options of
-`--help`, and no others.
+CONTRIBUTING.md, docs/, mutants/README.md and the crates' READMEs name in backticks is there, and each other word in backticks stands
+somewhere in the repository beside the documents; in a README, a section or a row of one crate it stands in that crate. Each label of
+a clause that a table names behind a function is that of a clause or of a field of a definition. Each file with a body that is proved
+by hand is named as trusted. The manual page has the options of `--help`, and no others.
 Use: documents.py PROGRAM"""
 import collections
 import fnmatch
@@ -14,7 +15,8 @@ import sys
 sys.path[0] += "/../lib"
 import helper  # noqa: E402
 
-DOCUMENTS = ["README.md", "CONTRIBUTING.md", "mutants/README.md", *sorted(glob.glob("docs/*.md", root_dir=helper.TOP))]
+DOCUMENTS = ["README.md", "CONTRIBUTING.md", "mutants/README.md",
+             *sorted(glob.glob("docs/*.md", root_dir=helper.TOP) + glob.glob("crates/*/README.md", root_dir=helper.TOP))]
 MANUAL = "docs/ocfexec.8"
 # What is made of the definitions.
 STATEMENT = "docs/STATEMENT.antt.txt"
@@ -30,6 +32,10 @@ ITEM = re.compile(r"\w+(::\w+)*")
 PAIR = re.compile(r"[a-z]\w* [A-Z]\w*")
 PATH = re.compile(r"[\w.*-]+(/[\w.*-]*)+")
 OPTION = re.compile(r"(?<![\w-])--?[A-Za-z][a-z-]*")
+# The labels behind a name in a table, as `Journal::open`: opened, failed; and what is a label: of a clause, or a field or a case of a
+# definition.
+LABELS = re.compile(r"`[\w:]+`: ([a-z_]+(?:, [a-z_]+)*)(?=;|\)| \||, `| \(|$)")
+LABEL = re.compile(r"^ *(?:(?:ensures|requires) (\w+) \{|(?:pub )?(\w+) :)", re.MULTILINE)
 CALL = re.compile(r"[ $]*((?:ocfexec|make) [^|<>&#]*?)(?:   .*)?$")
 
 
@@ -69,16 +75,19 @@ class Names:
             self.of_file[path] = words
             if path.startswith("crates/"):
                 self.of_crate[path.split("/")[1]] |= words
+        texts = [read(path) for path in self.files if re.fullmatch(r"crates/\w+/(src|specs)/.*\.(rt|antt)", path)]
+        self.labels = {label for text in texts for found in LABEL.findall(text) for label in found}
         self.helps = {name: helper.run(*[name][:len(name)], "--help").stdout.decode() for name in ["", *SUBCOMMANDS]}
         self.targets = set(re.findall(r"^(\w+):", read("Makefile"), re.MULTILINE))
 
     def near(self, place):
-        """The crates that a place names in backticks; all where it names none."""
-        return self.crates.intersection(re.findall(r"`(\w+)", place)) or self.crates
+        """The crates that a place names in backticks, and the one whose README it is in; all where there are none."""
+        readme = re.match(r"crates/(\w+)/README.md\n", place)
+        return self.crates.intersection(re.findall(r"`(\w+)", place) + [*readme.groups()] if readme else re.findall(r"`(\w+)", place)) or self.crates
 
     def owner(self, place):
-        """The crate whose section or row it is."""
-        found = re.match(r"#+ `(\w+)`\n\|", place) or re.search(r"^\| `(\w+)` \|", place, re.MULTILINE)
+        """The crate whose README, section or row it is."""
+        found = re.match(r"crates/(\w+)/README.md\n", place) or re.match(r"#+ `(\w+)`\n\|", place) or re.search(r"^\| `(\w+)` \|", place, re.MULTILINE)
         return found[1] if found and found[1] in self.crates else None
 
     def is_path(self, name, place):
@@ -137,8 +146,8 @@ class Names:
         return not PATH.fullmatch(first) or self.is_path(first, place)
 
 
-def named(text):
-    """What a text names, and the place: in backticks, by a link, as `crate` `File`, or in a line that calls the program or make."""
+def named(path, text):
+    """What a text names, and the place, behind the path of a crate's README: in backticks, by a link, as `crate` `File`, or in a line that calls the program or make."""
     fenced, heading = False, ""
     for line in text.splitlines():
         heading = line if line.startswith("#") and not fenced else heading
@@ -148,7 +157,7 @@ def named(text):
         else:
             found = re.findall(r"`([^`]+)`", line) + re.findall(r"\]\(([^):]+)\)", line)
             found += [pair.replace("`", "") for pair in re.findall(r"`[a-z]\w*` `[A-Z]\w*`", line)]
-        yield from ((name, f"{heading}\n{line}") for name in found)
+        yield from ((name, f"{path if path.startswith('crates/') else heading}\n{line}") for name in found)
 
 
 def misspelled(name):
@@ -161,7 +170,7 @@ class Documents(helper.Check):
     @classmethod
     def setUpClass(cls):
         cls.names = Names()
-        cls.found = [(path, *name) for path in DOCUMENTS for name in named(read(path))]
+        cls.found = [(path, *name) for path in DOCUMENTS for name in named(path, read(path))]
 
     def test_names(self):
         """what the documents name is there"""
@@ -170,6 +179,21 @@ class Documents(helper.Check):
     def test_misspelled(self):
         """a name of theirs that is misspelled in any word is not there"""
         self.assertEqual([one for _, name, place in self.found for one in misspelled(name) if self.names.is_there(one, place)], [])
+
+    def test_labels(self):
+        """the labels of clauses that tables name are there, and none is that is misspelled"""
+        found = [label for path in DOCUMENTS for row in re.findall(r"^\|.*", read(path), re.MULTILINE)
+                 for labels in LABELS.findall(row) for label in labels.split(", ")]
+        self.assertGreater(len(found), 100)
+        self.assertEqual([label for label in found if label not in self.names.labels], [])
+        self.assertEqual([label for label in found if label[:1] + "q" + label[1:] in self.names.labels], [])
+
+    def test_by_hand(self):
+        """each file with a body that is proved by hand is named as trusted in docs/PROVED.md"""
+        trusted = read("docs/PROVED.md").partition("## Trusted")[2]
+        files = [path for path in self.names.files if re.fullmatch(r"crates/\w+/src/.*\.rt", path) and "proved by hand" in read(path)]
+        self.assertTrue(files)
+        self.assertEqual([path for path in files if f"`{path}`" not in trusted], [])
 
     def test_moved(self):
         """nor is an item or a file of a crate in the place of another one's"""
