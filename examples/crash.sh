@@ -63,7 +63,7 @@ for id in web db; do
     OCF_RESOURCE_INSTANCE=$id OCF_RESKEY_log=$1/log sh "$1/root/resource.d/demo/Service" start && echo "$id started" >> "$1/status"
 done
 LOOP
-sh "$here/loop" "$here" &
+sh "$here/loop" "$here" 2> "$here/unheard" &
 kill_after "web started" "$here/status" $!
 cat "$here/status"
 echo "(nothing of db: whoever reads this starts db a second time, here or on another node, while the first one starts)"

@@ -1,7 +1,7 @@
 #!/usr/bin/env python3
-"""Runs the commands of docs/GUIDE.md, all in one shell and in order, each block as it is pasted, and compares what it prints with the
-block after it. Lengths of time and numbers of calls differ from run to run, and are compared as such alone.
-Use: guide.py GUIDE, in an empty folder, with the program and its clients in PATH"""
+"""Runs the commands of docs/GUIDE.md, or of README.md, all in one shell and in order, each block as it is pasted, and compares what it
+prints with the block after it. Lengths of time and numbers of calls differ from run to run, and are compared as such alone.
+Use: guide.py FILE, in an empty folder for the guide, with the program and its clients in PATH"""
 import os
 import re
 import signal
@@ -50,8 +50,8 @@ def differing(shell, blocks):
 
 
 def main():
-    with open(sys.argv[1], encoding="utf-8") as guide:
-        blocks = blocks_of(guide.read())
+    with open(sys.argv[1], encoding="utf-8") as file:
+        blocks = blocks_of(file.read())
     shell = subprocess.Popen(["bash"], stdin=subprocess.PIPE, stdout=subprocess.PIPE, stderr=subprocess.STDOUT,
                              text=True, bufsize=1, start_new_session=True)
     signal.signal(signal.SIGALRM, lambda *_: os.killpg(shell.pid, signal.SIGKILL))
@@ -61,7 +61,7 @@ def main():
     finally:
         os.killpg(shell.pid, signal.SIGKILL)  # the client, too, whose executor then ends
         shell.wait()
-    print(f"{len(blocks)} blocks of the guide, {failed} not as it says")
+    print(f"{len(blocks)} blocks, {failed} not as it says")
     return 1 if failed or not blocks else 0
 
 

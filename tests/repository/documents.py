@@ -22,7 +22,7 @@ MANUAL = "docs/ocfexec.8"
 STATEMENT = "docs/STATEMENT.antt.txt"
 SUBCOMMANDS = ["run", "serve", "show", "status"]
 # What others name so, what only a gate or a check leaves, and what a document says is not there.
-OUTSIDE = {"--default-signal", "--keep-size", "--length", "--pdeathsig", "/srv/hour", "ArgGroup", "clap_complete", "clone3", "crates/ocfexec/out/gate",
+OUTSIDE = {"--default-signal", "--keep-size", "--length", "--pdeathsig", "/srv/hour", "ArgGroup", "clap_complete", "clone3", "crates/ocfexec/out/gate", "crates/ocfexec/out/ocfexec",
            "fallocate", "flock", "get_ocf_metadata", "hidepid", "list_ocf_providers", "migrate_from", "migrate_to", "nohup",
            "ocfexec run --version", "perf", "rattle-kit-13f", "rt check --fix-imports", "strace -c -w", "systemctl reload", "tests/failed", "wait4"}
 # What stands for any name of its kind.
