@@ -3,14 +3,17 @@
 CONTRIBUTING.md, docs/, mutants/README.md and the crates' READMEs name in backticks is there, and each other word in backticks stands
 somewhere in the repository beside the documents; in a README, a section or a row of one crate it stands in that crate. Each label of
 a clause that a table names behind a function is that of a clause or of a field of a definition. Each file with a body that is proved
-by hand is named as trusted. The manual page has the options of `--help`, and no others.
+by hand is named as trusted. The manual page has the options of `--help`, and no others, and fits 80 columns.
 Use: documents.py PROGRAM"""
 import collections
 import fnmatch
 import glob
 import os
 import re
+import shutil
+import subprocess
 import sys
+import unittest
 
 sys.path[0] += "/../lib"
 import helper  # noqa: E402
@@ -206,6 +209,15 @@ class Documents(helper.Check):
         wanted = set().union(*[options(text) for text in self.names.helps.values()])
         long = [{name for name in found if name.startswith("--")} for found in (options(read(MANUAL).replace("\\-", "-")), wanted)]
         self.assertEqual(*long)
+
+    @unittest.skipUnless(shutil.which("man") and shutil.which("groff"), "install man-db and groff-base")
+    def test_width(self):
+        """the manual page fits 80 columns"""
+        shown = subprocess.run(["man", "--warnings", "-l", os.path.join(helper.TOP, MANUAL)], capture_output=True, check=True,
+                               env={**os.environ, "MANWIDTH": "80", "LC_ALL": "C.UTF-8", "MAN_KEEP_FORMATTING": ""})
+        self.assertEqual(shown.stderr.decode(), "")
+        self.assertGreater(shown.stdout.count(b"\n"), 300)
+        self.assertEqual([line for line in shown.stdout.decode().split("\n") if len(line) > 80], [])
 
 
 if __name__ == "__main__":
