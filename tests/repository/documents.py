@@ -215,7 +215,8 @@ class Documents(helper.Check):
         """the manual page fits 80 columns"""
         shown = subprocess.run(["man", "--warnings", "-l", os.path.join(helper.TOP, MANUAL)], capture_output=True, check=True,
                                env={**os.environ, "MANWIDTH": "80", "LC_ALL": "C.UTF-8", "MAN_KEEP_FORMATTING": ""})
-        self.assertEqual(shown.stderr.decode(), "")
+        # a terminal has no pages
+        self.assertEqual([line for line in shown.stderr.decode().splitlines() if "on one page" not in line], [])
         self.assertGreater(shown.stdout.count(b"\n"), 300)
         self.assertEqual([line for line in shown.stdout.decode().split("\n") if len(line) > 80], [])
 
