@@ -191,6 +191,12 @@ class Documents(helper.Check):
         self.assertEqual([label for label in found if label not in self.names.labels], [])
         self.assertEqual([label for label in found if label[:1] + "q" + label[1:] in self.names.labels], [])
 
+    def test_readmes(self):
+        """each crate but those of scenarios says of itself, in at most 40 lines, what is proved of it"""
+        crates = [crate for crate in self.names.crates if not crate.startswith("scenario")]
+        lines = {crate: os.path.join(helper.TOP, "crates", crate, "README.md") for crate in crates}
+        self.assertEqual([crate for crate, path in lines.items() if not os.path.exists(path) or read(path).count("\n") > 40], [])
+
     def test_by_hand(self):
         """each file with a body that is proved by hand is named as trusted in docs/PROVED.md"""
         trusted = read("docs/PROVED.md").partition("## Trusted")[2]
