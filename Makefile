@@ -64,11 +64,11 @@ deb:
 guide:
 	@tests/system/guide.sh $(PROGRAM) /
 
-$(PROGRAM): $(shell find crates -name out -prune -o -type f -print)
+$(PROGRAM): $(shell find crates -name out -prune -o -name README.md -o -type f -print)
 	cd crates/ocfexec && rt run -- --help > /dev/null
 	touch $@
 
-$(AGENTS): $(shell find crates/ocf_types crates/ocf_codes crates/ocf_agents -name out -prune -o -type f -print)
+$(AGENTS): $(shell find crates/ocf_types crates/ocf_codes crates/ocf_agents -name out -prune -o -name README.md -o -type f -print)
 	cd crates/ocf_agents && OCF_RESOURCE_TYPE=Dummy rt run -- meta-data > /dev/null
 	touch $@
 

@@ -1,4 +1,5 @@
 #!/bin/sh
+# check: alone
 # The blocks of README.md, at the top of the repository, in their order, as they are pasted: each prints what the block after it says,
 # but for lengths of time.
 # Use: readme.sh PROGRAM
