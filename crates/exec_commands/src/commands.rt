@@ -1,5 +1,5 @@
 //! Commands of JSON values.
-ghost use Rattle.std.specs.Prelude.{◌≡◌, ◌≢◌, Ok, Err, IfOk, IfErr};
+ghost use Rattle.std.specs.Prelude.{◌≡◌, ◌≢◌, Ok, Err, IfOk, IfErr, IsTrue};
 ghost use Rattle.serde_json.specs.View.{view};
 ghost use Rattle.ocf_types.specs.declared.refusal.Refusal.TheVariants.{Memory};
 ghost use Rattle.exec_commands.specs.Lines.{id_in, register_in, set_params_in, exec_in, recur_in, cancel_in};
@@ -9,13 +9,15 @@ use crate::keys::{number_at, number_or, text_at};
 use crate::params::params_of;
 use crate::texts::{params_at, params_if_there};
 use crate::values::{agent_type, call_id, check, millis, provider, rsc_id, task};
+use growth::Grows;
 use ocf_types::{Command, DEFAULT_TIMEOUT, Refusal, Registration, RscId};
 use serde_json::Value;
 use std::alloc::Global;
 
 /// The id of a line that needs no other key.
 pub fn id_in(line: &Value) -> Result<RscId, Refusal>
-    ensures { result ≡ id_in (view line.now) }
+    ensures value { result ≡ id_in (view line.now) }
+    ensures memory { IfErr result (λ e. e ≢ Memory) }
 {
     rsc_id(text_at(line, "id")?)
 }
@@ -24,6 +26,7 @@ pub fn id_in(line: &Value) -> Result<RscId, Refusal>
 pub fn register_in(alloc: Global, line: &Value) -> Result<Command, Refusal>
     ensures ok { IfOk result (λ c. register_in (view line.now) ≡ Ok c) }
     ensures err { IfErr result (λ e. e ≢ Memory → register_in (view line.now) ≡ Err e) }
+    ensures memory { IfErr result (λ e. e ≡ Memory → IsTrue ⟦<Global as Grows>⟧.refuses) }
 {
     let id = text_at(line, "id")?;
     let provider_text = text_at(line, "provider")?;
@@ -45,6 +48,7 @@ pub fn register_in(alloc: Global, line: &Value) -> Result<Command, Refusal>
 pub fn set_params_in(alloc: Global, line: &Value) -> Result<Command, Refusal>
     ensures ok { IfOk result (λ c. set_params_in (view line.now) ≡ Ok c) }
     ensures err { IfErr result (λ e. e ≢ Memory → set_params_in (view line.now) ≡ Err e) }
+    ensures memory { IfErr result (λ e. e ≡ Memory → IsTrue ⟦<Global as Grows>⟧.refuses) }
 {
     let id = text_at(line, "id")?;
     let texts = params_at(alloc, line)?;
@@ -55,7 +59,8 @@ pub fn set_params_in(alloc: Global, line: &Value) -> Result<Command, Refusal>
 
 /// An action that runs once.
 pub fn exec_in(line: &Value) -> Result<Command, Refusal>
-    ensures { result ≡ exec_in (view line.now) }
+    ensures value { result ≡ exec_in (view line.now) }
+    ensures memory { IfErr result (λ e. e ≢ Memory) }
 {
     let id = text_at(line, "id")?;
     let word = text_at(line, "action")?;
@@ -70,7 +75,8 @@ pub fn exec_in(line: &Value) -> Result<Command, Refusal>
 
 /// A recurring monitor.
 pub fn recur_in(line: &Value) -> Result<Command, Refusal>
-    ensures { result ≡ recur_in (view line.now) }
+    ensures value { result ≡ recur_in (view line.now) }
+    ensures memory { IfErr result (λ e. e ≢ Memory) }
 {
     let id = text_at(line, "id")?;
     let interval = number_at(line, "interval")?;
@@ -91,7 +97,8 @@ pub fn recur_in(line: &Value) -> Result<Command, Refusal>
 
 /// The end of a recurring monitor.
 pub fn cancel_in(line: &Value) -> Result<Command, Refusal>
-    ensures { result ≡ cancel_in (view line.now) }
+    ensures value { result ≡ cancel_in (view line.now) }
+    ensures memory { IfErr result (λ e. e ≢ Memory) }
 {
     let id = text_at(line, "id")?;
     let interval = number_at(line, "interval")?;
@@ -102,7 +109,8 @@ pub fn cancel_in(line: &Value) -> Result<Command, Refusal>
 
 /// The withdrawal of a queued action.
 pub fn withdraw_in(line: &Value) -> Result<Command, Refusal>
-    ensures { result ≡ withdraw_in (view line.now) }
+    ensures value { result ≡ withdraw_in (view line.now) }
+    ensures memory { IfErr result (λ e. e ≢ Memory) }
 {
     let id = text_at(line, "id")?;
     let call = number_at(line, "call")?;

@@ -1,8 +1,9 @@
 //! Ends of what a line asks for, and of turns.
-ghost use Rattle.std.specs.Prelude.{◌≡◌, IfOk};
+ghost use Rattle.std.specs.Prelude.{◌≡◌, IfOk, IsTrue, OnErr};
 ghost use Rattle.serde_json.specs.View.{view};
 ghost use Rattle.exec_commands.specs.Replies.{turn_word, drain_word, tidy_word, start_word, end_data, fault_data};
 
+use growth::Grows;
 use ocf_types::{MetaFault, StartFault, TidyEnd, TurnEnd};
 use serde_json::{Value, json};
 use std::alloc::{AllocError, Global};
@@ -71,20 +72,25 @@ fn start_word(fault: StartFault) -> &'static str
 
 /// An end, by its word.
 pub fn end_value(alloc: Global, word: &str) -> Result<Value, AllocError>
-    ensures { IfOk result (λ v. view v ≡ end_data word.now) }
+    ensures value { IfOk result (λ v. view v ≡ end_data word.now) }
+    ensures memory { OnErr result (IsTrue ⟦<Global as Grows>⟧.refuses) }
 {
-    json!(in alloc; {"end": word})
+    // TRUSTED: it fails only where the memory that it takes is refused.
+    Global::library_growth(json!(in alloc; {"end": word}))
 }
 
 fn failed_value(alloc: Global, code: u8) -> Result<Value, AllocError>
-    ensures { IfOk result (λ v. view v ≡ fault_data (MetaFault.Failed code)) }
+    ensures value { IfOk result (λ v. view v ≡ fault_data (MetaFault.Failed code)) }
+    ensures memory { OnErr result (IsTrue ⟦<Global as Grows>⟧.refuses) }
 {
-    json!(in alloc; {"code": code, "end": "failed"})
+    // TRUSTED: it fails only where the memory that it takes is refused.
+    Global::library_growth(json!(in alloc; {"code": code, "end": "failed"}))
 }
 
 /// Why there are no metadata.
 pub fn fault_value(alloc: Global, fault: MetaFault) -> Result<Value, AllocError>
-    ensures { IfOk result (λ v. view v ≡ fault_data fault) }
+    ensures value { IfOk result (λ v. view v ≡ fault_data fault) }
+    ensures memory { OnErr result (IsTrue ⟦<Global as Grows>⟧.refuses) }
 {
     match fault {
         MetaFault::NotStarted(fault) => end_value(alloc, start_word(fault)),

@@ -1,7 +1,8 @@
 //! Texts and numbers under the keys of a line.
-ghost use Rattle.std.specs.Prelude.{◌≡◌, Ok, Err, IfOk, IfErr};
+ghost use Rattle.std.specs.Prelude.{◌≡◌, Ok, Err, IfOk, IfErr, ◌≢◌};
 ghost use Rattle.serde_json.specs.View.{view};
 ghost use Rattle.exec_commands.specs.Keys.{text_at, typed, natural, number_at, number_or, number_there};
+ghost use Rattle.ocf_types.specs.declared.refusal.Refusal.TheVariants.{Memory};
 
 use ocf_types::Refusal;
 use serde_json::Value;
@@ -10,6 +11,7 @@ use serde_json::Value;
 pub fn text_at<'a>(line: &'a Value, key: &str) -> Result<&'a str, Refusal>
     ensures ok { IfOk result (λ text. text_at key.now (view line.now) ≡ Ok text.now) }
     ensures err { IfErr result (λ e. text_at key.now (view line.now) ≡ Err e) }
+    ensures memory { IfErr result (λ e. e ≢ Memory) }
 {
     match line.get(key) {
         Some(found) => match found.as_str() {
@@ -21,7 +23,8 @@ pub fn text_at<'a>(line: &'a Value, key: &str) -> Result<&'a str, Refusal>
 }
 
 fn natural(found: &Value) -> Result<u64, Refusal>
-    ensures { result ≡ typed (natural (view found.now)) }
+    ensures value { result ≡ typed (natural (view found.now)) }
+    ensures memory { IfErr result (λ e. e ≢ Memory) }
 {
     match found.as_u64() {
         Some(number) => Ok(number),
@@ -31,7 +34,8 @@ fn natural(found: &Value) -> Result<u64, Refusal>
 
 /// The number under a key.
 pub fn number_at(line: &Value, key: &str) -> Result<u64, Refusal>
-    ensures { result ≡ number_at key.now (view line.now) }
+    ensures value { result ≡ number_at key.now (view line.now) }
+    ensures memory { IfErr result (λ e. e ≢ Memory) }
 {
     match line.get(key) {
         Some(found) => natural(found),
@@ -51,7 +55,8 @@ pub fn number_there(line: &Value, key: &str) -> Option<u64>
 
 /// The number under a key, or this one where the key is left out.
 pub fn number_or(line: &Value, key: &str, default: u64) -> Result<u64, Refusal>
-    ensures { result ≡ number_or default key.now (view line.now) }
+    ensures value { result ≡ number_or default key.now (view line.now) }
+    ensures memory { IfErr result (λ e. e ≢ Memory) }
 {
     match line.get(key) {
         Some(found) => natural(found),

@@ -7,6 +7,7 @@ ghost use Rattle.exec_commands.specs.Keys.{TextPair, texts_seen, are_ascending};
 ghost use Rattle.exec_commands.specs.Values.{are_names, params_of, valued_params};
 
 use crate::texts::Texts;
+use growth::Grows;
 use ocf_types::{PARAMS_LIMIT, ParamName, ParamValue, Params, Refusal, ValueError};
 use std::alloc::Global;
 
@@ -35,6 +36,7 @@ fn valued_params(alloc: Global, members: &[(&str, &str)]) -> Result<Params, Refu
     requires sorted { IsTrue (are_ascending None (texts_seen members.now)) }
     ensures ok { IfOk result (λ ps. valued_params (texts_seen members.now) ≡ Ok ps) }
     ensures err { IfErr result (λ e. e ≢ Memory → valued_params (texts_seen members.now) ≡ Err e) }
+    ensures memory { IfErr result (λ e. e ≡ Memory → IsTrue ⟦<Global as Grows>⟧.refuses) }
 {
     if members.len() > PARAMS_LIMIT {
         return Err(Refusal::BadValue);
@@ -63,6 +65,7 @@ fn valued_params(alloc: Global, members: &[(&str, &str)]) -> Result<Params, Refu
 pub fn params_of(alloc: Global, texts: &Texts<'_>) -> Result<Params, Refusal>
     ensures ok { IfOk result (λ ps. params_of texts.now ≡ Ok ps) }
     ensures err { IfErr result (λ e. e ≢ Memory → params_of texts.now ≡ Err e) }
+    ensures memory { IfErr result (λ e. e ≡ Memory → IsTrue ⟦<Global as Grows>⟧.refuses) }
 {
     let members = texts.as_slice();
     if !are_names(members) {

@@ -1,5 +1,7 @@
 //! Lines read.
-ghost use Rattle.std.specs.Prelude.{◌≡◌, ◌≢◌, ◌<◌, length, None, Some, Err, Ok, IfOk, IfErr};
+ghost use Rattle.std.specs.Prelude.{◌≡◌, ◌≢◌, ◌<◌, length, None, Some, Err, Ok, IfOk, IfErr, IsTrue, OnErr, IfSome, IfNone};
+ghost use Rattle.std.specs.Str.{IsUtf8};
+ghost use Rattle.serde_json.specs.Read.{read};
 ghost use Rattle.serde_json.specs.View.{view};
 ghost use Rattle.ocf_types.specs.declared.refusal.Refusal.TheVariants.{Syntax, Memory};
 ghost use Rattle.exec_commands.specs.Lines.{drain_in, watch_in, meta_in, line_for, line_of, value_of, line_read, commanded, asked};
@@ -11,19 +13,22 @@ use crate::keys::{number_at, number_or, number_there, text_at};
 use crate::line::Line;
 use crate::operation::{Operation, operation_named};
 use crate::values::{agent_type, limit, limit_if_named, millis, provider};
+use growth::Grows;
 use ocf_types::{Command, LINE_LIMIT, Question, Refusal, Request};
 use serde_json::Value;
-use std::alloc::Global;
+use std::alloc::{AllocError, Global};
 
 fn drain_in(line: &Value) -> Result<Line, Refusal>
-    ensures { result ≡ drain_in (view line.now) }
+    ensures value { result ≡ drain_in (view line.now) }
+    ensures memory { IfErr result (λ e. e ≢ Memory) }
 {
     let number = number_or(line, "limit", 60_000)?;
     Ok(Line::Drain(limit(number)?))
 }
 
 fn watch_in(line: &Value) -> Result<Line, Refusal>
-    ensures { result ≡ watch_in (view line.now) }
+    ensures value { result ≡ watch_in (view line.now) }
+    ensures memory { IfErr result (λ e. e ≢ Memory) }
 {
     let number = number_at(line, "limit")?;
     Ok(Line::Watch(millis(number)?.get()))
@@ -31,7 +36,8 @@ fn watch_in(line: &Value) -> Result<Line, Refusal>
 
 // It has no limit where the line names none.
 fn meta_in(line: &Value) -> Result<Line, Refusal>
-    ensures { result ≡ meta_in (view line.now) }
+    ensures value { result ≡ meta_in (view line.now) }
+    ensures memory { IfErr result (λ e. e ≢ Memory) }
 {
     let provider_text = text_at(line, "provider")?;
     let agent_text = text_at(line, "type")?;
@@ -46,37 +52,41 @@ fn meta_in(line: &Value) -> Result<Line, Refusal>
 }
 
 fn commanded(found: Result<Command, Refusal>) -> Result<Line, Refusal>
-    ensures { result ≡ commanded found }
+    ensures value { result ≡ commanded found }
 {
     Ok(Line::Request(Request::Command(found?)))
 }
 
 fn asked(found: Result<Question, Refusal>) -> Result<Line, Refusal>
-    ensures { result ≡ asked found }
+    ensures value { result ≡ asked found }
 {
     Ok(Line::Request(Request::Question(found?)))
 }
 
 fn unregister_in(line: &Value) -> Result<Command, Refusal>
-    ensures { commanded result ≡ line_for Operation.Unregister (view line.now) }
+    ensures value { commanded result ≡ line_for Operation.Unregister (view line.now) }
+    ensures memory { IfErr result (λ e. e ≢ Memory) }
 {
     Ok(Command::Unregister(id_in(line)?))
 }
 
 fn forget_in(line: &Value) -> Result<Command, Refusal>
-    ensures { commanded result ≡ line_for Operation.Forget (view line.now) }
+    ensures value { commanded result ≡ line_for Operation.Forget (view line.now) }
+    ensures memory { IfErr result (λ e. e ≢ Memory) }
 {
     Ok(Command::Forget(id_in(line)?))
 }
 
 fn info_in(line: &Value) -> Result<Question, Refusal>
-    ensures { asked result ≡ line_for Operation.Info (view line.now) }
+    ensures value { asked result ≡ line_for Operation.Info (view line.now) }
+    ensures memory { IfErr result (λ e. e ≢ Memory) }
 {
     Ok(Question::Info(id_in(line)?))
 }
 
 fn history_in(line: &Value) -> Result<Question, Refusal>
-    ensures { asked result ≡ line_for Operation.History (view line.now) }
+    ensures value { asked result ≡ line_for Operation.History (view line.now) }
+    ensures memory { IfErr result (λ e. e ≢ Memory) }
 {
     Ok(Question::History(id_in(line)?))
 }
@@ -84,6 +94,7 @@ fn history_in(line: &Value) -> Result<Question, Refusal>
 fn line_for(alloc: Global, operation: Operation, line: &Value) -> Result<Line, Refusal>
     ensures ok { IfOk result (λ l. line_for operation (view line.now) ≡ Ok l) }
     ensures err { IfErr result (λ e. e ≢ Memory → line_for operation (view line.now) ≡ Err e) }
+    ensures memory { IfErr result (λ e. e ≡ Memory → IsTrue ⟦<Global as Grows>⟧.refuses) }
 {
     match operation {
         Operation::Register => commanded(register_in(alloc, line)),
@@ -108,11 +119,28 @@ fn line_for(alloc: Global, operation: Operation, line: &Value) -> Result<Line, R
 pub fn line_of(alloc: Global, value: &Value) -> Result<Line, Refusal>
     ensures ok { IfOk result (λ l. line_of (view value.now) ≡ Ok l) }
     ensures err { IfErr result (λ e. e ≢ Memory → line_of (view value.now) ≡ Err e) }
+    ensures memory { IfErr result (λ e. e ≡ Memory → IsTrue ⟦<Global as Grows>⟧.refuses) }
 {
     match operation_named(text_at(value, "op")?) {
         Some(operation) => line_for(alloc, operation, value),
         None => Err(Refusal::UnknownOp),
     }
+}
+
+// The JSON value that these bytes are, where they are one.
+fn parsed(alloc: Global, bytes: &[u8]) -> Result<Option<Value>, AllocError>
+    ensures some { IfOk result (λ found. IfSome found
+        (λ v. IsUtf8 bytes.now × (read bytes.now ≡ Some (view v)))) }
+    ensures none { IfOk result (λ found. IfNone found (IsUtf8 bytes.now → read bytes.now ≡ None)) }
+    ensures memory { OnErr result (IsTrue ⟦<Global as Grows>⟧.refuses) }
+{
+    let answer = match Value::from_slice(alloc, bytes) {
+        Ok(value) => Ok(Some(value)),
+        Err(error) if error.is_memory() => Err(AllocError),
+        Err(_) => Ok(None),
+    };
+    // TRUSTED: it is want of memory only where the memory that the value takes is refused.
+    Global::library_growth(answer)
 }
 
 /// The JSON value that a line is.
@@ -121,25 +149,27 @@ pub fn value_of(alloc: Global, bytes: &[u8]) -> Result<Value, Refusal>
     ensures ok { IfOk result (λ v. value_of bytes.now ≡ Some (view v)) }
     ensures err { IfErr result (λ e. e ≢ Memory → (value_of bytes.now ≡ None) × (e ≡ Syntax)) }
     ensures long { LINE_LIMIT < length bytes.now → result ≡ Err Syntax }
+    ensures memory { IfErr result (λ e. e ≡ Memory → IsTrue ⟦<Global as Grows>⟧.refuses) }
 {
     if bytes.len() > LINE_LIMIT {
         return Err(Refusal::Syntax);
     }
-    match Value::from_slice(alloc, bytes) {
-        Ok(value) => Ok(value),
-        Err(error) if error.is_memory() => Err(Refusal::Memory),
-        Err(_) => Err(Refusal::Syntax),
+    match parsed(alloc, bytes) {
+        Ok(Some(value)) => Ok(value),
+        Ok(None) => Err(Refusal::Syntax),
+        Err(_) => Err(Refusal::Memory),
     }
 }
 
 /// What a line, without its newline, asks for, or why it is refused: the first of syntax, unknown-op, bad-name and
-/// bad-value that holds. Memory may stand in place of any answer but that to a line of more than 131,072 bytes. No line asks the run
-/// to end, and a question for metadata has no limit but one that it names.
+/// bad-value that holds. Memory may stand in place of any answer but that to a line of more than 131,072 bytes, where the
+/// allocator refused it. No line asks the run to end, and a question for metadata has no limit but one that it names.
 pub fn read_command(alloc: Global, bytes: &[u8]) -> Result<Line, Refusal>
     ensures ok { IfOk result (λ l. line_read bytes.now ≡ Ok l) }
     ensures refused { IfErr result (λ e. e ≢ Memory → line_read bytes.now ≡ Err e) }
     ensures long { LINE_LIMIT < length bytes.now → result ≡ Err Syntax }
     ensures stays { result ≢ Ok Line.Leave }
+    ensures memory { IfErr result (λ e. e ≡ Memory → IsTrue ⟦<Global as Grows>⟧.refuses) }
 {
     line_of(alloc, &value_of(alloc, bytes)?)
 }

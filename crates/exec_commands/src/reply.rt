@@ -1,5 +1,5 @@
 //! Replies, written as lines.
-ghost use Rattle.std.specs.Prelude.{◌≡◌, ◌++◌, ◌∷◌, [], false, map, IfOk, OnOk};
+ghost use Rattle.std.specs.Prelude.{◌≡◌, ◌++◌, ◌∷◌, [], false, map, IfOk, OnOk, IsTrue, OnErr};
 ghost use Rattle.serde_json.specs.Data.{string};
 ghost use Rattle.serde_json.specs.View.{view};
 ghost use Rattle.serde_json.specs.Written.{compact_text, has_float};
@@ -10,6 +10,7 @@ use crate::ends::{DrainEnd, drain_word, end_value, fault_value, tidy_word, turn_
 use crate::info::info_value;
 use crate::names::id_text;
 use crate::results::ended_values;
+use growth::{Grows, append, push};
 use ocf_types::{CallId, Ended, MetaFault, OpKey, Refusal, Reply, RscId, TidyEnd};
 use serde_json::{Value, json};
 use std::alloc::{AllocError, Global};
@@ -30,51 +31,72 @@ pub enum LineReply {
 }
 
 fn refusal_value(alloc: Global, refusal: Refusal) -> Result<Value, AllocError>
-    ensures { IfOk result (λ v. view v ≡ refusal_data refusal) }
+    ensures value { IfOk result (λ v. view v ≡ refusal_data refusal) }
+    ensures memory { OnErr result (IsTrue ⟦<Global as Grows>⟧.refuses) }
 {
     let (word, number) = (refusal.word(), refusal.number());
-    json!(in alloc; {"error": word, "number": number})
+    // TRUSTED: it fails only where the memory that it takes is refused.
+    Global::library_growth(json!(in alloc; {"error": word, "number": number}))
 }
 
 fn done_value(alloc: Global) -> Result<Value, AllocError>
-    ensures { IfOk result (λ v. view v ≡ done_data) }
+    ensures value { IfOk result (λ v. view v ≡ done_data) }
+    ensures memory { OnErr result (IsTrue ⟦<Global as Grows>⟧.refuses) }
 {
-    json!(in alloc; {"ok": true})
+    // TRUSTED: it fails only where the memory that it takes is refused.
+    Global::library_growth(json!(in alloc; {"ok": true}))
 }
 
 fn accepted_value(alloc: Global, call: CallId, key: &OpKey) -> Result<Value, AllocError>
-    ensures { IfOk result (λ v. view v ≡ accepted_data call key.now) }
+    ensures value { IfOk result (λ v. view v ≡ accepted_data call key.now) }
+    ensures memory { OnErr result (IsTrue ⟦<Global as Grows>⟧.refuses) }
 {
     let (call, key) = (call.get(), key.as_str());
-    json!(in alloc; {"call": call, "key": key, "ok": true})
+    // TRUSTED: it fails only where the memory that it takes is refused.
+    Global::library_growth(json!(in alloc; {"call": call, "key": key, "ok": true}))
 }
 
 fn id_values(alloc: Global, ids: &[RscId]) -> Result<Vec<Value>, AllocError>
-    ensures { IfOk result (λ v. map view v.items ≡ map string ids.now) }
+    ensures value { IfOk result (λ v. map view v.items ≡ map string ids.now) }
+    ensures memory { OnErr result (IsTrue ⟦<Global as Grows>⟧.refuses) }
 {
-    let mut values = Vec::with_capacity(alloc, ids.len())?;
+    let mut values = Vec::new(alloc);
+    Global::reserve_for(&mut values, ids)?;
     for id in ids {
-        values.push(Value::try_from_str(alloc, id_text(id))?)?;
+        // TRUSTED: it fails only where the memory that it takes is refused.
+        let Ok(value) = Global::library_growth(Value::try_from_str(alloc, id_text(id))) else {
+            return Err(AllocError);
+        };
+        push(&mut values, value)?;
     }
     Ok(values)
 }
 
 fn list_value(alloc: Global, ids: &[RscId]) -> Result<Value, AllocError>
-    ensures { IfOk result (λ v. view v ≡ list_data ids.now) }
+    ensures value { IfOk result (λ v. view v ≡ list_data ids.now) }
+    ensures memory { OnErr result (IsTrue ⟦<Global as Grows>⟧.refuses) }
 {
-    let ids = id_values(alloc, ids)?;
-    json!(in alloc; {"ok": true, "resources": ids})
+    let Ok(ids) = id_values(alloc, ids) else {
+        return Err(AllocError);
+    };
+    // TRUSTED: it fails only where the memory that it takes is refused.
+    Global::library_growth(json!(in alloc; {"ok": true, "resources": ids}))
 }
 
 fn history_value(alloc: Global, results: &[Ended]) -> Result<Value, AllocError>
-    ensures { IfOk result (λ v. view v ≡ history_data results.now) }
+    ensures value { IfOk result (λ v. view v ≡ history_data results.now) }
+    ensures memory { OnErr result (IsTrue ⟦<Global as Grows>⟧.refuses) }
 {
-    let results = ended_values(alloc, results)?;
-    json!(in alloc; {"ok": true, "results": results})
+    let Ok(results) = ended_values(alloc, results) else {
+        return Err(AllocError);
+    };
+    // TRUSTED: it fails only where the memory that it takes is refused.
+    Global::library_growth(json!(in alloc; {"ok": true, "results": results}))
 }
 
 fn request_value(alloc: Global, reply: &Reply) -> Result<Value, AllocError>
-    ensures { IfOk result (λ v. view v ≡ request_data reply.now) }
+    ensures value { IfOk result (λ v. view v ≡ request_data reply.now) }
+    ensures memory { OnErr result (IsTrue ⟦<Global as Grows>⟧.refuses) }
 {
     match reply {
         Reply::Refused(refusal) => refusal_value(alloc, *refusal),
@@ -89,14 +111,17 @@ fn request_value(alloc: Global, reply: &Reply) -> Result<Value, AllocError>
 
 // How many bytes of metadata follow.
 fn length_value(alloc: Global, metadata: &[u8]) -> Result<Value, AllocError>
-    ensures { IfOk result (λ v. view v ≡ length_data metadata.now) }
+    ensures value { IfOk result (λ v. view v ≡ length_data metadata.now) }
+    ensures memory { OnErr result (IsTrue ⟦<Global as Grows>⟧.refuses) }
 {
     let length = metadata.len();
-    json!(in alloc; {"meta": length})
+    // TRUSTED: it fails only where the memory that it takes is refused.
+    Global::library_growth(json!(in alloc; {"meta": length}))
 }
 
 fn reply_value(alloc: Global, reply: &LineReply) -> Result<Value, AllocError>
-    ensures { IfOk result (λ v. view v ≡ reply_data reply.now) }
+    ensures value { IfOk result (λ v. view v ≡ reply_data reply.now) }
+    ensures memory { OnErr result (IsTrue ⟦<Global as Grows>⟧.refuses) }
 {
     match reply {
         LineReply::Request(reply) => request_value(alloc, reply),
@@ -111,20 +136,25 @@ fn reply_value(alloc: Global, reply: &LineReply) -> Result<Value, AllocError>
 /// The compact text of a JSON value, and a newline.
 pub fn write_line(alloc: Global, value: &Value) -> Result<Vec<u8>, AllocError>
     requires { has_float (view value.now) ≡ false }
-    ensures { IfOk result (λ b. b.items ≡ compact_text (view value.now) ++ 10 ∷ []) }
+    ensures value { IfOk result (λ b. b.items ≡ compact_text (view value.now) ++ 10 ∷ []) }
+    ensures memory { OnErr result (IsTrue ⟦<Global as Grows>⟧.refuses) }
 {
-    let mut bytes = value.to_vec(alloc)?;
-    bytes.push(b'\n')?;
+    // TRUSTED: it fails only where the memory that it takes is refused.
+    let Ok(mut bytes) = Global::library_growth(value.to_vec(alloc)) else {
+        return Err(AllocError);
+    };
+    push(&mut bytes, b'\n')?;
     Ok(bytes)
 }
 
 // What follows the line of a reply: metadata, and a newline.
 fn push_behind(bytes: &mut Vec<u8>, reply: &LineReply) -> Result<(), AllocError>
-    ensures { OnOk result (bytes.new.items ≡ bytes.old.items ++ behind reply.now) }
+    ensures value { OnOk result (bytes.new.items ≡ bytes.old.items ++ behind reply.now) }
+    ensures memory { OnErr result (IsTrue ⟦<Global as Grows>⟧.refuses) }
 {
     if let LineReply::Meta(Ok(metadata)) = reply {
-        bytes.extend_from_slice(metadata.as_slice())?;
-        bytes.push(b'\n')?;
+        append(bytes, metadata.as_slice())?;
+        push(bytes, b'\n')?;
     }
     Ok(())
 }
@@ -134,9 +164,14 @@ fn push_behind(bytes: &mut Vec<u8>, reply: &LineReply) -> Result<(), AllocError>
 #[tactic(auto, using(crate::proofs::FloatLemmas::reply_has_no_float))]
 pub fn write_reply(alloc: Global, reply: &LineReply) -> Result<Vec<u8>, AllocError>
     ensures line { IfOk result (λ b. b.items ≡ reply_line reply.now) }
+    ensures memory { OnErr result (IsTrue ⟦<Global as Grows>⟧.refuses) }
 {
-    let value = reply_value(alloc, reply)?;
-    let mut bytes = write_line(alloc, &value)?;
+    let Ok(value) = reply_value(alloc, reply) else {
+        return Err(AllocError);
+    };
+    let Ok(mut bytes) = write_line(alloc, &value) else {
+        return Err(AllocError);
+    };
     push_behind(&mut bytes, reply)?;
     Ok(bytes)
 }
@@ -145,6 +180,10 @@ pub fn write_reply(alloc: Global, reply: &LineReply) -> Result<Vec<u8>, AllocErr
 #[tactic(auto, using(crate::proofs::FloatLemmas::request_has_no_float))]
 pub fn write_request_reply(alloc: Global, reply: &Reply) -> Result<Vec<u8>, AllocError>
     ensures line { IfOk result (λ b. b.items ≡ request_line reply.now) }
+    ensures memory { OnErr result (IsTrue ⟦<Global as Grows>⟧.refuses) }
 {
-    write_line(alloc, &request_value(alloc, reply)?)
+    let Ok(value) = request_value(alloc, reply) else {
+        return Err(AllocError);
+    };
+    write_line(alloc, &value)
 }

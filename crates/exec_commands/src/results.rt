@@ -1,10 +1,11 @@
 //! Results, as they stand in histories, and what failed last.
-ghost use Rattle.std.specs.Prelude.{◌≡◌, map, IfOk};
+ghost use Rattle.std.specs.Prelude.{◌≡◌, map, IfOk, IsTrue, OnErr};
 ghost use Rattle.ocf_codes.specs.ExitCodes.{name_read};
 ghost use Rattle.ocf_codes.specs.OutcomeCodes.{outcome_code};
 ghost use Rattle.serde_json.specs.View.{view};
 ghost use Rattle.exec_commands.specs.Replies.{ended_data, failed_data};
 
+use growth::{Grows, push};
 use ocf_codes::{code_of, name, read_code};
 use ocf_types::{Ended, Outcome};
 use serde_json::{Value, json};
@@ -18,18 +19,21 @@ pub fn code_name(outcome: Outcome) -> &'static str
 }
 
 fn ended_value(alloc: Global, ended: Ended) -> Result<Value, AllocError>
-    ensures { IfOk result (λ v. view v ≡ ended_data ended) }
+    ensures value { IfOk result (λ v. view v ≡ ended_data ended) }
+    ensures memory { OnErr result (IsTrue ⟦<Global as Grows>⟧.refuses) }
 {
-    json!(in alloc; {
+    // TRUSTED: it fails only where the memory that it takes is refused.
+    Global::library_growth(json!(in alloc; {
         "action": ended.action.word(), "at": ended.at.get(), "call": ended.call.get(),
         "code": code_of(ended.outcome), "interval": ended.interval, "name": code_name(ended.outcome),
         "outcome": ended.outcome.word(), "run": ended.run, "since": ended.since.get()
-    })
+    }))
 }
 
 /// The result that failed last.
 pub fn failed_value(alloc: Global, failed: Option<Ended>) -> Result<Value, AllocError>
-    ensures { IfOk result (λ v. view v ≡ failed_data failed) }
+    ensures value { IfOk result (λ v. view v ≡ failed_data failed) }
+    ensures memory { OnErr result (IsTrue ⟦<Global as Grows>⟧.refuses) }
 {
     match failed {
         Some(ended) => ended_value(alloc, ended),
@@ -39,11 +43,16 @@ pub fn failed_value(alloc: Global, failed: Option<Ended>) -> Result<Value, Alloc
 
 /// The results of a history, in order.
 pub fn ended_values(alloc: Global, results: &[Ended]) -> Result<Vec<Value>, AllocError>
-    ensures { IfOk result (λ v. map view v.items ≡ map ended_data results.now) }
+    ensures value { IfOk result (λ v. map view v.items ≡ map ended_data results.now) }
+    ensures memory { OnErr result (IsTrue ⟦<Global as Grows>⟧.refuses) }
 {
-    let mut values = Vec::with_capacity(alloc, results.len())?;
+    let mut values = Vec::new(alloc);
+    Global::reserve_for(&mut values, results)?;
     for ended in results {
-        values.push(ended_value(alloc, *ended)?)?;
+        let Ok(value) = ended_value(alloc, *ended) else {
+            return Err(AllocError);
+        };
+        push(&mut values, value)?;
     }
     Ok(values)
 }

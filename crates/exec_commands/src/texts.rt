@@ -4,6 +4,7 @@ ghost use Rattle.serde_json.specs.View.{view, members_view};
 ghost use Rattle.ocf_types.specs.declared.refusal.Refusal.TheVariants.{Memory};
 ghost use Rattle.exec_commands.specs.Keys.{typed, texts, member_texts, texts_seen, are_ascending, params_at, params_if_there};
 
+use growth::{Grows, push};
 use ocf_types::Refusal;
 use serde_json::{Map, Value};
 use std::alloc::Global;
@@ -37,13 +38,14 @@ fn member_texts<'a>(
     ensures sorted { IfOk result (λ t. IsTrue (are_ascending None (texts_seen t.items))) }
     ensures err { IfErr result
         (λ e. e ≢ Memory → typed (member_texts (members_view object.now.entries)) ≡ Err e) }
+    ensures memory { IfErr result (λ e. e ≡ Memory → IsTrue ⟦<Global as Grows>⟧.refuses) }
 {
     let mut members = Vec::new(alloc);
     for (name, member) in object.iter() {
         let Some(text) = member.as_str() else {
             return Err(Refusal::Syntax);
         };
-        if members.push((name.as_str(), text)).is_err() {
+        if push(&mut members, (name.as_str(), text)).is_err() {
             return Err(Refusal::Memory);
         }
     }
@@ -64,6 +66,7 @@ impl<'a> Texts<'a> {
     pub fn read(alloc: Global, found: &'a Value) -> Result<Self, Refusal>
         ensures ok { IfOk result (λ t. typed (texts (view found.now)) ≡ Ok t) }
         ensures err { IfErr result (λ e. e ≢ Memory → typed (texts (view found.now)) ≡ Err e) }
+        ensures memory { IfErr result (λ e. e ≡ Memory → IsTrue ⟦<Global as Grows>⟧.refuses) }
     {
         match found.as_object() {
             Some(object) => Ok(Texts {
@@ -86,6 +89,7 @@ impl<'a> Texts<'a> {
 pub fn params_at<'a>(alloc: Global, line: &'a Value) -> Result<Texts<'a>, Refusal>
     ensures ok { IfOk result (λ t. params_at (view line.now) ≡ Ok t) }
     ensures err { IfErr result (λ e. e ≢ Memory → params_at (view line.now) ≡ Err e) }
+    ensures memory { IfErr result (λ e. e ≡ Memory → IsTrue ⟦<Global as Grows>⟧.refuses) }
 {
     match line.get("params") {
         Some(found) => Texts::read(alloc, found),
@@ -97,6 +101,7 @@ pub fn params_at<'a>(alloc: Global, line: &'a Value) -> Result<Texts<'a>, Refusa
 pub fn params_if_there<'a>(alloc: Global, line: &'a Value) -> Result<Texts<'a>, Refusal>
     ensures ok { IfOk result (λ t. params_if_there (view line.now) ≡ Ok t) }
     ensures err { IfErr result (λ e. e ≢ Memory → params_if_there (view line.now) ≡ Err e) }
+    ensures memory { IfErr result (λ e. e ≡ Memory → IsTrue ⟦<Global as Grows>⟧.refuses) }
 {
     match line.get("params") {
         Some(found) => Texts::read(alloc, found),

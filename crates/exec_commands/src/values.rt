@@ -1,7 +1,8 @@
 //! Names and values of a line.
-ghost use Rattle.std.specs.Prelude.{◌≡◌};
+ghost use Rattle.std.specs.Prelude.{◌≡◌, ◌≢◌, IfErr};
 ghost use Rattle.ocf_types.specs.Names.{is_rsc_id, is_provider, is_agent_type};
 ghost use Rattle.exec_commands.specs.Values.{named, check_numbered, check_of, task_named, millis_of, call_of, limit_if_named, limit_of};
+ghost use Rattle.ocf_types.specs.declared.refusal.Refusal.TheVariants.{Memory};
 
 use ocf_types::{
     Action, AgentType, CallId, Check, Expect, Level, Millis, Provider, Refusal, RscId, Task,
@@ -9,7 +10,8 @@ use ocf_types::{
 
 /// The id of a resource.
 pub fn rsc_id(text: &str) -> Result<RscId, Refusal>
-    ensures { result ≡ named is_rsc_id text.now }
+    ensures value { result ≡ named is_rsc_id text.now }
+    ensures memory { IfErr result (λ e. e ≢ Memory) }
 {
     match RscId::new(text.as_bytes()) {
         Ok(id) => Ok(id),
@@ -19,7 +21,8 @@ pub fn rsc_id(text: &str) -> Result<RscId, Refusal>
 
 /// The provider of an agent.
 pub fn provider(text: &str) -> Result<Provider, Refusal>
-    ensures { result ≡ named is_provider text.now }
+    ensures value { result ≡ named is_provider text.now }
+    ensures memory { IfErr result (λ e. e ≢ Memory) }
 {
     match Provider::new(text.as_bytes()) {
         Ok(provider) => Ok(provider),
@@ -29,7 +32,8 @@ pub fn provider(text: &str) -> Result<Provider, Refusal>
 
 /// The type of an agent.
 pub fn agent_type(text: &str) -> Result<AgentType, Refusal>
-    ensures { result ≡ named is_agent_type text.now }
+    ensures value { result ≡ named is_agent_type text.now }
+    ensures memory { IfErr result (λ e. e ≢ Memory) }
 {
     match AgentType::new(text.as_bytes()) {
         Ok(agent) => Ok(agent),
@@ -49,7 +53,8 @@ fn check_numbered(level: u64, code: u64) -> Option<Check>
 
 /// The check of a recurring monitor, of a level's number and the exit code that is expected.
 pub fn check(level: u64, code: u64) -> Result<Check, Refusal>
-    ensures { result ≡ check_of level code }
+    ensures value { result ≡ check_of level code }
+    ensures memory { IfErr result (λ e. e ≢ Memory) }
 {
     match check_numbered(level, code) {
         Some(check) => Ok(check),
@@ -59,7 +64,8 @@ pub fn check(level: u64, code: u64) -> Result<Check, Refusal>
 
 /// The task of an action's word, a level's number and the exit code that is expected.
 pub fn task(word: &str, level: u64, code: u64) -> Result<Task, Refusal>
-    ensures { result ≡ task_named word.now level code }
+    ensures value { result ≡ task_named word.now level code }
+    ensures memory { IfErr result (λ e. e ≢ Memory) }
 {
     let (Some(action), Some(check)) = (Action::named(word), check_numbered(level, code)) else {
         return Err(Refusal::BadValue);
@@ -72,7 +78,8 @@ pub fn task(word: &str, level: u64, code: u64) -> Result<Task, Refusal>
 
 /// An interval or a timeout.
 pub fn millis(number: u64) -> Result<Millis, Refusal>
-    ensures { result ≡ millis_of number }
+    ensures value { result ≡ millis_of number }
+    ensures memory { IfErr result (λ e. e ≢ Memory) }
 {
     let Ok(number) = u32::try_from(number) else {
         return Err(Refusal::BadValue);
@@ -85,7 +92,8 @@ pub fn millis(number: u64) -> Result<Millis, Refusal>
 
 /// The call id of an action.
 pub fn call_id(number: u64) -> Result<CallId, Refusal>
-    ensures { result ≡ call_of number }
+    ensures value { result ≡ call_of number }
+    ensures memory { IfErr result (λ e. e ≢ Memory) }
 {
     match CallId::new(number) {
         Some(call) => Ok(call),
@@ -95,7 +103,8 @@ pub fn call_id(number: u64) -> Result<CallId, Refusal>
 
 /// The limit of a drain, or of an agent that is asked for its metadata, in milliseconds.
 pub fn limit(number: u64) -> Result<u32, Refusal>
-    ensures { result ≡ limit_of number }
+    ensures value { result ≡ limit_of number }
+    ensures memory { IfErr result (λ e. e ≢ Memory) }
 {
     if number > 86_400_000 {
         return Err(Refusal::BadValue);
@@ -105,7 +114,8 @@ pub fn limit(number: u64) -> Result<u32, Refusal>
 
 /// A limit, where one is named.
 pub fn limit_if_named(number: Option<u64>) -> Result<Option<u32>, Refusal>
-    ensures { result ≡ limit_if_named number }
+    ensures value { result ≡ limit_if_named number }
+    ensures memory { IfErr result (λ e. e ≢ Memory) }
 {
     match number {
         Some(number) => Ok(Some(limit(number)?)),

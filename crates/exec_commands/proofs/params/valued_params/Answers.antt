@@ -28,7 +28,7 @@ unreachable-requires c =
 pub returns-in-Err-BadValue-clause-err : goal.returns-in-Err-BadValue-clause-err
 returns-in-Err-BadValue-clause-err c = λ _.
     let refused =
-    no_value c.in-Err-BadValue.field-0 c.as_bytes-in-loop-name.result.now c.in-Err-BadValue.field-0-is c.in-Err-BadValue.ensures in
+    no_value c.in-Err-BadValue.field-0 c.as_bytes-in-loop-name.result.now c.in-Err-BadValue.field-0-is c.in-Err-BadValue.ensures.value in
     let bad : is_param_value (get_or c.args.members.now c.loop-name.name-index none).1.now ≡ false = ap is_param_value
     (sym c.as_bytes-in-loop-name.ensures.value) ∙ refused in
     bad_value c.args.members.now c.loop-name.name-index none (omega arith) bad

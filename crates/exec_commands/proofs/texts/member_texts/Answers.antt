@@ -23,9 +23,9 @@ loop-name-preserved c =
     let name = c.as_str-in-loop-name.result in
     let text_there = c.in-Some-as_str.text in
     let room : is_ok c.push.result ≡ true = c.is_err.ensures.negation ∙ ap not c.if-is_err.false in
-    let items : c.push.new.self.items ≡ c.loop-name.members.items ++ (name, text_there) ∷ [] = if_taken
+    let items : c.push.new.vec.items ≡ c.loop-name.members.items ++ (name, text_there) ∷ [] = if_taken
     (is_ok c.push.result) _ _ _ room c.push.ensures.items in
-    let pushed : texts_seen c.push.new.self.items ≡ done ++ (string_bytes c.in-Some.name.now, c.in-Some-as_str.text.now) ∷ [] =
+    let pushed : texts_seen c.push.new.vec.items ≡ done ++ (string_bytes c.in-Some.name.now, c.in-Some-as_str.text.now) ∷ [] =
     ap texts_seen items ∙ seen_push c.loop-name.members.items name text_there
     ∙ ap (λ (n : List ℕ). done ++ (n, text_there.now) ∷ []) c.as_str-in-loop-name.ensures.value in
     subst (λ (xs : ParamList). option_map (λ ps. xs ++ ps) (member_texts (members_view left)) ≡ member_texts (members_view all))
