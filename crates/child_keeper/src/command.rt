@@ -20,6 +20,7 @@ fn push_argument<A: Grows>(command: &mut Command<A>, argument: &str) -> Result<(
     ensures folder { OnOk result (SameDir command.old command.new) }
     ensures memory { OnErr result (IsTrue A.refuses) }
 {
+    // TRUSTED: a command grows its own memory.
     A::library_growth(command.arg(argument))?;
     Ok(())
 }
@@ -54,6 +55,7 @@ fn set_variable<A: Grows>(
     ensures folder { OnOk result (SameDir command.old command.new) }
     ensures memory { OnErr result (IsTrue A.refuses) }
 {
+    // TRUSTED: a command grows its own memory.
     A::library_growth(command.env(name, value))?;
     Ok(())
 }
@@ -85,8 +87,10 @@ fn bare<A: Grows>(alloc: A, program: &str) -> Result<Command<A>, AllocError>
     ensures folder { IfOk result (λ c. command_dir c ≡ Some (codes "/")) }
     ensures memory { OnErr result (IsTrue A.refuses) }
 {
+    // TRUSTED: a command grows its own memory.
     let mut command = A::library_growth(Command::new(alloc, program))?;
     command.env_clear();
+    // TRUSTED: a command grows its own memory.
     A::library_growth(command.current_dir(FOLDER))?;
     Ok(command)
 }

@@ -27,6 +27,7 @@ impl<P: OpenProcess + Drop, A: Grows> Dying<P, A> {
         ensures none { IfOk result (λ d. deque_items d.agents ≡ []) }
         ensures memory { OnErr result (IsTrue A.refuses) }
     {
+        // TRUSTED: a deque grows its own memory.
         let agents = A::library_growth(VecDeque::with_capacity(alloc, LIVE_LIMIT))?;
         Ok(Dying { agents })
     }
