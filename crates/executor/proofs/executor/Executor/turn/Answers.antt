@@ -35,7 +35,7 @@ returns g c =
     let takes : TakesTurn g.D.Disk.view c.args.now x y c.take_turn-end.result = record {
       turns = turn.turns;
       site = refl;
-      allocator = c.known-2.ensures.allocator ∙ sym c.known.ensures.allocator;
+      allocator = ◌∙◌ {b = g.A.Grows.refuses} c.known-2.ensures.allocator (sym c.known.ensures.allocator);
       reported = refl;
       full = turn.full;
       unchanged = λ is.
