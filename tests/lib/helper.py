@@ -120,10 +120,14 @@ def kib(pid, name):
 
 
 @functools.cache
+def built(name):
+    """The program of a folder, tests/trials or tests/scenarios, which is built where it is not there, or was built from other texts."""
+    done = subprocess.run([os.path.join(TOP, "tests", name, "build.sh")], stdout=subprocess.PIPE, check=True, text=True)
+    return done.stdout.strip()
+
+
 def trials():
-    """The program of tests/trials, which is built where it is not there, or was built from other texts."""
-    built = subprocess.run([os.path.join(TOP, "tests/trials/build.sh")], stdout=subprocess.PIPE, check=True, text=True)
-    return built.stdout.strip()
+    return built("trials")
 
 
 def shim(source, folder):

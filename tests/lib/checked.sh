@@ -1,0 +1,67 @@
+# Builds a program of a crate that is none of the gate's, since nothing stands on it: as `rt try` compiles, unproved and with checks, but
+# optimised. So it stops at an index out of bounds, a sum that wraps, a value that is not there, or an access to memory that is not there.
+# Read by `. tests/lib/checked.sh`, at the top of the repository.
+# shellcheck shell=bash
+. tests/lib/apart.sh
+. tests/lib/kit.sh
+
+# The sum of all that the program of a line is compiled from. Use: sum_of_texts LINE
+sum_of_texts() {
+    local folder=tests/${1%%:*}
+    {
+        rt version
+        cat "$folder/build.sh" tests/lib/checked.sh tests/lib/apart.sh tests/lib/kit.sh
+        lines_with "$1"
+        { echo "$folder" && folders_below "$1"; } | while IFS= read -r folder; do
+            find "$folder/src" -type f -print0 | LC_ALL=C sort -z | xargs -0 sha256sum
+        done
+    } | sha256sum
+}
+
+# Compiles the program of a line in a copy, and runs it there with these words and no input: its run has to be short. The program is what
+# the kit's linker made. Use: compile_checked LINE OUT [WORD..]
+compile_checked() {
+    local line=$1 out=$2 name=${1%%:*} copy
+    shift 2
+    copy=$(mktemp -d)
+    # shellcheck disable=SC2064 # it is that folder
+    trap "rm -rf '$copy'" EXIT
+    mkdir "$copy/top"
+    copy_crate "$line" "tests/$name" "$copy/top"
+    copy_kit "$copy/kit"
+    # a hint of names that a check will refuse is not wanted
+    ln -sf /bin/true "$copy/kit/bin/rattle"
+    keep_module "$copy/kit" "$copy" -O2
+    replace_tool "$copy/kit" ld.lld << LINKER
+"\$tool" "\$@" || exit
+for word; do
+    [ "\$last" != -o ] || cp "\$word" "$copy/$name"
+    last=\$word
+done
+LINKER
+    (cd "$copy/top/crates/$name" && "$copy/kit/bin/rt" try --steps 1 -- "$@" < /dev/null > "$copy/said" 2>&1) || true
+    if [ ! -x "$copy/$name" ] || [ ! -f "$copy/module.bc" ]; then
+        cat "$copy/said" >&2
+        exit 1
+    fi
+    mv "$copy/$name" "$copy/module.bc" "$copy/flags" "$out"
+}
+
+# Has the program of a line, whose crate stands in tests/NAME, as tests/NAME/out/NAME, and prints where it is. Beside it stand module.bc,
+# the whole program as the compiler hands it to its clang, and the flags. What was compiled from the same texts is not compiled again, and
+# of two calls the second waits. Its run with these words has to be short. Use: build_checked LINE [WORD..]
+build_checked() {
+    local line=${1//$'\n   '/} out=$PWD/tests/${1%%:*}/out texts
+    shift
+    mkdir -p "$out"
+    exec 9> "$out/lock"
+    flock 9
+    texts=$(sum_of_texts "$line")
+    if [ "$(cat "$out/texts" 2> /dev/null)" != "$texts" ]; then
+        rm -f "$out/texts"
+        compile_checked "$line" "$out" "$@"
+        # (a text may have changed meanwhile)
+        [ "$(sum_of_texts "$line")" != "$texts" ] || echo "$texts" > "$out/texts"
+    fi
+    echo "$out/${line%%:*}"
+}
