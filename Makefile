@@ -73,4 +73,4 @@ $(AGENTS): $(shell find crates/ocf_types crates/ocf_codes crates/ocf_agents -nam
 	touch $@
 
 clean:
-	rm -rf crates/*/out tests/trials/out tests/failed
+	rm -rf crates/*/out tests/*/out tests/failed

@@ -33,7 +33,7 @@ def bytes_of(words):
 
 
 def scenarios():
-    with open(os.path.join(TOP, "crates/scenarios/stdin"), encoding="utf-8") as file:
+    with open(os.path.join(TOP, "tests/scenarios/stdin"), encoding="utf-8") as file:
         for text in file.read().split("\nscenario "):
             yield [line.split(" ") for line in text.split("\n") if line and not line.startswith("#")]
 

@@ -1,2 +1,0 @@
-pub mod PlannedChildren
-pub mod SharedDisk

@@ -1,0 +1,9 @@
+#!/usr/bin/env bash
+# Builds the player of scenarios, tests/scenarios/src, with checks, and prints where the program is; tests/lib/checked.sh says how. That
+# takes a minute and a half of one processor where a text has changed.
+# Use: build.sh
+set -eu
+cd "$(dirname "$0")/../.."
+. tests/lib/checked.sh
+build_checked 'scenarios: ocf_types disk_model event_wire exec_state exec_journal ocf_codes ocf_env child_model child_keeper executor
+    exec_commands exec_output hex anyhow'
