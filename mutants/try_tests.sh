@@ -55,20 +55,30 @@ compile() {
     [ -x "$1" ]
 }
 
+# Copies the files, with an edit or with none. Use: copy_edited NAME
+copy_edited() {
+    copy_tree
+    [ "$1" = unedited ] || make_edit "mutants/tests/$1.edit" 2> "$copy/said"
+}
+
 # Has the program with an edit, or with none, in $programs. Use: built NAME
 built() {
     [ ! -x "$programs/$1" ] || return 0
-    copy_tree
-    [ "$1" = unedited ] || make_edit "mutants/tests/$1.edit" 2> "$copy/said" || return 1
+    copy_edited "$1" || return 1
     compile "$programs/$1"
 }
 
-# Whether the check that an edit names, by its script and its sentence, says this word of a program. Use: says WORD EDIT PROGRAM
+# Whether the check that an edit names, by its script and its sentence, says this word with an edit, or with none. One that builds a
+# program itself, from the files that it stands among, stands in the copy for it. Use: says WORD EDIT NAME
 says() {
     local script sentence
     script=$(sed -n 's/^refused by: \([^,]*\).*/\1/p' "$2")
     sentence=$(sed -n 's/^refused by: [^,]*, //p' "$2")
-    ONLY=$sentence LIMIT=6000 timeout 6600 "$script" "$3" < /dev/null > "$copy/said" 2>&1 || true
+    if [ "$3" != unedited ] && head -n 5 "$script" | grep -c '^# check:.* builds' > /dev/null; then
+        copy_edited "$3" || return 1
+        script=$copy/top/$script
+    fi
+    ONLY=$sentence LIMIT=6000 timeout 6600 "$script" "$programs/$3" < /dev/null > "$copy/said" 2>&1 || true
     sed -n "s/^$1 *[0-9.]* s  [a-z_]*: //p" "$copy/said" | grep -c -x -F -e "$sentence" > /dev/null
 }
 
@@ -77,9 +87,9 @@ try() {
     local edit=mutants/tests/$1.edit
     if ! built "$1"; then
         fate="NOT TRIED: it was not compiled"
-    elif ! says ok "$edit" "$programs/unedited"; then
+    elif ! says ok "$edit" unedited; then
         fate="NOT TRIED: its check does not pass without it"
-    elif ! says failed "$edit" "$programs/$1"; then
+    elif ! says failed "$edit" "$1"; then
         fate="NOT REFUSED"
     else
         fate="refused"
