@@ -428,6 +428,54 @@ class Growths(helper.Check):
         # a part in memory that can't grow is a device that failed
         self.shows(folder, ["show", "--memory"], (0, 4, 5, 7))
 
+    def test_status(self):
+        """a status, for a program"""
+        folder = self.prepared(helper.register("r1", "Dummy", a="b"), helper.action("r1", "start"), helper.register("r2", "Dummy"))
+        self.shows(folder, ["status", "--json", "--journal", folder], (0, 4, 7))
+
+    def noticed(self, words, steps, key, before=None):
+        # each growth refused: a notice with this key is the one of a run without it, or the run ends by a reply without memory
+        self.before = before
+        folder = self.fresh()
+        words = [word.replace("JOURNAL", folder) for word in words]
+        base, ends, refuse = self.play(words, steps), collections.Counter(), 1
+        with_key = [value for value in loose(base.told(), ("run",)) if key in value]
+        self.assertEqual((base.status, len(with_key)), (0, 1), base.told())
+        while True:
+            self.fresh()
+            if not (found := self.play(words, steps, refuse)).refused:
+                break
+            with self.subTest(refused=refuse):
+                ends[found.status] += 1
+                self.assertIn(found.status, ENDS, found.err)
+                self.assertIn(ENDS[found.status], found.err)
+                self.assertTrue(all(value in with_key for value in loose(found.told(), ("run",)) if key in value), "its notice")
+                if found.status == 7:
+                    self.stands(steps, found, folder)
+            refuse += 1
+        print(f"growths: {words[0]} {self._testMethodName}: {base.made} growths, by status: {dict(sorted(ends.items()))}", flush=True)
+
+    def test_signal(self):
+        """a notice of a start that a signal ended"""
+        self.agent("Killed", "kill -9 $$\n")
+        self.noticed(self.words("serve"), [Step(helper.register("r1", "Killed")), Step(helper.action("r1", "start"), awaits=True), Step(LIST)],
+                     "signal")
+
+    def test_lives(self):
+        """a notice of a start that lives on"""
+        pid, folder = self.place("pid"), self.journal("prepared")
+        self.agent("Slow", f"echo $$ > {pid}\nsleep 600\n:\n")
+        run = helper.Heard("serve", "--journal", folder, "--root", self.here, "--path", "/usr/bin:/bin")
+        run.tell(helper.register("r1", "Slow"), helper.action("r1", "start", timeout=900_000))
+        until = time.monotonic() + 10
+        while not (os.path.exists(pid) and os.path.getsize(pid)):
+            self.assertLess(time.monotonic(), until, "the start is under way")
+            time.sleep(0.005)
+        with open(pid, encoding="ascii") as number:
+            self.addCleanup(os.kill, int(number.read()), 9)
+        run.killed()
+        self.noticed(self.words("serve", "--leave-orphans"), [Step(LIST)], "lives", folder)
+
     def test_memory(self):
         """a journal in memory: a part that can't grow is a device that failed"""
         base, ends, refuse = self.play(["run", "--memory"], self.listed()), collections.Counter(), 1

@@ -1,11 +1,13 @@
 -- What is written where the lines break off.
-use Rattle.std.proofs.Common.{◌≡◌, ℕ, ◌+◌, ◌<◌, List, [], ◌++◌, Result, Ok, Err, IfErr, IfOk, OnErr, Option, drop, get_or, length, take, take-append-drop, append_assoc, refl, sym, ap, subst, ◌∙◌}
+use Rattle.std.proofs.Common.{◌≡◌, ◌≢◌, ℕ, ◌+◌, ◌<◌, List, [], ◌++◌, Result, Ok, Err, IfErr, IfOk, OnErr, Option, drop, get_or, length, take, take-append-drop, append_assoc, refl, sym, ap, subst, ◌∙◌}
 use Rattle.std.proofs.lemmas.List.Concat.{flat_map-append}
 use Rattle.std.proofs.KnownBytes.{Appends-nil, Appends-trans}
 use Rattle.std.specs.List.{flat_map}
 use Rattle.std.specs.Io.KnownBytes.{Appends}
 use Rattle.ocf_types.specs.Laws.{flat_more}
 use Rattle.exec_lines.specs.Fronts.{AppendsFront}
+use Rattle.exec_output.specs.declared.send.IoFault.{IoFault}
+use Rattle.exec_output.specs.declared.send.IoFault.TheVariants.{Memory}
 
 -- nothing is a front
 front_none : (a b : Option (List ℕ)) (bytes : List ℕ) → b ≡ a → AppendsFront a b bytes
@@ -19,6 +21,13 @@ pub front_made : {T E V M : Type 0} (items : V → List ℕ) (line : Result V M)
 front_made items (Ok v) r a b bytes is front none = subst (λ (l : List ℕ). OnErr r (AppendsFront a b l)) is front
 front_made items (Err m) (Ok done) a b bytes is front none = tt
 front_made items (Err m) (Err e) a b bytes is front none = front_none a b bytes none
+
+-- a line that was made meets no want of memory, and one that was not made meets it where the allocator refuses
+pub memory_of : {T V M : Type 0} (line : Result V M) (r : Result T IoFault) (X : Type 0)
+    → IfOk line (λ _. IfErr r (λ f. f ≢ Memory)) → OnErr line X → IfErr r (λ f. f ≡ Memory → X)
+memory_of line (Ok done) X only refused = tt
+memory_of (Ok v) (Err f) X only refused = λ is. absurd (only is)
+memory_of (Err m) (Err f) X only refused = λ is. refused
 
 -- all lines: those before one of them, its two parts, and those behind it
 lines_part : (done line front rest later : List ℕ) → line ≡ front ++ rest → (done ++ line) ++ later ≡ (done ++ front) ++ (rest ++ later)

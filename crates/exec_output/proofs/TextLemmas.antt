@@ -1,6 +1,6 @@
 -- What is written, one item after the other.
-use Rattle.std.proofs.Common.{◌≡◌, inl, inr, ℕ, ◌+◌, ◌<◌, List, [], Result, Ok, Err, OnOk, Option, length, map, take}
-use Rattle.std.proofs.Common.{get_or, sym, ap, subst, ◌∙◌}
+use Rattle.std.proofs.Common.{◌≡◌, inl, inr, ℕ, ◌+◌, ◌<◌, Bool, IsTrue, List, [], Result, Ok, Err, OnOk, Option, length, map, take}
+use Rattle.std.proofs.Common.{get_or, refl, sym, ap, subst, ◌∙◌}
 use Rattle.std.specs.List.{flat_map}
 use Rattle.std.specs.Io.KnownBytes.{Appends}
 use Rattle.std.proofs.KnownBytes.{Appends-trans}
@@ -13,6 +13,9 @@ use Rattle.ocf_types.specs.declared.reply.ReplyOf.TheVariants as reply
 use Rattle.exec_state.specs.Answers.{IsReplyOrMemory}
 use Rattle.exec_commands.specs.declared.reply.LineReply.TheVariants.{Request}
 use Rattle.exec_commands.specs.Replies.{reply_line}
+use Rattle.exec_journal.specs.declared.fault.JournalFault.{JournalFault}
+use Rattle.exec_journal.specs.declared.fault.JournalFault.TheVariants as journal
+use Rattle.exec_output.specs.Faults.{HasCause, opening_fault}
 use Rattle.exec_output.specs.Shown.{answer_line, resource_lines, shown}
 
 -- one item more
@@ -41,3 +44,9 @@ shows s ids given (Ok x) a b c answer is list rest =
     (subst (λ g. Appends a b (reply_line (Request g))) (is ∙ ap reply.List same) list)
     (subst (λ l. Appends b c (flat_map (resource_lines s) l)) same rest)
 shows s ids given (Err e) a b c answer is list rest = tt
+
+-- a journal that was not opened for want of memory ends the program so for the same cause
+pub opening_cause : (refuses : Bool) (f : JournalFault) → (f ≡ journal.Memory → IsTrue refuses) → HasCause refuses (opening_fault f)
+opening_cause refuses journal.Disk cause = tt
+opening_cause refuses (journal.Damaged damage) cause = tt
+opening_cause refuses journal.Memory cause = cause refl

@@ -1,5 +1,5 @@
 -- The faults that end the program: their exit statuses, the words of their texts, and what can be done about them.
-use Rattle.std.specs.Prelude.{ℕ, ⊤, List, Option, Some, None, Result, Ok, Err, codes}
+use Rattle.std.specs.Prelude.{ℕ, ⊤, Bool, IsTrue, List, Option, Some, None, Result, Ok, Err, codes}
 use Rattle.ocf_types.specs.declared.part.Part.{Part}
 use Rattle.ocf_types.specs.declared.part.Part.TheVariants.{A, B}
 use Rattle.two_parts.specs.declared.damage.Cause.{Cause}
@@ -94,3 +94,9 @@ IsRunEnd (Err fault.Log) = ⊥
 IsRunEnd (Err fault.NotOpened) = ⊥
 IsRunEnd (Err fault.NoJournal) = ⊥
 IsRunEnd (Err _) = ⊤
+
+-- the program ends so for want of memory only where the allocator refuses growths
+abbrev pub HasCause : Bool → Fault → Type 0
+HasCause refuses fault.Memory = IsTrue refuses
+HasCause refuses fault.ReplyMemory = IsTrue refuses
+HasCause refuses _ = ⊤

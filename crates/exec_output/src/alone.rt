@@ -1,12 +1,14 @@
 //! What a journal holds of one resource.
-ghost use Rattle.std.specs.Prelude.{◌≡◌, ◌<◌, IfNone, IfSome, Ok, false, length, true};
+ghost use Rattle.std.specs.Prelude.{◌≡◌, ◌<◌, IfNone, IfSome, Ok, false, length, true, IsTrue, IfErr};
 ghost use Rattle.std.specs.Io.KnownBytes.{Appends};
 ghost use Rattle.ocf_types.specs.Places.{id_at};
+ghost use Rattle.exec_output.specs.declared.send.IoFault.TheVariants.{Memory};
 ghost use Rattle.exec_output.specs.Shown.{IsRegistered, resource_lines};
 
 use crate::send::IoFault;
 use crate::shown::write_resource;
 use exec_state::State;
+use growth::Grows;
 use ocf_types::StateView;
 use std::alloc::Global;
 use std::io::Write;
@@ -38,6 +40,7 @@ pub(crate) fn write_one<W: Write>(
         (resource_lines state.now.state id.now) }
     ensures none { result ≡ Ok false → ¬ IsRegistered state.now.state id.now }
     ensures unwritten { result ≡ Ok false → W.contents writer.new ≡ W.contents writer.old }
+    ensures memory { IfErr result (λ f. f ≡ Memory → IsTrue ⟦<Global as Grows>⟧.refuses) }
 {
     let Some(place) = place_of(state, id) else {
         return Ok(false);

@@ -1,5 +1,5 @@
 //! What stands below a resource's row: its last results, its monitors, what failed last and its history, a line each.
-ghost use Rattle.std.specs.Prelude.{◌≡◌, ◌<◌, ◌-◌, ◌++◌, length, replicate, OnOk};
+ghost use Rattle.std.specs.Prelude.{◌≡◌, ◌<◌, ◌-◌, ◌++◌, length, replicate, OnOk, IsTrue, OnErr};
 ghost use Rattle.std.specs.List.{flat_map};
 ghost use Rattle.ocf_types.specs.Places.{at_place};
 ghost use Rattle.exec_output.specs.Texts.{colour_of, painted};
@@ -11,6 +11,7 @@ use crate::look::Look;
 use crate::meanings::{Tone, meaning, tone_of};
 use crate::spans::{add, add_ago, add_due, add_exactly, add_number, add_span};
 use exec_state::State;
+use growth::{Grows, append, vec_of};
 use ocf_types::{Action, CallId, Ended, Recur, StateView};
 use std::alloc::{AllocError, Global};
 
@@ -19,7 +20,8 @@ const COLUMNS: usize = 13;
 
 /// Adds spaces up to a column, behind so many bytes that stand before it.
 pub fn pad(text: &mut Vec<u8>, taken: usize, columns: usize) -> Result<(), AllocError>
-    ensures { OnOk result (text.new.items ≡ text.old.items ++ replicate (columns - taken) 32) }
+    ensures text { OnOk result (text.new.items ≡ text.old.items ++ replicate (columns - taken) 32) }
+    ensures memory { OnErr result (IsTrue ⟦<Global as Grows>⟧.refuses) }
 {
     for _ in 0..columns.saturating_sub(taken) {
         add(text, " ")?;
@@ -29,10 +31,11 @@ pub fn pad(text: &mut Vec<u8>, taken: usize, columns: usize) -> Result<(), Alloc
 
 // Begins the line of an action or of a monitor.
 fn begin(text: &mut Vec<u8>, name: &[u8]) -> Result<(), AllocError>
-    ensures { OnOk result (text.new.items ≡ text.old.items ++ set_in name.now) }
+    ensures text { OnOk result (text.new.items ≡ text.old.items ++ set_in name.now) }
+    ensures memory { OnErr result (IsTrue ⟦<Global as Grows>⟧.refuses) }
 {
     add(text, "\n  ")?;
-    text.extend_from_slice(name)?;
+    append(text, name)?;
     pad(text, name.len(), COLUMNS)?;
     add(text, " ")
 }
@@ -55,7 +58,8 @@ pub fn add_painted(
     tone: Tone,
     more: &str,
 ) -> Result<(), AllocError>
-    ensures { OnOk result (text.new.items ≡ text.old.items ++ painted colours tone more.now) }
+    ensures text { OnOk result (text.new.items ≡ text.old.items ++ painted colours tone more.now) }
+    ensures memory { OnErr result (IsTrue ⟦<Global as Grows>⟧.refuses) }
 {
     if !colours {
         return add(text, more);
@@ -67,7 +71,8 @@ pub fn add_painted(
 
 // What a result means, in its colour, and how long ago that was.
 fn add_result(text: &mut Vec<u8>, look: &Look, ended: &Ended) -> Result<(), AllocError>
-    ensures { OnOk result (text.new.items ≡ text.old.items ++ result_text look.now ended.now) }
+    ensures text { OnOk result (text.new.items ≡ text.old.items ++ result_text look.now ended.now) }
+    ensures memory { OnErr result (IsTrue ⟦<Global as Grows>⟧.refuses) }
 {
     let meant = meaning(ended.action, ended.outcome);
     add_painted(text, look.colours, tone_of(ended.outcome), meant)?;
@@ -128,9 +133,10 @@ fn add_action(
     action: Action,
 ) -> Result<(), AllocError>
     requires { place < length state.now.state.resources }
-    ensures { OnOk result (text.new.items
+    ensures text { OnOk result (text.new.items
         ≡ text.old.items ++ action_line look.now
         (at_place state.now.state place).history.ended action) }
+    ensures memory { OnErr result (IsTrue ⟦<Global as Grows>⟧.refuses) }
 {
     match last_asked(state, place, action) {
         Some(ended) => {
@@ -149,9 +155,10 @@ fn add_actions(
     place: usize,
 ) -> Result<(), AllocError>
     requires { place < length state.now.state.resources }
-    ensures { OnOk result (text.new.items
+    ensures text { OnOk result (text.new.items
         ≡ text.old.items ++ flat_map
         (action_line look.now (at_place state.now.state place).history.ended) told_actions) }
+    ensures memory { OnErr result (IsTrue ⟦<Global as Grows>⟧.refuses) }
 {
     add_action(text, look, state, place, Action::Monitor)?;
     add_action(text, look, state, place, Action::Start)?;
@@ -169,8 +176,9 @@ fn add_last(
     recur: &Recur,
     last: Option<Ended>,
 ) -> Result<(), AllocError>
-    ensures { OnOk result (text.new.items
+    ensures text { OnOk result (text.new.items
         ≡ text.old.items ++ monitor_text look.now recur.now last) }
+    ensures memory { OnErr result (IsTrue ⟦<Global as Grows>⟧.refuses) }
 {
     match last {
         Some(ended) => {
@@ -192,11 +200,12 @@ fn add_monitor(
     recur: &Recur,
 ) -> Result<(), AllocError>
     requires { place < length state.now.state.resources }
-    ensures { OnOk result (text.new.items
+    ensures text { OnOk result (text.new.items
         ≡ text.old.items ++ monitor_line look.now
         (at_place state.now.state place).history.ended recur.now) }
+    ensures memory { OnErr result (IsTrue ⟦<Global as Grows>⟧.refuses) }
 {
-    let mut name = Vec::from_slice(alloc, b"every ")?;
+    let mut name = vec_of(alloc, b"every ")?;
     add_exactly(&mut name, u64::from(recur.interval.get()))?;
     begin(text, name.as_slice())?;
     add_last(text, look, recur, last_run(state, place, recur.call))
@@ -210,10 +219,11 @@ fn add_monitors(
     place: usize,
 ) -> Result<(), AllocError>
     requires { place < length state.now.state.resources }
-    ensures { OnOk result (text.new.items
+    ensures text { OnOk result (text.new.items
         ≡ text.old.items ++ flat_map
         (monitor_line look.now (at_place state.now.state place).history.ended)
         (at_place state.now.state place).recurring) }
+    ensures memory { OnErr result (IsTrue ⟦<Global as Grows>⟧.refuses) }
 {
     for at in 0..state.recurring_len(place) {
         let recur = state.recurring_at(place, at);
@@ -224,7 +234,8 @@ fn add_monitors(
 
 // What failed last, and no line where nothing has.
 fn add_failure(text: &mut Vec<u8>, look: &Look, failed: &Option<Ended>) -> Result<(), AllocError>
-    ensures { OnOk result (text.new.items ≡ text.old.items ++ failure_line look.now failed.now) }
+    ensures text { OnOk result (text.new.items ≡ text.old.items ++ failure_line look.now failed.now) }
+    ensures memory { OnErr result (IsTrue ⟦<Global as Grows>⟧.refuses) }
 {
     let Some(ended) = failed else {
         return Ok(());
@@ -237,7 +248,8 @@ fn add_failure(text: &mut Vec<u8>, look: &Look, failed: &Option<Ended>) -> Resul
 
 // A line of the history.
 fn add_past(text: &mut Vec<u8>, look: &Look, ended: &Ended) -> Result<(), AllocError>
-    ensures { OnOk result (text.new.items ≡ text.old.items ++ past_line look.now ended.now) }
+    ensures text { OnOk result (text.new.items ≡ text.old.items ++ past_line look.now ended.now) }
+    ensures memory { OnErr result (IsTrue ⟦<Global as Grows>⟧.refuses) }
 {
     add(text, "\n  call ")?;
     add_number(text, ended.call.get())?;
@@ -257,9 +269,10 @@ fn add_results(
     place: usize,
 ) -> Result<(), AllocError>
     requires { place < length state.now.state.resources }
-    ensures { OnOk result (text.new.items
+    ensures text { OnOk result (text.new.items
         ≡ text.old.items ++ flat_map (past_line look.now)
         (at_place state.now.state place).history.ended) }
+    ensures memory { OnErr result (IsTrue ⟦<Global as Grows>⟧.refuses) }
 {
     for at in 0..state.ended_len(place) {
         add_past(text, look, &state.ended_at(place, at))?;
@@ -275,8 +288,9 @@ fn add_history(
     place: usize,
 ) -> Result<(), AllocError>
     requires { place < length state.now.state.resources }
-    ensures { OnOk result (text.new.items
+    ensures text { OnOk result (text.new.items
         ≡ text.old.items ++ history_text look.now (at_place state.now.state place).history.ended) }
+    ensures memory { OnErr result (IsTrue ⟦<Global as Grows>⟧.refuses) }
 {
     match look.only {
         Some(_) => {
@@ -296,8 +310,9 @@ pub fn add_lines(
     place: usize,
 ) -> Result<(), AllocError>
     requires { place < length state.now.state.resources }
-    ensures { OnOk result (text.new.items
+    ensures text { OnOk result (text.new.items
         ≡ text.old.items ++ lines_text look.now (at_place state.now.state place)) }
+    ensures memory { OnErr result (IsTrue ⟦<Global as Grows>⟧.refuses) }
 {
     add_actions(text, look, state, place)?;
     add_monitors(alloc, text, look, state, place)?;

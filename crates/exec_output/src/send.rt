@@ -1,18 +1,17 @@
 //! Replies and notices, as they go out.
-ghost use Rattle.std.specs.Prelude.{◌≡◌, None, OnErr, OnOk, IfOk, IfErr, Err};
+ghost use Rattle.std.specs.Prelude.{◌≡◌, ◌≢◌, None, OnErr, OnOk, IfOk, IfErr, IsTrue, Err};
 ghost use Rattle.std.specs.Io.KnownBytes.{Appends};
 ghost use Rattle.std.specs.List.{flat_map};
-ghost use Rattle.std.specs.IoError.{error_kind};
 ghost use Rattle.exec_commands.specs.Replies.{formed_line, reply_line, request_line};
 ghost use Rattle.exec_lines.specs.Fronts.{AppendsFront};
-ghost use Rattle.exec_output.specs.IoFaults.{io_fault_of};
-ghost use Rattle.exec_output.specs.declared.send.IoFault.TheVariants.{Memory};
+ghost use Rattle.exec_output.specs.declared.send.IoFault.TheVariants.{InputOrOutput, Memory};
 
 use exec_commands::{LineReply, NoticeForm, write_notice, write_reply, write_request_reply};
 use exec_lines::{write_bytes, write_flushed};
+use growth::Grows;
 use ocf_types::{Notice, Reply};
 use std::alloc::{AllocError, Global};
-use std::io::{self, ErrorKind, Write};
+use std::io::{self, Write};
 
 /// Why a run stops before its input ends.
 #[derive(Drop)]
@@ -24,13 +23,10 @@ pub enum IoFault {
 }
 
 impl From<io::Error> for IoFault {
-    ghost from_gives = { λ error stopped. stopped ≡ io_fault_of (error_kind error) };
+    ghost from_gives = { λ _ stopped. stopped ≡ InputOrOutput };
 
-    fn from(error: io::Error) -> IoFault {
-        match error.kind() {
-            ErrorKind::OutOfMemory => IoFault::Memory,
-            _ => IoFault::InputOrOutput,
-        }
+    fn from(_: io::Error) -> IoFault {
+        IoFault::InputOrOutput
     }
 }
 
@@ -52,6 +48,7 @@ fn send_line<W: Write>(writer: &mut W, line: Result<Vec<u8>, AllocError>) -> Res
         (λ bytes. OnErr result
         (AppendsFront (W.contents writer.old) (W.contents writer.new) bytes.items)) }
     ensures memory { IfErr line (λ _. result ≡ Err Memory) }
+    ensures only { IfOk line (λ _. IfErr result (λ f. f ≢ Memory)) }
     ensures unwritten { IfErr line (λ _. W.contents writer.new ≡ W.contents writer.old) }
 {
     write_flushed(writer, line?.as_slice())?;
@@ -64,6 +61,7 @@ pub fn send_reply<W: Write>(alloc: Global, writer: &mut W, reply: &LineReply) ->
         (Appends (W.contents writer.old) (W.contents writer.new) (reply_line reply.now)) }
     ensures front { OnErr result
         (AppendsFront (W.contents writer.old) (W.contents writer.new) (reply_line reply.now)) }
+    ensures memory { IfErr result (λ f. f ≡ Memory → IsTrue ⟦<Global as Grows>⟧.refuses) }
 {
     send_line(writer, write_reply(alloc, reply))
 }
@@ -74,6 +72,7 @@ fn put_reply<W: Write>(alloc: Global, writer: &mut W, reply: &Reply) -> Result<(
         (Appends (W.contents writer.old) (W.contents writer.new) (request_line reply.now)) }
     ensures front { OnErr result
         (AppendsFront (W.contents writer.old) (W.contents writer.new) (request_line reply.now)) }
+    ensures memory { IfErr result (λ f. f ≡ Memory → IsTrue ⟦<Global as Grows>⟧.refuses) }
 {
     let line = write_request_reply(alloc, reply)?;
     write_bytes(writer, line.as_slice())?;
@@ -88,6 +87,7 @@ fn put_replies<W: Write>(alloc: Global, writer: &mut W, replies: &[Reply]) -> Re
     ensures front { OnErr result
         (AppendsFront (W.contents writer.old) (W.contents writer.new)
         (flat_map request_line replies.now)) }
+    ensures memory { IfErr result (λ f. f ≡ Memory → IsTrue ⟦<Global as Grows>⟧.refuses) }
 {
     for reply in replies {
         put_reply(alloc, writer, reply)?;
@@ -107,6 +107,7 @@ pub fn send_replies<W: Write>(
     ensures front { OnErr result
         (AppendsFront (W.contents writer.old) (W.contents writer.new)
         (flat_map request_line replies.now)) }
+    ensures memory { IfErr result (λ f. f ≡ Memory → IsTrue ⟦<Global as Grows>⟧.refuses) }
 {
     put_replies(alloc, writer, replies)?;
     writer.flush()?;
@@ -128,6 +129,7 @@ pub fn send_notice<W: Write>(
     ensures front { OnErr result
         (AppendsFront (W.contents writer.old) (W.contents writer.new)
         (formed_line form.entry signal notice.now)) }
+    ensures memory { IfErr result (λ f. f ≡ Memory → IsTrue ⟦<Global as Grows>⟧.refuses) }
 {
     send_line(writer, write_notice(alloc, form, notice, signal))
 }
@@ -146,6 +148,7 @@ pub fn send_notices<W: Write>(
     ensures front { OnErr result
         (AppendsFront (W.contents writer.old) (W.contents writer.new)
         (flat_map (formed_line form.entry None) notices.now)) }
+    ensures memory { IfErr result (λ f. f ≡ Memory → IsTrue ⟦<Global as Grows>⟧.refuses) }
 {
     for notice in notices {
         send_notice(alloc, writer, form, notice, None)?;

@@ -1,10 +1,11 @@
 //! What a journal holds.
-ghost use Rattle.std.specs.Prelude.{◌≡◌, IsErrOf, OnOk};
+ghost use Rattle.std.specs.Prelude.{◌≡◌, IsErrOf, OnOk, IsTrue, IfErr};
 ghost use Rattle.std.specs.Io.KnownBytes.{Appends};
 ghost use Rattle.std.specs.List.{flat_map};
 ghost use Rattle.disk_model.specs.View.{Increased};
 ghost use Rattle.exec_journal.specs.Opening.{Opens};
-ghost use Rattle.exec_output.specs.Faults.{IsRunEnd, opening_fault};
+ghost use Rattle.exec_output.specs.Faults.{HasCause, IsRunEnd, opening_fault};
+ghost use Rattle.exec_output.specs.declared.send.IoFault.TheVariants.{Memory};
 ghost use Rattle.exec_output.specs.Shown.{ShowsAs, answer_line, resource_lines, shown};
 
 use crate::fault::Fault;
@@ -13,23 +14,25 @@ use disk_model::Disk;
 use exec_commands::LineReply;
 use exec_journal::{Journal, JournalFault};
 use exec_state::State;
-use ocf_types::{Question, Reply, RscId};
+use growth::Grows;
+use ocf_types::{Question, Refusal, Reply, RscId};
 use std::alloc::Global;
 use std::io::Write;
 
-// Answers a question; it stops where memory is refused.
+// Answers a question.
 fn write_answer<W: Write>(
     alloc: Global,
     writer: &mut W,
     state: &State,
     question: &Question,
 ) -> Result<(), IoFault>
-    ensures { OnOk result
+    ensures written { OnOk result
         (Appends (W.contents writer.old) (W.contents writer.new)
         (answer_line state.now.state question.now)) }
+    ensures memory { IfErr result (λ f. f ≡ Memory → IsTrue ⟦<Global as Grows>⟧.refuses) }
 {
     match state.answer(alloc, question) {
-        Reply::Refused(_) => Err(IoFault::Memory),
+        Reply::Refused(Refusal::Memory) => Err(IoFault::Memory),
         reply => send_reply(alloc, writer, &LineReply::Request(reply)),
     }
 }
@@ -41,9 +44,10 @@ pub(crate) fn write_resource<W: Write>(
     state: &State,
     id: &RscId,
 ) -> Result<(), IoFault>
-    ensures { OnOk result
+    ensures written { OnOk result
         (Appends (W.contents writer.old) (W.contents writer.new)
         (resource_lines state.now.state id.now)) }
+    ensures memory { IfErr result (λ f. f ≡ Memory → IsTrue ⟦<Global as Grows>⟧.refuses) }
 {
     write_answer(alloc, writer, state, &Question::Info(id.copied()))?;
     write_answer(alloc, writer, state, &Question::History(id.copied()))
@@ -55,9 +59,10 @@ fn write_resources<W: Write>(
     state: &State,
     ids: &[RscId],
 ) -> Result<(), IoFault>
-    ensures { OnOk result
+    ensures written { OnOk result
         (Appends (W.contents writer.old) (W.contents writer.new)
         (flat_map (resource_lines state.now.state) ids.now)) }
+    ensures memory { IfErr result (λ f. f ≡ Memory → IsTrue ⟦<Global as Grows>⟧.refuses) }
 {
     for id in ids {
         write_resource(alloc, writer, state, id)?;
@@ -71,8 +76,9 @@ pub(crate) fn write_state<W: Write>(
     writer: &mut W,
     state: &State,
 ) -> Result<(), IoFault>
-    ensures { OnOk result
+    ensures written { OnOk result
         (Appends (W.contents writer.old) (W.contents writer.new) (shown state.now.state)) }
+    ensures memory { IfErr result (λ f. f ≡ Memory → IsTrue ⟦<Global as Grows>⟧.refuses) }
 {
     let reply = LineReply::Request(state.answer(alloc, &Question::List));
     let LineReply::Request(Reply::List(ids)) = &reply else {
@@ -96,6 +102,7 @@ pub(crate) fn opening_fault(fault: JournalFault) -> Fault
 /// Opens a journal without a boot and writes what it holds: the reply of `list`, and then of each resource those of `info`
 /// and `history`. It is all written, or the fault is that of input or output, or of memory for a reply. The disk is handed
 /// back.
+#[tactic(auto, using(crate::proofs::TextLemmas::opening_cause))]
 pub fn show<D: Disk + Drop, W: Write>(
     alloc: Global,
     disk: D,
@@ -107,6 +114,7 @@ pub fn show<D: Disk + Drop, W: Write>(
     ensures cause { IsErrOf result.1 Fault.Disk
         → Increased (D.view disk).failures (D.view result.0).failures }
     ensures ends { IsRunEnd result.1 }
+    ensures memory { IfErr result.1 (HasCause ⟦<Global as Grows>⟧.refuses) }
 {
     match Journal::open(alloc, disk) {
         Ok((journal, state)) => match write_state(alloc, writer, &state) {

@@ -1,8 +1,8 @@
 //! What a journal holds, for a person.
-ghost use Rattle.std.specs.Prelude.{IsErrOf, IfOk, IfErr, IfSome, IfNone};
+ghost use Rattle.std.specs.Prelude.{IsErrOf, IfOk, IfErr, IfSome, IfNone, ◌≡◌};
 ghost use Rattle.disk_model.specs.View.{Increased};
 ghost use Rattle.exec_journal.specs.Opening.{Opens};
-ghost use Rattle.exec_output.specs.Faults.{IsRunEnd};
+ghost use Rattle.exec_output.specs.Faults.{HasCause, IsRunEnd};
 ghost use Rattle.exec_output.specs.Tables.{IsTableTold, IsToldAs, IsWritten, NotWritten, TellsAs};
 
 use crate::alarm::is_alarm;
@@ -14,6 +14,7 @@ use disk_model::Disk;
 use exec_journal::Journal;
 use exec_lines::write_flushed;
 use exec_state::State;
+use growth::Grows;
 use std::alloc::{AllocError, Global};
 use std::io::Write;
 
@@ -22,7 +23,7 @@ fn write_made<W: Write>(
     writer: &mut W,
     made: Result<Option<Vec<u8>>, AllocError>,
 ) -> Result<(), Fault>
-    ensures memory { IfErr made
+    ensures refused { IfErr made
         (λ _. NotWritten (W.contents writer.old) (W.contents writer.new) Fault.ReplyMemory result) }
     ensures none { IfOk made
         (λ found. IfNone found
@@ -48,8 +49,9 @@ fn write_table<W: Write>(
     look: &Look,
     state: &State,
 ) -> Result<(), Fault>
-    ensures { IsTableTold look.now state.now.state (W.contents writer.old)
+    ensures told { IsTableTold look.now state.now.state (W.contents writer.old)
         (W.contents writer.new) result }
+    ensures memory { IfErr result (HasCause ⟦<Global as Grows>⟧.refuses) }
 {
     write_made(writer, table_of(alloc, look, state))
 }
@@ -57,8 +59,9 @@ fn write_table<W: Write>(
 // Writes the table of a state, and tells where a resource asks for a person.
 #[tactic(auto, using(crate::proofs::AlarmLemmas::untold))]
 fn tell<W: Write>(alloc: Global, writer: &mut W, look: &Look, state: &State) -> Result<(), Fault>
-    ensures { IsToldAs look.now state.now.state (W.contents writer.old)
+    ensures told { IsToldAs look.now state.now.state (W.contents writer.old)
         (W.contents writer.new) result }
+    ensures memory { IfErr result (HasCause ⟦<Global as Grows>⟧.refuses) }
 {
     if let Err(fault) = write_table(alloc, writer, look, state) {
         return Err(fault);
@@ -74,7 +77,7 @@ fn tell<W: Write>(alloc: Global, writer: &mut W, look: &Look, state: &State) -> 
 /// resource that is asked for, in order of registration, with its last results, its monitors and, of one that is asked for, its
 /// history. It is all written, or the fault is that of input or output, or of memory for a reply, or that there is no such
 /// resource. The disk is handed back.
-#[tactic(auto, using(crate::proofs::RowLemmas::tells))]
+#[tactic(auto, using(crate::proofs::RowLemmas::tells, crate::proofs::TextLemmas::opening_cause))]
 pub fn status<D: Disk + Drop, W: Write>(
     alloc: Global,
     disk: D,
@@ -88,6 +91,7 @@ pub fn status<D: Disk + Drop, W: Write>(
     ensures cause { IsErrOf result.1 Fault.Disk
         → Increased (D.view disk).failures (D.view result.0).failures }
     ensures ends { IsRunEnd result.1 }
+    ensures memory { IfErr result.1 (HasCause ⟦<Global as Grows>⟧.refuses) }
 {
     match Journal::open(alloc, disk) {
         Ok((journal, state)) => {

@@ -1,5 +1,5 @@
 //! A journal's state as a table for a person: a row of each resource, with lines below it.
-ghost use Rattle.std.specs.Prelude.{◌≡◌, ◌<◌, ◌-◌, ◌++◌, [], length, OnOk, IfOk, IfSome, IfNone};
+ghost use Rattle.std.specs.Prelude.{◌≡◌, ◌<◌, ◌-◌, ◌++◌, [], length, OnOk, IfOk, IfSome, IfNone, IsTrue, OnErr};
 ghost use Rattle.ocf_types.specs.Places.{entry_at, at_place};
 ghost use Rattle.exec_output.specs.Tables.{agent_text, AreRows, gap, IsHead, IsRow, IsTable, asked_entries};
 ghost use Rattle.exec_output.specs.Told.{now_text, queued_text, running_text, told};
@@ -9,6 +9,7 @@ use crate::lines::{add_lines, pad};
 use crate::look::Look;
 use crate::spans::{add, add_number, add_since};
 use exec_state::State;
+use growth::{Grows, append, vec_of};
 use ocf_types::{Running, StateView};
 use std::alloc::{AllocError, Global};
 use std::str::from_utf8;
@@ -33,11 +34,12 @@ fn width(text: &[u8]) -> usize {
 // The agent of a resource, as `heartbeat:nginx`.
 fn agent_of(alloc: Global, state: &State, place: usize) -> Result<Vec<u8>, AllocError>
     requires { place < length state.now.state.resources }
-    ensures { IfOk result (λ text. text.items ≡ agent_text (at_place state.now.state place)) }
+    ensures text { IfOk result (λ text. text.items ≡ agent_text (at_place state.now.state place)) }
+    ensures memory { OnErr result (IsTrue ⟦<Global as Grows>⟧.refuses) }
 {
-    let mut text = Vec::from_slice(alloc, state.provider_at(place).as_bytes())?;
-    text.extend_from_slice(b":")?;
-    text.extend_from_slice(state.agent_at(place).as_bytes())?;
+    let mut text = vec_of(alloc, state.provider_at(place).as_bytes())?;
+    append(&mut text, b":")?;
+    append(&mut text, state.agent_at(place).as_bytes())?;
     Ok(text)
 }
 
@@ -49,13 +51,16 @@ fn condition_width(
     place: usize,
 ) -> Result<usize, AllocError>
     requires { place < length state.now.state.resources }
+    ensures memory { OnErr result (IsTrue ⟦<Global as Grows>⟧.refuses) }
 {
     let text = condition_text(alloc, look.moment, false, state, place)?;
     Ok(width(text.as_slice()))
 }
 
 // Columns that are wide enough for the resources that are asked for.
-fn columns_of(alloc: Global, look: &Look, state: &State) -> Result<Columns, AllocError> {
+fn columns_of(alloc: Global, look: &Look, state: &State) -> Result<Columns, AllocError>
+    ensures memory { OnErr result (IsTrue ⟦<Global as Grows>⟧.refuses) }
+{
     let mut ids = "RESOURCE".len();
     let mut agents = "AGENT".len();
     let mut conditions = "STATE".len();
@@ -75,7 +80,8 @@ fn columns_of(alloc: Global, look: &Look, state: &State) -> Result<Columns, Allo
 
 // The gap behind what stands in a column.
 fn add_gap(text: &mut Vec<u8>, taken: usize, column: usize) -> Result<(), AllocError>
-    ensures { OnOk result (text.new.items ≡ text.old.items ++ gap (column - taken)) }
+    ensures text { OnOk result (text.new.items ≡ text.old.items ++ gap (column - taken)) }
+    ensures memory { OnErr result (IsTrue ⟦<Global as Grows>⟧.refuses) }
 {
     pad(text, taken, column)?;
     add(text, "  ")
@@ -83,8 +89,9 @@ fn add_gap(text: &mut Vec<u8>, taken: usize, column: usize) -> Result<(), AllocE
 
 // What runs, and since when.
 fn add_running(text: &mut Vec<u8>, look: &Look, running: Option<Running>) -> Result<(), AllocError>
-    ensures { OnOk result (text.new.items
+    ensures text { OnOk result (text.new.items
         ≡ text.old.items ++ running_text look.now.moment running) }
+    ensures memory { OnErr result (IsTrue ⟦<Global as Grows>⟧.refuses) }
 {
     match running {
         Some(running) => {
@@ -97,7 +104,8 @@ fn add_running(text: &mut Vec<u8>, look: &Look, running: Option<Running>) -> Res
 
 // How many actions are queued.
 fn add_queued(text: &mut Vec<u8>, queued: usize) -> Result<(), AllocError>
-    ensures { OnOk result (text.new.items ≡ text.old.items ++ queued_text queued) }
+    ensures text { OnOk result (text.new.items ≡ text.old.items ++ queued_text queued) }
+    ensures memory { OnErr result (IsTrue ⟦<Global as Grows>⟧.refuses) }
 {
     if queued == 0 {
         return Ok(());
@@ -116,8 +124,9 @@ fn add_told(
     place: usize,
 ) -> Result<(), AllocError>
     requires { place < length state.now.state.resources }
-    ensures { OnOk result (text.new.items
+    ensures text { OnOk result (text.new.items
         ≡ text.old.items ++ told look.now (at_place state.now.state place)) }
+    ensures memory { OnErr result (IsTrue ⟦<Global as Grows>⟧.refuses) }
 {
     add_running(text, look, state.running_at(place))?;
     add_queued(text, state.queue_len(place))?;
@@ -134,17 +143,18 @@ fn row_of(
     columns: Columns,
 ) -> Result<Vec<u8>, AllocError>
     requires { place < length state.now.state.resources }
-    ensures { IfOk result (λ row. IsRow look.now (entry_at state.now.state place) row.items) }
+    ensures row { IfOk result (λ row. IsRow look.now (entry_at state.now.state place) row.items) }
+    ensures memory { OnErr result (IsTrue ⟦<Global as Grows>⟧.refuses) }
 {
     let id = state.id_at(place).as_bytes();
     let agent = agent_of(alloc, state, place)?;
     let condition = condition_text(alloc, look.moment, look.colours, state, place)?;
     let taken = condition_width(alloc, look, state, place)?;
-    let mut row = Vec::from_slice(alloc, id)?;
+    let mut row = vec_of(alloc, id)?;
     add_gap(&mut row, width(id), columns.id)?;
-    row.extend_from_slice(agent.as_slice())?;
+    append(&mut row, agent.as_slice())?;
     add_gap(&mut row, width(agent.as_slice()), columns.agent)?;
-    row.extend_from_slice(condition.as_slice())?;
+    append(&mut row, condition.as_slice())?;
     add_gap(&mut row, taken, columns.condition)?;
     add_told(alloc, &mut row, look, state, place)?;
     Ok(row)
@@ -157,14 +167,15 @@ fn rows_of(
     state: &State,
     columns: Columns,
 ) -> Result<Vec<u8>, AllocError>
-    ensures { IfOk result
+    ensures rows { IfOk result
         (λ rows. AreRows look.now (asked_entries look.now state.now.state.resources) rows.items) }
+    ensures memory { OnErr result (IsTrue ⟦<Global as Grows>⟧.refuses) }
 {
     let mut rows = Vec::new(alloc);
     for place in 0..state.len() {
         if look.asks_for(state.id_at(place)) {
             let row = row_of(alloc, look, state, place, columns)?;
-            rows.extend_from_slice(row.as_slice())?;
+            append(&mut rows, row.as_slice())?;
         }
     }
     Ok(rows)
@@ -172,9 +183,10 @@ fn rows_of(
 
 // The line above the rows.
 fn head_of(alloc: Global, columns: Columns) -> Result<Vec<u8>, AllocError>
-    ensures { IfOk result (λ head. IsHead head.items) }
+    ensures head { IfOk result (λ head. IsHead head.items) }
+    ensures memory { OnErr result (IsTrue ⟦<Global as Grows>⟧.refuses) }
 {
-    let mut head = Vec::from_slice(alloc, b"RESOURCE")?;
+    let mut head = vec_of(alloc, b"RESOURCE")?;
     add_gap(&mut head, "RESOURCE".len(), columns.id)?;
     add(&mut head, "AGENT")?;
     add_gap(&mut head, "AGENT".len(), columns.agent)?;
@@ -185,12 +197,13 @@ fn head_of(alloc: Global, columns: Columns) -> Result<Vec<u8>, AllocError>
 }
 
 /// The state as a table: a line of heads, and then a row of each resource that is asked for, in order of registration. There is
-/// none where one is asked for that is not registered. It fails only where memory is refused.
+/// none where one is asked for that is not registered.
 pub fn table_of(alloc: Global, look: &Look, state: &State) -> Result<Option<Vec<u8>>, AllocError>
     ensures table { IfOk result
         (λ found. IfSome found (λ text. IsTable look.now state.now.state text.items)) }
     ensures none { IfOk result
         (λ found. IfNone found (asked_entries look.now state.now.state.resources ≡ [])) }
+    ensures memory { OnErr result (IsTrue ⟦<Global as Grows>⟧.refuses) }
 {
     let columns = columns_of(alloc, look, state)?;
     let rows = rows_of(alloc, look, state, columns)?;
@@ -198,6 +211,6 @@ pub fn table_of(alloc: Global, look: &Look, state: &State) -> Result<Option<Vec<
         return Ok(None);
     }
     let mut text = head_of(alloc, columns)?;
-    text.extend_from_slice(rows.as_slice())?;
+    append(&mut text, rows.as_slice())?;
     Ok(Some(text))
 }

@@ -1,8 +1,8 @@
 //! What a journal holds, for a program that asks for a status.
-ghost use Rattle.std.specs.Prelude.{IsErrOf, Some, None};
+ghost use Rattle.std.specs.Prelude.{IsErrOf, Some, None, IfErr, ◌≡◌};
 ghost use Rattle.disk_model.specs.View.{Increased};
 ghost use Rattle.exec_journal.specs.Opening.{Opens};
-ghost use Rattle.exec_output.specs.Faults.{IsRunEnd};
+ghost use Rattle.exec_output.specs.Faults.{HasCause, IsRunEnd};
 ghost use Rattle.exec_output.specs.StatusLines.{IsFrontTold, IsLinesTold, TellsLinesAs};
 
 use crate::alarm::is_alarm;
@@ -16,13 +16,15 @@ use disk_model::Disk;
 use exec_journal::Journal;
 use exec_lines::write_flushed;
 use exec_state::State;
+use growth::Grows;
 use std::alloc::Global;
 use std::io::Write;
 
 // Writes the replies of the one resource that is asked for.
 fn write_only<W: Write>(alloc: Global, writer: &mut W, state: &State, id: &str) -> Result<(), Fault>
-    ensures { IsFrontTold state.now.state (Some id.entry) (W.contents writer.old)
+    ensures told { IsFrontTold state.now.state (Some id.entry) (W.contents writer.old)
         (W.contents writer.new) result }
+    ensures memory { IfErr result (HasCause ⟦<Global as Grows>⟧.refuses) }
 {
     match write_one(alloc, writer, state, id) {
         Ok(true) => Ok(()),
@@ -34,8 +36,9 @@ fn write_only<W: Write>(alloc: Global, writer: &mut W, state: &State, id: &str) 
 
 // Writes the replies of all resources.
 fn write_all<W: Write>(alloc: Global, writer: &mut W, state: &State) -> Result<(), Fault>
-    ensures { IsFrontTold state.now.state None (W.contents writer.old)
+    ensures told { IsFrontTold state.now.state None (W.contents writer.old)
         (W.contents writer.new) result }
+    ensures memory { IfErr result (HasCause ⟦<Global as Grows>⟧.refuses) }
 {
     match write_state(alloc, writer, state) {
         Ok(()) => Ok(()),
@@ -51,8 +54,9 @@ fn write_front<W: Write>(
     state: &State,
     only: Option<&str>,
 ) -> Result<(), Fault>
-    ensures { IsFrontTold state.now.state only.entry (W.contents writer.old)
+    ensures told { IsFrontTold state.now.state only.entry (W.contents writer.old)
         (W.contents writer.new) result }
+    ensures memory { IfErr result (HasCause ⟦<Global as Grows>⟧.refuses) }
 {
     match only {
         Some(id) => write_only(alloc, writer, state, id),
@@ -68,8 +72,9 @@ fn tell_lines<W: Write>(
     look: &Look,
     state: &State,
 ) -> Result<(), Fault>
-    ensures { IsLinesTold look.now state.now.state (W.contents writer.old)
+    ensures told { IsLinesTold look.now state.now.state (W.contents writer.old)
         (W.contents writer.new) result }
+    ensures memory { IfErr result (HasCause ⟦<Global as Grows>⟧.refuses) }
 {
     let Ok(lines) = status_lines(alloc, look, state) else {
         return Err(Fault::ReplyMemory);
@@ -90,7 +95,7 @@ fn tell_lines<W: Write>(
 /// Opens a journal without a boot and writes what it holds, for a program: what `show` prints, of all resources or of the one
 /// that is asked for, and then a line of each, which says how it is. It is all written, or the fault is that of input or output,
 /// or of memory for a reply, or that there is no such resource. The disk is handed back.
-#[tactic(auto, using(crate::proofs::StatusLineLemmas::tells_lines))]
+#[tactic(auto, using(crate::proofs::StatusLineLemmas::tells_lines, crate::proofs::TextLemmas::opening_cause))]
 pub fn status_json<D: Disk + Drop, W: Write>(
     alloc: Global,
     disk: D,
@@ -104,6 +109,7 @@ pub fn status_json<D: Disk + Drop, W: Write>(
     ensures cause { IsErrOf result.1 Fault.Disk
         → Increased (D.view disk).failures (D.view result.0).failures }
     ensures ends { IsRunEnd result.1 }
+    ensures memory { IfErr result.1 (HasCause ⟦<Global as Grows>⟧.refuses) }
 {
     match Journal::open(alloc, disk) {
         Ok((journal, state)) => {

@@ -7,8 +7,8 @@ use Rattle.exec_output.specs.Told.{action_line, told_actions}
 use Rattle.exec_output.proofs.ToldLemmas.{line_first, lines_last}
 use Rattle.exec_output.proofs.lines.add_actions.Goals as goal
 
-pub returns : goal.returns
-returns c =
+pub returns-clause-text : goal.returns-clause-text
+returns-clause-text c =
     let f = action_line c.args.look.now (at_place c.args.state.now.state c.args.place).history.ended in
     let from_7 : List Action = action.ValidateAll ∷ [] in
     let from_6 : List Action = action.ReloadAgent ∷ from_7 in
@@ -17,10 +17,10 @@ returns c =
     let from_3 : List Action = action.Promote ∷ from_4 in
     let from_2 : List Action = action.Start ∷ from_3 in
     lines_last c.add_action-7.result f action.ValidateAll (flat_map f told_actions) _ _ _
-    (line_first f action.ReloadAgent from_7 _ _ c.in_ok-add_action-6.ensures
-    ∙ line_first f action.Stop from_6 _ _ c.in_ok-add_action-5.ensures
-    ∙ line_first f action.Demote from_5 _ _ c.in_ok-add_action-4.ensures
-    ∙ line_first f action.Promote from_4 _ _ c.in_ok-add_action-3.ensures
-    ∙ line_first f action.Start from_3 _ _ c.in_ok-add_action-2.ensures
-    ∙ line_first f action.Monitor from_2 _ _ c.in_ok-add_action.ensures)
-    c.add_action-7.ensures
+    (line_first f action.ReloadAgent from_7 _ _ c.in_ok-add_action-6.ensures.text
+    ∙ line_first f action.Stop from_6 _ _ c.in_ok-add_action-5.ensures.text
+    ∙ line_first f action.Demote from_5 _ _ c.in_ok-add_action-4.ensures.text
+    ∙ line_first f action.Promote from_4 _ _ c.in_ok-add_action-3.ensures.text
+    ∙ line_first f action.Start from_3 _ _ c.in_ok-add_action-2.ensures.text
+    ∙ line_first f action.Monitor from_2 _ _ c.in_ok-add_action.ensures.text)
+    c.add_action-7.ensures.text

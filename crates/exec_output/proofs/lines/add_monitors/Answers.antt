@@ -8,5 +8,5 @@ pub loop-at-preserved : goal.loop-at-preserved
 loop-at-preserved c =
     let r = at_place c.args.state.now.state c.args.place in
     let f = monitor_line c.args.look.now r.history.ended in
-    c.in_ok-add_monitor.ensures ∙ ap (λ t. t ++ f c.recurring_at-recur.result) c.loop-at.invariant
+    c.in_ok-add_monitor.ensures.text ∙ ap (λ t. t ++ f c.recurring_at-recur.result) c.loop-at.invariant
     ∙ lines_more f r.recurring c.loop-at.at c.recurring_at-recur.result _ c.recurring_at-recur.ensures
