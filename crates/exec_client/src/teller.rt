@@ -1,8 +1,9 @@
 //! A client over a writer.
-ghost use Rattle.std.specs.Prelude.{◌≡◌, [], OnErr, OnOk};
+ghost use Rattle.std.specs.Prelude.{◌≡◌, [], IfErr, IsTrue, OnErr, OnOk};
 ghost use Rattle.std.specs.Io.KnownBytes.{Appends};
 ghost use Rattle.std.specs.List.{flat_map};
 ghost use Rattle.exec_lines.specs.Fronts.{AppendsFront};
+ghost use Rattle.exec_output.specs.declared.send.IoFault.TheVariants.{Memory};
 ghost use Rattle.exec_client.specs.Heard.{Heard};
 ghost use Rattle.exec_client.specs.Said.{line_of, noticed_by, said_in};
 
@@ -17,6 +18,7 @@ use exec_commands::NoticeForm;
 use exec_lines::Output;
 use exec_output::{IoFault, send_notice, send_notices, send_replies, send_reply};
 use executor::Executor;
+use growth::Grows;
 use ocf_types::Notice;
 use std::alloc::Global;
 use std::io::Write;
@@ -44,6 +46,7 @@ fn send_noticed<W: Write>(
     ensures front { OnErr result
         (AppendsFront (W.contents writer.old) (W.contents writer.new)
         (line_of form.entry (noticed_by book.now notice.now))) }
+    ensures memory { IfErr result (λ f. f ≡ Memory → IsTrue ⟦<Global as Grows>⟧.refuses) }
 {
     let signal = signal_of(book, notice.result.run);
     send_notice(alloc, writer, form, notice, signal)
@@ -64,6 +67,7 @@ fn send_turn<W: Write>(
     ensures front { OnErr result
         (AppendsFront (W.contents writer.old) (W.contents writer.new)
         (flat_map (λ n. line_of form.entry (noticed_by book.now n)) notices.now)) }
+    ensures memory { IfErr result (λ f. f ≡ Memory → IsTrue ⟦<Global as Grows>⟧.refuses) }
 {
     for notice in notices {
         send_noticed(alloc, writer, form, notice, book)?;
@@ -84,6 +88,7 @@ fn write_told<W: Output>(
     ensures front { OnErr result
         (AppendsFront (W.contents writer.old) (W.contents writer.new)
         (flat_map (line_of form.entry) (said_in what.now))) }
+    ensures memory { IfErr result (λ f. f ≡ Memory → IsTrue ⟦<Global as Grows>⟧.refuses) }
 {
     match what {
         Told::Reply(reply) => send_reply(alloc, writer, reply),
@@ -118,6 +123,8 @@ impl<E, W: Output> Teller<E, W> {
 
 impl<D: Disk + Drop, C: Children + Drop, W: Output> Client<D, C> for Teller<Executor<D, C>, W> {
     ghost heard = { λ t. record { opened = t.opened.value; told = t.telling.said; written = W.contents t.writer } };
+
+    ghost refuses = { ⟦<Global as Grows>⟧.refuses };
 
     fn tell(
         &mut self,

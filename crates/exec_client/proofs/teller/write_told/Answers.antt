@@ -9,6 +9,7 @@ returns-in-Replies g c =
     record {
       sent = writes_all c.args.form answered c.in-Replies.replies.now (said_in c.args.what.now) c.send_replies.result _ _ is c.send_replies.ensures.sent;
       front = breaks_off c.args.form answered c.in-Replies.replies.now (said_in c.args.what.now) c.send_replies.result _ _ is c.send_replies.ensures.front;
+      memory = c.send_replies.ensures.memory;
     }
 
 pub returns-in-Notices : goal.returns-in-Notices
@@ -18,6 +19,7 @@ returns-in-Notices g c =
     record {
       sent = writes_all c.args.form (noticed_by turn.book.now) turn.notices.now (said_in c.args.what.now) c.send_turn.result _ _ is c.send_turn.ensures.sent;
       front = breaks_off c.args.form (noticed_by turn.book.now) turn.notices.now (said_in c.args.what.now) c.send_turn.result _ _ is c.send_turn.ensures.front;
+      memory = c.send_turn.ensures.memory;
     }
 
 pub returns-in-Report : goal.returns-in-Report
@@ -27,4 +29,5 @@ returns-in-Report g c =
     record {
       sent = writes_all c.args.form Reported c.in-Report.notices.now (said_in c.args.what.now) sent.result _ _ is sent.ensures.sent;
       front = breaks_off c.args.form Reported c.in-Report.notices.now (said_in c.args.what.now) sent.result _ _ is sent.ensures.front;
+      memory = sent.ensures.memory;
     }
