@@ -67,7 +67,7 @@ module _ {D : Type 0} (look : D → View) where
 
   open_says : (now : ℕ) (request : Request) (x y : Sight D) (r : Reply) → x.is_open ≡ true → ServesOpen look now request x y r
       → MayAnswer y r
-  open_says now (asked.Question question) x y r is_open (answers, same) =
+  open_says now (asked.Question question) x y r is_open (answers, same, memory) =
       subst (λ (z : Sight D). MayAnswer z r) (sym same) (may_answer x question is_open r answers)
   open_says now (asked.Command command) x y r is_open obeys = obeys_plain y look x y r (event_of x.state now command) obeys.0
 

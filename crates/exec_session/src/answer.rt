@@ -1,7 +1,8 @@
 //! What a line is answered.
-ghost use Rattle.std.specs.Prelude.{◌≡◌, [], ◌∷◌, true, IfErr, IfOk, OnErr};
+ghost use Rattle.std.specs.Prelude.{◌≡◌, [], ◌∷◌, true, IfErr, IfOk, OnErr, IsTrue};
 ghost use Rattle.exec_client.specs.MayTell.{AllStand, MayBeReplied, MayReply, StandsBehind};
 ghost use Rattle.exec_client.specs.Said.{Answered};
+ghost use Rattle.exec_output.specs.declared.send.IoFault.TheVariants.{Memory};
 ghost use Rattle.exec_session.specs.Answers.{DrainsFor, IsClosedReply, IsMetaReply, IsOpenReply, IsReply, ServesNow, closed_drain};
 ghost use Rattle.exec_session.specs.Answers.{closed_tidy, refused};
 ghost use Rattle.exec_session.specs.Breaks.{DrainBreaksFor, ReplyBreaks};
@@ -95,6 +96,7 @@ fn drain_reply<D: Disk + Drop, C: Children + Drop, T: Client<D, C>, K: Clock, M:
         (spot executor.old (T.heard client.old)) (spot executor.new (T.heard client.new))) }
     ensures breaks { OnErr result (DrainBreaksFor D.view ends_idle limit (rules_of context.now)
         (spot executor.old (T.heard client.old)) (spot executor.new (T.heard client.new))) }
+    ensures memory { IfErr result (λ f. f ≡ Memory → IsTrue T.refuses) }
 {
     let start = moment_now(context.clock).get();
     let terms = Terms {
@@ -144,6 +146,7 @@ fn open_reply<D: Disk + Drop, C: Children + Drop, T: Client<D, C>, K: Clock, M: 
         (spot executor.old (T.heard client.old)) (spot executor.new (T.heard client.new)) line) }
     ensures breaks { OnErr result (ReplyBreaks D.view (rules_of context.now)
         (spot executor.old (T.heard client.old)) (spot executor.new (T.heard client.new)) line) }
+    ensures memory { IfErr result (λ f. f ≡ Memory → IsTrue T.refuses) }
 {
     match line {
         Ok(Line::Request(request)) => Ok(request_reply(context, executor, request)),
@@ -180,6 +183,7 @@ pub fn reply_to<D: Disk + Drop, C: Children + Drop, T: Client<D, C>, K: Clock, M
     ensures breaks { OnErr result ((executor.old.is_open ≡ true)
         × ReplyBreaks D.view (rules_of context.now)
         (spot executor.old (T.heard client.old)) (spot executor.new (T.heard client.new)) line) }
+    ensures memory { IfErr result (λ f. f ≡ Memory → IsTrue T.refuses) }
 {
     if executor.is_open() {
         open_reply(context, client, executor, line)

@@ -1,6 +1,7 @@
 //! Drains and watches: turns, each with its notices.
-ghost use Rattle.std.specs.Prelude.{◌≡◌, true, IfOk, OnErr};
+ghost use Rattle.std.specs.Prelude.{◌≡◌, true, IfOk, OnErr, IfErr, IsTrue};
 ghost use Rattle.exec_client.specs.MayTell.{AllStand};
+ghost use Rattle.exec_output.specs.declared.send.IoFault.TheVariants.{Memory};
 ghost use Rattle.exec_session.specs.Breaks.{DrainBreaks};
 ghost use Rattle.exec_session.specs.Drains.{Drains, end_behind, spot};
 ghost use Rattle.exec_session.specs.Rules.{rules_of};
@@ -68,6 +69,7 @@ pub fn drain<D: Disk + Drop, C: Children + Drop, T: Client<D, C>, K: Clock, M: M
         (spot executor.old (T.heard client.old)) (spot executor.new (T.heard client.new)) end) }
     ensures breaks { OnErr result (DrainBreaks D.view (rules_of context.now) terms start
         (spot executor.old (T.heard client.old)) (spot executor.new (T.heard client.new))) }
+    ensures memory { IfErr result (λ f. f ≡ Memory → IsTrue T.refuses) }
 {
     let mut now = start;
     let mut pause = Pause::new();

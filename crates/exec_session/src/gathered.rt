@@ -1,5 +1,5 @@
 //! Commands that wait to be answered together.
-ghost use Rattle.std.specs.Prelude.{◌≡◌, ◌≤◌, ◌<◌, ◌==◌, [], ◌∷◌, ◌++◌, length, replicate, vec_len, vec_capacity, IfOk};
+ghost use Rattle.std.specs.Prelude.{◌≡◌, ◌≤◌, ◌<◌, ◌==◌, [], ◌∷◌, ◌++◌, length, replicate, vec_len, vec_capacity, IfOk, IsTrue, OnErr};
 ghost use Rattle.ocf_types.specs.declared.refusal.Refusal.TheVariants.{Disk};
 ghost use Rattle.ocf_types.specs.declared.reply.ReplyOf.TheVariants.{Refused};
 ghost use Rattle.executor.specs.Rows.{TakesCommands};
@@ -8,6 +8,7 @@ ghost use Rattle.exec_session.specs.Limits.{most_together};
 use child_model::Children;
 use disk_model::Disk;
 use executor::Executor;
+use growth::{Grows, with_capacity};
 use ocf_types::{Command, Refusal, Reply};
 use std::alloc::{AllocError, Global};
 
@@ -28,12 +29,13 @@ pub struct Gathered {
 impl Gathered {
     ghost use Rattle.exec_session.specs.Gathered.{replied, waiting};
 
-    /// No command waits. It fails only where memory is refused.
+    /// No command waits.
     pub fn new(alloc: Global) -> Result<Gathered, AllocError>
-        ensures { IfOk result (λ gathered. waiting gathered ≡ []) }
+        ensures empty { IfOk result (λ gathered. waiting gathered ≡ []) }
+        ensures memory { OnErr result (IsTrue ⟦<Global as Grows>⟧.refuses) }
     {
-        let commands = Vec::with_capacity(alloc, MOST)?;
-        let replies = Vec::with_capacity(alloc, MOST)?;
+        let commands = with_capacity(alloc, MOST)?;
+        let replies = with_capacity(alloc, MOST)?;
         Ok(Gathered { commands, replies })
     }
 

@@ -1,7 +1,8 @@
 //! A line that is held: turns go on, and no line after it is read, until what it asks for is there.
-ghost use Rattle.std.specs.Prelude.{◌≡◌, true, List, ℕ, Ok, Option, IfErr, IfOk};
+ghost use Rattle.std.specs.Prelude.{◌≡◌, true, List, ℕ, Ok, Option, IfErr, IfOk, IsTrue};
 ghost use Rattle.ocf_types.specs.declared.reply.TurnEnd.{TurnEnd};
 ghost use Rattle.exec_client.specs.MayTell.{AllStand};
+ghost use Rattle.exec_output.specs.declared.send.IoFault.TheVariants.{Memory};
 ghost use Rattle.exec_session.specs.Held.{AnswersHeld, MayTakeAtOnce, asks};
 ghost use Rattle.exec_session.specs.Progress.{ReadsLine, position};
 ghost use Rattle.exec_session.specs.Rules.{rules_of};
@@ -75,6 +76,7 @@ pub fn answer_held<D: Disk + Drop, C: Children + Drop, T: Client<D, C>, K: Clock
         → AnswersHeld D.view (M.gives context.now.metadata.now) (rules_of context.now) own
         (position executor.now left (T.heard client.old))
         (position executor.now now (T.heard client.new)) result }
+    ensures memory { IfErr result (λ f. f ≡ Memory → IsTrue T.refuses) }
 {
     let Held::Metadata {
         provider,

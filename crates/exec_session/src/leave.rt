@@ -1,10 +1,11 @@
 //! The end of a run that serves, in order, as a line asks for it: nothing begins any more, and what runs is waited for.
-ghost use Rattle.std.specs.Prelude.{◌≡◌, ℕ, [], ◌∷◌, true, OnErr, OnOk};
+ghost use Rattle.std.specs.Prelude.{◌≡◌, ℕ, [], ◌∷◌, true, OnErr, OnOk, IfErr, IsTrue};
 ghost use Rattle.ocf_types.specs.declared.reply.TurnEnd.{TurnEnd};
 ghost use Rattle.exec_client.specs.Heard.{Hears, HearsPart};
 ghost use Rattle.exec_client.specs.MayTell.{AllStand};
 ghost use Rattle.exec_client.specs.Said.{Answered};
 ghost use Rattle.exec_commands.specs.declared.reply.LineReply.TheVariants.{Left};
+ghost use Rattle.exec_output.specs.declared.send.IoFault.TheVariants.{Memory};
 ghost use Rattle.exec_session.specs.Drains.{spot};
 ghost use Rattle.exec_session.specs.Leaving.{FinishHeard, LeaveBreaks, LeavesFrom};
 ghost use Rattle.exec_session.specs.Rules.{rules_of};
@@ -36,6 +37,7 @@ pub fn tell_end<D: Disk + Drop, C: Children + Drop, T: Client<D, C>, K, M>(
         (ended end ∷ [])) }
     ensures breaks { OnErr result (HearsPart context.now.form (T.heard client.old)
         (T.heard client.new) (ended end ∷ [])) }
+    ensures memory { IfErr result (λ f. f ≡ Memory → IsTrue T.refuses) }
 {
     let line = LineReply::Drain(DrainEnd::Turn(end));
     client.tell(executor, context.form, &Told::Reply(&line))
@@ -54,6 +56,7 @@ fn tell_left<D: Disk + Drop, C: Children + Drop, T: Client<D, C>, K, M>(
         (Answered Left ∷ [])) }
     ensures breaks { OnErr result (HearsPart context.now.form (T.heard client.old)
         (T.heard client.new) (Answered Left ∷ [])) }
+    ensures memory { IfErr result (λ f. f ≡ Memory → IsTrue T.refuses) }
 {
     client.tell(executor, context.form, &Told::Reply(&LineReply::Left))
 }
@@ -74,6 +77,7 @@ fn finish_turn<D: Disk + Drop, C: Children + Drop, T: Client<D, C>, K: Clock, M>
     ensures breaks { OnErr result ((now : ℕ) × (end : TurnEnd)
         × FinishHeard (HearsPart context.now.form) D.view now
         (spot executor.old (T.heard client.old)) (spot executor.new (T.heard client.new)) end) }
+    ensures memory { IfErr result (λ f. f ≡ Memory → IsTrue T.refuses) }
 {
     let now = moment_now(context.clock).get();
     executor.clear_book();
@@ -98,6 +102,7 @@ pub fn leave<D: Disk + Drop, C: Children + Drop, T: Client<D, C>, K: Clock, M>(
         (spot executor.old (T.heard client.old)) (spot executor.new (T.heard client.new))) }
     ensures breaks { OnErr result (LeaveBreaks D.view (rules_of context.now)
         (spot executor.old (T.heard client.old)) (spot executor.new (T.heard client.new))) }
+    ensures memory { IfErr result (λ f. f ≡ Memory → IsTrue T.refuses) }
 {
     let mut pause = Pause::new();
     for _ in 0..NUM_MAX {

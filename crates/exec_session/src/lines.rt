@@ -1,9 +1,10 @@
 //! The next line of the input, and what is done with it.
-ghost use Rattle.std.specs.Prelude.{◌≡◌, ℕ, ◌+◌, ◌<◌, [], List, true, length, Option};
+ghost use Rattle.std.specs.Prelude.{◌≡◌, ℕ, ◌+◌, ◌<◌, [], List, true, length, Err, IfErr, IsTrue, Option};
 ghost use Rattle.ocf_types.specs.declared.reply.TurnEnd.{TurnEnd};
 ghost use Rattle.exec_lines.specs.Buffer.{line_bytes};
 ghost use Rattle.exec_lines.specs.Pieces.{IsNext};
 ghost use Rattle.exec_client.specs.MayTell.{AllStand};
+ghost use Rattle.exec_output.specs.declared.send.IoFault.TheVariants.{Memory};
 ghost use Rattle.exec_session.specs.Answers.{IsReadAs};
 ghost use Rattle.exec_session.specs.Breaks.{TakesOrBreaks};
 ghost use Rattle.exec_session.specs.Gathered.{waiting};
@@ -27,6 +28,7 @@ use exec_commands::{Line, read_command, read_strictly};
 use exec_lines::{LineBuffer, Next};
 use exec_output::IoFault;
 use executor::Executor;
+use growth::Grows;
 use ocf_types::{Command, Refusal, Request};
 use std::alloc::Global;
 use std::rt::Clock;
@@ -80,7 +82,8 @@ pub fn next_step<D: Disk + Drop, C: Children + Drop, K, M>(
 
 // What a line asks for, or why it is refused: a run that serves may be asked to end, and refuses a line in which a key comes twice.
 fn read_line(way: Way, alloc: Global, bytes: &[u8]) -> Result<Line, Refusal>
-    ensures { IsReadAs way bytes.now result }
+    ensures reads { IsReadAs way bytes.now result }
+    ensures memory { IfErr result (λ e. e ≡ Refusal.Memory → IsTrue ⟦<Global as Grows>⟧.refuses) }
 {
     match way {
         Way::Run => read_command(alloc, bytes),
@@ -92,6 +95,8 @@ fn read_line(way: Way, alloc: Global, bytes: &[u8]) -> Result<Line, Refusal>
 pub fn found_in(way: Way, alloc: Global, buffer: &LineBuffer, next: Next) -> Found
     ensures found { (left now : Option (List ℕ)) → IsNext left next (line_bytes buffer.now) now
         → ReadsInput way left now result }
+    ensures memory { result ≡ Found.Line (Err Refusal.Memory)
+        → IsTrue ⟦<Global as Grows>⟧.refuses }
 {
     match next {
         Next::End => Found::End,
@@ -121,6 +126,7 @@ fn answer_found<D: Disk + Drop, C: Children + Drop, T: Client<D, C>, K: Clock, M
         → TakesOrBreaks D.view (M.gives context.now.metadata.now) (rules_of context.now) own
         (position executor.old left (T.heard client.old))
         (position executor.new now (T.heard client.new)) result }
+    ensures memory { IfErr result (λ f. f ≡ Memory → IsTrue T.refuses) }
 {
     let line = match found {
         Found::End => return Ok(Progress::End),
@@ -155,6 +161,7 @@ fn take_command<D: Disk + Drop, C: Children + Drop, T: Client<D, C>, K: Clock, M
         → Comes D.view (M.gives context.now.metadata.now) (rules_of context.now) p own
         (most + 1)
         (waiting gathered.new) (position executor.new now (T.heard client.new)) result }
+    ensures memory { IfErr result (λ f. f ≡ Memory → IsTrue T.refuses) }
 {
     gathered.push(command);
     if has_next && !gathered.is_full() {
@@ -186,6 +193,7 @@ fn take_other<D: Disk + Drop, C: Children + Drop, T: Client<D, C>, K: Clock, M: 
         → Comes D.view (M.gives context.now.metadata.now) (rules_of context.now) p own
         (most + 1)
         (waiting gathered.new) (position executor.new now (T.heard client.new)) result }
+    ensures memory { IfErr result (λ f. f ≡ Memory → IsTrue T.refuses) }
 {
     answer_gathered(context, client, executor, gathered)?;
     let step = next_step(context, executor, false);
@@ -221,6 +229,7 @@ pub fn take_found<D: Disk + Drop, C: Children + Drop, T: Client<D, C>, K: Clock,
         → Comes D.view (M.gives context.now.metadata.now) (rules_of context.now) p own
         (most + 1)
         (waiting gathered.new) (position executor.new now (T.heard client.new)) result }
+    ensures memory { IfErr result (λ f. f ≡ Memory → IsTrue T.refuses) }
 {
     match found {
         Found::Line(Ok(Line::Request(Request::Command(command)))) if executor.is_open() => {

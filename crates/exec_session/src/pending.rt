@@ -1,11 +1,12 @@
 //! What a run has read of its input and not answered yet.
-ghost use Rattle.std.specs.Prelude.{◌≡◌, IfOk, IsTrue, Some};
+ghost use Rattle.std.specs.Prelude.{◌≡◌, IfOk, IsTrue, OnErr, Some};
 ghost use Rattle.exec_session.specs.Pending.{IsClear};
 ghost use Rattle.exec_session.specs.declared.held.Held.TheVariants.{Leave};
 
 use crate::gathered::Gathered;
 use crate::held::Held;
 use exec_lines::LineBuffer;
+use growth::Grows;
 use std::alloc::{AllocError, Global};
 use std::marker::Model;
 
@@ -23,7 +24,8 @@ pub struct Pending {
 impl Pending {
     // Nothing. All memory that is needed later is taken here.
     fn new(alloc: Global) -> Result<Pending, AllocError>
-        ensures { IfOk result IsClear }
+        ensures clear { IfOk result IsClear }
+        ensures memory { OnErr result (IsTrue ⟦<Global as Grows>⟧.refuses) }
     {
         let buffer = LineBuffer::new(alloc)?;
         let gathered = Gathered::new(alloc)?;
@@ -60,8 +62,10 @@ impl Model for LineRoom {
 }
 
 impl LineRoom {
-    /// All memory that the lines of a run need is taken here; it fails only where that is refused.
-    pub fn new(alloc: Global) -> Result<LineRoom, AllocError> {
+    /// All memory that the lines of a run need is taken here.
+    pub fn new(alloc: Global) -> Result<LineRoom, AllocError>
+        ensures memory { OnErr result (IsTrue ⟦<Global as Grows>⟧.refuses) }
+    {
         let pending = Pending::new(alloc)?;
         Ok(LineRoom { pending })
     }

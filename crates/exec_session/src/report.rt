@@ -1,8 +1,9 @@
 //! What an opening reports, as it is told.
-ghost use Rattle.std.specs.Prelude.{◌≡◌, ◌++◌, List, OnErr, OnOk};
+ghost use Rattle.std.specs.Prelude.{◌≡◌, ◌++◌, List, OnErr, OnOk, IfErr, IsTrue};
 ghost use Rattle.exec_client.specs.Heard.{Hears, HearsPart};
 ghost use Rattle.exec_client.specs.Said.{Said};
 ghost use Rattle.exec_client.specs.MayTell.{AllStand};
+ghost use Rattle.exec_output.specs.declared.send.IoFault.TheVariants.{Memory};
 ghost use Rattle.exec_session.specs.Runs.{IsReportOf, report_told};
 
 use child_model::Children;
@@ -27,6 +28,7 @@ pub fn tell_report<D: Disk + Drop, C: Children + Drop, T: Client<D, C>>(
         (Hears form.entry (T.heard client.old) (T.heard client.new) (report_told report.now)) }
     ensures breaks { OnErr result ((said rest : List Said) × (report_told report.now ≡ said ++ rest)
         × HearsPart form.entry (T.heard client.old) (T.heard client.new) said) }
+    ensures memory { IfErr result (λ f. f ≡ Memory → IsTrue T.refuses) }
 {
     client.tell(executor, form, &Told::Report(report.interrupted.as_slice()))?;
     client.tell(executor, form, &Told::Report(report.dropped.as_slice()))

@@ -1,9 +1,10 @@
 //! Serving: lines are answered while agents run, and turns are made by the run itself.
-ghost use Rattle.std.specs.Prelude.{◌≡◌, ◌↔◌, ◌+◌, ◌≤◌, ℕ, [], ◌∷◌, true, IsTrue, IfOk, None, OnErr, OnOk};
+ghost use Rattle.std.specs.Prelude.{◌≡◌, ◌↔◌, ◌+◌, ◌≤◌, ℕ, [], ◌∷◌, true, IsTrue, IfOk, None, OnErr, OnOk, IfErr};
 ghost use Rattle.exec_lines.specs.Buffer.{line_bytes};
 ghost use Rattle.ocf_types.specs.declared.reply.TurnEnd.{TurnEnd};
 ghost use Rattle.exec_client.specs.Heard.{Hears, HearsPart};
 ghost use Rattle.exec_client.specs.MayTell.{AllStand};
+ghost use Rattle.exec_output.specs.declared.send.IoFault.TheVariants.{Memory};
 ghost use Rattle.exec_session.specs.Breaks.{EndsOrBreaks, OwnTurnBreaks};
 ghost use Rattle.exec_session.specs.Drains.{spot};
 ghost use Rattle.exec_session.specs.Gathered.{waiting};
@@ -70,6 +71,7 @@ fn take_read<R: Input, D: Disk + Drop, C: Children + Drop, T: Client<D, C>, K: C
         → ComesMid D.view (M.gives context.now.metadata.now) (rules_of context.now) p own
         (most + 1) (waiting pending.new.gathered) pending.new.held (line_bytes pending.new.buffer)
         (position executor.new (R.remaining reader.new) (T.heard client.new)) result }
+    ensures memory { IfErr result (λ f. f ≡ Memory → IsTrue T.refuses) }
 {
     let Some(next) = gather_line(reader, &mut pending.buffer)? else {
         return Ok(Taken::More);
@@ -123,6 +125,7 @@ fn take_waiting<
         lines_a_turn
         (waiting pending.new.gathered) pending.new.held (line_bytes pending.new.buffer)
         (position executor.new (R.remaining reader.new) (T.heard client.new)) result }
+    ensures memory { IfErr result (λ f. f ≡ Memory → IsTrue T.refuses) }
 {
     for _reads in 0..READS_A_TURN {
         if !may_read(reader, pending) {
@@ -165,6 +168,7 @@ fn answer_waiting<
         lines_a_turn []
         pending.new.held (line_bytes pending.new.buffer)
         (position executor.new (R.remaining reader.new) (T.heard client.new)) result }
+    ensures memory { IfErr result (λ f. f ≡ Memory → IsTrue T.refuses) }
 {
     let waited = take_waiting(context, reader, client, executor, pending)?;
     if waited != Taken::More {
@@ -205,6 +209,7 @@ fn answer_round<
         lines_a_turn []
         pending.new.held (line_bytes pending.new.buffer)
         (position executor.new (R.remaining reader.new) (T.heard client.new)) result }
+    ensures memory { IfErr result (λ f. f ≡ Memory → IsTrue T.refuses) }
 {
     let Some(line) = &pending.held else {
         return answer_waiting(context, reader, client, executor, pending);
@@ -238,6 +243,7 @@ fn tell_news<D: Disk + Drop, C: Children + Drop, T: Client<D, C>, K, M>(
         (T.heard client.old) (T.heard client.new)) }
     ensures breaks { OnErr result (NewsHeard (HearsPart context.now.form) before end
         (T.heard client.old) (T.heard client.new)) }
+    ensures memory { IfErr result (λ f. f ≡ Memory → IsTrue T.refuses) }
 {
     if is_news(before, end) {
         tell_end(context, client, executor, end)
@@ -264,6 +270,7 @@ fn make_own_turn<D: Disk + Drop, C: Children + Drop, T: Client<D, C>, K: Clock, 
     ensures breaks { OnErr result ((now : ℕ)
         × OwnTurnBreaks D.view (rules_of context.now) now before
         (spot executor.old (T.heard client.old)) (spot executor.new (T.heard client.new))) }
+    ensures memory { IfErr result (λ f. f ≡ Memory → IsTrue T.refuses) }
 {
     pause.before_turn(context.clock);
     let now = moment_now(context.clock).get();
@@ -299,6 +306,7 @@ pub fn serve_all<
     ensures lines { EndsOrBreaks D.view (M.gives context.now.metadata.now) (rules_of context.now)
         (position executor.old (R.remaining reader.old) (T.heard client.old))
         (position executor.new (R.remaining reader.new) (T.heard client.new)) result }
+    ensures memory { IfErr result (λ f. f ≡ Memory → IsTrue T.refuses) }
 {
     let mut pause = Pause::new();
     let mut own = TurnEnd::Done;

@@ -1,7 +1,9 @@
 //! Command lines answered one by one.
-ghost use Rattle.std.specs.Prelude.{◌≡◌, ℕ, ◌+◌, [], true, OnErr, OnOk};
+ghost use Rattle.std.specs.Prelude.{◌≡◌, ℕ, ◌+◌, [], true, OnErr, OnOk, IfErr, IsTrue};
 ghost use Rattle.ocf_types.specs.declared.reply.TurnEnd.{TurnEnd};
 ghost use Rattle.exec_client.specs.MayTell.{AllStand};
+ghost use Rattle.exec_output.specs.Faults.{HasCause};
+ghost use Rattle.exec_output.specs.declared.send.IoFault.TheVariants.{Memory};
 ghost use Rattle.exec_session.specs.Breaks.{EndsOrBreaks, RunBreaks};
 ghost use Rattle.exec_session.specs.Drains.{spot};
 ghost use Rattle.exec_session.specs.Ends.{ClosesByCalls, Ended, EndsAs, Runs};
@@ -60,6 +62,7 @@ fn take_next<R: Input, D: Disk + Drop, C: Children + Drop, T: Client<D, C>, K: C
         (most + 1)
         (waiting pending.new.gathered)
         (position executor.new (R.remaining reader.new) (T.heard client.new)) result }
+    ensures memory { IfErr result (λ f. f ≡ Memory → IsTrue T.refuses) }
 {
     let next = next_line(reader, &mut pending.buffer)?;
     let found = found_in(context.way, context.alloc, &pending.buffer, next);
@@ -90,6 +93,7 @@ fn answer_all<R: Input, D: Disk + Drop, C: Children + Drop, T: Client<D, C>, K: 
     ensures lines { EndsOrBreaks D.view (M.gives context.now.metadata.now) (rules_of context.now)
         (position executor.old (R.remaining reader.old) (T.heard client.old))
         (position executor.new (R.remaining reader.new) (T.heard client.new)) result }
+    ensures memory { IfErr result (λ f. f ≡ Memory → IsTrue T.refuses) }
 {
     for _ in 0..NUM_MAX {
         if take_next(context, reader, client, executor, pending)? != Taken::More {
@@ -122,6 +126,7 @@ fn answer_in_way<
     ensures lines { EndsOrBreaks D.view (M.gives context.now.metadata.now) (rules_of context.now)
         (position executor.old (R.remaining reader.old) (T.heard client.old))
         (position executor.new (R.remaining reader.new) (T.heard client.new)) result }
+    ensures memory { IfErr result (λ f. f ≡ Memory → IsTrue T.refuses) }
 {
     match context.way {
         Way::Run => answer_all(context, reader, client, executor, pending),
@@ -159,6 +164,7 @@ fn report_and_answer<
         (RunBreaks D.view (M.gives context.now.metadata.now) (rules_of context.now) report.now
         (position executor.old (R.remaining reader.old) (T.heard client.old))
         (spot executor.new (T.heard client.new))) }
+    ensures memory { IfErr result (λ f. f ≡ Memory → IsTrue T.refuses) }
 {
     tell_report(client, executor, context.form, report)?;
     answer_in_way(context, reader, client, executor, pending)?;
@@ -191,6 +197,7 @@ fn answer_lines<
         (rules_of context.now) report.now
         (position executor.old (R.remaining reader.old) (T.heard client.old))
         (position executor.new (R.remaining reader.new) (T.heard client.new)) result }
+    ensures memory { IfErr result (HasCause T.refuses) }
 {
     match report_and_answer(context, reader, client, executor, report, pending) {
         Ok(()) if executor.is_open() => Ok(()),
@@ -230,6 +237,7 @@ pub fn run_lines<
     ensures told { ClosesByCalls D.view executor (T.heard client.new) result.disk
         (C.view result.children) }
     ensures none_lives { (C.view result.children).live ≡ [] }
+    ensures memory { IfErr result.ended (HasCause T.refuses) }
 {
     let mut pending = room.into_pending();
     let ended = answer_lines(context, reader, client, &mut executor, report, &mut pending);

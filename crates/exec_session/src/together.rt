@@ -1,8 +1,9 @@
 //! Commands that arrived together, answered together.
-ghost use Rattle.std.specs.Prelude.{◌≡◌, ◌≢◌, [], map, true, OnErr, OnOk};
+ghost use Rattle.std.specs.Prelude.{◌≡◌, ◌≢◌, [], map, true, OnErr, OnOk, IfErr, IsTrue};
 ghost use Rattle.std.specs.List.{AllByRecursion};
 ghost use Rattle.exec_client.specs.MayTell.{AllStand, MayAnswer, StandsBehind};
 ghost use Rattle.exec_client.specs.Said.{answered};
+ghost use Rattle.exec_output.specs.declared.send.IoFault.TheVariants.{Memory};
 ghost use Rattle.exec_session.specs.Breaks.{RowBreaks};
 ghost use Rattle.exec_session.specs.Drains.{spot};
 ghost use Rattle.exec_session.specs.Gathered.{replied, waiting};
@@ -61,6 +62,7 @@ pub fn answer_gathered<D: Disk + Drop, C: Children + Drop, T: Client<D, C>, K: C
         (spot executor.old (T.heard client.old)) (spot executor.new (T.heard client.new))) }
     ensures breaks { OnErr result (RowBreaks D.view (rules_of context.now) (waiting gathered.old)
         (spot executor.old (T.heard client.old)) (spot executor.new (T.heard client.new))) }
+    ensures memory { IfErr result (λ f. f ≡ Memory → IsTrue T.refuses) }
 {
     if gathered.is_empty() {
         return Ok(());

@@ -1,8 +1,9 @@
 //! One turn, with its notices.
-ghost use Rattle.std.specs.Prelude.{◌≡◌, true, IfOk, OnErr};
+ghost use Rattle.std.specs.Prelude.{◌≡◌, true, IfOk, OnErr, IfErr, IsTrue};
 ghost use Rattle.ocf_types.specs.declared.reply.TurnEnd.{TurnEnd};
 ghost use Rattle.exec_client.specs.Heard.{HearsPart};
 ghost use Rattle.exec_client.specs.MayTell.{AllStand};
+ghost use Rattle.exec_output.specs.declared.send.IoFault.TheVariants.{Memory};
 ghost use Rattle.exec_session.specs.Drains.{MakesTurn, TurnHeard, spot};
 ghost use Rattle.exec_session.specs.Rules.{rules_of};
 
@@ -32,6 +33,7 @@ pub fn make_turn<D: Disk + Drop, C: Children + Drop, T: Client<D, C>, K: Clock, 
     ensures breaks { OnErr result ((end : TurnEnd)
         × TurnHeard (HearsPart context.now.form) D.view (rules_of context.now) now
         (spot executor.old (T.heard client.old)) (spot executor.new (T.heard client.new)) end) }
+    ensures memory { IfErr result (λ f. f ≡ Memory → IsTrue T.refuses) }
 {
     executor.clear_book();
     if !make_room(context, executor, now) {

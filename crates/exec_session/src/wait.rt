@@ -1,5 +1,6 @@
 //! The wait behind a turn of a run that serves.
-ghost use Rattle.std.specs.Prelude.{◌≡◌, true};
+ghost use Rattle.std.specs.Prelude.{◌≡◌, true, IfErr, IsTrue};
+ghost use Rattle.exec_output.specs.declared.send.IoFault.TheVariants.{Memory};
 
 use crate::context::RunContext;
 use crate::pause::{Pause, rest};
@@ -64,6 +65,7 @@ pub fn wait<R: Input, D: Disk + Drop, C: Children + Drop, T: Client<D, C>, K: Cl
 ) -> Result<(), IoFault>
     requires open { executor.now.is_open ≡ true }
     ensures same { R.remaining reader.new ≡ R.remaining reader.old }
+    ensures memory { IfErr result (λ f. f ≡ Memory → IsTrue T.refuses) }
 {
     pause.holds(pending.held.is_some());
     if pending.held.is_some() {
