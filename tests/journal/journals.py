@@ -9,10 +9,8 @@ import sys
 sys.path[0] += "/../lib"
 import helper  # noqa: E402
 from helper import PROGRAM  # noqa: E402
+from journal_format import BODY, CLOSED, DONE, MONITOR, OPEN, PART, START, STOP, event, head, number, record  # noqa: E402
 
-# The greatest lengths of a part and of a record's body, and the numbers of actions that are used here.
-PART, BODY = 8388608, 32768
-START, STOP, MONITOR = 1, 2, 3
 SHOWN = b"""\
 {"ok":true,"resources":["r1","r2"]}
 {"failed":null,"id":"r1","ok":true,"params":{},"provider":"pacemaker","queued":[2],"recurring":[],"running":null,"type":"Dummy"}
@@ -25,61 +23,32 @@ REPORT = b"""\
 {"action":"stop","call":2,"code":1,"id":"r1","interval":0,"name":"OCF_ERR_GENERIC","outcome":"dropped","run":0}
 {"ok":true,"resources":["r1","r2"]}
 """
-OPEN, CLOSED = b"\1", b"\0"
 LIST = helper.lines({"op": "list"})
 
 
-def number(value, length=8):
-    return value.to_bytes(length, "big")
-
-
-def name(text):
-    return number(len(text), 1) + text.encode()
-
-
-def value(text):
-    return number(len(text), 2) + text.encode()
-
-
-# Events: a kind, the moment, and the fields.
+# Events, with what most of them have here.
 def register(at, resource, provider, kind, **params):
-    pairs = b"".join(name(key) + value(text) for key, text in params.items())
-    return number(1, 1) + number(at) + name(resource) + name(provider) + name(kind) + number(len(params), 1) + pairs
+    return event("register", at, id=resource, provider=provider, type=kind, params=params)
 
 
 def execute(at, resource, call, action, level=0, expect=0, timeout=20000):
-    task = number(action, 1) + number(level, 1) + number(expect, 1)
-    return number(4, 1) + number(at) + name(resource) + number(call) + task + number(timeout, 4)
+    return event("exec", at, id=resource, call=call, action=action, level=level, expect=expect, timeout=timeout)
 
 
 def forget(at, resource):
-    return number(7, 1) + number(at) + name(resource)
+    return event("forget", at, id=resource)
 
 
 def withdraw(at, resource, call):
-    return number(11, 1) + number(at) + name(resource) + number(call)
+    return event("withdraw", at, id=resource, call=call)
 
 
 def begin(at, resource, call, run):
-    return number(8, 1) + number(at) + name(resource) + number(call) + number(run)
+    return event("begin", at, id=resource, call=call, run=run)
 
 
 def done(at, resource, run, code):
-    return number(9, 1) + number(at) + name(resource) + number(run) + number(1, 1) + number(code, 1)
-
-
-
-# The empty state: the next call id, the next run number, the clock, and no resource.
-EMPTY = number(1) + number(1) + number(0) + number(0, 2)
-
-
-def head(magic=b"OCFJ", version=2, epoch=1, state=EMPTY):
-    return OPEN + magic + number(version, 1) + number(epoch) + number(len(state), 4) + state
-
-
-def record(*events):
-    body = b"".join(events)
-    return OPEN + number(len(body), 4) + body
+    return event("result", at, id=resource, run=run, outcome=(DONE, code))
 
 
 def busy():
@@ -203,7 +172,7 @@ class Journals(helper.Check):
 
     def test_state(self):
         """damage: a snapshot that is no state"""
-        self.damaged("A at 0: state", head(state=b"x") + CLOSED)
+        self.damaged("A at 0: state", head(snapshot=b"x") + CLOSED)
 
     def test_long(self):
         """damage: a record that is too long"""
@@ -215,7 +184,7 @@ class Journals(helper.Check):
 
     def test_order(self):
         """damage: an event that does not apply"""
-        unregister = number(2, 1) + number(0) + name("r1")
+        unregister = event("unregister", 0, id="r1")
         self.damaged("A at 44: order", head() + record(unregister) + CLOSED)
 
     def test_withdrawn_twice(self):

@@ -16,10 +16,10 @@ import time
 
 sys.path[0] += "/../lib"
 import helper  # noqa: E402
-from helper import PROGRAM  # noqa: E402
+from helper import PARTS, PROGRAM  # noqa: E402
+from journal_format import head_of  # noqa: E402
 
 DATA = os.path.join(helper.TOP, "tests/data/first-layout")
-PARTS = ("part-a", "part-b")
 
 
 def stored(name, file):
@@ -42,11 +42,6 @@ def carried(name):
     return b"".join(today(line) for line in stored(name, "shown").splitlines())
 
 
-def head(part):
-    """A head's version and its epoch."""
-    return part[5], int.from_bytes(part[6:14], "big")
-
-
 def but_for(text, ids):
     """What is shown of all resources but these: the first line lists them, and two lines follow of each."""
     shown = text.splitlines()
@@ -56,13 +51,8 @@ def but_for(text, ids):
 
 class Layouts(helper.Check):
     def unpack(self, old):
-        folder = self.place("journal")
-        shutil.rmtree(folder, ignore_errors=True)
-        os.mkdir(folder)
-        for part, text in zip(PARTS, old):
-            with open(os.path.join(folder, part), "wb") as out:
-                out.write(text)
-        return folder
+        shutil.rmtree(self.place("journal"), ignore_errors=True)
+        return self.spelled("journal", *old)
 
     def opened(self, folder):
         done = subprocess.run([PROGRAM, "run", "--journal", folder, "--orphans", "0"], input=b"", capture_output=True)
@@ -71,8 +61,8 @@ class Layouts(helper.Check):
 
     def goes_over(self, name, report, touched):
         old, text = [stored(name, part) for part in PARTS], carried(name)
-        self.assertEqual([head(part)[0] for part in old], [1, 1])
-        self.assertGreater(head(old[1])[1], head(old[0])[1])
+        self.assertEqual([head_of(part)[0] for part in old], [1, 1])
+        self.assertGreater(head_of(old[1])[1], head_of(old[0])[1])
         folder = self.unpack(old)
         self.assertEqual(helper.shown(folder), text, "what the old program showed")
         self.assertEqual(helper.parts(folder), old, "a show that writes nothing")
@@ -80,7 +70,7 @@ class Layouts(helper.Check):
         self.assertEqual([(line["id"], line["action"], line["outcome"]) for line in told], report)
         new = helper.parts(folder)
         self.assertEqual(new[1], old[1])
-        self.assertEqual(head(new[0]), (2, head(old[1])[1] + 1), "the second layout in the other part")
+        self.assertEqual(head_of(new[0]), (2, head_of(old[1])[1] + 1), "the second layout in the other part")
         self.assertEqual(but_for(helper.shown(folder), touched), but_for(text, touched), "the same, but for what was interrupted")
         self.assertEqual(self.opened(folder), [], "nothing to report again")
         if not report:
@@ -108,7 +98,7 @@ class Layouts(helper.Check):
         found = helper.parts(folder)
         if found == old:
             return "before"
-        return "behind" if head(found[0]) == (2, head(old[1])[1] + 1) and found[0][0] == 1 else "amid"
+        return "behind" if head_of(found[0]) == (2, head_of(old[1])[1] + 1) and found[0][0] == 1 else "amid"
 
     @helper.slow
     def test_kills(self):

@@ -19,7 +19,9 @@ import typing
 
 sys.path[0] += "/../lib"
 import helper  # noqa: E402
+import journal_format  # noqa: E402
 from helper import PROGRAM, action  # noqa: E402
+from journal_format import BODY, CLOSED, FIRST, FRAME, KINDS, MAGIC, START, closed_gate, gate_after, head_of, is_headed  # noqa: E402
 
 RULES = {
     "opening": "an opening syncs each part before it reads it, and both before anything is written, acknowledged or started",
@@ -36,8 +38,7 @@ COUNTED = {"write", "gate", "acknowledged"}
 # how many calls are printed before one that breaks a rule
 BEFORE = 10
 OUT = "out"
-# the lengths of a gate with a head, and of a gate with a record's length; the greatest length of a record; the kind of a result
-HEAD, FRAME, BODY, RESULT = 18, 5, 32768, b"\x09"
+RESULT = bytes([KINDS["result"]])
 SHARED = "/dev/shm"
 NAMES = [f"r{place}" for place in range(6)]
 
@@ -96,30 +97,6 @@ class Broken(AssertionError):
         self.rule = rule
 
 
-# What a part holds: docs/FORMAT.md, Items and The journal's parts.
-
-def number(value, size=8):
-    return value.to_bytes(size, "big")
-
-
-def name(text):
-    return number(len(text), 1) + text.encode()
-
-
-def gate_after(text, gate):
-    """The offset of the gate after one that is open, or is to be."""
-    if gate == 0:
-        return HEAD + int.from_bytes(text[14:HEAD], "big")
-    return gate + FRAME + int.from_bytes(text[gate + 1:gate + FRAME], "big")
-
-
-def closed_gate(text, gate=0):
-    """The first gate from this one on that is not open."""
-    while gate < len(text) and text[gate] == 1:
-        gate = gate_after(text, gate)
-    return gate
-
-
 class Part:
     """A part, as the calls so far left it."""
 
@@ -133,7 +110,7 @@ class Part:
 
     def epoch(self):
         """The epoch of its head, or -1 where it has none."""
-        return int.from_bytes(self.text[6:14], "big") if len(self.text) > 1 and self.text[0] == 1 else -1
+        return head_of(self.text)[1] if is_headed(self.text) else -1
 
     def syncs(self):
         self.was_synced, self.is_synced, self.synced_gate = True, True, self.gate
@@ -151,13 +128,13 @@ class Part:
     def is_whole(self, gate):
         """Whether it ends at this closed gate, and all that the gate makes count was laid since, with the next gate closed."""
         after = gate_after(self.text, gate)
-        is_right = self.text[1:5] == b"OCFJ" if gate == 0 else 0 < after - gate - FRAME <= BODY
+        is_right = self.text[1:5] == MAGIC if gate == 0 else 0 < after - gate - FRAME <= BODY
         is_laid = self.laid[0] <= gate + 1 and after < self.laid[1]
         return gate == self.gate < len(self.text) and is_right and is_laid and self.text[after] != 1
 
     def has_result(self, notice):
         """Whether a notice's result is in a record that was synced."""
-        run = re.escape(name(notice["id"]) + number(notice["run"]))
+        run = re.escape(journal_format.name(notice["id"]) + journal_format.number(notice["run"]))
         return re.search(RESULT + b".{8}" + run, self.text[:self.synced_gate], re.DOTALL)
 
 
@@ -286,11 +263,11 @@ AGENTS = 3
 
 def first_layout():
     """A part of the first layout, with a resource of ten long parameters that runs its first action: its snapshot takes three pieces."""
-    params = b"".join(name(f"p{place}") + number(1000, 2) + b"x" * 1000 for place in range(10))
-    runs = number(1, 1) + number(1) + number(1) + b"\1\0" + number(20_000, 4) + number(0, 4) + number(5)
-    resource = name("r0") + name("test") + name("Step") + number(10, 1) + params + b"\0" + runs + b"\0\0"
-    state = number(2) + number(2) + number(5) + number(1, 2) + resource
-    return b"\1OCFJ\1" + number(1) + number(len(state), 4) + state + b"\0"
+    runs = {"call": 1, "run": 1, "action": START, "level": 0, "expect": 0, "timeout": 20_000, "interval": 0, "since": 5}
+    resource = {"id": "r0", "provider": "test", "type": "Step", "params": {f"p{place}": "x" * 1000 for place in range(10)},
+                "queue": [], "running": runs, "recurring": [], "ended": [], "failed": None}
+    snapshot = journal_format.state({"next_call": 2, "next_run": 2, "clock": 5, "resources": [resource]}, FIRST)
+    return journal_format.head(snapshot=snapshot, version=FIRST) + CLOSED
 
 
 class RealSyncs(helper.Check):
