@@ -1,12 +1,21 @@
 """Whether a wrong body was refused for what it does: its first refused goal is of a function that the edit changes, or of one that calls
-it. `rt` says where that goal stands: in a file of src/, or in a proof file of a function, proofs/MODULE/FUNCTION/Answers.antt."""
+it. `rt` says where that goal stands: in a file of src/, or in a proof file of a function, proofs/MODULE/FUNCTION/Answers.antt.
+
+An edit says what must refuse it, in a line `# refused by: FUNCTION, CLAUSE; FUNCTION`, over which `rt` passes: functions of its crate, and
+the label of the clause where one is meant. So a refusal by another function is told.
+Use: goals.py CRATE_FOLDER < SAID, with what `rt` said of the crate's edits, which stand in must-fail; it tells what differs, and then ends
+with 1"""
 import os
 import re
+import sys
 
 FUNCTION = re.compile(r"^[ \t]*(?:pub(?:\([a-z ]+\))?[ \t]+)?(?:(?:const|unsafe)[ \t]+)*fn[ \t]+(\w+)", re.MULTILINE)
 PLACE = re.compile(r"(?:^|[\s:])(?:\./)?((?:src|proofs)/[^\s:]+):(\d+):\d+:")
 # A proof file of a function; the crate's own lemmas stand in files and folders whose names begin with a capital.
 PROOF = re.compile(r"proofs/(?:.*/)?([a-z]\w*)/\w+\.antt")
+# What `rt` says of an edit, and what an edit says of itself.
+FATE = re.compile(r"^rt: must-fail ([\w.-]+/[\w.-]+)\.edit: (.*)", re.MULTILINE)
+NAMED = re.compile(r"^# refused by: (.+)$", re.MULTILINE)
 # What `rt` says where a name in a proof file is gone, so that no contract was asked.
 ONLY_NAMES = "only because a proof file names what the edit took away"
 
@@ -80,3 +89,32 @@ def fault(crate, edit, fate):
     if None in names or of is None or of in names | callers(crate, names):
         return None
     return f"REFUSED ELSEWHERE, in {of}, which neither is nor calls {' or '.join(sorted(names))}: {fate}"
+
+
+def named(edit):
+    """What an edit says must refuse it: functions, each with a clause or none."""
+    line = NAMED.search(read(edit))
+    pairs = [each.partition(", ") for each in line[1].split("; ")] if line else []
+    return [(function, clause or None) for function, _, clause in pairs]
+
+
+def differs(crate, edit, fate):
+    """How the function that refused an edit differs from those that it names, or none: where one of both is not told nothing does."""
+    of, names = goal(crate, fate), sorted({function for function, _ in named(edit)})
+    if not fate.startswith("refused") or of is None or not names or of in names:
+        return None
+    return f"DIFFERS: refused in {of}, and its edit names {' and '.join(names)}"
+
+
+def main():
+    crate, is_all = sys.argv[1], True
+    for edit, fate in FATE.findall(sys.stdin.read()):
+        told = differs(crate, os.path.join(crate, "must-fail", os.path.basename(edit) + ".edit"), fate)
+        if told:
+            print(f"{edit}: {told}")
+            is_all = False
+    return 0 if is_all else 1
+
+
+if __name__ == "__main__":
+    sys.exit(main())

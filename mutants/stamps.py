@@ -1,12 +1,12 @@
 #!/usr/bin/env python3
 """The wrong bodies of mutants/gate/CRATE/*.edit, each under a stamp: mutants/tried has a line `CRATE/EDIT SUM` for each that was seen
-refused. The sum is over the edit, the kit, and the lines of crates.txt and the files of src/, specs/ and proofs/ of the crate and of all
-crates below it, so a stamp is old as soon as one of them differs.
+refused. The sum is over the edit but for its comments, the kit, and the lines of crates.txt and the files of src/, specs/ and proofs/ of
+the crate and of all crates below it, so a stamp is old as soon as one of them differs.
 
 `check` tries each edit whose line is missing or old, and `all` tries every one; both write the lines of what was refused, and take away
 those of what was not. An edit counts where the check refuses it, and its first refused goal is of an edited function or of a caller of
-one. Of the crates, -j are tried at a time, three if left out, and no more than memory holds. What the kit saw of the same files on this
-machine before it does not do again. The last line counts the edits.
+one; where that is none of the functions that the edit names this is told. Of the crates, -j are tried at a time, three if left out, and
+no more than memory holds. What the kit saw of the same files on this machine before it does not do again. The last line counts the edits.
 
 Use: stamps.py check|all [-j CRATES]"""
 import argparse
@@ -31,7 +31,6 @@ EDITS = os.path.join(TOP, "mutants", "gate")
 TRIED = os.path.join(TOP, "mutants", "tried")
 PARTS = ("src", "specs", "proofs")
 NAME = re.compile(r"[A-Za-z0-9_-][A-Za-z0-9_.-]*\.edit")
-FATE = re.compile(r"^rt: must-fail ([\w.-]+/[\w.-]+)\.edit: (.*)", re.MULTILINE)
 # What the check of one crate may take of memory.
 CHECK_KIB = 3_500_000
 
@@ -70,7 +69,7 @@ class Texts:
     def sum_of_edit(self, edit):
         """The sum that an edit's line has, once it was seen refused with these texts."""
         crates = [(name, self.words[name], self.sum_of_crate(name)) for name in self.at_or_below(edit.split("/")[0])]
-        return hashlib.sha256(repr((edit, read(path_of(edit)), self.kit, crates)).encode()).hexdigest()
+        return hashlib.sha256(repr((edit, edit_of(edit), self.kit, crates)).encode()).hexdigest()
 
 
 def read(path):
@@ -78,8 +77,17 @@ def read(path):
         return file.read()
 
 
+def crate_of(edit):
+    return os.path.join(TOP, "crates", edit.split("/")[0])
+
+
 def path_of(edit):
     return os.path.join(EDITS, edit + ".edit")
+
+
+def edit_of(edit):
+    """The bytes of an edit but for its comments: what it says must refuse it changes nothing of what is tried."""
+    return b"".join(line for line in read(path_of(edit)).splitlines(keepends=True) if not line.startswith(b"#"))
 
 
 def edits():
@@ -129,7 +137,7 @@ def fates(crate, names, running):
         running.add(tried)
         said = tried.communicate()[0]
         running.discard(tried)
-    return dict(FATE.findall(said)), said
+    return dict(goals.FATE.findall(said)), said
 
 
 def fault_of(edit, fate):
@@ -138,7 +146,13 @@ def fault_of(edit, fate):
         return "NOT TRIED: the crate was not proved, or nothing was said of this edit"
     if not fate.startswith("refused"):
         return fate
-    return goals.fault(os.path.join(TOP, "crates", edit.split("/")[0]), path_of(edit), fate)
+    return goals.fault(crate_of(edit), path_of(edit), fate)
+
+
+def told_of(edit, fate, fault):
+    """The line of an edit that was tried."""
+    differs = None if fault else goals.differs(crate_of(edit), path_of(edit), fate)
+    return f"  {'FAILED' if fault else 'refused'}  {edit}: {f'{differs}: ' if differs else ''}{fault or fate}"
 
 
 def try_crate(crate, wanted, stamps, known, running):
@@ -155,7 +169,7 @@ def try_crate(crate, wanted, stamps, known, running):
             refused[edit] = total
         elif not fault.startswith("NOT TRIED"):
             others.append(edit)
-        lines.append(f"  {'FAILED' if fault else 'refused'}  {edit}: {fault or told[edit]}")
+        lines.append(told_of(edit, told.get(edit), fault))
     stamps.settle(known, refused, others)
     if not told:
         lines += said.splitlines()[-20:]

@@ -1,6 +1,6 @@
 #!/usr/bin/env bash
 # Tries a crate's wrong bodies, mutants/NAME/*.edit and mutants/gate/NAME/*.edit, on a copy of the repository, and prints the fate of
-# each. The gate keeps a few of its own, in crates/NAME/must-fail. It begins with what was proved before: a kit whose gate tries one
+# each, and where it was refused by another function than it names. The gate keeps a few of its own, in crates/NAME/must-fail. It begins with what was proved before: a kit whose gate tries one
 # crate alone knows what it proved on this machine, and any other finds the libraries below as the checks of the work tree left them.
 # The name tests stands for those that only a check of the built program refuses, try_tests.sh, and gate for all that have a
 # stamp, stamps.py.
@@ -73,6 +73,8 @@ if grep -c "^rt: must-fail $name/" "$copy/said" > /dev/null; then
 else
     cat "$copy/said"
 fi
+# A refusal by another function than the edit names says that its contract is not what it was thought to be.
+python3 -B "$top/mutants/goals.py" "$copy/crates/$name" < "$copy/said" || status=1
 # An edit that did not reach the prover shows nothing.
 if grep -c -e "^rt: must-fail $name/.*: BAD EDIT" "$copy/said" > /dev/null; then status=1; fi
 exit "$status"

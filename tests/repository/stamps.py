@@ -77,8 +77,8 @@ class Stamps(helper.Check):
         with open(self.place(name), "w", encoding="utf-8") as file:
             file.write(text)
 
-    def edit(self, name, old="n + 1", new="n + 2", fn="kept", folder="mutants/gate"):
-        self.write(f"top/{folder}/{name}.edit", f"file: src/lib.rt\nfn: {fn}\nold: {old}\nnew: {new}\n")
+    def edit(self, name, old="n + 1", new="n + 2", fn="kept", folder="mutants/gate", named="kept"):
+        self.write(f"top/{folder}/{name}.edit", f"file: src/lib.rt\nfn: {fn}\nold: {old}\nnew: {new}\n# refused by: {named}\n")
 
     def lines(self):
         """The lines of mutants/tried, by their edits."""
@@ -191,6 +191,19 @@ class Stamps(helper.Check):
         said = self.tries(EVERY, 3, 1)
         self.assertEqual(re.findall(r"FAILED  (\S+):", said), ["high/two"])
         self.assertEqual(sorted(self.lines()), ["beside/one", "high/one", "low/one"])
+
+    def test_named(self):
+        """an edit that another function refuses than it names is told, and what it names makes no line old"""
+        self.edit("high/one", fn="asks", named="kept, more; other")
+        self.edit("high/two", fn="asks", named="kept; asks, more")
+        told = "high/one: DIFFERS: refused in asks, and its edit names kept and other"
+        self.assertEqual(re.findall("(.*DIFFERS.*): refused, as", self.tries(EVERY, 4, 0)), ["  refused  " + told])
+        self.edit("high/one", fn="asks", named="asks")
+        self.tries([], 4, 0)
+        for name, wanted in (("one", []), ("other", [told.replace("one", "other")])):
+            self.edit(f"high/{name}", fn="asks", named="asks" if name == "one" else "kept; other", folder="mutants")
+            said, status, _ = self.called("high", name, script="mutants/try.sh")
+            self.assertEqual((status, re.findall(".*DIFFERS.*", said)), (len(wanted), wanted))
 
     def test_not_tried(self):
         """an edit of which the kit says nothing fails, and so does a file that is no edit of a crate"""
