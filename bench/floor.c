@@ -1,7 +1,7 @@
 /* The least that an executor has to do, under load: it starts agents and waits for them, and does nothing else. The words
    are the agent's file and a journal's file, or -. With a journal it makes in each turn the writes and syncs of one row for
    the results and of one for the begins: a row is written behind a closed gate and synced, then its gate opened and synced.
-   What records the commands is no part of it: tests/journal/durable.sh compares that. */
+   What records the commands is no part of it: tests/journal/durable.py compares that. */
 #define _GNU_SOURCE
 #include "load.h"
 

@@ -260,8 +260,8 @@ crowd() {
         for n in $(seq 1 256); do start "r$n" 4000; done
         printf '{"op":"drain"}\n'
     } >&3
-    local most=0 now
-    until grep -q '"end"' "$here/out"; do
+    local most=0 now last=$(($(date +%s) + patience))
+    while ! has_lines 1 '"end"' "$here/out" && [ "$(date +%s)" -lt "$last" ]; do
         now=$(wc -w < "/proc/$pid/task/$pid/children")
         [ "$now" -le "$most" ] || most=$now
         sleep 0.2

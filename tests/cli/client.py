@@ -87,7 +87,7 @@ class Kept(helper.Check):
         self.waits(f"running {names}", lambda: all(os.path.exists(self.place(name)) for name in names))
 
     def comes(self, client, after=0, **wanted):
-        found = client.awaits(lambda value: helper.is_notice(value, **wanted), 15, after)[1]
+        found = client.hears(lambda value: helper.is_notice(value, **wanted), 15, after)[1]
         self.assertIsNotNone(found, f"{wanted}:\n{self.said()}")
         return found
 

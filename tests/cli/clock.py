@@ -46,7 +46,6 @@ class Clock(helper.Check):
     def takes(self, run, word, began, least, most):
         # the end of a drain or a watch, of this word, so many milliseconds behind a moment
         at, end = run.awaits(lambda value: value.get("end") == word)
-        self.assertIsNotNone(at, f"an end as {word}, not {run.values()}")
         self.assertTrue(least <= (at - began) * 1000 <= most, f"{word} after {(at - began) * 1000:.0f} ms")
 
     def ended(self, run, action):
@@ -66,7 +65,7 @@ class Clock(helper.Check):
         self.takes(run, "idle", began, 900, 2500)
         self.assertEqual(self.ended(run, "start"), [("timed-out", 1)])
         run.tell({"op": "recur", "id": "r1", "interval": 200}, {"op": "watch", "limit": 1500})
-        self.assertIsNotNone(run.awaits(lambda value: value.get("end") == "limit")[0], "the end of a watch")
+        run.awaits(lambda value: value.get("end") == "limit")
         self.assertGreaterEqual(len(self.ended(run, "monitor")), 3, "monitors of 200 ms in 1.5 s")
         self.assertEqual(run.ends(), 0)
 
@@ -90,7 +89,7 @@ class Clock(helper.Check):
         run.tell(self.registered(), self.start(20000), DRAIN)
         time.sleep(0.8)
         self.set_ahead(3600)
-        self.assertIsNotNone(run.awaits(lambda value: value.get("end") == "idle")[0], "the end of a drain")
+        run.awaits(lambda value: value.get("end") == "idle")
         self.assertEqual(self.ended(run, "start"), [("done", 0)])
         self.assertEqual(run.ends(), 0)
 
@@ -99,7 +98,7 @@ class Clock(helper.Check):
         run = self.shimmed("--journal", self.journal(), word="serve")
         run.tell(helper.register("r1", "Sleeper", **{"for": "30"}), helper.action("r1", "start", timeout=90000),
                  helper.register("r2", "Sleeper"), {"op": "recur", "id": "r2", "interval": 2000})
-        self.assertIsNotNone(run.awaits(lambda value: helper.is_notice(value, action="monitor"))[0], "a monitor's result")
+        run.awaits(lambda value: helper.is_notice(value, action="monitor"))
         return run
 
     def status(self, seconds, name="journal", *words):

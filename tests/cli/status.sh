@@ -47,7 +47,7 @@ printf '%s\n' '{"op":"params","id":"a-longer-name","params":{"time":"60"}}' '{"o
 awaits 1 '"outcome":"signaled"' "$here/replies"
 awaits 1 '"interval":90001' "$here/replies"
 printf '%s\n' '{"op":"exec","id":"a-longer-name","action":"start","timeout":90000}' '{"op":"exec","id":"a-longer-name","action":"stop"}' >&3
-until "$program" show --journal "$here/journal" | grep '_start_0"' > "$here/running"; do sleep 0.05; done
+eventually "a start that runs" "$here/replies" is_running a-longer-name_start_0 "$here/journal"
 cp -r "$here/journal" "$here/before"
 tells --journal "$here/journal"
 cat > "$here/wanted" <<'TABLE'

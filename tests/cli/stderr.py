@@ -78,8 +78,7 @@ class StandardError(helper.Check):
         for _ in range(count):
             before, ends = len(run.values()), len(run.told())
             run.tell(helper.action(name, "start"), {"op": "list"})
-            moment, _ = run.awaits(lambda value: "resources" in value, seconds=10, after=before)
-            self.assertIsNotNone(moment, "a reply to list")
+            run.awaits(lambda value: "resources" in value, after=before)
             until = time.monotonic() + 10
             while len(run.told()) == ends:
                 self.assertLess(time.monotonic(), until, "a notice")
@@ -155,8 +154,7 @@ class StandardError(helper.Check):
                 fill(self.writer)
                 run = self.opened(word, "--journal", folder)
                 run.tell({"op": "list"})
-                moment, _ = run.awaits(lambda value: "resources" in value, seconds=5)
-                self.assertIsNotNone(moment, "a reply")
+                run.awaits(lambda value: "resources" in value, seconds=5)
                 self.assertEqual(run.ends(5), 0)
 
     @unittest.skipUnless(shutil.which("cc"), "install a C compiler")

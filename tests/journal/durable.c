@@ -1,4 +1,4 @@
-/* The floor of durable.sh. */
+/* The floor of durable.py. */
 #include <fcntl.h>
 #include <stdlib.h>
 #include <unistd.h>

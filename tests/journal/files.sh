@@ -23,9 +23,7 @@ journal() {
 hold() {
     explained "$here/held_err" feed "$here/held" run --journal "$1"
     printf '{"op":"list"}\n' >&3
-    until [ -s "$here/held" ] || ! kill -0 "$pid" 2> "$here/gone"; do
-        sleep 0.01
-    done
+    eventually "a reply of an executor that holds $1" "$here/held_err" test -s "$here/held"
 }
 
 # Lets that executor end. Use: let_go NAME
@@ -277,9 +275,7 @@ while [ ! -e enough ]; do
     sleep 0.01
 done | env --default-signal "$program" run --journal busy > busy_replies 2> busy_err &
 pid=$!
-until [ -s busy_replies ]; do
-    sleep 0.01
-done
+eventually "a first reply of the busy executor" busy_err test -s busy_replies
 last=0
 for _ in $(seq 50); do
     "$program" show --journal busy > out 2> err

@@ -71,11 +71,35 @@ feed() {
     rm "$here/in"
 }
 
-# Waits until so many lines of a file hold this. Use: awaits COUNT PATTERN FILE
-awaits() {
-    until [ "$(grep -c -e "$2" "$3")" -ge "$1" ]; do
+# Waits until a command succeeds, for $patience seconds at most; else says so, with the last lines of a file, and fails the check.
+# Use: eventually WHAT FILE COMMAND..
+patience=60
+eventually() {
+    eventually_what=$1 eventually_file=$2
+    shift 2
+    eventually_until=$(($(date +%s) + patience))
+    until "$@"; do
+        if [ "$(date +%s)" -ge "$eventually_until" ]; then
+            differs "$eventually_what" "it within $patience seconds, by $*" "$(tail -n 5 "$eventually_file")"
+            finish "$eventually_what"
+        fi
         sleep 0.02
     done
+}
+
+# Whether so many lines of a file hold this. Use: has_lines COUNT PATTERN FILE
+has_lines() {
+    [ "$(grep -c -e "$2" "$3")" -ge "$1" ]
+}
+
+# Waits until so many lines of a file hold this. Use: awaits COUNT PATTERN FILE
+awaits() {
+    eventually "$1 lines of $2" "$3" has_lines "$@"
+}
+
+# Whether the journal of an executor is shown as running this, by the key of the action. Use: is_running KEY JOURNAL
+is_running() {
+    "$program" show --journal "$2" > "$here/is_running" && has_lines 1 "\"key\":\"$1\"" "$here/is_running"
 }
 
 # The resident memory of a process in KiB: now, or the greatest that it ever was. Use: kib PID VmRSS, kib PID VmHWM

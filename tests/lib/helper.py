@@ -2,6 +2,7 @@
 and heard. A module is called as `tests/FOLDER/NAME.py PROGRAM`; each of its tests is a check, which is printed with its time. With ONLY
 in the environment, the one test of that sentence is tried. A test that fails says how it is played again, with the numbers that it asked
 for; one by chance, which asked for SEED, leaves its folder, with what it was given, in tests/failed."""
+import contextlib
 import functools
 import json
 import os
@@ -19,6 +20,8 @@ PROGRAM = os.path.realpath(sys.argv[1]) if len(sys.argv) > 1 else ""
 PARTS = ("part-a", "part-b")
 TOP = os.path.dirname(os.path.dirname(os.path.dirname(os.path.abspath(__file__))))
 FAILED = os.path.join(TOP, "tests/failed")
+# how many of the last lines are told where another one did not come
+LAST = 10
 # how this module is called again, and the numbers that the test under way asked for
 CALL, numbers = [sys.argv[0], *([PROGRAM] if PROGRAM else [])], {}
 
@@ -162,7 +165,7 @@ class Heard:
     def __init__(self, *words, err=os.devnull, program=None, **how):
         with open(err, "wb") as file:
             self.run = subprocess.Popen([program or PROGRAM, *words], stdin=subprocess.PIPE, stdout=subprocess.PIPE, stderr=file, **how)
-        self.lines, self.came = [], threading.Condition()
+        self.lines, self.came, self.is_over = [], threading.Condition(), False
         self.reader = threading.Thread(target=self.read, daemon=True)
         self.reader.start()
 
@@ -171,6 +174,9 @@ class Heard:
             with self.came:
                 self.lines.append((time.monotonic(), line.decode()))
                 self.came.notify_all()
+        with self.came:
+            self.is_over = True
+            self.came.notify_all()
 
     def tell(self, *commands):
         self.send(lines(*commands))
@@ -189,7 +195,17 @@ class Heard:
         return [value for value in self.values() if is_notice(value)]
 
     def awaits(self, holds, seconds=10, after=0):
-        """The moment and the value of the first line of which this holds, after so many; two None where none came."""
+        """The moment and the value of the first line of which this holds, after so many; it fails where none comes in time."""
+        found = self.hears(holds, seconds, after)
+        if found[0] is None:
+            with self.came:
+                last = "".join(line for _, line in self.lines[-LAST:])
+                end = "before the end of its output" if self.is_over else f"within {seconds} s"
+                raise AssertionError(f"no such line came {end}; of {len(self.lines)} the last ones:\n{last}")
+        return found
+
+    def hears(self, holds, seconds=10, after=0):
+        """The same, and two None where none comes in time, or the output has ended."""
         until, at = time.monotonic() + seconds, after
         with self.came:
             while True:
@@ -198,7 +214,7 @@ class Heard:
                     if holds(value):
                         return self.lines[at][0], value
                     at += 1
-                if not self.came.wait(max(0, until - time.monotonic())):
+                if self.is_over or not self.came.wait(max(0, until - time.monotonic())):
                     return None, None
 
     def ends(self, seconds=10):
@@ -212,7 +228,8 @@ class Heard:
         self.run.kill()
         self.run.wait()
         self.reader.join()
-        self.run.stdin.close()
+        with contextlib.suppress(BrokenPipeError):
+            self.run.stdin.close()
         self.run.stdout.close()
 
 

@@ -39,7 +39,6 @@ class Serving(helper.Check):
         run = self.slow_and_quick()
         began = time.monotonic()
         at, notice = run.awaits(lambda value: helper.is_notice(value, id="quick"))
-        self.assertIsNotNone(at, "a notice of the stop")
         self.assertLess(at - began, 2)
         self.assertLessEqual({"since", "at"}, notice.keys())
         values = run.values()
@@ -119,7 +118,7 @@ class Serving(helper.Check):
         run.tell(sleeper("r1", **{"for": "30"}), action("r1", "start"), action("r1", "stop"), action("r1", "stop"))
         for _ in range(100):
             run.tell({"op": "info", "id": "r1"})
-            if run.awaits(lambda value: value.get("running"), 0.1)[0]:
+            if run.hears(lambda value: value.get("running"), 0.1)[0]:
                 break
         known = len(run.values())
         withdrawals = [{"op": "withdraw", "id": name, "call": call} for name, call in

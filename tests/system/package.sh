@@ -37,8 +37,10 @@ reply=$(printf '%s\n' '{"op":"register","id":"r1","provider":"ocfexec","type":"D
     '{"op":"exec","id":"r1","action":"start","timeout":5000}' '{"op":"drain"}' |
     "$root/usr/bin/ocfexec" run --memory --root "$root/usr/lib/ocf" | grep -c '"outcome":"done"')
 same "an installed agent" 1 "$reply"
-grep -q "commit $commit" "$root/usr/share/doc/ocfexec/README.gate" || differs "the gate" "its commit" ""
-grep -q '/usr/bin/ocfexec serve .* \$OCFEXEC_OPTIONS$' "$root/lib/systemd/system/ocfexec.service" || differs "the unit" "the options of /etc/default" ""
+grep -q "commit $commit" "$root/usr/share/doc/ocfexec/README.gate" ||
+    differs "the gate" "commit $commit" "$(cat "$root/usr/share/doc/ocfexec/README.gate")"
+grep -q '/usr/bin/ocfexec serve .* \$OCFEXEC_OPTIONS$' "$root/lib/systemd/system/ocfexec.service" ||
+    differs "the unit" "the options of /etc/default" "$(grep ExecStart "$root/lib/systemd/system/ocfexec.service")"
 [ -s "$root/usr/share/man/man8/ocfexec.8.gz" ] || differs "the manual page" "there" "not"
 
 for completions in bash-completion/completions/ocfexec zsh/vendor-completions/_ocfexec fish/vendor_completions.d/ocfexec.fish; do

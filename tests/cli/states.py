@@ -1,0 +1,130 @@
+#!/usr/bin/env python3
+"""How resources are, as a status tells it: by what their last actions ended with, over an agent that ends as it is told to, after a
+timeout, an interruption and a withdrawal, with the status of --exit-code, of all resources and of one, as a table and as JSON.
+Use: states.py PROGRAM"""
+import re
+import sys
+import time
+
+sys.path[0] += "/../lib"
+import helper  # noqa: E402
+
+# The exit status of a status by which a person is asked for, or not.
+ALARM = {"failed": 9, "unknown": 9}
+# a length of time, and the room that it leaves in its column
+LENGTH = re.compile(r"\d+ (ms|s|min)\b *|(?<=STATE) +")
+# What each action ended with in turn, and how the resource is then.
+BY_CODES = [
+    (0, "monitor", "started"), (7, "monitor", "failed"), (0, "start", "started"), (0, "validate-all", "started"),
+    (0, "promote", "promoted"), (0, "reload-agent", "promoted"), (0, "demote", "started"), (0, "stop", "stopped"),
+    (190, "monitor", "started"), (1, "monitor", "failed"), (0, "start", "started"), (6, "reload-agent", "failed"),
+    (0, "start", "started"), (1, "stop", "failed"), (0, "stop", "stopped"), (9, "monitor", "failed"), (255, "monitor", "failed"),
+    (0, "promote", "promoted"), (190, "promote", "failed"),
+]
+# The code of a monitor, what it was expected to end with, and how the resource is then.
+EXPECTED = [(7, 7, "stopped"), (8, 8, "promoted"), (191, 8, "promoted"), (0, 8, "failed"), (0, 7, "failed")]
+
+
+class States(helper.Check):
+    def setUp(self):
+        super().setUp()
+        self.agent("Told", '[ "$OCF_RESKEY_code" != sleep ] || exec sleep 60\nexit "$OCF_RESKEY_code"\n')
+        self.folder = self.journal()
+        self.asks(helper.register("r1", "Told"), helper.register("r2", "Told"))
+
+    def asks(self, *commands):
+        done = helper.run("run", "--journal", self.folder, "--root", self.here, "--orphans", "0", told=helper.lines(*commands))
+        self.assertEqual(done.returncode, 0, done.stderr)
+
+    def ends(self, code, action, **more):
+        """Runs an action of r1, whose agent ends with this code or sleeps."""
+        self.asks({"op": "params", "id": "r1", "params": {"code": str(code)}}, helper.action("r1", action, **more), {"op": "drain"})
+
+    def status(self, *words, status=0):
+        """What a status prints, which ends so."""
+        done = helper.run("status", "--journal", self.folder, *words)
+        self.assertEqual((done.returncode, done.stderr), (status, b""), f"status {' '.join(words)}:\n{done.stdout.decode()}")
+        return done.stdout
+
+    def condition(self, name):
+        """The line of a resource in JSON that tells its state."""
+        return helper.replies(self.status("--json", name))[-1]
+
+    def is_so(self, name, state):
+        """A resource is in this state, in a table and as JSON, and --exit-code says whether a person is asked for."""
+        table = self.status().decode()
+        row = re.search(rf"^{name} +\S+ +(.*?)( since \d+ [a-z]+)?  ", table, re.MULTILINE)
+        self.assertEqual(row and row[1], state, table)
+        self.assertEqual(self.condition(name)["state"], state)
+        for words in ([name], ["--json", name], [name, "--json"]):
+            self.status("--exit-code", *words, status=ALARM.get(state, 0))
+        plain, coded = self.status(name), self.status(name, "--exit-code", status=ALARM.get(state, 0))
+        self.assertEqual(LENGTH.sub("TIME", coded.decode()), LENGTH.sub("TIME", plain.decode()), "the same with --exit-code")
+        return plain.decode()
+
+    def test_none(self):
+        """none has run"""
+        for name in ("r1", "r2"):
+            self.is_so(name, "never run")
+
+    def test_codes(self):
+        """by the codes of actions"""
+        for code, action, state in BY_CODES:
+            with self.subTest(f"{action} ends with {code}"):
+                self.ends(code, action)
+                self.is_so("r1", state)
+
+    def test_expected(self):
+        """by what a monitor was expected to find"""
+        for code, expected, state in EXPECTED:
+            with self.subTest(f"{code}, where {expected} was expected"):
+                self.ends(code, "monitor", expect=expected)
+                self.is_so("r1", state)
+
+    def test_timeout(self):
+        """a timeout"""
+        self.ends("sleep", "start", timeout=100)
+        told = self.is_so("r1", "unknown")
+        self.assertIn("last failure  start: failed: it ran past its timeout and was killed (OCF_ERR_GENERIC, 1), ", told)
+        self.ends(0, "start")
+        self.is_so("r1", "started")
+        self.is_so("r2", "never run")
+
+    def test_interruption(self):
+        """an interruption"""
+        self.ends(0, "start")
+        run = self.heard("serve", "--journal", self.folder, "--root", self.here, "--orphans", "0")
+        run.tell({"op": "params", "id": "r1", "params": {"code": "sleep"}}, helper.action("r1", "stop"), helper.action("r1", "start"))
+        until = time.monotonic() + 20
+        while not self.condition("r1")["running"]:
+            self.assertLess(time.monotonic(), until, "a stop that runs")
+            time.sleep(0.05)
+        self.is_so("r1", "started")
+        self.assertRegex(self.status().decode(), r"(?m)^r1 .*stop since \d+ (ms|s), 1 queued$")
+        run.killed()
+        self.asks()
+        self.is_so("r1", "unknown")
+
+    def test_all(self):
+        """of all resources, one that asks for a person is enough"""
+        self.status("--exit-code")
+        self.ends(1, "monitor")
+        self.status("--exit-code", status=9)
+        self.asks({"op": "forget", "id": "r1"})
+        self.is_so("r1", "never run")
+        self.status("--exit-code")
+
+    def test_since(self):
+        """since the first of the results from which on all tell the same"""
+        self.ends(0, "start")
+        self.ends(6, "monitor")
+        first = self.condition("r1")
+        time.sleep(0.1)
+        self.ends(1, "monitor")
+        self.assertEqual(self.condition("r1")["since"], first["since"])
+        self.ends(6, "monitor")
+        self.assertIn("last failure  monitor: not configured (OCF_ERR_CONFIGURED, 6), ", self.status("r1").decode())
+
+
+if __name__ == "__main__":
+    helper.main()

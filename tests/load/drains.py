@@ -1,0 +1,54 @@
+#!/usr/bin/env python3
+# check: slow alone
+"""What a waiting drain costs, and how soon an end is noticed: an agent that sleeps for ten seconds, and then monitors that each run to a
+timeout of 100 milliseconds, at moments of the system's clock. Wanted on a quiet machine: under 2 % of a core, and each end recorded
+within 2 milliseconds of its timeout. It fails at ten times that, of the middle end, so that a busy machine does not.
+Use: drains.py PROGRAM"""
+import sys
+import time
+
+sys.path[0] += "/../lib"
+import helper  # noqa: E402
+
+TIMEOUT = 100
+
+
+def milliseconds():
+    return time.time_ns() // 1_000_000
+
+
+class Drains(helper.Check):
+    def setUp(self):
+        super().setUp()
+        self.agent("Sleeper", "exec sleep 10\n")
+
+    def test_waits(self):
+        """what ten seconds of waiting take of the processor"""
+        run = self.heard("run", "--memory", "--root", self.here)
+        run.tell(helper.register("r1", "Sleeper"), helper.action("r1", "start", timeout=20000), {"op": "drain"})
+        _, end = run.awaits(lambda value: "end" in value, 30)
+        spent = round(helper.processor_time(run.run.pid) * 1000)
+        print(f"drains: ten seconds of waiting: {spent} milliseconds of the processor (under 200 wanted)", flush=True)
+        self.assertEqual([(value["outcome"], value["code"]) for value in run.told()], [("done", 0)])
+        self.assertEqual((end, run.ends()), ({"end": "idle"}, 0))
+        self.assertLess(spent, 2000, "milliseconds of the processor")
+
+    def test_ends(self):
+        """how soon the end of a monitor is noticed, at moments that the clock shows"""
+        asked = [helper.register("r1", "Sleeper"), {"op": "recur", "id": "r1", "interval": 100, "timeout": TIMEOUT},
+                 {"op": "watch", "limit": 3000}, {"op": "history", "id": "r1"}]
+        began = milliseconds()
+        *_, end, history = helper.replies(helper.run("run", "--memory", "--root", self.here, told=helper.lines(*asked)).stdout)
+        ended = milliseconds()
+        runs = [(result["since"], result["at"]) for result in history["results"]]
+        late = sorted(at - since - TIMEOUT for since, at in runs)
+        print(f"drains: ends: {len(late)} are noticed late by these milliseconds (at most 2 wanted): {late}", flush=True)
+        self.assertEqual(end, {"end": "limit"})
+        self.assertGreaterEqual(len(late), 3, "monitors that ran")
+        self.assertLessEqual(late[len(late) // 2], 20, "milliseconds by which the middle end is noticed late")
+        moments = sorted(moment for run in runs for moment in run)
+        self.assertEqual(sorted([began, *moments, ended]), [began, *moments, ended], "moments between those before and behind the run")
+
+
+if __name__ == "__main__":
+    helper.main()
