@@ -1,18 +1,23 @@
 #!/usr/bin/env python3
 """The second reader and writer of the journal's bytes, tests/lib/journal_format.py, on what the program writes and shows: each event
 that a run records is read, and spelled again to the same bytes; so is a state with all that a state may have, as a tidy leaves it, and
-what is written by hand is shown as it was meant; so are the stored journals of the first layout.
-Use: format.py PROGRAM"""
+what is written by hand is shown as it was meant; so are the stored journals of the first layout. Of parts by chance, some of which are
+damaged, both say the same.
+Use: format.py PROGRAM, with ROUNDS and SEED in the environment"""
 import gzip
 import os
+import shutil
 import sys
 
 sys.path[0] += "/../lib"
 import helper  # noqa: E402
 import journal_format  # noqa: E402
+from chance import by_chance  # noqa: E402
 from helper import action  # noqa: E402
-from journal_format import CLOSED, DROPPED, FIRST, INTERRUPTED, MONITOR, NOT_STARTED, START, STOP, SECOND  # noqa: E402
+from journal_format import (ACTIONS, CLOSED, DETAILS, DROPPED, FIRST, INTERRUPTED, MONITOR, NOT_STARTED, RAN, SECOND, START,  # noqa: E402
+                            STOP, event)
 
+REFUSED = 5
 DATA = os.path.join(helper.TOP, "tests/data/first-layout")
 # What a run is asked for that records each kind of event but a boot, and the events of it.
 ASKED = [
@@ -60,6 +65,55 @@ SHOWN = [
     {"failed": None, "id": "b", "ok": True, "params": {}, "provider": "p", "queued": [], "recurring": [], "running": None, "type": "T"},
     {"ok": True, "results": []},
 ]
+
+
+# States and parts by chance.
+
+
+def task(dice):
+    """An action with its level and expected code, which are 0 but for a monitor."""
+    action = dice.choice(ACTIONS)
+    is_monitor = action == MONITOR
+    return {"action": action, "level": dice.choice((0, 10, 20)) * is_monitor, "expect": dice.choice((0, 7, 8)) * is_monitor}
+
+
+def interval(dice, values):
+    return dice.choice((0, 1, 2 ** 32 - 1)) if values["action"] == MONITOR else 0
+
+
+def result(dice, kinds):
+    values, kind = task(dice), dice.choice(kinds)
+    run = 0 if kind >= DROPPED else dice.randrange(1, 50)
+    return {"call": dice.randrange(1, 100), "run": run, "action": values["action"], "interval": interval(dice, values),
+            "since": dice.randrange(1000), "at": dice.randrange(1000), "outcome": (kind, dice.choice(DETAILS[kind]))}
+
+
+def resource(dice, name):
+    calls, values = sorted(dice.sample(range(1, 100), 4)), task(dice)
+    timeouts = [dice.choice((1, 20000, 2 ** 32 - 1)) for _ in calls]
+    return {
+        "id": name, "provider": dice.choice("pq"), "type": "T", "params": {"k": "\u00e9" * dice.randrange(3)},
+        "queue": [{**task(dice), "call": calls[place], "timeout": timeouts[place]} for place in range(dice.randrange(3))],
+        "running": dice.choice([None, {**values, "call": 5, "run": 7, "timeout": 9, "interval": interval(dice, values), "since": 1000}]),
+        "recurring": [{"call": calls[place], "interval": 10 + place, "timeout": timeouts[place], "level": 10, "expect": 7}
+                      for place in range(dice.randrange(3))],
+        "ended": [result(dice, list(DETAILS)) for _ in range(dice.randrange(3))],
+        "failed": dice.choice([None, result(dice, RAN)]),
+    }
+
+
+def part(dice):
+    """The bytes of a part, and the state of its snapshot."""
+    state = {"next_call": 100, "next_run": 50, "clock": 1000, "resources": [resource(dice, name) for name in "abc"[:dice.randrange(4)]]}
+    records = [[event("forget", 1000 + place, id="a")] * dice.randrange(1, 3) for place in range(dice.randrange(3))]
+    text = journal_format.head(snapshot=journal_format.state(state)) + b"".join(journal_format.record(*row) for row in records)
+    return text + CLOSED, state
+
+
+def spoilt(dice, text):
+    """These bytes with one of them changed, or cut, or as they are."""
+    at, way = dice.randrange(len(text)), dice.randrange(3)
+    return [text, text[:at], text[:at] + bytes([dice.randrange(256)]) + text[at + 1:]][way]
 
 
 class Format(helper.Check):
@@ -112,6 +166,26 @@ class Format(helper.Check):
                     text = stored.read()
                 part = journal_format.read_part(text)
                 self.assertEqual((part.version, part.spelled() == text[:part.end]), (FIRST, True), f"{name}/{file}")
+
+    @by_chance(150)
+    def test_chance(self, dice):
+        """parts by chance, of which some are spoilt, are shown or called damaged as the second reader finds them"""
+        text, state = part(dice)
+        self.assertEqual(journal_format.read_part(text).state, state, "a state that is read as it was written")
+        parts = [spoilt(dice, text), b""]
+        shutil.rmtree(self.place("journal"), ignore_errors=True)
+        shown = helper.run("show", "--journal", self.spelled("journal", *parts))
+        said, wanted = shown.stderr.decode(), journal_format.damage(*parts)
+        if said.endswith(": order\n"):
+            # (that an event does not apply in its place the second reader does not find)
+            return
+        if shown.returncode == REFUSED:
+            # a part without a head beside an empty one: garbage, or one that was emptied
+            self.assertEqual(said, "ocfexec: disk\n")
+            return
+        self.assertEqual(said, wanted and f"ocfexec: damaged part {wanted}\n", f"of {parts[0].hex()}")
+        if parts[0] == text and not wanted:
+            self.assertEqual(helper.replies(shown.stdout)[0]["resources"], [each["id"] for each in state["resources"]])
 
 
 if __name__ == "__main__":

@@ -11,7 +11,7 @@ import sys
 
 sys.path[0] += "/../lib"
 import helper  # noqa: E402
-from journal_format import Damage, found  # noqa: E402
+from journal_format import damage  # noqa: E402
 
 CORPUS = os.path.join(helper.TOP, "tests/fuzz/corpus")
 SHOWN, REFUSED, DAMAGED = 0, 5, 3
@@ -88,17 +88,10 @@ class Fuzz(helper.Check):
                 # (an event that does not apply in its place is damage that the second reader does not look for)
                 self.assertEqual(done.returncode, DAMAGED, name)
             else:
-                self.assertEqual((done.returncode, said), damage(parts), name)
+                wanted = damage(*parts)
+                self.assertEqual(said, wanted and f"ocfexec: damaged part {wanted}", name)
+                self.assertEqual(done.returncode, DAMAGED if wanted else SHOWN, name)
             self.assertEqual(helper.parts(folder), parts, name)
-
-
-def damage(parts):
-    """The status and the line that a pair has by the second reader."""
-    try:
-        found(*parts)
-        return SHOWN, ""
-    except Damage as fault:
-        return DAMAGED, f"ocfexec: damaged part {fault}"
 
 
 if __name__ == "__main__":
