@@ -19,7 +19,7 @@ GOOD = 'echo "ok         0.10 s  good: a check"\n'
 COUNTS = """cd {here}
 touch live/$$
 n=0; until [ "$(ls live | wc -l)" -gt 1 ] || [ $n -ge {wait} ]; do sleep 0.1; n=$((n+1)); done
-ls live | wc -l > seen.$(basename "$0" .sh)
+ls live | wc -l > counted.$$ && mv counted.$$ seen.$(basename "$0" .sh)
 n=0; until [ "$(echo seen.* | wc -w)" -gt 1 ] || [ $n -ge {wait} ]; do sleep 0.1; n=$((n+1)); done
 rm live/$$
 """
