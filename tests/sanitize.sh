@@ -15,6 +15,8 @@ mapfile -t flags < <(sed -e 's/^module\.o$/ocfexec.o/' "$work/flags")
 cc -c -O1 -DLINKED -o "$work/growths.o" "$top/tests/shims/growths.c"
 cc -fsanitize=address -static-libasan -Wl,--wrap=malloc,--wrap=calloc,--wrap=realloc -o "$work/ocfexec" "$work/ocfexec.o" \
     "$work/growths.o" "$kit/c/libos_c.a" "$kit/c/liblibc_c.a"
-# each access is looked at
-nm "$work/ocfexec.o" | grep -q -e __asan_report_load -e __asan_load
+if ! nm "$work/ocfexec.o" | grep -c -e __asan_report_load -e __asan_load > "$work/looked_at"; then
+    echo "sanitize.sh: no access of $work/ocfexec.o is looked at: no __asan_load among its names" >&2
+    exit 1
+fi
 LINKED=1 "$top/tests/crash/growths.py" "$work/ocfexec"
