@@ -1,5 +1,5 @@
 -- Why a program ends as it does.
-use Rattle.std.proofs.Common.{inl, inr, ap, ⊎_elim, ◌⊎◌, ℕ, List, Result, Ok, Err, Option, subst, sym, ◌≡◌, is_some, true}
+use Rattle.std.proofs.Common.{inl, inr, ⊎_elim, ◌⊎◌, ℕ, List, Result, Ok, Err, Option, subst, sym, ◌≡◌, is_some, true}
 use Rattle.disk_model.specs.View.{View}
 use Rattle.child_model.specs.Children.{ChildrenView}
 use Rattle.executor.specs.declared.report.Report.{Report}
@@ -17,7 +17,8 @@ use Rattle.exec_session.specs.Answers.{Source}
 use Rattle.exec_session.specs.Rules.{Rules}
 use Rattle.exec_session.specs.Progress.{Position, position}
 use Rattle.exec_session.specs.Ends.{Ended, EndsAs}
-use Rattle.ocfexec.specs.Starts.{EndsFor, IsFolderEnd, IsToldAs}
+use Rattle.journal_folder.specs.Ends.{IsFolderEnd}
+use Rattle.ocfexec.specs.Starts.{EndsFor, IsToldAs}
 
 -- a run does not end by its words
 ends : {D N T : Type 0} (look : D → View) (source : Source) (rules : Rules) (report : Report N)
@@ -89,19 +90,6 @@ journal_ends words o (Err fault.Full) gives ends = (o, gives)
 journal_ends words o (Err fault.InputOrOutput) gives ends = inr (o, gives)
 journal_ends words o (Err fault.ReplyMemory) gives ends = (o, gives)
 journal_ends words o (Err fault.ChildrenIgnored) gives ends = (o, gives)
-
--- a journal in files that was opened, one that was not, and a folder that has none
-pub opened_ends : {T : Type 0} (r : Result T Fault) → IsRunEnd r → IsFolderEnd r
-opened_ends r ends = inl ends
-
-pub not_opened_ends : {T : Type 0} (f : Fault) → (f ≡ fault.Memory) ⊎ (f ≡ fault.NotOpened) → IsFolderEnd {T = T} (Err f)
-not_opened_ends {T} f = ⊎_elim (λ is. inl (subst (λ x. IsRunEnd {T = T} (Err x)) (sym is) tt)) (λ is. inr (inl (ap Err is)))
-
-pub not_found_ends : {T : Type 0} (f : Fault) → (f ≡ fault.Memory) ⊎ ((f ≡ fault.NotOpened) ⊎ (f ≡ fault.NoJournal))
-    → IsFolderEnd {T = T} (Err f)
-not_found_ends {T} f =
-    ⊎_elim (λ is. inl (subst (λ x. IsRunEnd {T = T} (Err x)) (sym is) tt))
-    (⊎_elim (λ is. inr (inl (ap Err is))) (λ is. inr (inr (ap Err is))))
 
 -- words that ask for a journal in the files of a folder
 pub folder_ends : {T : Type 0} (words : List (List ℕ)) (o : Options) (r : Result T Fault) → Gives words o

@@ -1,12 +1,12 @@
 -- From the words to a run.
-use Rattle.std.specs.Prelude.{◌≡◌, ◌⊎◌, ℕ, ⊤, true, List, IfErr, is_some, option_map, Result, Ok, Err}
+use Rattle.std.specs.Prelude.{◌≡◌, ◌⊎◌, ℕ, ⊤, true, List, is_some, option_map, Result, Ok, Err}
 use Rattle.ocf_env.specs.Places.{SiteView}
 use Rattle.exec_options.specs.Faults.{AsksForText, IsFault, IsMisused}
 use Rattle.exec_options.specs.Words.{Gives, folder_of}
 use Rattle.exec_options.specs.declared.fault.WordsFault.{WordsFault}
 use Rattle.exec_options.specs.declared.fault.WordsFault.TheVariants as words_fault
 use Rattle.exec_options.specs.declared.options.Options.{Options}
-use Rattle.exec_output.specs.Faults.{IsRunEnd, status_of}
+use Rattle.exec_output.specs.Faults.{status_of}
 use Rattle.exec_output.specs.declared.fault.Fault.{Fault}
 use Rattle.exec_output.specs.declared.fault.Fault.TheVariants as fault
 use Rattle.executor.specs.declared.opening.OpenError.{OpenError}
@@ -51,18 +51,6 @@ IsInFolder words = (o : Options) × Gives words o × (is_some (folder_of o.journ
 -- the words name a file for what agents write
 abbrev pub AsksForLog : List (List ℕ) → Type 0
 AsksForLog words = (o : Options) × Gives words o × (is_some o.log ≡ true)
-
--- why the files of a journal are not opened
-abbrev pub IsNotOpened : {T : Type 0} → Result T Fault → Type 0
-IsNotOpened ended = IfErr ended (λ f. f ≡ fault.Memory ⊎ f ≡ fault.NotOpened)
-
--- why the files of a journal are not looked at
-abbrev pub IsNotFound : {T : Type 0} → Result T Fault → Type 0
-IsNotFound ended = IfErr ended (λ f. f ≡ fault.Memory ⊎ (f ≡ fault.NotOpened ⊎ f ≡ fault.NoJournal))
-
--- how a run or a show of a journal in files may end: as on any disk, or since the files are not opened, or hold no journal
-abbrev pub IsFolderEnd : {T : Type 0} → Result T Fault → Type 0
-IsFolderEnd ended = IsRunEnd ended ⊎ (ended ≡ Err fault.NotOpened ⊎ ended ≡ Err fault.NoJournal)
 
 -- why a program that is given these words ends so
 abbrev pub EndsFor : {T : Type 0} → List (List ℕ) → Result T Fault → Type 0

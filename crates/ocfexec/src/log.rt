@@ -1,8 +1,8 @@
 //! Where agents write.
 ghost use Rattle.std.specs.Prelude.{◌≡◌, true, IfErr, is_some};
 
-use crate::report::report_cause;
 use child_keeper::{Log, System};
+use diagnostics::report_cause;
 use exec_options::{Options, Subcommand};
 use exec_output::Fault;
 use file_disk::OWNER_ONLY;

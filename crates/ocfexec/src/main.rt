@@ -6,20 +6,14 @@ ghost use Rattle.std.specs.Process.{exit_status};
 ghost use Rattle.ocfexec.specs.Starts.{status_of_end};
 
 mod agents;
-mod emptied;
 mod guarded;
-mod journal;
 mod log;
-mod look;
 mod metadata;
-mod report;
 mod run;
-mod show;
-mod signals;
 mod start;
-mod streams;
 
 use child_keeper::System;
+use diagnostics::{report, report_cause};
 use exec_output::Fault;
 use std::process::ExitCode;
 
@@ -42,8 +36,8 @@ fn tell(system: &System<'_>, fault: Fault) {
         | Fault::NotWell
         | Fault::Disk
         | Fault::InputOrOutput => {}
-        Fault::Damaged(damage) => report::report_cause(system, fault, damage.cause),
-        _ => report::report(system, fault),
+        Fault::Damaged(damage) => report_cause(system, fault, damage.cause),
+        _ => report(system, fault),
     }
 }
 

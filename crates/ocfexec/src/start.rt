@@ -1,21 +1,19 @@
 //! From the words to a run.
 ghost use Rattle.std.specs.Prelude.{◌≡◌, map, string_bytes};
 ghost use Rattle.exec_output.specs.Faults.{IsRunEnd};
-ghost use Rattle.ocfexec.specs.Starts.{EndsFor, IsFolderEnd, IsToldAs};
+ghost use Rattle.journal_folder.specs.Ends.{IsFolderEnd};
+ghost use Rattle.ocfexec.specs.Starts.{EndsFor, IsToldAs};
 
-use crate::emptied::not_emptied;
-use crate::journal::{found, open_files};
 use crate::log::log_of;
 use crate::run::run_agents;
-use crate::show::{show_files, show_on};
-use crate::signals::{children_ignored, tell_ignored};
-use crate::streams::{FirstError, tell_shown};
 use child_keeper::{Log, System};
+use diagnostics::{FirstError, children_ignored, tell_ignored, tell_shown};
 use disk_model::Disk;
 use exec_options::{JournalPlace, Options, Subcommand, WordsFault, read_words};
 use exec_output::Fault;
 use exec_session::Way;
 use file_disk::{RamDisk, TellsError};
+use journal_folder::{found, not_emptied, open_files, show_files, show_on};
 use std::env;
 use std::io::ErrorKind;
 
@@ -87,7 +85,7 @@ fn run(system: &System<'_>, words: &[String]) -> Result<(), Fault>
 }
 
 // Does what the options ask for with the journal in this folder, or says why there is none.
-#[tactic(auto, using(crate::proofs::StartLemmas::opened_ends, crate::proofs::StartLemmas::not_opened_ends))]
+#[tactic(auto, using(journal_folder::proofs::EndLemmas::opened_ends, journal_folder::proofs::EndLemmas::not_opened_ends))]
 fn run_in(system: &System<'_>, options: Options, log: Log, folder: &str) -> Result<(), Fault>
     ensures { IsFolderEnd result }
 {

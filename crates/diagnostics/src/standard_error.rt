@@ -1,7 +1,7 @@
 //! What standard error says of the fault that ends the program: one line, for a program that reads it. A person, at a terminal or in the
 //! system's journal, is also told what brought it about and what can be done about it.
-use child_keeper::System;
 use exec_output::Fault;
+use process_ends::System;
 use std::fmt::Display;
 use std::io::{Eprint, IsTerminal};
 use std::os::unix::fs::MetadataExt;

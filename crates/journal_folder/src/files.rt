@@ -1,12 +1,12 @@
 //! The files of a journal: how they are opened, and what is said on standard error of their faults.
 ghost use Rattle.std.specs.Prelude.{◌≡◌};
-ghost use Rattle.ocfexec.specs.Starts.{IsNotOpened};
+ghost use Rattle.journal_folder.specs.Ends.{IsNotOpened};
 
-use crate::report::{explain, report, report_cause};
-use child_keeper::System;
+use diagnostics::{explain, report, report_cause};
 use exec_options::{JournalPlace, Options};
 use exec_output::Fault;
 use file_disk::{FileDisk, FileError, OpenFault, Owners, TellsError};
+use process_ends::System;
 use std::thread::sleep;
 use std::time::Duration;
 

@@ -1,6 +1,6 @@
 //! Which signals the program was started with as ignored.
-use child_keeper::System;
 use proc_files::{is_ignored, read_head};
+use process_ends::System;
 use std::alloc::{AllocError, Global};
 use std::io::Eprint;
 

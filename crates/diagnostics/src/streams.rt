@@ -1,8 +1,8 @@
 //! Standard input and output: which of them failed, and why.
-use crate::report::{advise, explain, name};
-use child_keeper::System;
+use crate::standard_error::{advise, explain, name};
 use exec_lines::Patient;
 use exec_output::Fault;
+use process_ends::System;
 use std::cell::Cell;
 use std::io::{self, ErrorKind, Read, Write};
 

@@ -1,18 +1,18 @@
 //! What is shown of a journal.
 ghost use Rattle.std.specs.Prelude.{◌≡◌};
 ghost use Rattle.exec_output.specs.Faults.{IsRunEnd};
-ghost use Rattle.ocfexec.specs.Starts.{IsFolderEnd, IsNotFound};
+ghost use Rattle.journal_folder.specs.Ends.{IsFolderEnd, IsNotFound};
 
 use crate::emptied::not_emptied;
-use crate::journal::{found, told};
+use crate::files::{found, told};
 use crate::look::look_of;
-use crate::streams::{FirstError, tell_shown};
-use child_keeper::System;
+use diagnostics::{FirstError, tell_shown};
 use disk_model::Disk;
 use exec_options::{Options, Subcommand};
 use exec_output::{Fault, show, status, status_json};
 use file_disk::{RamDisk, TellsError, read_parts};
 use ocf_types::Part;
+use process_ends::System;
 use std::io::{self, Write};
 
 // How often the files of a journal that reads as damaged are read, before that is told.
@@ -75,7 +75,7 @@ fn parts_in(system: &System<'_>, options: Options, folder: &str) -> Result<RamDi
 
 /// Shows the journal in this directory, which another program may be writing. Damage is told where it is found each time that
 /// the files are read.
-#[tactic(auto, using(crate::proofs::StartLemmas::opened_ends, crate::proofs::StartLemmas::not_found_ends))]
+#[tactic(auto, using(crate::proofs::EndLemmas::opened_ends, crate::proofs::EndLemmas::not_found_ends))]
 pub fn show_files(system: &System<'_>, options: Options, folder: &str) -> Result<(), Fault>
     ensures { IsFolderEnd result }
 {

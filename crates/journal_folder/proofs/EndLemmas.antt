@@ -1,0 +1,19 @@
+-- Why a program that is asked for the journal of a folder ends as it does.
+use Rattle.std.proofs.Common.{inl, inr, ap, ⊎_elim, ◌⊎◌, Result, Err, subst, sym, ◌≡◌}
+use Rattle.exec_output.specs.Faults.{IsRunEnd}
+use Rattle.exec_output.specs.declared.fault.Fault.{Fault}
+use Rattle.exec_output.specs.declared.fault.Fault.TheVariants as fault
+use Rattle.journal_folder.specs.Ends.{IsFolderEnd}
+
+-- a journal in files that was opened, one that was not, and a folder that has none
+pub opened_ends : {T : Type 0} (r : Result T Fault) → IsRunEnd r → IsFolderEnd r
+opened_ends r ends = inl ends
+
+pub not_opened_ends : {T : Type 0} (f : Fault) → (f ≡ fault.Memory) ⊎ (f ≡ fault.NotOpened) → IsFolderEnd {T = T} (Err f)
+not_opened_ends {T} f = ⊎_elim (λ is. inl (subst (λ x. IsRunEnd {T = T} (Err x)) (sym is) tt)) (λ is. inr (inl (ap Err is)))
+
+pub not_found_ends : {T : Type 0} (f : Fault) → (f ≡ fault.Memory) ⊎ ((f ≡ fault.NotOpened) ⊎ (f ≡ fault.NoJournal))
+    → IsFolderEnd {T = T} (Err f)
+not_found_ends {T} f =
+    ⊎_elim (λ is. inl (subst (λ x. IsRunEnd {T = T} (Err x)) (sym is) tt))
+    (⊎_elim (λ is. inr (inl (ap Err is))) (λ is. inr (inr (ap Err is))))

@@ -1,0 +1,11 @@
+//! The journal of a folder, as far as no agent runs: how its files are opened or refused, and how it is shown.
+#![tactic(auto)]
+
+mod emptied;
+mod files;
+mod look;
+mod show;
+
+pub use emptied::not_emptied;
+pub use files::{found, open_files, tell_device, told};
+pub use show::{show_files, show_on};
