@@ -25,8 +25,9 @@ pub struct Guarded<W> {
 }
 
 impl<W> Guarded<W> {
-    /// The output of a run over a journal with these paths, if they are to be watched.
-    pub fn new(rt: HostRuntime, output: W, paths: Option<JournalPaths>) -> Guarded<W> {
+    /// The output of a run, which watches the paths of its journal if it serves.
+    pub fn new(rt: HostRuntime, options: Options, output: W) -> Guarded<W> {
+        let paths = served_paths(&rt, options);
         Guarded { rt, output, paths }
     }
 }

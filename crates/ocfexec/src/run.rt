@@ -106,17 +106,18 @@ fn ended_over(
     Err(Fault::Disk)
 }
 
-// The children of a run, and twice where its agents are: for its executor and for their metadata.
+// The children of a run; twice where its agents are, for its executor and for their metadata; and room for its lines.
 fn prepared<'a>(
     system: &'a System<'a>,
     options: Options,
     log: Log,
-) -> Result<(Processes<&'a System<'a>>, Site, Site), AllocError> {
+) -> Result<(Processes<&'a System<'a>>, Site, Site, LineRoom), AllocError> {
     let alloc = system.host().alloc();
     let children = Processes::new(system, alloc, log, BOOK_ROOM)?;
     let own = site_of(alloc, options)?;
     let site = site_of(alloc, options)?;
-    Ok((children, own, site))
+    let room = LineRoom::new(alloc)?;
+    Ok((children, own, site, room))
 }
 
 // Leaves word of this executor beside its journal, if that is in files, with the moment that its clock shows.
@@ -144,10 +145,7 @@ pub fn run_agents<'a, D: Disk + TellsError + Drop>(
     let Ok(mut reader) = BufReader::with_capacity(alloc, READ_SIZE, input) else {
         return Err(Fault::Memory);
     };
-    let Ok((children, own, site)) = prepared(system, options, log) else {
-        return Err(Fault::Memory);
-    };
-    let Ok(room) = LineRoom::new(alloc) else {
+    let Ok((children, own, site, room)) = prepared(system, options, log) else {
         return Err(Fault::Memory);
     };
     let paths = served_paths(rt, options);
@@ -168,8 +166,7 @@ pub fn run_agents<'a, D: Disk + TellsError + Drop>(
                 tidy_at: options.tidy_at,
                 pace: Pace::new(),
             };
-            let output = unwritten.output(rt.stdout());
-            let output = Guarded::new(*rt, output, served_paths(rt, options));
+            let output = Guarded::new(*rt, options, unwritten.output(rt.stdout()));
             let mut client = Teller::new(alloc, output, &executor);
             let run = run_lines(&context, &mut reader, &mut client, executor, &report, room);
             metadata.give_up();
