@@ -8,4 +8,4 @@ mod streams;
 
 pub use signals::{children_ignored, tell_ignored};
 pub use standard_error::{explain, report, report_cause};
-pub use streams::{FirstError, tell_run, tell_shown};
+pub use streams::{FirstError, Noted, tell_run, tell_shown};

@@ -73,19 +73,25 @@ fn parts_in(system: &System<'_>, options: Options, folder: &str) -> Result<RamDi
     Ok(disk)
 }
 
+// Shows the journal in this directory as its files are now.
+#[tactic(auto, using(crate::proofs::EndLemmas::opened_ends, crate::proofs::EndLemmas::not_found_ends))]
+fn show_once(system: &System<'_>, options: Options, folder: &str) -> Result<(), Fault>
+    ensures { IsFolderEnd result }
+{
+    let disk = parts_in(system, options, folder)?;
+    show_on(system, options, disk)
+}
+
 /// Shows the journal in this directory, which another program may be writing. Damage is told where it is found each time that
 /// the files are read.
-#[tactic(auto, using(crate::proofs::EndLemmas::opened_ends, crate::proofs::EndLemmas::not_found_ends))]
 pub fn show_files(system: &System<'_>, options: Options, folder: &str) -> Result<(), Fault>
     ensures { IsFolderEnd result }
 {
     for _ in 1..LOOKS {
-        let disk = parts_in(system, options, folder)?;
-        let ended = show_on(system, options, disk);
+        let ended = show_once(system, options, folder);
         if !matches!(ended, Err(Fault::Damaged(_))) {
             return ended;
         }
     }
-    let disk = parts_in(system, options, folder)?;
-    show_on(system, options, disk)
+    show_once(system, options, folder)
 }
