@@ -2,7 +2,7 @@
 """What each wrong body says of itself: an edit of crates/CRATE/must-fail, mutants/CRATE or mutants/gate/CRATE names the functions of its
 crate that must refuse it, with clauses that they have, and one of mutants/tests a script of `make check` and a sentence of it. The tables
 of mutants/README.md name edits that there are, with a star where they are tried for each commit, and a row names the clauses that its
-edits do.
+edits do, behind their functions. What an edit takes away is there once in its file.
 Use: edits.py PROGRAM"""
 import collections
 import os
@@ -20,6 +20,8 @@ TOP = Path(helper.TOP)
 QUOTED = re.compile(r"`([^`]+)`(\*?)")
 ENSURES = re.compile(r"^\s*ensures (\w+) \{", re.MULTILINE)
 REFUSED_BY = re.compile(r"^refused by: ([^,\n]+), (.+)$", re.MULTILINE)
+# A function that a row names, or a definition, with the labels behind it: `Journal::open`: opened, failed
+TOLD = re.compile(r"`(?:\w+::)*(\w+)`(?:: (\w+(?:, \w+)*))?")
 
 
 def edits():
@@ -42,55 +44,90 @@ def clauses(crate):
     return found
 
 
+def told(text):
+    """The functions that a row names, each with the labels behind it."""
+    found = collections.defaultdict(set)
+    for function, labels in TOLD.findall(text):
+        found[function] |= set(labels.split(", ")) - {""}
+    return found
+
+
+def listed(text):
+    """The edits that a row names, as `CRATE/NAME`*, `NAME` of the same crate: each by its crate and name, and whether it has a star. The
+    name of a crate alone stands for more edits of that crate."""
+    crate = ""
+    for word, star in QUOTED.findall(text):
+        if not (TOP / "crates" / word).is_dir():
+            crate, _, name = word.rpartition("/") if "/" in word else (crate, "", word)
+            yield crate, name, bool(star)
+
+
 def rows():
-    """The rows of the tables: each edit by its crate and name and whether it has a star, and what refuses them."""
+    """The rows of the tables: the edits, and what refuses them."""
     for line in goals.read(TOP / "mutants/README.md").splitlines():
         columns = line.strip("| ").split(" | ")
         if line.startswith("| ") and len(columns) > 2:
-            named, crate = [], ""
-            for word, star in QUOTED.findall(columns[1]):
-                crate, _, name = word.rpartition("/") if "/" in word else (crate, "", word)
-                named.append((crate, name, bool(star)))
-            yield named, columns[-1]
+            yield list(listed(columns[1])), told(columns[-1])
+
+
+def taken(path, crate):
+    """What an edit takes away: each text, with the file that it stands in."""
+    file, top = None, TOP if crate == "tests" else TOP / "crates" / crate
+    for line in goals.read(path).splitlines():
+        key, _, text = line.partition(": ")
+        if key == "file":
+            file = top / text.strip()
+        elif key == "old":
+            yield file, text
 
 
 class Edits(helper.Check):
+    # What is wrong of an edit is told without all the others.
+    longMessage = False
+
     def test_named(self):
         """each edit names functions of its crate that must refuse it, and clauses that they have"""
         known = {crate: clauses(crate) for crate in {crate for crate, _ in edits()}}
         for (crate, name), path in edits().items():
             named = goals.named(path)
-            self.assertTrue(named, f"{path}: a line '# refused by: FUNCTION, CLAUSE'")
+            self.assertTrue(named, f"{path.relative_to(TOP)}: it has no line '# refused by: FUNCTION, CLAUSE'")
             for function, clause in named:
-                self.assertIn(function, known[crate], f"{crate}/{name}: a function of {crate}")
-                self.assertTrue(clause is None or clause in known[crate][function], f"{crate}/{name}: {function} ensures {clause}")
+                self.assertIn(function, known[crate], f"{crate}/{name}: {crate} has no function {function}")
+                self.assertTrue(clause is None or clause in known[crate][function], f"{crate}/{name}: {function} ensures no {clause}")
+
+    def test_there(self):
+        """what an edit takes away is there once in its file"""
+        tried = edits() | {("tests", path.stem): path for path in TOP.glob("mutants/tests/*.edit")}
+        for (crate, name), path in tried.items():
+            for file, text in taken(path, crate):
+                self.assertEqual(goals.read(file).count(text), 1, f"{crate}/{name}: not there once in {file.relative_to(TOP)}: {text}")
 
     def test_sentences(self):
         """each edit that a test refuses names a check that there is"""
         for path in TOP.glob("mutants/tests/*.edit"):
             named = REFUSED_BY.search(goals.read(path))
-            self.assertTrue(named, f"{path}: a line 'refused by: SCRIPT, SENTENCE'")
-            self.assertIn(f'"{named[2]}"', goals.read(TOP / named[1]), f"{path}: a check of {named[1]}")
+            self.assertTrue(named, f"{path.relative_to(TOP)}: it has no line 'refused by: SCRIPT, SENTENCE'")
+            self.assertIn(f'"{named[2]}"', goals.read(TOP / named[1]), f"{path.relative_to(TOP)}: {named[1]} has no check of that sentence")
 
     def test_table(self):
         """the tables name edits that there are, with a star where they are tried for each commit"""
         found = edits() | {("tests", path.stem): path for path in TOP.glob("mutants/tests/*.edit")}
         for named, _ in rows():
             for crate, name, star in named:
-                self.assertIn((crate, name), found)
+                self.assertIn((crate, name), found, f"{crate}/{name}: there is no such edit")
                 is_tried = found[crate, name].parent.name == "must-fail" or found[crate, name].parts[-3] == "gate"
-                self.assertEqual(star, is_tried, f"{crate}/{name}: a star")
+                self.assertEqual(star, is_tried, f"{crate}/{name}: a star, and not tried for each commit, or the other way round")
 
     def test_rows(self):
-        """a row of the table names the clauses that its edits name"""
-        found, refusing = edits(), collections.defaultdict(str)
-        for named, text in rows():
+        """a row of the table names the clauses that its edits name, each behind its function"""
+        found, refusing = edits(), collections.defaultdict(list)
+        for named, functions in rows():
             for crate, name, _ in named:
-                refusing[crate, name] += text
-        for edit, text in refusing.items():
-            words = {word.rpartition("::")[2] for word, _ in QUOTED.findall(text)}
+                refusing[crate, name].append(functions)
+        for edit, told_of in refusing.items():
             for function, clause in goals.named(found[edit]) if edit in found else []:
-                self.assertTrue(clause is None or {function, clause} <= words, f"{'/'.join(edit)}: {function}, {clause}: in {text}")
+                is_told = clause is None or any(clause in functions[function] for functions in told_of)
+                self.assertTrue(is_told, f"{'/'.join(edit)}: its row has no `{function}`: {clause}")
 
 
 if __name__ == "__main__":
