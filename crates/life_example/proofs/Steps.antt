@@ -1,0 +1,116 @@
+-- How a history grows by a sitting.
+use Rattle.std.proofs.Common.{◌≡◌, ℕ, ◌+◌, ◌-◌, List, [], ◌∷◌, ◌++◌, Some, refl, sym, ap, ap₂, subst, ◌∙◌, arith}
+use Rattle.std.proofs.lemmas.List.{append-nil}
+use Rattle.ocf_types.specs.Kinds.{Event, Reply}
+use Rattle.ocf_types.specs.State.{State, after_all, empty}
+use Rattle.ocf_types.specs.declared.reply.Notice.{Notice}
+use Rattle.disk_model.specs.Image.{Image}
+use Rattle.disk_model.specs.MemDisk.{IsFresh, IsSame, view_of}
+use Rattle.disk_model.specs.View.{Lawful, View}
+use Rattle.disk_model.specs.declared.memory.MemDisk.{MemDisk}
+use Rattle.child_model.specs.Children.{ChildrenView}
+use Rattle.exec_journal.specs.Found.{FoundAs, IsFreshPair}
+use Rattle.executor.specs.Joins.{as_calls}
+use Rattle.executor.specs.Lives.{BeginsAs, Calls, Exchange, InOpening, InService, IsLife, LifeLeaves, Lived, Sat, Sitting, first_disk}
+use Rattle.executor.specs.Openings.{NotOpened, Opened}
+use Rattle.executor.specs.Promise.{IsKept}
+use Rattle.executor.specs.Runs.{Runs}
+use Rattle.executor.specs.SeenLives.{seen}
+use Rattle.executor.specs.Sessions.{Effects, Input, no_effects}
+use Rattle.executor.specs.Sights.{Sight}
+use Rattle.executor.specs.declared.opening.OpenError.{OpenError}
+use Rattle.life_example.specs.History.{IsHistory, IsPromised, IsSitting, calls_in, calls_of}
+
+-- no reply is to no call
+pub unanswered : (is : List Input) → as_calls is [] ≡ []
+unanswered [] = refl
+unanswered (i ∷ is) = refl
+
+module _ {D : Type 0} (look : D → View) where
+  -- an executor was opened, and made calls
+  pub served : (old new : D) (from : ChildrenView) (now : ℕ) (opened last : Sight D) (ran queued : List Notice) (calls : List Exchange)
+      (d : Effects) → Opened look (look old) from now opened ran queued → Calls look opened calls last d → new ≡ last.disk
+      → IsSitting look calls old new
+  served old new from now opened last ran queued calls d opens made same = record {
+    sitting = InService (record {
+      disk = old;
+      now = now;
+      opened = opened;
+      returned = last;
+      last = last;
+      done = d;
+      under_way = no_effects;
+      stop = (look last.disk).clock;
+    });
+    sat = record {
+      children = from;
+      was_running = ran;
+      was_queued = queued;
+      opens = opens;
+      calls = calls;
+      returns = made;
+      begun = [];
+      goes_on = (refl, refl);
+      behind = omega arith;
+    };
+    made = append-nil calls;
+    first = refl;
+    last = sym same;
+    leaves = λ honest c left. subst (λ (z : D). (look z).since (look z).clock c) same left;
+  }
+
+  -- no executor was opened
+  pub not_opened : (law : (d : D) → (look d).honest → Lawful (look d)) (old new : D) (from to : ChildrenView) (now : ℕ) (why : OpenError)
+      → NotOpened (look old) (look new) from to now why → Sat look (InOpening old new now (Some why)) → IsSitting look [] old new
+  not_opened law old new from to now why refused sat = record {
+    sitting = InOpening old new now (Some why);
+    sat = sat;
+    made = refl;
+    first = refl;
+    last = refl;
+    leaves = λ honest c left. (law new honest).earlier (look new).clock (look old).clock c refused.did.crash.passed.clock left;
+  }
+
+module _ {M : Type 0} where
+  -- a history begins on a disk without a byte
+  pub begins : (d : MemDisk M) → ((c : Image) → IsFreshPair c → BeginsAs empty c) → IsFresh (record { a = []; b = [] }) d
+      → IsHistory (λ (x : MemDisk M). view_of x) [] d
+  begins d law fresh = record {
+    life = [];
+    is = tt;
+    made = refl;
+    goes_on = λ c now. law c (subst IsFreshPair (sym (fresh.now c now)) refl);
+  }
+
+  -- and goes on by a sitting on it, and a pair that its stop left
+  pub goes_on : (calls : List Exchange) (older : List (List Exchange)) (old planned new left : MemDisk M) (call : ℕ) → IsSame old planned
+      → IsSitting (λ (x : MemDisk M). view_of x) calls planned new → call ≡ (view_of new).clock + 1
+      → (view_of new).since (call - 1) (view_of left).reads → IsFresh (view_of left).reads left
+      → IsHistory (λ (x : MemDisk M). view_of x) older old → IsHistory (λ (x : MemDisk M). view_of x) (calls ∷ older) left
+  goes_on calls older old planned new left call same sat is since fresh h =
+      let stopped : call - 1 ≡ (view_of new).clock = omega (arith, is) in
+      let stands : (view_of new).since (view_of new).clock (view_of left).reads =
+      subst (λ (t : ℕ). (view_of new).since t (view_of left).reads) stopped since in
+      record {
+        life = sat.sitting ∷ h.life;
+        is = (
+          h.is,
+          λ c now. h.goes_on c (same.now c (subst (λ (d : MemDisk M). (view_of d).now c) sat.first now)),
+          sat.sat,
+          tt,
+        );
+        made = ap₂ (λ (x : List Exchange) (xs : List (List Exchange)). x ∷ xs) sat.made h.made;
+        goes_on = λ c now. sat.leaves tt c
+            (subst (λ (k : Image). (view_of new).since (view_of new).clock k) (sym (fresh.now c now)) stands);
+      }
+
+  -- the promise of it
+  pub promised : ((start : State) (life : List (Sitting (MemDisk M))) (is : IsLife (λ (x : MemDisk M). view_of x) start life) (c : Image)
+      → LifeLeaves (λ (x : MemDisk M). view_of x) start life c
+      → (zs : List Event) × FoundAs (after_all start zs) c × Runs start (seen (λ (x : MemDisk M). view_of x) start life is) zs
+      × Lived start life zs × IsKept start (seen (λ (x : MemDisk M). view_of x) start life is) zs)
+      → (calls : List (List Exchange)) (d : MemDisk M) → Lawful (view_of d)
+      → IsHistory (λ (x : MemDisk M). view_of x) calls d → IsPromised (λ (x : MemDisk M). view_of x) calls d
+  promised law calls d lawful h =
+      let (zs, found, runs, lived, kept) = law empty h.life h.is (view_of d).reads (h.goes_on (view_of d).reads lawful.reads_now) in
+      record { history = h; events = zs; found = found; runs = runs; kept = kept }
