@@ -1,8 +1,8 @@
 -- The index of due moments beside the recurring monitors of all resources.
-use Rattle.std.proofs.Common.{◌≡◌, ℕ, zero, suc, Bool, true, false, not, ◌++◌, filter, slice_get, List, [], ◌∷◌, Option, Some, None, unwrap_or}
+use Rattle.std.proofs.Common.{◌≡◌, ℕ, zero, suc, Bool, true, false, not, ◌++◌, filter, slice_get, length, List, [], ◌∷◌, Option, Some, None, unwrap_or}
 use Rattle.std.proofs.Common.{refl, sym, ap, subst, ◌∙◌}
 use Rattle.std.specs.List.{AllByRecursion, IsDistinct}
-use Rattle.std.specs.Map.{keys_of, lookup, set_value, remove_entry}
+use Rattle.std.specs.Map.{keys_of, lookup, remove_entry}
 use Rattle.std.specs.Option.{option_map}
 use Rattle.std.specs.Str.{bytes_eq}
 use Rattle.std.proofs.lemmas.List.{map-append}
@@ -15,10 +15,10 @@ use Rattle.recurring.specs.declared.monitor.Monitor.{Monitor}
 use Rattle.recurring.specs.DueIndex.{Dues, pairs_at, pairs_of_all}
 use Rattle.recurring.specs.Monitors.{pairs}
 use Rattle.exec_state.specs.declared.registered.Registered.{Registered}
-use Rattle.exec_state.specs.Seen.{seen, seen_all, monitors_of, monitors_all, look_all}
+use Rattle.exec_state.specs.Seen.{seen, seen_all, monitors_all, look_all}
 use Rattle.exec_state.specs.Store.{Monitors, all_pairs, dues_by_id, monitors_at}
 use Rattle.exec_state.proofs.Choices.{none_before}
-use Rattle.exec_state.proofs.Entries.{IsAbsent, at_id-absent, look_all-set_value, look_all-same, look_all-remove_entry}
+use Rattle.exec_state.proofs.Entries.{IsAbsent, at_id-absent, look_all-remove_entry}
 use Rattle.exec_state.proofs.Lookups.{key_fact}
 
 -- the pairs of an entry's monitors
@@ -54,19 +54,16 @@ at_id-last {A = A} id f (e ∷ es) v none = by (bytes_eq id e.0) refl (at_id-las
     by true same rest = absurd (let some : Some e.1 ≡ None = rw same at none in cc)
     by false other rest = rw other (ap (λ (xs : List (List ℕ × A)). e ∷ xs) (rest (rw other at none)))
 
--- the monitors of a resource, written anew
-pub dues_written : {H : Type 0} (id : List ℕ) (es : List (List ℕ × Registered H)) (v w : Registered H) → IsDistinct bytes_eq (keys_of es)
-    → lookup (bytes_eq id) es ≡ Some v
-    → dues_by_id (monitors_all (set_value (bytes_eq id) es w)) ≡ at_id id (λ ps. pairs w.monitors) (dues_by_id (monitors_all es))
-dues_written id es v w distinct at =
-    dues_seen (set_value (bytes_eq id) es w) ∙ look_all-set_value pairs_in id (λ ps. pairs w.monitors) es v w distinct at refl
-    ∙ ap (λ (xs : Dues). at_id id (λ ps. pairs w.monitors) xs) (sym (dues_seen es))
+-- the monitors of the resource at a place, in place of its own
+pub dues_set_at : {H : Type 0} (es : List (List ℕ × Registered H)) (i : ℕ) (w : Registered H)
+    → dues_by_id (monitors_all (set_value_at es i w)) ≡ set_value_at (dues_by_id (monitors_all es)) i (pairs w.monitors)
+dues_set_at [] i w = refl
+dues_set_at (e ∷ es) zero w = refl
+dues_set_at (e ∷ es) (suc i) w = ap (λ (xs : Dues). (e.0, pairs e.1.monitors) ∷ xs) (dues_set_at es i w)
 
--- a resource whose monitors stay, written anew
-pub dues_same : {H : Type 0} (id : List ℕ) (es : List (List ℕ × Registered H)) (v w : Registered H)
-    → lookup (bytes_eq id) es ≡ Some v → w.monitors ≡ v.monitors
-    → dues_by_id (monitors_all (set_value (bytes_eq id) es w)) ≡ dues_by_id (monitors_all es)
-dues_same id es v w at same = ap dues_by_id (look_all-same monitors_of id es v w at same)
+pub length-dues : {H : Type 0} (es : List (List ℕ × Registered H)) → length (dues_by_id (monitors_all es)) ≡ length es
+length-dues [] = refl
+length-dues (e ∷ es) = ap suc (length-dues es)
 
 -- without a resource
 pub dues_without : {H : Type 0} (id : List ℕ) (es : List (List ℕ × Registered H)) → IsDistinct bytes_eq (keys_of es)

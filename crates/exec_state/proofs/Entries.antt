@@ -1,5 +1,5 @@
 -- The registry's entries, each value seen by a function.
-use Rattle.std.proofs.Common.{◌≡◌, ℕ, zero, suc, Bool, true, false, cond, not, ◌||◌, ◌≤◌, List, [], ◌∷◌, ◌++◌, map, take, drop, length}
+use Rattle.std.proofs.Common.{◌≡◌, ◌<◌, position, arith, ℕ, zero, suc, Bool, true, false, cond, not, ◌||◌, ◌≤◌, List, [], ◌∷◌, ◌++◌, map, take, drop, length}
 use Rattle.std.proofs.Common.{filter, get_or, set, slice_get, slice_index_or, Option, Some, None, refl, sym, ap, subst, ◌∙◌}
 use Rattle.std.specs.Option.{option_map, option_copied}
 use Rattle.std.specs.Borrow.{Bor}
@@ -7,6 +7,7 @@ use Rattle.std.specs.List.{list_any, IsDistinct, AllByRecursion}
 use Rattle.std.specs.Map.{keys_of, values_of, lookup, set_value, remove_entry}
 use Rattle.std.specs.Str.{bytes_eq}
 use Rattle.std.proofs.lemmas.List.{append-nil, take_all}
+use Rattle.std.proofs.lemmas.List.Quantifiers.{position-Some}
 use Rattle.std.proofs.Math.ListN.{drop_of_length-le}
 use Rattle.std.proofs.lemmas.Map.Keys.{IsDistinct-head, IsDistinct-tail}
 use Rattle.std.proofs.lemmas.Slice.Eq.{bytes_eq-Decides}
@@ -82,23 +83,6 @@ module _ {H A : Type 0} (look : Registered H → A) where
           (sym (at_id-absent id f (look_all look es) (absent_seen id es (absent_behind id e es distinct same)))))
       by false other rest = rw other (ap (λ (xs : List (List ℕ × A)). (e.0, look e.1) ∷ xs) (rest (rw other at at) is))
 
-  -- a write at the id that is not seen
-  pub look_all-same : (id : List ℕ) (es : List (List ℕ × Registered H)) (v w : Registered H)
-      → lookup (bytes_eq id) es ≡ Some v → look w ≡ look v
-      → look_all look (set_value (bytes_eq id) es w) ≡ look_all look es
-  look_all-same id [] v w at is = refl
-  look_all-same id (e ∷ es) v w at is = by (bytes_eq id e.0) refl (look_all-same id es v w)
-    where
-      by : (b : Bool) → bytes_eq id e.0 ≡ b
-          → (lookup (bytes_eq id) es ≡ Some v → look w ≡ look v
-          → look_all look (set_value (bytes_eq id) es w) ≡ look_all look es)
-          → look_all look (set_value (bytes_eq id) (e ∷ es) w) ≡ look_all look (e ∷ es)
-      by true same rest =
-          let here : Some e.1 ≡ Some v = rw same at at in
-          let value : e.1 ≡ v = cc in
-          rw same (ap (λ (r : A). (e.0, r) ∷ look_all look es) (is ∙ ap look (sym value)))
-      by false other rest = rw other (ap (λ (xs : List (List ℕ × A)). (e.0, look e.1) ∷ xs) (rest (rw other at at) is))
-
   -- without the id
   pub look_all-remove_entry : (id : List ℕ) (es : List (List ℕ × Registered H)) → IsDistinct bytes_eq (keys_of es)
       → look_all look (remove_entry (bytes_eq id) es) ≡ filter (λ e. not (bytes_eq id e.0)) (look_all look es)
@@ -131,6 +115,22 @@ module _ {H A : Type 0} (look : Registered H → A) where
       let value : e.1 ≡ v = cc in
       ap (λ (r : A). (e.0, r) ∷ look_all look es) (is ∙ ap look (sym value))
   look_all-same_at (e ∷ es) (suc i) v w at is = ap (λ (xs : List (List ℕ × A)). (e.0, look e.1) ∷ xs) (look_all-same_at es i v w at is)
+
+-- a write at the place of an id is one at the id
+place_is : {A : Type 0} (id : List ℕ) (es : List (List ℕ × A)) (i : ℕ) (w : A) → i < length (keys_of es)
+    → bytes_eq id (get_or (keys_of es) i []) ≡ true → ((k : ℕ) → k < i → bytes_eq id (get_or (keys_of es) k []) ≡ false)
+    → set_value_at es i w ≡ set_value (bytes_eq id) es w
+place_is id [] i w lt here before = refl
+place_is id (e ∷ es) zero w lt here before = let same : bytes_eq id e.0 ≡ true = here in rw same refl
+place_is {A = A} id (e ∷ es) (suc i) w lt here before =
+    let other : bytes_eq id e.0 ≡ false = before 0 (omega arith) in
+    rw other (ap (λ (xs : List (List ℕ × A)). e ∷ xs)
+    (place_is id es i w (omega (arith, lt)) here (λ k below. before (suc k) (omega (arith, below)))))
+
+pub set_value-found : {A : Type 0} (id : List ℕ) (es : List (List ℕ × A)) (i : ℕ) (w : A)
+    → Some i ≡ position (bytes_eq id) (keys_of es) → set_value_at es i w ≡ set_value (bytes_eq id) es w
+set_value-found id es i w found =
+    let there = position-Some (bytes_eq id) (keys_of es) i [] (sym found) in place_is id es i w there.0 there.1 there.2
 
 -- what is done to the first ones is done to all, where they are all
 pub map_over_all : {A : Type 0} (f : A → A) (xs ys : List A) (i : ℕ) → length xs ≤ i → ys ≡ map f (take i xs) ++ drop i xs → ys ≡ map f xs

@@ -243,13 +243,14 @@ impl<A: Grows> Registry<A> {
             (lookup (bytes_eq id.now) self.old.resources)) step) self.old.monitors }
     {
         self.rests_until = 0;
-        let Some(resource) = self.resources.get_mut(id) else {
+        let Some(place) = self.resources.get_index_of(id) else {
             unreachable!()
         };
+        let resource = &mut self.resources[place];
         let may_change = resource.may_change_monitors(&step);
         resource.take_step(at, step);
         if may_change {
-            self.dues.renew(id, &resource.monitors);
+            self.dues.renew_at(place, &resource.monitors);
         }
     }
 

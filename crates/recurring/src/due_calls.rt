@@ -36,15 +36,15 @@ impl DueCalls {
         }
     }
 
-    /// The calls of these monitors.
-    pub(crate) fn of(monitors: &Recurrings) -> DueCalls
-        ensures { result ≡ pairs monitors.now }
+    /// Takes the calls of these monitors in place of its own.
+    pub(crate) fn renew(&mut self, monitors: &Recurrings)
+        ensures { self.new ≡ pairs monitors.now }
     {
-        let mut calls = ArrayVec::new_in(());
+        let calls = &mut self.calls;
+        calls.clear();
         for monitor in monitors.as_slice() {
             calls.push(DueCall::of(monitor));
         }
-        DueCalls { calls }
     }
 
     /// Puts a call after the others.

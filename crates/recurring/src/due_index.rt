@@ -2,6 +2,7 @@
 ghost use Rattle.std.specs.Prelude.{◌≡◌, ◌+◌, ◌<◌, ◌≤◌, ◌↔◌, ◌++◌, ◌∷◌, [], None, Any, IsTrue, IsSomeAnd, OnErr, OnOk, filter, length, not};
 ghost use Rattle.std.specs.Map.{lookup};
 ghost use Rattle.std.specs.Str.{bytes_eq};
+ghost use Rattle.indexmap.specs.IndexMap.{set_value_at};
 ghost use Rattle.ocf_types.specs.Due.{IsLeastDue};
 ghost use Rattle.ocf_types.specs.State.{at_id};
 ghost use Rattle.recurring.specs.Monitors.{pairs, IsFirstMoment};
@@ -150,7 +151,20 @@ impl<A: Grows> DueIndex<A> {
             return;
         };
         let calls = &mut self.resources[place];
-        *calls = DueCalls::of(monitors);
+        calls.renew(monitors);
+        let first = calls.first_moment();
+        self.firsts.set(place, first);
+    }
+
+    /// Gives the resource at a place, from 0 in the order in which they were kept, these monitors, with their due moments, in
+    /// place of its own.
+    pub fn renew_at(&mut self, place: usize, monitors: &Recurrings)
+        requires { place < length self.old.dues }
+        ensures dues { self.new.dues ≡ set_value_at self.old.dues place (pairs monitors.now) }
+        ensures room { self.new.room ≡ self.old.room }
+    {
+        let calls = &mut self.resources[place];
+        calls.renew(monitors);
         let first = calls.first_moment();
         self.firsts.set(place, first);
     }

@@ -4,7 +4,7 @@ use Rattle.recurring.specs.declared.monitor.Monitor.{Monitor}
 use Rattle.recurring.specs.DueCalls.{pairs_of}
 use Rattle.recurring.specs.Monitors.{pairs}
 use Rattle.recurring.proofs.DueLists.{pairs_of-due_calls}
-use Rattle.recurring.proofs.due_calls.DueCalls.of.Goals as goal
+use Rattle.recurring.proofs.due_calls.DueCalls.renew.Goals as goal
 
 pub returns : goal.returns
 returns c =
