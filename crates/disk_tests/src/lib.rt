@@ -10,6 +10,8 @@ mod liar;
 #[cfg(test)]
 mod lies;
 #[cfg(test)]
+mod lives;
+#[cfg(test)]
 mod parts;
 #[cfg(test)]
 mod slots;

@@ -1,7 +1,8 @@
 //! An example of the promise: what an executor does over a disk in memory, through stops, is a history of incarnations of which
 //! `executor::laws::promise` speaks. Nothing here is part of the product.
 #![tactic(auto)]
-ghost use Rattle.std.specs.Prelude.{◌≡◌, ◌∷◌, [], IfSome, List};
+
+ghost use Rattle.std.specs.Prelude.{◌∷◌, [], IfNone, IfSome, IsTrue, List};
 ghost use Rattle.disk_model.specs.MemDisk.{view_of};
 ghost use Rattle.child_model.specs.Children.{Admits};
 ghost use Rattle.executor.specs.Joins.{as_calls};
@@ -44,6 +45,7 @@ fn sit<D: Disk + Drop, C: Children + Drop, A: Grows>(
     requires site { Admits (C.view machine.children).site machine.site }
     ensures sits { IfSome result
         (λ r. IsSitting D.view (as_calls machine.inputs.items r.replies.items) disk r.disk) }
+    ensures memory { IfNone result (IsTrue A.refuses) }
 {
     session_is_calls::<D>();
     whole_life::<D>();

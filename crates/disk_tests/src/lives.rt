@@ -1,0 +1,94 @@
+// Two machines, one behind the other: the first is stopped in each device call in turn, and the second is opened on what the stop left.
+use crate::steps::{nowhere, registration};
+use child_keeper::{Script, Scripted};
+use disk_model::Fill;
+use executor::{Input, InputOf};
+use life_example::{Machine, live_twice};
+use ocf_types::{
+    CommandOf, Millis, Outcome, Question, Reply, ReplyOf, RequestOf, RscId, Task, TurnEnd,
+};
+use std::alloc::Global;
+use std::collections::VecDeque;
+
+// A machine whose agents start and run on.
+fn machine(alloc: Global, now: u64, inputs: Vec<Input>, stop: u64) -> Option<Machine<Scripted>> {
+    let script = Script {
+        starts: VecDeque::new(alloc),
+        polls: VecDeque::new(alloc),
+        kills: VecDeque::new(alloc),
+    };
+    Some(Machine {
+        children: Scripted::new(alloc, script, 12).ok()?,
+        site: nowhere(alloc),
+        now,
+        inputs,
+        stop,
+    })
+}
+
+// A resource is registered and its start is asked for, and a turn begins it.
+fn first(alloc: Global) -> Option<Vec<Input>> {
+    let exec = RequestOf::Command(CommandOf::Exec {
+        id: RscId::new(b"r1").ok()?,
+        task: Task::Start,
+        timeout: Millis::new(20_000)?,
+    });
+    let mut inputs = Vec::new(alloc);
+    let register = registration(alloc, "r1")?;
+    inputs
+        .push(InputOf::Request {
+            now: 1,
+            request: register,
+        })
+        .ok()?;
+    inputs
+        .push(InputOf::Request {
+            now: 2,
+            request: exec,
+        })
+        .ok()?;
+    inputs.push(InputOf::Turn { now: 3 }).ok()?;
+    Some(inputs)
+}
+
+// Its results are asked for.
+fn second(alloc: Global) -> Option<Vec<Input>> {
+    let question = Question::History(RscId::new(b"r1").ok()?);
+    let mut inputs = Vec::new(alloc);
+    let request = RequestOf::Question(question);
+    inputs.push(InputOf::Request { now: 5, request }).ok()?;
+    Some(inputs)
+}
+
+// Whether the second machine's reply has what the first one's acknowledged, and the action as interrupted that was begun.
+fn stands(first: &[Reply], second: &[Reply]) -> bool {
+    let Some(ReplyOf::History(results)) = second.first() else {
+        return first
+            .first()
+            .is_none_or(|reply| !matches!(reply, ReplyOf::Done));
+    };
+    let interrupted = results
+        .as_slice()
+        .iter()
+        .any(|ended| ended.outcome == Outcome::Interrupted);
+    interrupted || !matches!(first.last(), Some(ReplyOf::Turn(TurnEnd::Done)))
+}
+
+// How many requests and turns the first machine answered that is stopped in this device call, if all of it stands.
+fn answered(alloc: Global, stop: u64, fill: Fill) -> Option<usize> {
+    let one = machine(alloc, 0, first(alloc)?, stop)?;
+    let other = machine(alloc, 4, second(alloc)?, u64::MAX)?;
+    let (replies, last) = live_twice(alloc, one, other, fill)?;
+    let all = last.replies.len() == 1 && stands(&replies, &last.replies);
+    all.then(|| replies.len())
+}
+
+#[test]
+fn a_second_machine_finds_what_a_first_one_acknowledged(rt: HostRuntime) {
+    for fill in [Fill::Synced, Fill::Written, Fill::Repeated(b"\x01")] {
+        for stop in 1..=40 {
+            let opened = answered(rt.alloc(), stop, fill);
+            assert_eq!(rt; opened, Some(if stop < 14 { 0 } else { 3 }));
+        }
+    }
+}
