@@ -1,7 +1,7 @@
 -- How a history grows by a sitting.
 use Rattle.std.proofs.Common.{◌≡◌, ℕ, ◌+◌, ◌-◌, List, [], ◌∷◌, ◌++◌, Some, refl, sym, ap, ap₂, subst, ◌∙◌, arith}
 use Rattle.std.proofs.lemmas.List.{append-nil}
-use Rattle.ocf_types.specs.Kinds.{Event, Reply}
+use Rattle.ocf_types.specs.Kinds.{Event}
 use Rattle.ocf_types.specs.State.{State, after_all, empty}
 use Rattle.ocf_types.specs.declared.reply.Notice.{Notice}
 use Rattle.disk_model.specs.Image.{Image}
@@ -11,7 +11,7 @@ use Rattle.disk_model.specs.declared.memory.MemDisk.{MemDisk}
 use Rattle.child_model.specs.Children.{ChildrenView}
 use Rattle.exec_journal.specs.Found.{FoundAs, IsFreshPair}
 use Rattle.executor.specs.Joins.{as_calls}
-use Rattle.executor.specs.Lives.{BeginsAs, Calls, Exchange, InOpening, InService, IsLife, LifeLeaves, Lived, Sat, Sitting, first_disk}
+use Rattle.executor.specs.Lives.{BeginsAs, Calls, Exchange, InOpening, InService, IsLife, LifeLeaves, Lived, Sat, Sitting}
 use Rattle.executor.specs.Openings.{NotOpened, Opened}
 use Rattle.executor.specs.Promise.{IsKept}
 use Rattle.executor.specs.Runs.{Runs}
@@ -19,7 +19,7 @@ use Rattle.executor.specs.SeenLives.{seen}
 use Rattle.executor.specs.Sessions.{Effects, Input, no_effects}
 use Rattle.executor.specs.Sights.{Sight}
 use Rattle.executor.specs.declared.opening.OpenError.{OpenError}
-use Rattle.life_example.specs.History.{IsHistory, IsPromised, IsSitting, calls_in, calls_of}
+use Rattle.life_example.specs.History.{IsHistory, IsPromised, IsSitting}
 
 -- no reply is to no call
 pub unanswered : (is : List Input) → as_calls is [] ≡ []

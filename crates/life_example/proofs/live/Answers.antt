@@ -1,4 +1,4 @@
-use Rattle.std.proofs.Common.{◌≡◌, ◌+◌, ◌∙◌, ap, ℕ, arith, rules}
+use Rattle.std.proofs.Common.{◌≡◌, ◌+◌, ◌∙◌, ap, ℕ, arith}
 use Rattle.std.proofs.lemmas.Grind.{common_steps}
 use Rattle.life_example.proofs.Steps.{goes_on}
 use Rattle.executor.specs.Joins.{as_calls}
