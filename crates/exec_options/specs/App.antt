@@ -1,5 +1,5 @@
--- The command line of `ocfexec` as `clap` reads it: `run`, `serve`, `show` and `status`, each with the same options, and `status`
--- with three more.
+-- The command line of `ocfexec` as `clap` reads it: `run`, `serve`, `show`, `status` and `log`, each with the same options,
+-- `status` with three more and `log` with four.
 use Rattle.std.specs.Prelude.{[], ◌∷◌, Some, true, codes}
 use Rattle.clap.specs.Words.{App, Rule, Text, new_app, new_rule, with_rule, with_subcommand}
 use Rattle.clap.specs.declared.builder.ArgAction.TheVariants.{SetTrue}
@@ -68,6 +68,14 @@ with_status_app a =
     let a₂ = with_rule a₁ (flag_rule (codes "json")) in
     with_rule a₂ (flag_rule (codes "exit-code"))
 
+-- which resource is asked for, from which moment on, whether as JSON, and whether of a damaged journal too
+abbrev pub with_log_app : App → App
+with_log_app a =
+    let a₁ = with_rule a (word_rule (codes "resource")) in
+    let a₂ = with_rule a₁ (text_rule (codes "since")) in
+    let a₃ = with_rule a₂ (flag_rule (codes "json")) in
+    with_rule a₃ (flag_rule (codes "salvage"))
+
 -- a subcommand is asked for; the version is told by `--version`
 abbrev pub top_app : App
 top_app =
@@ -80,4 +88,5 @@ ocfexec_app =
     let with_run = with_subcommand top_app (with_options_app (new_app (codes "run"))).top in
     let with_serve = with_subcommand with_run (with_options_app (new_app (codes "serve"))).top in
     let with_show = with_subcommand with_serve (with_options_app (new_app (codes "show"))).top in
-    with_subcommand with_show (with_status_app (with_options_app (new_app (codes "status")))).top
+    let with_status = with_subcommand with_show (with_status_app (with_options_app (new_app (codes "status")))).top in
+    with_subcommand with_status (with_log_app (with_options_app (new_app (codes "log")))).top

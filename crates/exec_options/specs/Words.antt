@@ -66,6 +66,8 @@ pub record IsReadFrom (rows : List Row) (o : Options) : Type 0 where
   pub resource : option_map (λ s. s.now) o.resource ≡ first_of (codes "resource") rows
   pub json : o.json ≡ is_true_text (first_of (codes "json") rows)
   pub exit_code : o.exit_code ≡ is_true_text (first_of (codes "exit-code") rows)
+  pub since : option_map (λ s. s.now) o.since ≡ first_of (codes "since") rows
+  pub salvage : o.salvage ≡ is_true_text (first_of (codes "salvage") rows)
 
 -- by `clap`'s rules the words name this subcommand, with these rows
 abbrev pub Names : List Text → Subcommand → List Row → Type 0

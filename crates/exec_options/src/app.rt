@@ -2,7 +2,7 @@
 ghost use Rattle.std.specs.Prelude.{◌≡◌, false, IfOk, codes};
 ghost use Rattle.clap.specs.Words.{app_of, rule_of, new_app};
 ghost use Rattle.clap.specs.declared.builder.command.Command.TheViews.{out-Command};
-ghost use Rattle.exec_options.specs.App.{text_rule, text_rule_or, flag_rule, with_agent_app, with_journal_app, with_options_app, with_site_app, with_status_app, word_rule};
+ghost use Rattle.exec_options.specs.App.{text_rule, text_rule_or, flag_rule, with_agent_app, with_journal_app, with_options_app, with_site_app, with_log_app, with_status_app, word_rule};
 ghost use Rattle.exec_options.specs.App.{top_app, ocfexec_app};
 
 use crate::texts;
@@ -179,6 +179,31 @@ fn with_status_options<'a>(alloc: Global, command: Command<'a>) -> Result<Comman
     ))
 }
 
+fn with_log_options<'a>(alloc: Global, command: Command<'a>) -> Result<Command<'a>, AllocError>
+    ensures app { IfOk result (λ r. app_of r ≡ with_log_app (app_of command.entry)) }
+    ensures local { IfOk result
+        (λ r. (out-Command r).has_globals ≡ (out-Command command.entry).has_globals) }
+{
+    let command = command.arg(word(
+        alloc,
+        "resource",
+        "ID",
+        "The one resource whose records are asked for, and those of openings; left out, all",
+    ))?;
+    let command = command.arg(text_option(
+        alloc,
+        "since",
+        "TIME",
+        "Print no record before this moment, as 2026-11-27T06:30 in UTC, or a front of it",
+    ))?;
+    let command = command.arg(flag(alloc, "json", "Print each record as a line of JSON"))?;
+    command.arg(flag(
+        alloc,
+        "salvage",
+        "Print what stands before the damage of each part, and where each ends",
+    ))
+}
+
 fn bare<'a>(alloc: Global, name: &'a str, about: &'a str, more: &'a str) -> Command<'a>
     ensures app { app_of result ≡ new_app name.entry.now }
     ensures local { (out-Command result).has_globals ≡ false }
@@ -248,6 +273,18 @@ fn status<'a>(alloc: Global) -> Command<'a>
     )
 }
 
+fn log<'a>(alloc: Global) -> Command<'a>
+    ensures app { app_of result ≡ new_app (codes "log") }
+    ensures local { (out-Command result).has_globals ≡ false }
+{
+    bare(
+        alloc,
+        "log",
+        "Prints the records of a journal, oldest first, a line each",
+        texts::LOG,
+    )
+}
+
 /// The whole command line.
 pub fn ocfexec<'a>(alloc: Global) -> Result<Command<'a>, AllocError>
     ensures { IfOk result (λ c. app_of c ≡ ocfexec_app) }
@@ -260,5 +297,8 @@ pub fn ocfexec<'a>(alloc: Global) -> Result<Command<'a>, AllocError>
     let status = with_options(alloc, status(alloc))?;
     let status = with_status_options(alloc, status)?;
     let with_show = with_serve.subcommand(show)?;
-    with_show.subcommand(status)
+    let log = with_options(alloc, log(alloc))?;
+    let log = with_log_options(alloc, log)?;
+    let with_status = with_show.subcommand(status)?;
+    with_status.subcommand(log)
 }

@@ -14,6 +14,8 @@ pub enum Subcommand {
     Show,
     /// Prints the same as a table for a person.
     Status,
+    /// Prints the records of the journal.
+    Log,
 }
 
 impl Subcommand {
@@ -30,6 +32,8 @@ impl Subcommand {
             Some(Subcommand::Show)
         } else if name == "status" {
             Some(Subcommand::Status)
+        } else if name == "log" {
+            Some(Subcommand::Log)
         } else {
             None
         }
@@ -71,10 +75,14 @@ pub struct Options<'a> {
     /// Whether what an interrupted action left lives on where it outlives that wait, in place of being ended with its
     /// descendants.
     pub leave_orphans: bool,
-    /// The id of the one resource whose status is asked for, or none.
+    /// The id of the one resource whose status or records are asked for, or none.
     pub resource: Option<&'a str>,
-    /// Whether a status is given as lines of JSON.
+    /// Whether a status or records are given as lines of JSON.
     pub json: bool,
     /// Whether a status ends otherwise than well where a resource has failed, or it is not known how it is.
     pub exit_code: bool,
+    /// The moment from which on records are asked for, or none for all.
+    pub since: Option<&'a str>,
+    /// Whether the records of a damaged journal are asked for, and where they end.
+    pub salvage: bool,
 }

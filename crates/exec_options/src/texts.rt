@@ -60,3 +60,13 @@ Examples:
   ocfexec status --journal /var/lib/ocfexec
   ocfexec status --journal /var/lib/ocfexec web
   ocfexec status --journal /var/lib/ocfexec --exit-code > /dev/null || echo look at it";
+
+/// What stands behind the help of `log`.
+pub const LOG: &str =
+    "Give just one of --journal and --memory. A journal that is in use can be shown too, and nothing is changed.
+The other options are those of run, and do nothing here.
+Registrations, commands, begins, results and openings are printed, of both parts of the journal, so also what has left the history.
+
+Examples:
+  ocfexec log --journal /var/lib/ocfexec web --since 2026-11-27
+  ocfexec log --journal /var/lib/ocfexec --salvage";

@@ -137,6 +137,8 @@ fn options_of<'a>(
         resource: text_of(matches, "resource"),
         json: is_set(matches, "json"),
         exit_code: is_set(matches, "exit-code"),
+        since: text_of(matches, "since"),
+        salvage: is_set(matches, "salvage"),
     })
 }
 

@@ -3,6 +3,7 @@
 
 mod emptied;
 mod files;
+mod log;
 mod look;
 mod show;
 

@@ -5,6 +5,7 @@ ghost use Rattle.journal_folder.specs.Ends.{IsFolderEnd, IsNotFound};
 
 use crate::emptied::not_emptied;
 use crate::files::{found, told};
+use crate::log::log_to;
 use crate::look::look_of;
 use diagnostics::{FirstError, tell_shown};
 use disk_model::Disk;
@@ -18,20 +19,26 @@ use std::io::{self, Write};
 // How often the files of a journal that reads as damaged are read, before that is told.
 const LOOKS: usize = 4;
 
-// Writes what the journal on this disk holds, as lines of JSON or as a table, of all resources or of one.
+// Writes what the journal on this disk holds, as lines of JSON, as a table or as its records, of all resources or of one.
 fn show_to<D: Disk + Drop, W: Write>(
-    rt: &HostRuntime,
+    system: &System<'_>,
     options: Options,
     disk: D,
     output: &mut W,
 ) -> (D, Result<(), Fault>)
     ensures { IsRunEnd result.1 }
 {
+    let rt = system.host();
     match options.subcommand {
         Subcommand::Status if options.json => {
             status_json(rt.alloc(), disk, output, &look_of(rt, options))
         }
         Subcommand::Status => status(rt.alloc(), disk, output, &look_of(rt, options)),
+        Subcommand::Log => {
+            let mut disk = disk;
+            let ended = log_to(system, options, &mut disk, output);
+            (disk, ended)
+        }
         _ => show(rt.alloc(), disk, output),
     }
 }
@@ -47,7 +54,7 @@ pub fn show_on<D: Disk + TellsError + Drop>(
     let rt = system.host();
     let unwritten = FirstError::none();
     let mut output = unwritten.output(io::writer(rt));
-    let (disk, ended) = show_to(rt, options, disk, &mut output);
+    let (disk, ended) = show_to(system, options, disk, &mut output);
     tell_shown(system, &unwritten, ended);
     told(system, options, &disk, ended)
 }
@@ -57,17 +64,21 @@ fn is_none<D: Disk>(disk: &mut D) -> bool {
     matches!((disk.len(Part::A), disk.len(Part::B)), (Ok(0), Ok(0)))
 }
 
-// The parts in this directory as they are now. There is no status of a journal that was never made.
+// The parts in this directory as they are now. There is no status and no record of a journal that was never made. What is asked
+// for of a damaged journal is asked for of one with an emptied part, too.
 fn parts_in(system: &System<'_>, options: Options, folder: &str) -> Result<RamDisk, Fault>
     ensures { IsNotFound result }
 {
     let rt = system.host();
-    let mut disk = found(
-        system,
-        folder,
-        not_emptied(read_parts(rt, rt.alloc(), folder)),
-    )?;
-    if matches!(options.subcommand, Subcommand::Status) && is_none(&mut disk) {
+    let read = read_parts(rt, rt.alloc(), folder);
+    let read = if options.salvage {
+        read
+    } else {
+        not_emptied(read)
+    };
+    let mut disk = found(system, folder, read)?;
+    let wants_one = matches!(options.subcommand, Subcommand::Status | Subcommand::Log);
+    if wants_one && is_none(&mut disk) {
         return Err(Fault::NoJournal);
     }
     Ok(disk)

@@ -90,7 +90,9 @@ fn run_in(system: &System<'_>, options: Options, log: Log, folder: &str) -> Resu
     ensures { IsFolderEnd result }
 {
     match options.subcommand {
-        Subcommand::Show | Subcommand::Status => show_files(system, options, folder),
+        Subcommand::Show | Subcommand::Status | Subcommand::Log => {
+            show_files(system, options, folder)
+        }
         Subcommand::Run | Subcommand::Serve => {
             let opened = open_files(system.host(), options, folder);
             let disk = found(system, folder, not_emptied(opened))?;
@@ -111,6 +113,8 @@ fn run_on<D: Disk + TellsError + Drop>(
     match options.subcommand {
         Subcommand::Run => run_agents(&*system, options, log, disk, Way::Run),
         Subcommand::Serve => run_agents(&*system, options, log, disk, Way::Serve),
-        Subcommand::Show | Subcommand::Status => show_on(system, options, disk),
+        Subcommand::Show | Subcommand::Status | Subcommand::Log => {
+            show_on(system, options, disk)
+        }
     }
 }
