@@ -18,11 +18,12 @@ in_bash() {
     bash --norc -c '. "$1"; shift; complete -p ocfexec > /dev/null || exit 1
         COMP_WORDS=("$@"); COMP_CWORD=$(($# - 1)); _ocfexec; printf "%s\n" "${COMPREPLY[@]}"' bash "$here/bash" "$@" | sort | xargs
 }
-same "bash, subcommands" "--help --version run serve show status" "$(in_bash ocfexec '')"
+same "bash, subcommands" "--help --version log run serve show status" "$(in_bash ocfexec '')"
 same "bash, an option" "--journal" "$(in_bash ocfexec serve --jo)"
 same "bash, a flag" "--leave-orphans" "$(in_bash ocfexec serve --le)"
 same "bash, a flag of a journal" "--any-owner" "$(in_bash ocfexec serve --an)"
 same "bash, an option of status" "--json" "$(in_bash ocfexec status --js)"
+same "bash, an option of log" "--salvage" "$(in_bash ocfexec log --sa)"
 same "bash, a folder" "$here/lib $here/libexec" "$(in_bash ocfexec serve --journal "$here/li")"
 checked "bash"
 
