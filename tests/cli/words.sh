@@ -146,6 +146,9 @@ for bytes in "" no 1k 1.5 8388609 18446744073709551616; do
 done
 ends 2 "ocfexec: give --tidy-at a number from 0 to 8388608" run --memory --tidy-at=-1
 ends 2 "ocfexec: give --orphans a number from 0 to 86400000" run --memory --leave-orphans --orphans 86400001
+for moment in no 2026-13-01 2026-11-27T06:30Z; do
+    ends 2 "ocfexec: give --since a moment, as 2026-11-27 or 2026-11-27T06:30" log --memory --since "$moment"
+done
 ends 5 "ocfexec: disk" run --journal "$here/none"
 ends 5 "ocfexec: disk" show --journal=
 ends 2 "ocfexec: words are not UTF-8" run --memory --via "$(printf 'a\377')"

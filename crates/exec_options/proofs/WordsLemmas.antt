@@ -6,9 +6,9 @@ use Rattle.clap.specs.declared.builder.command.Command.{Command}
 use Rattle.clap.specs.declared.parser.matches.ArgMatches.{ArgMatches}
 use Rattle.exec_options.specs.declared.options.Subcommand.{Subcommand}
 use Rattle.exec_options.specs.declared.fault.WordsFault.{WordsFault}
-use Rattle.exec_options.specs.declared.fault.WordsFault.TheVariants.{Help, Usage, Choice, TidyAt, Root, Orphans, Memory}
+use Rattle.exec_options.specs.declared.fault.WordsFault.TheVariants.{Help, Usage, Choice, TidyAt, Root, Orphans, Since, Memory}
 use Rattle.exec_options.specs.App.{ocfexec_app}
-use Rattle.exec_options.specs.Faults.{Flawed, HasFaultKind, HasFlaw, IsFault, OrphansFlaw, RootFlaw, TidyAtFlaw}
+use Rattle.exec_options.specs.Faults.{Flawed, HasFaultKind, HasFlaw, IsFault, OrphansFlaw, RootFlaw, SinceFlaw, TidyAtFlaw}
 use Rattle.exec_options.specs.Subcommands.{subcommand_word}
 use Rattle.exec_options.specs.Words.{is_true_text, Gives, IsChoice, IsReadFrom, Names}
 use Rattle.exec_options.specs.declared.options.Options.{Options}
@@ -73,10 +73,11 @@ pub flawed : (words : List Text) (name : Text) (rows : List Row) (s : Subcommand
 flawed words name rows s TidyAt parsed named is choice flaw = (parsed, shown words name rows s TidyAtFlaw named is choice flaw)
 flawed words name rows s Root parsed named is choice flaw = (parsed, shown words name rows s RootFlaw named is choice flaw)
 flawed words name rows s Orphans parsed named is choice flaw = (parsed, shown words name rows s OrphansFlaw named is choice flaw)
+flawed words name rows s Since parsed named is choice flaw = (parsed, shown words name rows s SinceFlaw named is choice flaw)
 flawed words name rows s (Help e) parsed named is choice flaw = absurd flaw
 flawed words name rows s (Usage e) parsed named is choice flaw = absurd flaw
 flawed words name rows s Choice parsed named is choice flaw = absurd flaw
-flawed words name rows s Memory parsed named is choice flaw = absurd flaw
+flawed words name rows s Memory parsed named is choice flaw = tt
 
 -- `clap`'s fault is one of these words
 pub fault_kind : (words : List Text) (fault : WordsFault) → HasFaultKind (fault_of ocfexec_app words) fault → IsFault words fault
@@ -86,4 +87,5 @@ fault_kind words Choice h = absurd h
 fault_kind words TidyAt h = absurd h
 fault_kind words Root h = absurd h
 fault_kind words Orphans h = absurd h
+fault_kind words Since h = absurd h
 fault_kind words Memory h = h

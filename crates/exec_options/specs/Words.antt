@@ -1,10 +1,11 @@
 -- The options that words give.
-use Rattle.std.specs.Prelude.{◌≡◌, ◌≤◌, ◌==◌, ℕ, Bool, true, false, not, List, [], ◌∷◌, Option, Some, None, is_some, option_map, unwrap_or}
+use Rattle.std.specs.Prelude.{◌≡◌, ◌≤◌, ◌==◌, length, take, ℕ, Bool, true, false, not, List, [], ◌∷◌, Option, Some, None, is_some, option_map, unwrap_or}
 use Rattle.std.specs.Prelude.{codes, bytes_eq}
 use Rattle.std.specs.Str.Parse.{IsNumeral, digits_value, without_leading_plus}
 use Rattle.clap.specs.Words.{Row, Text, first_of, subcommand_of}
 use Rattle.ocf_types.specs.Limits.{part_limit}
 use Rattle.ocf_types.specs.declared.limits.TheConstants.{ORPHANS_LIMIT}
+use Rattle.log_lines.specs.Dates.{moment_text}
 use Rattle.exec_options.specs.declared.options.Options.{Options}
 use Rattle.exec_options.specs.declared.options.Subcommand.{Subcommand}
 use Rattle.exec_options.specs.declared.options.JournalPlace.{JournalPlace}
@@ -44,6 +45,11 @@ abbrev pub IsNumberTo : ℕ → Text → ℕ → Type 0
 IsNumberTo limit text n =
     IsNumeral 10 (without_leading_plus text) × (digits_value 10 (without_leading_plus text) ≡ n) × (n ≤ limit)
 
+-- a moment whose text as RFC 3339 has it begins with this one, and the first moment where no text is named
+abbrev pub IsSince : Option Text → ℕ → Type 0
+IsSince (Some text) at = take (length text) (moment_text at) ≡ text
+IsSince None at = at ≡ 0
+
 -- a path that begins at the root folder
 abbrev pub is_absolute : Text → Bool
 is_absolute (b ∷ more) = b == 47
@@ -66,7 +72,7 @@ pub record IsReadFrom (rows : List Row) (o : Options) : Type 0 where
   pub resource : option_map (λ s. s.now) o.resource ≡ first_of (codes "resource") rows
   pub json : o.json ≡ is_true_text (first_of (codes "json") rows)
   pub exit_code : o.exit_code ≡ is_true_text (first_of (codes "exit-code") rows)
-  pub since : option_map (λ s. s.now) o.since ≡ first_of (codes "since") rows
+  pub since : IsSince (first_of (codes "since") rows) o.since
   pub salvage : o.salvage ≡ is_true_text (first_of (codes "salvage") rows)
 
 -- by `clap`'s rules the words name this subcommand, with these rows

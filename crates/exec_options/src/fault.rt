@@ -19,6 +19,8 @@ pub enum WordsFault {
     Root,
     /// They name a text for `--orphans` that is no number of milliseconds up to a day.
     Orphans,
+    /// They name a text for `--since` in which no moment was found.
+    Since,
     /// There was no memory to read them.
     Memory,
 }

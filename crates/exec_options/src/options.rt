@@ -81,8 +81,8 @@ pub struct Options<'a> {
     pub json: bool,
     /// Whether a status ends otherwise than well where a resource has failed, or it is not known how it is.
     pub exit_code: bool,
-    /// The moment from which on records are asked for, or none for all.
-    pub since: Option<&'a str>,
+    /// The moment from which on records are asked for, in milliseconds since 1970; 0 for all.
+    pub since: u64,
     /// Whether the records of a damaged journal are asked for, and where they end.
     pub salvage: bool,
 }

@@ -4,13 +4,14 @@ ghost use Rattle.clap.specs.Words.{first_of, rows_of, found_of, fault_of};
 ghost use Rattle.exec_options.specs.App.{ocfexec_app};
 ghost use Rattle.ocf_types.specs.Limits.{part_limit};
 ghost use Rattle.exec_options.specs.Words.{folder_of, is_absolute, is_true_text, longest_wait, orphans_text, root_text, tidy_text};
-ghost use Rattle.exec_options.specs.Words.{IsChoice, IsNumberTo, IsReadFrom, Gives};
+ghost use Rattle.exec_options.specs.Words.{IsChoice, IsNumberTo, IsReadFrom, IsSince, Gives};
 ghost use Rattle.exec_options.specs.Faults.{HasFlaw, IsFault, OrphansFlaw, RootFlaw, TidyAtFlaw};
 
 use crate::app::{ORPHANS, PATH, ROOT, TIDY_AT, ocfexec};
 use crate::fault::WordsFault;
 use crate::options::{JournalPlace, Options, Subcommand};
 use clap::ArgMatches;
+use log_lines::moment_begun;
 use ocf_types::{ORPHANS_LIMIT, PART_LIMIT};
 use std::alloc::Global;
 
@@ -106,8 +107,25 @@ fn root<'a>(matches: &ArgMatches<'a>) -> Result<&'a str, WordsFault>
     }
 }
 
+// The moment from which on records are asked for: the first one where none is named.
+fn since(alloc: Global, matches: &ArgMatches<'_>) -> Result<u64, WordsFault>
+    ensures moment { IfOk result
+        (IsSince (first_of (codes "since") (rows_of (found_of matches.now)))) }
+    ensures fault { IfErr result (HasFlaw (rows_of (found_of matches.now))) }
+{
+    let Some(text) = text_of(matches, "since") else {
+        return Ok(0);
+    };
+    match moment_begun(alloc, text) {
+        Ok(Some(at)) => Ok(at.get()),
+        Ok(None) => Err(WordsFault::Since),
+        Err(_) => Err(WordsFault::Memory),
+    }
+}
+
 // The options that a subcommand's words give beside the place of its journal.
 fn options_of<'a>(
+    alloc: Global,
     subcommand: Subcommand,
     journal: JournalPlace<'a>,
     matches: &ArgMatches<'a>,
@@ -122,6 +140,7 @@ fn options_of<'a>(
     let tidy_at = tidy_at(matches)?;
     let root = root(matches)?;
     let orphans = orphans(matches)?;
+    let since = since(alloc, matches)?;
     Ok(Options {
         subcommand,
         journal,
@@ -137,7 +156,7 @@ fn options_of<'a>(
         resource: text_of(matches, "resource"),
         json: is_set(matches, "json"),
         exit_code: is_set(matches, "exit-code"),
-        since: text_of(matches, "since"),
+        since,
         salvage: is_set(matches, "salvage"),
     })
 }
@@ -164,5 +183,5 @@ pub fn read_words<'a>(alloc: Global, words: &'a [String]) -> Result<Options<'a>,
     let Some(journal) = journal_place(matches) else {
         return Err(WordsFault::Choice);
     };
-    options_of(subcommand, journal, matches)
+    options_of(alloc, subcommand, journal, matches)
 }

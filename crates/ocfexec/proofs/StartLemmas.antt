@@ -62,11 +62,12 @@ pub refused_ends : {T : Type 0} (words : List (List ℕ)) (f : WordsFault) (r : 
     → EndsFor words r
 refused_ends words (words_fault.Help text) (Ok done) is told = inl (text, is)
 refused_ends {T} words (words_fault.Help text) (Err f) is told = subst (λ x. EndsFor {T = T} words (Err x)) (sym told) (inl (text, is))
-refused_ends words (words_fault.Usage text) r is told = subst (λ x. EndsFor words x) (sym told) (text, is)
+refused_ends words (words_fault.Usage text) r is told = subst (λ x. EndsFor words x) (sym told) (inl (text, is))
 refused_ends words words_fault.Choice r is told = subst (λ x. EndsFor words x) (sym told) is
 refused_ends words words_fault.TidyAt r is told = subst (λ x. EndsFor words x) (sym told) is
 refused_ends words words_fault.Root r is told = subst (λ x. EndsFor words x) (sym told) is
 refused_ends words words_fault.Orphans r is told = subst (λ x. EndsFor words x) (sym told) is
+refused_ends words words_fault.Since r is told = subst (λ x. EndsFor words x) (sym told) (inr is)
 refused_ends words words_fault.Memory r is told = subst (λ x. EndsFor words x) (sym told) tt
 
 -- words that ask for a journal

@@ -38,6 +38,7 @@ IsToldAs words_fault.Choice ended = ended ≡ Err fault.Choice
 IsToldAs words_fault.TidyAt ended = ended ≡ Err fault.TidyAt
 IsToldAs words_fault.Root ended = ended ≡ Err fault.Root
 IsToldAs words_fault.Orphans ended = ended ≡ Err fault.Orphans
+IsToldAs words_fault.Since ended = ended ≡ Err fault.Usage
 IsToldAs words_fault.Memory ended = ended ≡ Err fault.Memory
 
 -- the words ask to run or to show a journal

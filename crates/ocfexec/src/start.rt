@@ -15,7 +15,7 @@ use exec_session::Way;
 use file_disk::{RamDisk, TellsError};
 use journal_folder::{found, not_emptied, open_files, show_files, show_on};
 use std::env;
-use std::io::ErrorKind;
+use std::io::{Eprint, ErrorKind};
 
 // The words of the command line, the program's name first.
 fn words_of(rt: &HostRuntime) -> Result<Vec<String>, Fault> {
@@ -32,7 +32,7 @@ pub fn start(system: &System<'_>) -> Result<(), Fault> {
     run(system, words.as_slice())
 }
 
-// What words end with that give no options. A text that was asked for is printed, and so is `clap`'s text of a usage fault.
+// What words end with that give no options. A text that was asked for is printed, and so is that of a usage fault.
 fn refuse(system: &System<'_>, fault: &WordsFault) -> Result<(), Fault>
     ensures { IsToldAs fault.now result }
 {
@@ -53,6 +53,12 @@ fn refuse(system: &System<'_>, fault: &WordsFault) -> Result<(), Fault>
         WordsFault::TidyAt => Err(Fault::TidyAt),
         WordsFault::Root => Err(Fault::Root),
         WordsFault::Orphans => Err(Fault::Orphans),
+        WordsFault::Since => {
+            let _ = system.eprintln(
+                "ocfexec: give --since a moment, as 2026-11-27 or 2026-11-27T06:30",
+            );
+            Err(Fault::Usage)
+        }
         WordsFault::Memory => Err(Fault::Memory),
     }
 }
