@@ -215,7 +215,8 @@ class Growths(helper.Check):
             calls = info["queued"] + [(info["running"] or {}).get("call")] + [end["call"] for end in history["results"]]
             self.assertTrue(call is None or call in calls, f"call {call}")
         for notice in found.told():
-            result = {key: part for key, part in notice.items() if key != "id"}
+            # a notice alone has these
+            result = {key: part for key, part in notice.items() if key not in ("id", "signal", "lives")}
             self.assertIn(result, shown[notice["id"]][1]["results"], "a notice that was told")
 
     def ended_early(self, steps, base, found, folder, before):
