@@ -1,6 +1,7 @@
 -- Lists of calls with their due moments, seen as pairs.
-use Rattle.std.proofs.Common.{◌≡◌, ℕ, ◌==◌, ◌≤◌, List, [], ◌∷◌, ◌++◌, map, take, drop, length, refl, ap, ◌∙◌}
-use Rattle.std.proofs.lemmas.List.{append-nil, take_all}
+use Rattle.std.proofs.Common.{◌≡◌, ℕ, ◌+◌, ◌==◌, ◌<◌, ◌≤◌, List, [], ◌∷◌, ◌++◌, map, take, drop, length, get_or, refl, sym, ap, ◌∙◌, arith, append_assoc}
+use Rattle.std.proofs.lemmas.List.{append-nil, take_all, take_at, map_more, length-map, length-take-le}
+use Rattle.std.proofs.lemmas.Slice.{drop-append-drop}
 use Rattle.std.proofs.Math.ListN.{drop_of_length-le}
 use Rattle.recurring.specs.declared.due_call.DueCall.{DueCall}
 use Rattle.recurring.specs.declared.monitor.Monitor.{Monitor}
@@ -27,3 +28,20 @@ pairs_of-settled call due (d ∷ ds) =
 -- what is done to the first ones is done to all, where they are all
 pub map_over_all : {A : Type 0} (f : A → A) (xs ys : List A) (i : ℕ) → length xs ≤ i → ys ≡ map f (take i xs) ++ drop i xs → ys ≡ map f xs
 map_over_all f xs ys i le h = h ∙ rw (take_all i xs le, drop_of_length-le xs le) (append-nil (map f xs))
+
+-- an element behind the last one
+pub put_behind : {A : Type 0} (xs : List A) (i : ℕ) (x : A) → length xs ≤ i → xs ++ x ∷ [] ≡ take i xs ++ x ∷ drop (i + 1) xs
+put_behind xs i x le = rw (take_all i xs le, drop_of_length-le xs (let more : length xs ≤ i + 1 = omega (arith, le) in more)) refl
+
+-- one more of the front is made, and what was there behind it stays
+pub front_more : {A B : Type 0} (f : A → B) (ms : List A) (was now : List B) (i : ℕ) (d : A) → i < length ms → now ≡ map f (take i ms) ++ drop i was
+    → take i now ++ f (get_or ms i d) ∷ drop (i + 1) now ≡ map f (take (i + 1) ms) ++ drop (i + 1) was
+front_more f ms was now i d lt is =
+    let front : length (map f (take i ms)) ≡ i = length-map (take i ms) f ∙ length-take-le i ms (omega (arith, lt)) in
+    rw (is, take_at (map f (take i ms)) (drop i was) i front, drop-append-drop i was (map f (take i ms)) (i + 1) (omega arith) front, map_more f ms i d lt)
+    (sym (append_assoc (map f (take i ms)) (f (get_or ms i d) ∷ []) (drop (i + 1) was)))
+
+-- a front that is all leaves nothing behind it
+pub front_all : {A B : Type 0} (f : A → B) (ms : List A) (was now : List B) (i : ℕ) → length ms ≤ i → length was ≤ i
+    → now ≡ map f (take i ms) ++ drop i was → now ≡ map f ms
+front_all f ms was now i le short is = is ∙ rw (take_all i ms le, drop_of_length-le was short) (append-nil (map f ms))

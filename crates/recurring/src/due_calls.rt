@@ -1,5 +1,5 @@
 //! The calls of one resource's recurring monitors with their due moments.
-ghost use Rattle.std.specs.Prelude.{◌≡◌, ◌<◌, ◌++◌, ◌∷◌, [], length};
+ghost use Rattle.std.specs.Prelude.{◌≡◌, ◌+◌, ◌<◌, ◌≤◌, ◌++◌, ◌∷◌, [], length, take, drop};
 ghost use Rattle.ocf_types.specs.Due.{IsLeastDue};
 ghost use Rattle.recurring.specs.Monitors.{pairs, IsFirstMoment};
 ghost use Rattle.recurring.specs.DueIndex.{pairs_without, pairs_settled};
@@ -36,15 +36,22 @@ impl DueCalls {
         }
     }
 
-    /// Takes the calls of these monitors in place of its own.
-    pub(crate) fn renew(&mut self, monitors: &Recurrings)
-        ensures { self.new ≡ pairs monitors.now }
+    /// Takes the calls of these monitors in place of its own, and gives the least of their due moments: `None` just where
+    /// there are no monitors.
+    pub(crate) fn renew(&mut self, monitors: &Recurrings) -> Option<u64>
+        ensures calls { self.new ≡ pairs monitors.now }
+        ensures first { IsFirstMoment (pairs monitors.now) result }
     {
+        let monitors = monitors.as_slice();
         let calls = &mut self.calls;
-        calls.clear();
-        for monitor in monitors.as_slice() {
-            calls.push(DueCall::of(monitor));
+        calls.truncate(monitors.len());
+        let mut first = None;
+        for place in 0..monitors.len() {
+            let monitor = &monitors[place];
+            put(calls, place, DueCall::of(monitor));
+            first = DueCall::of(monitor).first_moment(first);
         }
+        first
     }
 
     /// Puts a call after the others.
@@ -91,5 +98,19 @@ impl DueCalls {
             first = d.first_moment(first);
         }
         first
+    }
+}
+
+/// Puts a call at a place: in place of the one that is there, or behind the last one.
+fn put(calls: &mut ArrayVec<DueCall, { RECURRING_LIMIT }>, place: usize, call: DueCall)
+    requires place { place ≤ length calls.old.items }
+    requires room { place < RECURRING_LIMIT }
+    ensures { calls.new.items
+        ≡ take place calls.old.items ++ call ∷ drop (place + 1) calls.old.items }
+{
+    if place < calls.len() {
+        calls.as_mut_slice()[place] = call;
+    } else {
+        calls.push(call);
     }
 }

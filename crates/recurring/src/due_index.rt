@@ -151,8 +151,7 @@ impl<A: Grows> DueIndex<A> {
             return;
         };
         let calls = &mut self.resources[place];
-        calls.renew(monitors);
-        let first = calls.first_moment();
+        let first = calls.renew(monitors);
         self.firsts.set(place, first);
     }
 
@@ -164,8 +163,7 @@ impl<A: Grows> DueIndex<A> {
         ensures room { self.new.room ≡ self.old.room }
     {
         let calls = &mut self.resources[place];
-        calls.renew(monitors);
-        let first = calls.first_moment();
+        let first = calls.renew(monitors);
         self.firsts.set(place, first);
     }
 

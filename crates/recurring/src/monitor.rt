@@ -14,15 +14,12 @@ pub struct Monitor {
 }
 
 impl Monitor {
-    /// The monitor after a run of that call ended at that moment: if the call is its own, it is due its own interval
-    /// later.
-    pub(crate) fn settled(self, call: CallId, ended_at: Moment) -> Monitor
-        ensures { result ≡ settled_one call ended_at self }
+    /// After a run of that call ended at that moment: if the call is its own, it is due its own interval later.
+    pub(crate) fn settle(&mut self, call: CallId, ended_at: Moment)
+        ensures { self.new ≡ settled_one call ended_at self.old }
     {
         if self.recur.call == call {
-            self.due_at(ended_at.get() + u64::from(self.recur.interval.get()))
-        } else {
-            self
+            self.due = ended_at.get() + u64::from(self.recur.interval.get());
         }
     }
 

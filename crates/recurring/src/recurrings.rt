@@ -170,7 +170,7 @@ impl Recurrings {
         ensures recurs { recurs self.new ≡ recurs self.old }
     {
         for m in self.monitors.as_mut_slice() {
-            *m = m.settled(call, ended_at);
+            m.settle(call, ended_at);
         }
     }
 

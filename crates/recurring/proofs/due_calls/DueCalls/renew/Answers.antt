@@ -1,14 +1,30 @@
-use Rattle.std.proofs.Common.{◌≡◌, take, ap, ◌∙◌, arith, List}
-use Rattle.std.proofs.lemmas.List.{take_all}
+use Rattle.std.proofs.Common.{◌≡◌, ◌+◌, ◌<◌, ◌≤◌, ◌++◌, ◌∷◌, [], length, take, List, ap, ◌∙◌, arith}
+use Rattle.std.proofs.lemmas.List.{map_more}
 use Rattle.recurring.specs.declared.monitor.Monitor.{Monitor}
-use Rattle.recurring.specs.DueCalls.{pairs_of}
-use Rattle.recurring.specs.Monitors.{pairs}
-use Rattle.recurring.proofs.DueLists.{pairs_of-due_calls}
+use Rattle.recurring.specs.DueCalls.{due_call_of, pairs_of}
+use Rattle.recurring.specs.Monitors.{pair, pairs}
+use Rattle.recurring.proofs.DueLists.{front_more, front_all, pairs_of-due_calls}
 use Rattle.recurring.proofs.due_calls.DueCalls.renew.Goals as goal
 
-pub returns : goal.returns
-returns c =
-    let ms : List Monitor = c.as_slice-monitor-items.result.now in
-    let all : take c.loop-monitor.monitor-index ms ≡ ms = take_all c.loop-monitor.monitor-index ms (omega arith) in
-    ap pairs_of c.loop-monitor.invariant ∙ pairs_of-due_calls (take c.loop-monitor.monitor-index ms)
-    ∙ ap pairs (all ∙ c.as_slice-monitor-items.ensures.value)
+pub loop-place-preserved : goal.loop-place-preserved
+loop-place-preserved c =
+    let ms : List Monitor = c.as_slice-monitors.result.now in
+    let i = c.loop-place.place in
+    let m = c.index-monitors-place.result in
+    let within : i < length ms = c.loop-place-test.true in
+    let laid = rw (← c.index-monitors-place.is) at (front_more due_call_of ms c.truncate.new.self.items c.loop-place.calls.items i m within
+    c.loop-place.invariant.calls) in
+    let more : pairs (take (i + 1) ms) ≡ pairs (take i ms) ++ pair m ∷ []
+    = rw (← c.index-monitors-place.is) at (map_more pair ms i m within) in
+    record {
+      calls = (rw c.of.ensures at c.put.ensures) ∙ laid;
+      first = rw more (rw c.of-in-loop-place.ensures at (c.first_moment-first.ensures (pairs (take i ms)) c.loop-place.invariant.first));
+    }
+
+pub returns-clause-calls : goal.returns-clause-calls
+returns-clause-calls c =
+    let ms : List Monitor = c.as_slice-monitors.result.now in
+    let short : length c.truncate.new.self.items ≤ c.loop-place.place
+    = omega (arith, c.truncate.ensures.len, c.loop-place-test.false) in
+    ap pairs_of (front_all due_call_of ms c.truncate.new.self.items c.loop-place.calls.items c.loop-place.place c.loop-place-test.false
+    short c.loop-place.invariant.calls) ∙ pairs_of-due_calls ms ∙ ap pairs c.as_slice-monitors.ensures.value

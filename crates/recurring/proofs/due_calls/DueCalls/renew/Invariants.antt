@@ -1,6 +1,10 @@
-use Rattle.std.proofs.Common.{◌≡◌, map, take}
+use Rattle.std.proofs.Common.{◌≡◌, ◌++◌, map, take, drop}
 use Rattle.recurring.specs.DueCalls.{due_call_of}
+use Rattle.recurring.specs.Monitors.{pairs, IsFirstMoment}
 use Rattle.recurring.proofs.due_calls.DueCalls.renew.Given as goal
 
-abbrev pub invariant-loop-monitor : goal.invariant-loop-monitor
-invariant-loop-monitor l = l.calls.items ≡ map due_call_of (take l.monitor-index l.monitor-items)
+abbrev pub invariant-loop-place : goal.invariant-loop-place
+invariant-loop-place l = record {
+  calls : l.calls.items ≡ map due_call_of (take l.place l.monitors) ++ drop l.place l.initial.calls.items;
+  first : IsFirstMoment (pairs (take l.place l.monitors)) l.first;
+}

@@ -7,7 +7,7 @@ use Rattle.recurring.proofs.recurrings.Recurrings.settle.Goals as goal
 
 pub loop-m-preserved : goal.loop-m-preserved
 loop-m-preserved c =
-    rw (c.settled.ensures, ← c.m-item.is)
+    rw (c.settle.ensures, ← c.m-item.is)
     (map_over_more (settled_one c.args.call c.args.ended_at) c.as_mut_slice-m-items.result.now c.loop-m.m-items c.loop-m.m-index
     c.m-item.result (omega arith) c.loop-m.invariant c.m-item.is)
 
