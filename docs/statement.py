@@ -46,7 +46,7 @@ HEAD = """\
 -- `(x : A) → B` that it holds of each; ⊤ holds and ⊥ does not; `a ≡ b` says that both are the same. `λ x. b` is b as a function of x.
 """
 WORD = re.compile(r"(?<![\w.'])[A-Za-z_][\w'-]*")
-USE = re.compile(r"^(?:ghost )?use Rattle\.([\w.]+?)(?:\.\{([^}]*)\}| as (\w+));?$", re.MULTILINE)
+USE = re.compile(r"^(?:ghost |pub )?use Rattle\.([\w.]+?)(?:\.\{([^}]*)\}| as (\w+));?$", re.MULTILINE)
 KEY = re.compile(r"(?:(?:abbrev|unfoldable) (?:pub )?|(?:pub )?(?:record|(?P<data>data)) )(?P<name>[^\s:({]+)")
 LEMMA = re.compile(r"(?:pub )?(?P<name>[\w'-]+) :")
 TYPE = re.compile(r"^pub (?:enum|struct) (\w+)[^;{]*(?:;|\{.*?^\})", re.MULTILINE | re.DOTALL)
@@ -109,7 +109,7 @@ class Source:
                 self.renamed.update({new: old} if new else {})
         group = None
         for paragraph in re.split(r"\n[ \t]*\n", self.text) if file.startswith("specs/") else []:
-            comment, code = re.fullmatch(r"((?:--[^\n]*\n?)*)(?:use [^\n]*\n?)*(.*)", paragraph.strip("\n"), re.DOTALL).groups()
+            comment, code = re.fullmatch(r"((?:--[^\n]*\n?)*)(?:(?:pub )?use [^\n]*\n?)*(.*)", paragraph.strip("\n"), re.DOTALL).groups()
             if code:
                 group = (len(self.means), comment) if comment else group
                 self.define(group, code)

@@ -19,6 +19,8 @@ use Rattle.exec_turn.specs.Picks.{begins}
 use Rattle.exec_turn.specs.Polls.{Polled, ends_of, result_notices, results}
 use Rattle.exec_turn.specs.Starts.{Started, refusal_notices, refusals, refused_end}
 use Rattle.exec_turn.specs.Turn.{IsFinish, IsTurn, Whole}
+use Rattle.exec_ledger.specs.Laws.{same_events}
+use Rattle.exec_ledger.specs.Pieces.{Effects}
 use Rattle.exec_ledger.specs.Scenes.{Scene}
 use Rattle.exec_ledger.specs.Replies.{IsReplyTo, KeepsRunning, recorded}
 use Rattle.exec_ledger.specs.Together.{Adds, Answered as RowAnswered, disk_each, failed}
@@ -142,36 +144,36 @@ module _ (book : List Entry) where
   moved told told2 es es2 same same2 b =
       subst (λ (ns : List Notice). Behind (map (noticed_by book) ns) es) (sym same) (subst (λ (fs : List Event). Behind (map (noticed_by book) told2) fs) (sym same2) b)
 
-  whole_behind : (end : TurnEnd) (x : Scene) (entries : List Entry) (events pending : List Event) (told : List Notice)
-      → Whole end x entries events pending told → Behind (map (noticed_by book) told) events
-  whole_behind end x entries events pending told (t, _, es, _, ns) =
-      moved told _ events _ ns es
+  whole_behind : (end : TurnEnd) (x : Scene) (did : Effects) (told : List Notice) → Whole end x did told
+      → Behind (map (noticed_by book) told) did.events
+  whole_behind end x did told (t, is, ns) =
+      moved told _ did.events _ ns (same_events is)
       (subst (λ (ss : List Said). Behind ss (results x.at t.polled ++ begins x.at t.begun ++ refusals x.at t.started))
       (sym (map-append (noticed_by book) (result_notices x.at t.polled) (refusal_notices x.at t.started)))
       (both_behind _ _ _ _ (begun_behind x.at t.polled t.begun) (refusals_behind x.at t.started)))
 
   -- a turn
-  pub turn_behind : (end : TurnEnd) (x : Scene) (entries : List Entry) (events pending : List Event) (told : List Notice)
-      → IsTurn end x entries events pending told → Behind (map (noticed_by book) told) events
-  turn_behind turn_end.Closed x entries events pending told none = absurd none
-  turn_behind turn_end.BookFull x entries events pending told (_, es, _, ns) = moved told [] events [] ns es nothing
-  turn_behind turn_end.Done x entries events pending told whole = whole_behind turn_end.Done x entries events pending told whole
-  turn_behind turn_end.RunsSpent x entries events pending told whole = whole_behind turn_end.RunsSpent x entries events pending told whole
-  turn_behind turn_end.Full x entries events pending told whole = whole_behind turn_end.Full x entries events pending told whole
-  turn_behind turn_end.Memory x entries events pending told whole = whole_behind turn_end.Memory x entries events pending told whole
-  turn_behind turn_end.Disk x entries events pending told (inl (ps, _, _, es, _, ns)) = moved told [] events [] ns es nothing
-  turn_behind turn_end.Disk x entries events pending told (inr (inl (ps, end, bs, _, _, _, es, _, ns))) =
-      moved told _ events _ ns es (results_behind x.at ps)
-  turn_behind turn_end.Disk x entries events pending told (inr (inr (end, t, _, es, _, ns))) =
-      moved told _ events _ ns es (begun_behind x.at t.polled t.begun)
+  pub turn_behind : (end : TurnEnd) (x : Scene) (did : Effects) (told : List Notice) → IsTurn end x did told
+      → Behind (map (noticed_by book) told) did.events
+  turn_behind turn_end.Closed x did told none = absurd none
+  turn_behind turn_end.BookFull x did told (is, ns) = moved told [] did.events [] ns (same_events is) nothing
+  turn_behind turn_end.Done x did told whole = whole_behind turn_end.Done x did told whole
+  turn_behind turn_end.RunsSpent x did told whole = whole_behind turn_end.RunsSpent x did told whole
+  turn_behind turn_end.Full x did told whole = whole_behind turn_end.Full x did told whole
+  turn_behind turn_end.Memory x did told whole = whole_behind turn_end.Memory x did told whole
+  turn_behind turn_end.Disk x did told (inl (ps, _, is, ns)) = moved told [] did.events [] ns (same_events is) nothing
+  turn_behind turn_end.Disk x did told (inr (inl (ps, end, bs, _, _, is, ns))) =
+      moved told _ did.events _ ns (same_events is) (results_behind x.at ps)
+  turn_behind turn_end.Disk x did told (inr (inr (end, t, is, ns))) =
+      moved told _ did.events _ ns (same_events is) (begun_behind x.at t.polled t.begun)
 
   -- one that begins nothing
-  pub finish_behind : (end : TurnEnd) (x : Scene) (entries : List Entry) (events pending : List Event) (told : List Notice)
-      → IsFinish end x entries events pending told → Behind (map (noticed_by book) told) events
-  finish_behind turn_end.Done x entries events pending told (ps, _, _, es, _, ns) = moved told _ events _ ns es (results_behind x.at ps)
-  finish_behind turn_end.BookFull x entries events pending told (_, es, _, ns) = moved told [] events [] ns es nothing
-  finish_behind turn_end.Disk x entries events pending told (ps, _, _, es, _, ns) = moved told [] events [] ns es nothing
-  finish_behind turn_end.Closed x entries events pending told none = absurd none
-  finish_behind turn_end.RunsSpent x entries events pending told none = absurd none
-  finish_behind turn_end.Full x entries events pending told none = absurd none
-  finish_behind turn_end.Memory x entries events pending told none = absurd none
+  pub finish_behind : (end : TurnEnd) (x : Scene) (did : Effects) (told : List Notice) → IsFinish end x did told
+      → Behind (map (noticed_by book) told) did.events
+  finish_behind turn_end.Done x did told (ps, _, is, ns) = moved told _ did.events _ ns (same_events is) (results_behind x.at ps)
+  finish_behind turn_end.BookFull x did told (is, ns) = moved told [] did.events [] ns (same_events is) nothing
+  finish_behind turn_end.Disk x did told (ps, _, is, ns) = moved told [] did.events [] ns (same_events is) nothing
+  finish_behind turn_end.Closed x did told none = absurd none
+  finish_behind turn_end.RunsSpent x did told none = absurd none
+  finish_behind turn_end.Full x did told none = absurd none
+  finish_behind turn_end.Memory x did told none = absurd none

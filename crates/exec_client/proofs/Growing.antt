@@ -15,11 +15,13 @@ use Rattle.executor.specs.CallLaws.{followed_by_none, calls_behind}
 use Rattle.exec_ledger.specs.Commands.{Obeys}
 use Rattle.executor.specs.Commands.{Serves, ServesWhile}
 use Rattle.executor.specs.Lives.{Abandoned, Calls, Cleared, Does, Exchange, Finished, Row, Tidied, Took}
-use Rattle.executor.specs.FinishCalls.{FinishedWhile}
-use Rattle.executor.specs.RowCalls.{TakesRow, row_effects}
+use Rattle.executor.specs.RowCalls.{TakesRow}
+use Rattle.executor.specs.RowLaws.{commands_called}
 use Rattle.exec_ledger.specs.Together.{row_replies}
 use Rattle.executor.specs.Rows.{IsAt, TakesCommands, replies_of}
-use Rattle.executor.specs.Sessions.{Effects, TakesWhile, followed_by, command_effects, no_effects}
+use Rattle.exec_ledger.specs.Laws.{while_open}
+use Rattle.exec_ledger.specs.Pieces.{Effects, followed_by, no_effects, row_effects}
+use Rattle.executor.specs.Sessions.{TakesWhile, command_effects}
 use Rattle.executor.specs.Sights.{Sight, ledger_of}
 use Rattle.executor.specs.TidyCalls.{Tidies, TidiesWhile}
 use Rattle.executor.specs.TurnCalls.{FinishesTurn, TakesTurn, abandoned, with_empty_book}
@@ -155,40 +157,37 @@ module _ {D : Type 0} (look : D → View) where
 
   pub commands_stand : (now : ℕ) (cs : List Command) (x y : Sight D) (rs : List Reply) → TakesCommands look now cs x y rs
       → StandsBehind look x y (map answered rs)
-  commands_stand now cs x y rs takes = record {
-    calls = takes.exchanges;
-    effects = takes.effects;
-    leads = takes.calls;
-    tells = subst (λ (ts : List Reply). TellsCalls look x takes.exchanges y takes.effects (map answered ts)) takes.answered
-        (commands_tell look now takes.exchanges x y takes.effects takes.at_once takes.calls);
-    behind = subst (λ (ts : List Reply). Behind (map answered ts) takes.effects.events) takes.answered
-        (calls_told now takes.exchanges x y takes.effects takes.at_once takes.calls);
-  }
+  commands_stand now cs x y rs does =
+      let takes = commands_called look now cs rs x y does in record {
+        calls = takes.exchanges;
+        effects = takes.effects;
+        leads = takes.calls;
+        tells = subst (λ (ts : List Reply). TellsCalls look x takes.exchanges y takes.effects (map answered ts)) takes.answered
+            (commands_tell look now takes.exchanges x y takes.effects takes.at_once takes.calls);
+        behind = subst (λ (ts : List Reply). Behind (map answered ts) takes.effects.events) takes.answered
+            (calls_told now takes.exchanges x y takes.effects takes.at_once takes.calls);
+      }
 
   -- a turn, one that begins nothing, a tidy, and an emptied book
   pub turn_stands : (now : ℕ) (x y : Sight D) (end : TurnEnd) → x.is_open ≡ true → TakesTurn look now x y end
       → StandsBehind look x y (noticed y)
   turn_stands now x y end is_open takes =
-      let d : Effects = record { entries = takes.turns.entries; events = takes.turns.events; pending = takes.turns.pending } in
-      one_stands x y (Took (input.Turn now) (reply.Turn end)) d (noticed y)
-      (subst (λ (o : Bool). TakesWhile o look (input.Turn now) x y (reply.Turn end) d) (sym is_open)
-      (record { end = end; takes = takes; replies = refl; does = refl })) refl
-      (turn_behind y.children.book end _ takes.turns.entries takes.turns.events takes.turns.pending y.told takes.turns.does)
+      one_stands x y (Took (input.Turn now) (reply.Turn end)) takes.turns.effects (noticed y)
+      (while_open _ is_open (record { end = end; takes = takes; replies = refl; does = refl })) refl
+      (turn_behind y.children.book end _ takes.turns.effects y.told takes.turns.does)
 
   pub finish_stands : (now : ℕ) (x y : Sight D) (end : TurnEnd) → x.is_open ≡ true → FinishesTurn look now x y end
       → StandsBehind look x y (noticed y)
   finish_stands now x y end is_open takes =
-      let d : Effects = record { entries = takes.turns.entries; events = takes.turns.events; pending = takes.turns.pending } in
-      one_stands x y (Finished now end) d (noticed y)
-      (subst (λ (o : Bool). FinishedWhile o look now x y end d) (sym is_open) (record { takes = takes; does = refl })) refl
-      (finish_behind y.children.book end _ takes.turns.entries takes.turns.events takes.turns.pending y.told takes.turns.does)
+      one_stands x y (Finished now end) takes.turns.effects (noticed y) (while_open _ is_open (takes, refl)) refl
+      (finish_behind y.children.book end _ takes.turns.effects y.told takes.turns.does)
 
   pub tidied_stands : (x y : Sight D) (end : TidyEnd) → TidiesWhile x.is_open look x y end → StandsBehind look x y []
   tidied_stands x y end tidies = one_stands x y (Tidied end) no_effects [] (tidies, refl) refl nothing
 
   pub tidy_stands : (x y : Sight D) (end : TidyEnd) → x.is_open ≡ true → Tidies look x y end → StandsBehind look x y []
   tidy_stands x y end is_open tidies =
-      tidied_stands x y end (subst (λ (o : Bool). TidiesWhile o look x y end) (sym is_open) tidies)
+      tidied_stands x y end (while_open _ is_open tidies)
 
   pub cleared_stands : (x y : Sight D) → y ≡ with_empty_book x → StandsBehind look x y []
   cleared_stands x y cleared = one_stands x y Cleared no_effects [] (cleared, refl) refl nothing

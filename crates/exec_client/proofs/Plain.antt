@@ -16,6 +16,7 @@ use Rattle.exec_ledger.specs.Commands.{Obeys}
 use Rattle.executor.specs.Lives.{Abandoned, Calls, Cleared, Does, Exchange, Finished, Row, Tidied, Took}
 use Rattle.exec_ledger.specs.Replies.{IsReplyTo, acknowledged}
 use Rattle.exec_ledger.specs.Together.{Adds, Answered, disk_each, failed, row_replies}
+use Rattle.executor.specs.RowLaws.{commands_called}
 use Rattle.executor.specs.Rows.{IsAt, TakesCommands, replies_of}
 use Rattle.executor.specs.Sessions.{Effects, TakesWhile}
 use Rattle.executor.specs.Sights.{Sight, ledger_of}
@@ -122,5 +123,6 @@ module _ {D : Type 0} (z : Sight D) where
     pub commands_plain : (now : ℕ) (cs : List Command) (x y : Sight D) (rs : List Reply) → TakesCommands look now cs x y rs
         → AllByRecursion Plain rs
     commands_plain now cs x y rs takes =
-        subst (λ (ts : List Reply). AllByRecursion Plain ts) takes.answered
-        (calls_plain now takes.exchanges x y takes.effects takes.at_once takes.calls)
+        let called = commands_called look now cs rs x y takes in
+        subst (λ (ts : List Reply). AllByRecursion Plain ts) called.answered
+        (calls_plain now called.exchanges x y called.effects called.at_once called.calls)

@@ -1,5 +1,5 @@
 -- The ends of a turn.
-use Rattle.std.proofs.Common.{◌≡◌, ⊎_elim, inl, inr, ℕ, Bool, List, [], ◌++◌, Result, Ok, Err, IsErr, map, refl, sym, ◌∙◌, ap, subst, append_assoc, append-nil, arith}
+use Rattle.std.proofs.Common.{◌≡◌, inl, inr, ℕ, Bool, List, [], ◌++◌, Result, Ok, Err, IsErr, map, refl, sym, ◌∙◌, ap, subst, append_assoc, append-nil, arith}
 use Rattle.ocf_types.specs.Due.{Due}
 use Rattle.ocf_types.specs.Kinds.{Event}
 use Rattle.ocf_types.specs.Laws.{after_all-append}
@@ -7,97 +7,78 @@ use Rattle.ocf_types.specs.State.{State, after_all}
 use Rattle.ocf_types.specs.declared.reply.Notice.{Notice}
 use Rattle.ocf_types.specs.declared.reply.TurnEnd.{TurnEnd}
 use Rattle.ocf_types.specs.declared.reply.TurnEnd.TheVariants as turn_end
-use Rattle.disk_model.specs.Laws.{joined as runs_joined}
-use Rattle.disk_model.specs.Runs.{CrashesTo}
 use Rattle.disk_model.specs.View.{Lawful, View}
 use Rattle.disk_model.specs.declared.disk.DiskFault.{DiskFault}
-use Rattle.child_model.specs.Children.{Asked, ChildrenView}
+use Rattle.child_model.specs.Children.{ChildrenView}
 use Rattle.child_model.specs.declared.answer.Entry.{Entry}
-use Rattle.exec_journal.specs.Found.{FoundAs}
 use Rattle.exec_journal.specs.Place.{Place}
-use Rattle.exec_journal.specs.Room.{Roomy}
 use Rattle.exec_ledger.specs.Actives.{Active}
-use Rattle.exec_ledger.specs.Laws.{asked_in, asked_none, due_after_all-append, has_later, joined}
-use Rattle.exec_turn.specs.Laws.{asked_starts, then_started}
+use Rattle.exec_ledger.specs.Laws.{due_after_all-append, joined}
+use Rattle.exec_turn.specs.Laws.{then_started}
 use Rattle.exec_turn.specs.Picks.{begins}
-use Rattle.exec_ledger.specs.Pieces.{AskedOn, HasBegin, Leaves, Prefix}
+use Rattle.exec_ledger.specs.Pieces.{Effects, Leaves, no_effects}
 use Rattle.exec_turn.specs.Polls.{polls, results}
 use Rattle.exec_turn.specs.Starts.{Started, refusal_notices, refusals, starts}
-use Rattle.exec_turn.specs.Turn.{IsFinish, IsTurn, PickedAt, PicksBehind, Told, TurnKind, Whole}
-use Rattle.exec_ledger.specs.Scenes.{Scene, due_after_all, scene}
+use Rattle.exec_turn.specs.Turn.{IsFinish, IsTurn, PickedAt, Told, TurnKind, Whole}
+use Rattle.exec_ledger.specs.Scenes.{Scene, behind, due_after_all, scene}
 use Rattle.exec_turn.specs.Turns.{BeginsRow, Finishes, PollsRow, StartsRow, Turns, TurnsAs, end_of}
-use Rattle.exec_turn.proofs.Polling.{polls_ask_nothing}
 
 -- nothing was done
 pub book_full : {D : Type 0} (kind : TurnKind) (look : D → View) (k : D) (x : Scene) (from : ChildrenView)
-    → kind turn_end.BookFull x [] [] [] [] → Leaves (look k) (look k) x.state x.state [] [] [] → CrashesTo (look k) (look k) Roomy
+    → kind turn_end.BookFull x no_effects [] → Leaves look k k x.state x.state no_effects
     → TurnsAs kind look k k x x.state x.due from from [] turn_end.BookFull
-book_full kind look k x from does leaves roomy = record {
-  entries = [];
-  events = [];
-  pending = [];
+book_full kind look k x from does leaves = record {
+  effects = no_effects;
   book = sym (append-nil from.book);
   log = sym (append-nil from.log);
   site = refl;
   does = does;
   crash = leaves;
-  asked = λ run u h. absurd (asked_none run u h);
   due_is = refl;
   whole = λ _. refl;
   cause = λ bad. let none : ⊥ = cc in absurd none;
-  roomy = roomy;
 }
 
 module _ {D : Type 0} (look : D → View) (at : ℕ) (k0 k1 : D) (s0 s1 : State) (d0 d1 : Due) (p0 p1 : Place) (a0 a1 : Bool) (from c1 : ChildrenView)
     (n1 : List Notice) where
   -- the row of results failed
   results_failed : (kind : TurnKind) (f : DiskFault) (p : PollsRow look k0 k1 (scene s0 d0 p0 at a0) (scene s1 d1 p1 at a1) from c1 n1 (Err f))
-      → kind turn_end.Disk (scene s0 d0 p0 at a0) (polls at p.answers) [] (results at p.answers) n1
+      → kind turn_end.Disk (scene s0 d0 p0 at a0) (record { entries = polls at p.answers; events = []; pending = results at p.answers }) n1
       → TurnsAs kind look k0 k1 (scene s0 d0 p0 at a0) s1 d1 from c1 n1 turn_end.Disk
   results_failed kind f p does = record {
-    entries = polls at p.answers;
-    events = [];
-    pending = results at p.answers;
+    effects = record { entries = polls at p.answers; events = []; pending = results at p.answers };
     book = p.book;
     log = p.log;
     site = p.site;
     does = does;
     crash = p.crash;
-    asked = λ run u h. absurd (polls_ask_nothing at p.answers run u h);
     due_is = p.moves.1;
     whole = λ not. absurd (not refl);
     cause = λ _. p.cause;
-    roomy = p.roomy;
   }
 
   -- the row of results was recorded, and nothing begins
   results_alone : (u : Unit) → PollsRow look k0 k1 (scene s0 d0 p0 at a0) (scene s1 d1 p1 at a1) from c1 n1 (Ok u)
       → Finishes look k0 k1 (scene s0 d0 p0 at a0) s1 d1 from c1 n1 turn_end.Done
   results_alone u p = record {
-    entries = polls at p.answers;
-    events = results at p.answers;
-    pending = [];
+    effects = record { entries = polls at p.answers; events = results at p.answers; pending = [] };
     book = p.book;
     log = p.log;
     site = p.site;
-    does = (p.answers, p.each, refl, refl, refl, p.told_is);
+    does = (p.answers, p.each, refl, p.told_is);
     crash = p.crash;
-    asked = λ run u h. absurd (polls_ask_nothing at p.answers run u h);
     due_is = ap (λ (x : Scene). x.due) p.moves;
     whole = λ _. refl;
     cause = λ bad. let none : ⊥ = cc in absurd none;
-    roomy = p.roomy;
   }
 
   module _ (u : Unit) (p : PollsRow look k0 k1 (scene s0 d0 p0 at a0) (scene s1 d1 p1 at a1) from c1 n1 (Ok u)) (k2 : D) (s2 : State) (d2 : Due) (p2 : Place) (a2 : Bool)
       (begun : List Active) where
-    roomy12 : CrashesTo (look k1) (look k2) Roomy → CrashesTo (look k0) (look k2) Roomy
-    roomy12 roomy2 = runs_joined (look k0) (look k1) (look k2) Roomy p.roomy roomy2
-
     due1 : d1 ≡ due_after_all s0 d0 (results at p.answers)
     due1 = ap (λ (x : Scene). x.due) p.moves
 
-    picks : (end : TurnEnd) → PickedAt end (scene s1 d1 p1 at a1) begun → PicksBehind end (scene s0 d0 p0 at a0) p.answers begun
+    picks : (end : TurnEnd) → PickedAt end (scene s1 d1 p1 at a1) begun
+        → PickedAt end (behind (scene s0 d0 p0 at a0) (results at p.answers)) begun
     picks end picked = subst (λ (x : Scene). PickedAt end x begun) p.moves picked
 
     -- the row of begins failed
@@ -105,33 +86,29 @@ module _ {D : Type 0} (look : D → View) (at : ℕ) (k0 k1 : D) (s0 s1 : State)
         → Turns look k0 k2 (scene s0 d0 p0 at a0) s2 d2 from c1 n1 turn_end.Disk
     begins_failed f b =
         let row = b.recorded in
-        let both = joined (look k0) (look k1) (look k2) s0 s1 s2 (polls at p.answers) [] (results at p.answers) [] (begins at begun) p.crash row.crash in
+        let both = joined look k0 k1 k2 s0 s1 s2 (record { entries = polls at p.answers; events = results at p.answers; pending = [] })
+        (record { entries = []; events = []; pending = begins at begun }) refl p.crash row.crash in
         record {
-          entries = polls at p.answers;
-          events = results at p.answers;
-          pending = begins at begun;
+          effects = record { entries = polls at p.answers; events = results at p.answers; pending = begins at begun };
           book = p.book;
           log = p.log;
           site = p.site;
-          does = inr (inl (p.answers, b.end, begun, p.each, picks b.end b.picked, refl, refl, refl, p.told_is));
+          does = inr (inl (p.answers, b.end, begun, p.each, picks b.end b.picked, refl, p.told_is));
           crash =
-              subst (λ (l : List Entry). Leaves (look k0) (look k2) s0 s2 l (results at p.answers) (begins at begun)) (append-nil (polls at p.answers))
-              (subst (λ (l : List Event). Leaves (look k0) (look k2) s0 s2 (polls at p.answers ++ []) l (begins at begun))
-              (append-nil (results at p.answers)) both);
-          asked = λ run u h. absurd (polls_ask_nothing at p.answers run u h);
+              subst (λ (did : Effects). Leaves look k0 k2 s0 s2 did) (λ i. record {
+                entries = append-nil (polls at p.answers) i;
+                events = append-nil (results at p.answers) i;
+                pending = begins at begun;
+              }) both;
           due_is = row.moves.1 ∙ due1;
           whole = λ not. absurd (not refl);
-          cause = λ _. let increased = row.cause in let older = p.roomy.passed.failures in omega (arith, increased, older);
-          roomy = roomy12 row.roomy;
+          cause = λ _. let increased = row.cause in let older = p.crash.roomy.passed.failures in omega (arith, increased, older);
         }
 
     module _ (end : TurnEnd) (b : BeginsRow look k1 k2 (scene s1 d1 p1 at a1) (scene s2 d2 p2 at a2) begun (Ok end))
         (lawful : (look k2).honest → Lawful (look k2)) (k3 : D) (s3 : State) (d3 : Due) (p3 : Place) (a3 : Bool) (c2 : ChildrenView) (n3 : List Notice) where
       abbrev before : List Event
       before = results at p.answers ++ begins at begun
-
-      roomy13 : CrashesTo (look k2) (look k3) Roomy → CrashesTo (look k0) (look k3) Roomy
-      roomy13 roomy3 = runs_joined (look k0) (look k2) (look k3) Roomy (roomy12 b.recorded.roomy) roomy3
 
       state1 : s1 ≡ after_all s0 (results at p.answers)
       state1 = ap (λ (x : Scene). x.state) p.moves
@@ -164,34 +141,19 @@ module _ {D : Type 0} (look : D → View) (at : ℕ) (k0 k1 : D) (s0 s1 : State)
             log2 ∙ ap (λ (l : List Entry). l ++ starts (look k2).clock answers) p.log
             ∙ append_assoc from.log (polls at p.answers) (starts (look k2).clock answers)
 
-        begun_leaves : Leaves (look k0) (look k2) s0 s2 entries before []
+        begun_leaves : Leaves look k0 k2 s0 s2 (record { entries = entries; events = before; pending = [] })
         begun_leaves =
-            joined (look k0) (look k1) (look k2) s0 s1 s2 (polls at p.answers) (starts (look k2).clock answers) (results at p.answers) (begins at begun) [] p.crash
-            (then_started (look k1) (look k2) s1 s2 at (look k2).clock begun answers lawful refl each b.recorded.crash)
+            joined look k0 k1 k2 s0 s1 s2 (record { entries = polls at p.answers; events = results at p.answers; pending = [] })
+            (record { entries = starts (look k2).clock answers; events = begins at begun; pending = [] }) refl p.crash
+            (then_started look k1 k2 s1 s2 at (look k2).clock begun answers lawful refl each b.recorded.crash)
 
-        ended : (es pending : List Event) → Leaves (look k2) (look k3) s2 s3 [] es pending → Leaves (look k0) (look k3) s0 s3 entries (before ++ es) pending
-        ended es pending last = subst (λ (l : List Entry). Leaves (look k0) (look k3) s0 s3 l (before ++ es) pending) (append-nil entries)
-            (joined (look k0) (look k2) (look k3) s0 s2 s3 entries [] before es pending begun_leaves last)
-
-        asked_behind : (es pending : List Event) → Leaves (look k2) (look k3) s2 s3 [] es pending → (run u : ℕ) → Asked entries run u
-            → AskedOn look k0 k3 s0 ((before ++ es) ++ pending) run u
-        asked_behind es pending last run u asked = ⊎_elim
-            (λ polled. absurd (polls_ask_nothing at p.answers run u polled))
-            (λ started.
-            let found = asked_starts at (look k2).clock answers run u started in record {
-              disk = k2;
-              first = before;
-              rest = es ++ pending;
-              split = sym (append_assoc before es pending);
-              begins = has_later run (results at p.answers) (begins at begun)
-                  (subst (λ (l : List Active). HasBegin run (begins at l)) each found.1);
-              counted = found.0;
-              before = subst (λ (l : List Event). CrashesTo (look k0) (look k2) (Prefix s0 l)) (append-nil before) begun_leaves.crash;
-              stands = λ h c now. subst (λ (x : State). FoundAs x c) begun_leaves.state
-                  (⊎_elim (λ a. a) (λ b. b) (begun_leaves.now h c now));
-              behind = subst (λ (x : State). CrashesTo (look k2) (look k3) (Prefix x (es ++ pending))) begun_leaves.state last.crash;
-            })
-            (asked_in (polls at p.answers) (starts (look k2).clock answers) run u asked)
+        ended : (es pending : List Event) → Leaves look k2 k3 s2 s3 (record { entries = []; events = es; pending = pending })
+            → Leaves look k0 k3 s0 s3 (record { entries = entries; events = before ++ es; pending = pending })
+        ended es pending last =
+            subst (λ (l : List Entry). Leaves look k0 k3 s0 s3 (record { entries = l; events = before ++ es; pending = pending }))
+            (append-nil entries)
+            (joined look k0 k2 k3 s0 s2 s3 (record { entries = entries; events = before; pending = [] })
+            (record { entries = []; events = es; pending = pending }) refl begun_leaves last)
 
         abbrev all_told : Told end (scene s0 d0 p0 at a0)
         all_told = record {
@@ -208,39 +170,33 @@ module _ {D : Type 0} (look : D → View) (at : ℕ) (k0 k1 : D) (s0 s1 : State)
       refusals_failed : (f : DiskFault) → StartsRow look k2 k3 (scene s2 d2 p2 at a2) (scene s3 d3 p3 at a3) begun c1 c2 n1 n3 (Err f)
           → Turns look k0 k3 (scene s0 d0 p0 at a0) s3 d3 from c2 n3 turn_end.Disk
       refusals_failed f x = let row = x.recorded in record {
-        entries = entries x.answers x.each x.book;
-        events = before;
-        pending = refusals at x.answers;
+        effects = record { entries = entries x.answers x.each x.book; events = before; pending = refusals at x.answers };
         book = book_all x.answers x.each x.book;
         log = log_all x.answers x.each x.book x.log;
         site = x.site ∙ p.site;
-        does = inr (inr (end, all_told x.answers x.each x.book, refl, refl, refl, x.told_is ∙ p.told_is));
+        does = inr (inr (end, all_told x.answers x.each x.book, refl, x.told_is ∙ p.told_is));
         crash =
-            subst (λ (l : List Event). Leaves (look k0) (look k3) s0 s3 (entries x.answers x.each x.book) l (refusals at x.answers)) (append-nil before)
+            subst (λ (l : List Event). Leaves look k0 k3 s0 s3
+            (record { entries = entries x.answers x.each x.book; events = l; pending = refusals at x.answers })) (append-nil before)
             (ended x.answers x.each x.book [] (refusals at x.answers) row.crash);
-        asked =
-            subst (λ (l : List Event). (run u : ℕ) → Asked (entries x.answers x.each x.book) run u
-            → AskedOn look k0 k3 s0 (l ++ refusals at x.answers) run u) (append-nil before)
-            (asked_behind x.answers x.each x.book [] (refusals at x.answers) row.crash);
         due_is = row.moves.1 ∙ due2;
         whole = λ not. absurd (not refl);
         cause = λ _.
             let increased = row.cause in
-            let old = b.recorded.roomy.passed.failures in
-            let older = p.roomy.passed.failures in
+            let old = b.recorded.crash.roomy.passed.failures in
+            let older = p.crash.roomy.passed.failures in
             omega (arith, increased, old, older);
-        roomy = roomy13 row.roomy;
       }
 
-      is_whole : (e : TurnEnd) (x : Scene) (es : List Entry) (events pending : List Event) (told : List Notice)
-          → PickedAt e (scene s1 d1 p1 at a1) begun → Whole e x es events pending told → IsTurn e x es events pending told
-      is_whole turn_end.Done x es events pending told h done = done
-      is_whole turn_end.RunsSpent x es events pending told h done = done
-      is_whole turn_end.Full x es events pending told h done = done
-      is_whole turn_end.Memory x es events pending told h done = done
-      is_whole turn_end.Closed x es events pending told h done = absurd h.0.0
-      is_whole turn_end.BookFull x es events pending told h done = absurd h.0.0
-      is_whole turn_end.Disk x es events pending told h done = absurd h.0.0
+      is_whole : (e : TurnEnd) (x : Scene) (did : Effects) (told : List Notice) → PickedAt e (scene s1 d1 p1 at a1) begun → Whole e x did told
+          → IsTurn e x did told
+      is_whole turn_end.Done x did told h done = done
+      is_whole turn_end.RunsSpent x did told h done = done
+      is_whole turn_end.Full x did told h done = done
+      is_whole turn_end.Memory x did told h done = done
+      is_whole turn_end.Closed x did told h done = absurd h.0.0
+      is_whole turn_end.BookFull x did told h done = absurd h.0.0
+      is_whole turn_end.Disk x did told h done = absurd h.0.0
 
       not_disk : (e : TurnEnd) → PickedAt e (scene s1 d1 p1 at a1) begun → e ≡ turn_end.Disk → ⊥
       not_disk turn_end.Done h is = cc
@@ -262,28 +218,22 @@ module _ {D : Type 0} (look : D → View) (at : ℕ) (k0 k1 : D) (s0 s1 : State)
           ∙ sym (after_all-append s0 (results at p.answers) (begins at begun)))
           ∙ ap (λ (d : Due). due_after_all (after_all s0 before) d (refusals at x.answers)) due2
           ∙ sym (due_after_all-append s0 d0 before (refusals at x.answers)) in
-          let es = entries x.answers x.each x.book in
+          let did : Effects = record { entries = entries x.answers x.each x.book; events = before ++ refusals at x.answers; pending = [] } in
           record {
-            entries = es;
-            events = before ++ refusals at x.answers;
-            pending = [];
+            effects = did;
             book = book_all x.answers x.each x.book;
             log = log_all x.answers x.each x.book x.log;
             site = x.site ∙ p.site;
-            does = is_whole end (scene s0 d0 p0 at a0) es (before ++ refusals at x.answers) [] n3 picked (
+            does = is_whole end (scene s0 d0 p0 at a0) did n3 picked (
               all_told x.answers x.each x.book,
-              refl,
-              refl,
               refl,
               x.told_is
                   ∙ ap (λ (l : List Notice). l ++ refusal_notices at x.answers) p.told_is,
             );
             crash = ended x.answers x.each x.book (refusals at x.answers) [] row.crash;
-            asked = asked_behind x.answers x.each x.book (refusals at x.answers) [] row.crash;
             due_is = due3;
             whole = λ _. refl;
             cause = λ is. absurd (not_disk end picked is);
-            roomy = roomy13 row.roomy;
           }
 
 -- The same, by what the steps say.
@@ -291,13 +241,13 @@ pub no_results : {D : Type 0} {look : D → View} {at : ℕ} {k0 k1 : D} {s0 s1 
     {n1 : List Notice} {f : DiskFault} → PollsRow look k0 k1 (scene s0 d0 p0 at a0) (scene s1 d1 p1 at a1) from c1 n1 (Err f)
     → Turns look k0 k1 (scene s0 d0 p0 at a0) s1 d1 from c1 n1 turn_end.Disk
 no_results polled =
-    results_failed _ _ _ _ _ _ _ _ _ _ _ _ _ _ _ IsTurn _ polled (inl (polled.answers, polled.each, refl, refl, refl, polled.told_is))
+    results_failed _ _ _ _ _ _ _ _ _ _ _ _ _ _ _ IsTurn _ polled (inl (polled.answers, polled.each, refl, polled.told_is))
 
 pub finish_failed : {D : Type 0} {look : D → View} {at : ℕ} {k0 k1 : D} {s0 s1 : State} {d0 d1 : Due} {p0 p1 : Place} {a0 a1 : Bool} {from c1 : ChildrenView}
     {n1 : List Notice} {f : DiskFault} → PollsRow look k0 k1 (scene s0 d0 p0 at a0) (scene s1 d1 p1 at a1) from c1 n1 (Err f)
     → Finishes look k0 k1 (scene s0 d0 p0 at a0) s1 d1 from c1 n1 turn_end.Disk
 finish_failed polled =
-    results_failed _ _ _ _ _ _ _ _ _ _ _ _ _ _ _ IsFinish _ polled (polled.answers, polled.each, refl, refl, refl, polled.told_is)
+    results_failed _ _ _ _ _ _ _ _ _ _ _ _ _ _ _ IsFinish _ polled (polled.answers, polled.each, refl, polled.told_is)
 
 pub finish_done : {D : Type 0} {look : D → View} {at : ℕ} {k0 k1 : D} {s0 s1 : State} {d0 d1 : Due} {p0 p1 : Place} {a0 a1 : Bool} {from c1 : ChildrenView}
     {n1 : List Notice} {u : Unit} → PollsRow look k0 k1 (scene s0 d0 p0 at a0) (scene s1 d1 p1 at a1) from c1 n1 (Ok u)

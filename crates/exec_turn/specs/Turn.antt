@@ -1,21 +1,19 @@
--- A turn, and one that begins nothing: from what the children answered, its entries in their book, its events, the row that a
--- disk fault left pending, and what is told.
+-- A turn, and one that begins nothing: from what the children answered, what it did, and what is told.
 use Rattle.std.specs.Prelude.{◌≡◌, ◌⊎◌, ℕ, List, [], ◌++◌, map, IsTrue}
 use Rattle.std.specs.List.{AllByRecursion}
-use Rattle.ocf_types.specs.Kinds.{Event}
 use Rattle.ocf_types.specs.declared.reply.TurnEnd.{TurnEnd}
 use Rattle.ocf_types.specs.declared.reply.TurnEnd.TheVariants as turn_end
 use Rattle.ocf_types.specs.declared.reply.Notice.{Notice}
-use Rattle.child_model.specs.declared.answer.Entry.{Entry}
+use Rattle.exec_ledger.specs.Pieces.{Effects, no_effects}
 use Rattle.exec_ledger.specs.Scenes.{Scene, behind}
 use Rattle.exec_ledger.specs.Actives.{Active, active}
 use Rattle.exec_turn.specs.Picks.{Picked, begins}
 use Rattle.exec_turn.specs.Polls.{IsPoll, Polled, polls, result_notices, results}
 use Rattle.exec_turn.specs.Starts.{Started, refusal_notices, refusals, starts}
 
--- what a turn of a kind did, by its end: from what it found, its entries, its events, those pending, and what is told
+-- what a turn of a kind did, by its end: from what it found, what it did, and what is told
 abbrev pub TurnKind : Type 1
-TurnKind = TurnEnd → Scene → List Entry → List Event → List Event → List Notice → Type 0
+TurnKind = TurnEnd → Scene → Effects → List Notice → Type 0
 
 -- one answer to a poll of each action that runs, in order of registration
 pub record EachPolled (x : Scene) (ps : List Polled) : Type 0 where
@@ -26,10 +24,6 @@ pub record EachPolled (x : Scene) (ps : List Polled) : Type 0 where
 abbrev pub PickedAt : TurnEnd → Scene → List Active → Type 0
 PickedAt end x bs = Picked end x.state x.due x.place.tail x.at bs × (end ≡ turn_end.Memory → IsTrue x.refuses)
 
--- the same behind the row of results of these polls
-abbrev pub PicksBehind : TurnEnd → Scene → List Polled → List Active → Type 0
-PicksBehind end x ps bs = PickedAt end (behind x (results x.at ps)) bs
-
 -- What a turn was told: a poll of each action that runs, what is begun behind their results, and a start of each of
 -- these, all in order of registration, when the journal's disk had had so many device calls.
 pub record Told (end : TurnEnd) (x : Scene) : Type 0 where
@@ -38,57 +32,59 @@ pub record Told (end : TurnEnd) (x : Scene) : Type 0 where
   pub started : List Started
   pub clock : ℕ
   pub each_polled : EachPolled x polled
-  pub picked : PicksBehind end x polled begun
+  pub picked : PickedAt end (behind x (results x.at polled)) begun
   pub each_started : map (λ a. a.what) started ≡ begun
 
--- a turn that was told so: its entries, its events, and nothing pending
-abbrev pub Whole : TurnEnd → Scene → List Entry → List Event → List Event → List Notice → Type 0
-Whole end x entries events pending told = (t : Told end x)
-    × (entries ≡ polls x.at t.polled ++ starts t.clock t.started)
-    × (events ≡ results x.at t.polled ++ begins x.at t.begun ++ refusals x.at t.started)
-    × (pending ≡ []) × (told ≡ result_notices x.at t.polled ++ refusal_notices x.at t.started)
+-- a turn that was told so, with nothing pending
+abbrev pub Whole : TurnEnd → Scene → Effects → List Notice → Type 0
+Whole end x did told = (t : Told end x)
+    × (did ≡ record {
+      entries = polls x.at t.polled ++ starts t.clock t.started;
+      events = results x.at t.polled ++ begins x.at t.begun ++ refusals x.at t.started;
+      pending = [];
+    })
+    × (told ≡ result_notices x.at t.polled ++ refusal_notices x.at t.started)
 
 -- one that did nothing
-abbrev pub Nothing : List Entry → List Event → List Event → List Notice → Type 0
-Nothing entries events pending told = (entries ≡ []) × (events ≡ []) × (pending ≡ []) × (told ≡ [])
+abbrev pub Nothing : Effects → List Notice → Type 0
+Nothing did told = (did ≡ no_effects) × (told ≡ [])
 
 -- one that was polled and whose row of results was recorded: nothing began
-abbrev pub OnlyResults : Scene → List Entry → List Event → List Event → List Notice → Type 0
-OnlyResults x entries events pending told = (ps : List Polled) × EachPolled x ps
-    × (entries ≡ polls x.at ps) × (events ≡ results x.at ps) × (pending ≡ []) × (told ≡ result_notices x.at ps)
+abbrev pub OnlyResults : Scene → Effects → List Notice → Type 0
+OnlyResults x did told = (ps : List Polled) × EachPolled x ps
+    × (did ≡ record { entries = polls x.at ps; events = results x.at ps; pending = [] }) × (told ≡ result_notices x.at ps)
 
 -- one whose row of results failed: it was polled, and no more
-abbrev pub NoResults : Scene → List Entry → List Event → List Event → List Notice → Type 0
-NoResults x entries events pending told = (ps : List Polled) × EachPolled x ps
-    × (entries ≡ polls x.at ps) × (events ≡ []) × (pending ≡ results x.at ps) × (told ≡ [])
+abbrev pub NoResults : Scene → Effects → List Notice → Type 0
+NoResults x did told = (ps : List Polled) × EachPolled x ps
+    × (did ≡ record { entries = polls x.at ps; events = []; pending = results x.at ps }) × (told ≡ [])
 
 -- one whose row of begins failed: nothing was started
-abbrev pub NoBegins : Scene → List Entry → List Event → List Event → List Notice → Type 0
-NoBegins x entries events pending told =
-    (ps : List Polled) × (end : TurnEnd) × (bs : List Active) × EachPolled x ps × PicksBehind end x ps bs
-    × (entries ≡ polls x.at ps) × (events ≡ results x.at ps) × (pending ≡ begins x.at bs) × (told ≡ result_notices x.at ps)
+abbrev pub NoBegins : Scene → Effects → List Notice → Type 0
+NoBegins x did told = (ps : List Polled) × (end : TurnEnd) × (bs : List Active) × EachPolled x ps
+    × PickedAt end (behind x (results x.at ps)) bs
+    × (did ≡ record { entries = polls x.at ps; events = results x.at ps; pending = begins x.at bs }) × (told ≡ result_notices x.at ps)
 
 -- one whose row of refused starts failed
-abbrev pub NoRefusals : Scene → List Entry → List Event → List Event → List Notice → Type 0
-NoRefusals x entries events pending told = (end : TurnEnd) × (t : Told end x)
-    × (entries ≡ polls x.at t.polled ++ starts t.clock t.started)
-    × (events ≡ results x.at t.polled ++ begins x.at t.begun)
-    × (pending ≡ refusals x.at t.started) × (told ≡ result_notices x.at t.polled)
+abbrev pub NoRefusals : Scene → Effects → List Notice → Type 0
+NoRefusals x did told = (end : TurnEnd) × (t : Told end x)
+    × (did ≡ record {
+      entries = polls x.at t.polled ++ starts t.clock t.started;
+      events = results x.at t.polled ++ begins x.at t.begun;
+      pending = refusals x.at t.started;
+    })
+    × (told ≡ result_notices x.at t.polled)
 
 -- a turn of an open executor, by its end
 abbrev pub IsTurn : TurnKind
-IsTurn turn_end.Closed x entries events pending told = ⊥
-IsTurn turn_end.BookFull x entries events pending told = Nothing entries events pending told
-IsTurn turn_end.Done x entries events pending told = Whole turn_end.Done x entries events pending told
-IsTurn turn_end.RunsSpent x entries events pending told = Whole turn_end.RunsSpent x entries events pending told
-IsTurn turn_end.Full x entries events pending told = Whole turn_end.Full x entries events pending told
-IsTurn turn_end.Memory x entries events pending told = Whole turn_end.Memory x entries events pending told
-IsTurn turn_end.Disk x entries events pending told =
-    NoResults x entries events pending told ⊎ (NoBegins x entries events pending told ⊎ NoRefusals x entries events pending told)
+IsTurn turn_end.Closed x did told = ⊥
+IsTurn turn_end.BookFull x did told = Nothing did told
+IsTurn turn_end.Disk x did told = NoResults x did told ⊎ (NoBegins x did told ⊎ NoRefusals x did told)
+IsTurn end x did told = Whole end x did told
 
 -- one that begins nothing, by its end
 abbrev pub IsFinish : TurnKind
-IsFinish turn_end.Done x entries events pending told = OnlyResults x entries events pending told
-IsFinish turn_end.BookFull x entries events pending told = Nothing entries events pending told
-IsFinish turn_end.Disk x entries events pending told = NoResults x entries events pending told
-IsFinish _ x entries events pending told = ⊥
+IsFinish turn_end.Done x did told = OnlyResults x did told
+IsFinish turn_end.BookFull x did told = Nothing did told
+IsFinish turn_end.Disk x did told = NoResults x did told
+IsFinish _ x did told = ⊥

@@ -7,22 +7,19 @@ use Rattle.ocf_types.specs.State.{State}
 use Rattle.ocf_types.specs.declared.reply.Notice.{Notice}
 use Rattle.ocf_types.specs.declared.reply.TurnEnd.{TurnEnd}
 use Rattle.ocf_types.specs.declared.reply.TurnEnd.TheVariants as turn_end
-use Rattle.disk_model.specs.Runs.{CrashesTo}
 use Rattle.disk_model.specs.View.{Increased, View}
 use Rattle.disk_model.specs.declared.disk.DiskFault.{DiskFault}
 use Rattle.ocf_env.specs.Places.{Call}
-use Rattle.child_model.specs.Children.{Asked, ChildrenView}
-use Rattle.child_model.specs.declared.answer.Entry.{Entry}
-use Rattle.exec_journal.specs.Room.{Roomy}
+use Rattle.child_model.specs.Children.{ChildrenView}
 use Rattle.exec_ledger.specs.Actives.{Active}
 use Rattle.exec_turn.specs.AgentsLive.{AgentsLive, AgentsLiveBut}
 use Rattle.exec_turn.specs.Launches.{AllLaunch, IsOfOne, all_starting}
 use Rattle.exec_turn.specs.Picks.{begins}
-use Rattle.exec_ledger.specs.Pieces.{AskedOn, Leaves}
+use Rattle.exec_ledger.specs.Pieces.{Effects, Leaves, row_effects}
 use Rattle.exec_turn.specs.Polls.{Polled, polls, result_notices, results}
 use Rattle.exec_turn.specs.Starts.{AllRun, Rising, Started, refusal_notices, refusals, starts}
 use Rattle.exec_turn.specs.Turn.{EachPolled, IsFinish, IsTurn, PickedAt, TurnKind}
-use Rattle.exec_ledger.specs.Scenes.{LeavesRow, Moves, RecordsRow, Scene, due_after_all}
+use Rattle.exec_ledger.specs.Scenes.{Moves, RecordsRow, Scene, due_after_all}
 use Rattle.exec_turn.specs.declared.buffers.TurnBuffers.{TurnBuffers}
 use Rattle.exec_turn.specs.declared.picks.StartOf.{StartOf}
 
@@ -41,8 +38,7 @@ pub record PollsRow {D : Type 0} (look : D → View) (k l : D) (x y : Scene) (fr
   pub site : to.site ≡ from.site
   pub left : from.room ≤ to.room + 2 * length x.state.resources
   pub moves : Moves x y (results x.at answers) result
-  pub crash : LeavesRow (look k) (look l) x y (polls x.at answers) (results x.at answers) result
-  pub roomy : CrashesTo (look k) (look l) Roomy
+  pub crash : Leaves look k l x.state y.state (record (row_effects (is_ok result) (results x.at answers)) { entries = polls x.at answers })
   pub cause : OnErr result (Increased (look k).failures (look l).failures)
   pub told_is : told ≡ (if is_ok result then result_notices x.at answers else [])
 
@@ -82,26 +78,19 @@ end_of (Err fault) = turn_end.Disk
 -- A turn of a kind, of an open executor: from what it finds to a state, due moments and children, with what is told.
 pub record TurnsAs {D : Type 0} (kind : TurnKind) (look : D → View) (old new : D) (x : Scene) (t : State) (due : Due) (from to : ChildrenView)
     (told : List Notice) (end : TurnEnd) : Type 0 where
-  -- its entries in the children's book, its events, and those that a disk fault left pending
-  pub entries : List Entry
-  pub events : List Event
-  pub pending : List Event
-  pub book : to.book ≡ from.book ++ entries
+  pub effects : Effects
+  pub book : to.book ≡ from.book ++ effects.entries
   -- these are all that its children were asked, whether or not the book was emptied in between
-  pub log : to.log ≡ from.log ++ entries
+  pub log : to.log ≡ from.log ++ effects.entries
   -- the site that its children insist on stays
   pub site : to.site ≡ from.site
-  pub does : kind end x entries events pending told
+  pub does : kind end x effects told
   -- what it recorded, what a stop at any moment of it leaves, and that no agent was started without its synced begin
-  pub crash : Leaves (look old) (look new) x.state t entries events pending
-  -- each start was asked in the turn, behind its begin: its entry counts the calls of the disk as it was then
-  pub asked : (run clock : ℕ) → Asked entries run clock → AskedOn look old new x.state (events ++ pending) run clock
-  pub due_is : due ≡ due_after_all x.state x.due events
+  pub crash : Leaves look old new x.state t effects
+  pub due_is : due ≡ due_after_all x.state x.due effects.events
   -- nothing is pending but after a disk fault, which has a cause
-  pub whole : end ≢ turn_end.Disk → pending ≡ []
+  pub whole : end ≢ turn_end.Disk → effects.pending ≡ []
   pub cause : end ≡ turn_end.Disk → Increased (look old).failures (look new).failures
-  -- what a stop leaves since its start has room for its boot
-  pub roomy : CrashesTo (look old) (look new) Roomy
 
 -- a turn that begins what has to begin, and one that begins nothing
 abbrev pub Turns : {D : Type 0} → (D → View) → D → D → Scene → State → Due → ChildrenView → ChildrenView → List Notice → TurnEnd → Type 0

@@ -23,7 +23,8 @@ use Rattle.executor.specs.Commands.{ServesOpen}
 use Rattle.executor.specs.FinishCalls.{FinishedWhile}
 use Rattle.executor.specs.Lives.{Abandoned, Calls, Cleared, Does, Exchange, Finished, Row, Tidied, Took}
 use Rattle.executor.specs.Machine.{LacksMemory}
-use Rattle.executor.specs.Sessions.{Effects, Input, TakesATurn, TakesWhile}
+use Rattle.exec_ledger.specs.Pieces.{Effects}
+use Rattle.executor.specs.Sessions.{Input, TakesATurn, TakesWhile}
 use Rattle.executor.specs.Sights.{Sight, due_in, ledger_of}
 use Rattle.executor.specs.TidyCalls.{TidiesWhile}
 use Rattle.executor.specs.declared.session.InputOf.TheVariants as input
@@ -72,7 +73,7 @@ module _ {D : Type 0} (look : D → View) where
       let told : reply.Turn takes.end ≡ reply.Turn turn_end.Memory = sym takes.replies ∙ lacks in
       let same : takes.end ≡ turn_end.Memory = cc in
       let t = takes.takes.turns in
-      (subst (λ (e : TurnEnd). IsTurn e (scene x.state (due_in x) x.place (moment x.state now) x.refuses) t.entries t.events t.pending y.told) same
+      (subst (λ (e : TurnEnd). IsTurn e (scene x.state (due_in x) x.place (moment x.state now) x.refuses) t.effects y.told) same
       t.does).0.picked.1 refl
 
   taken : (b : Bool) (i : Input) (x y : Sight D) (r : Reply) (d : Effects) → TakesWhile b look i x y r d → LacksMemory (Took i r)
@@ -116,7 +117,7 @@ module _ {D : Type 0} (look : D → View) where
 
   finished_on : (b : Bool) (now : ℕ) (x y : Sight D) (end : TurnEnd) (d : Effects) → FinishedWhile b look now x y end d
       → y.refuses ≡ x.refuses
-  finished_on true now x y end d takes = takes.takes.allocator
+  finished_on true now x y end d (takes, does) = takes.allocator
   finished_on false now x y end d takes = same_allocator x y takes.1
 
   tidied_on : (b : Bool) (x y : Sight D) (end : TidyEnd) → TidiesWhile b look x y end → y.refuses ≡ x.refuses

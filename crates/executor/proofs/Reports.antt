@@ -8,7 +8,8 @@ use Rattle.disk_model.specs.View.{View}
 use Rattle.executor.specs.Commands.{ServesOpen}
 use Rattle.executor.specs.FinishCalls.{FinishedWhile}
 use Rattle.executor.specs.Lives.{Abandoned, Calls, Cleared, Does, Exchange, Finished, Row, Tidied, Took}
-use Rattle.executor.specs.Sessions.{Effects, Input, TakesWhile}
+use Rattle.exec_ledger.specs.Pieces.{Effects}
+use Rattle.executor.specs.Sessions.{Input, TakesWhile}
 use Rattle.executor.specs.Sights.{Sight}
 use Rattle.executor.specs.TidyCalls.{TidiesWhile}
 use Rattle.executor.specs.declared.session.InputOf.TheVariants as input
@@ -29,7 +30,7 @@ module _ {D : Type 0} (look : D → View) where
 
   finished : (b : Bool) (now : ℕ) (x y : Sight D) (end : TurnEnd) (d : Effects) → FinishedWhile b look now x y end d
       → y.reported ≡ x.reported
-  finished true now x y end d takes = takes.takes.reported
+  finished true now x y end d (takes, does) = takes.reported
   finished false now x y end d takes = same_report x y takes.1
 
   tidied : (b : Bool) (x y : Sight D) (end : TidyEnd) → TidiesWhile b look x y end → y.reported ≡ x.reported

@@ -9,11 +9,11 @@ use Rattle.ocf_types.specs.declared.reply.TurnEnd.{TurnEnd}
 use Rattle.disk_model.specs.View.{View}
 use Rattle.child_model.specs.declared.answer.Entry.{Entry}
 use Rattle.executor.specs.Commands.{ServesWhile}
-use Rattle.executor.specs.FinishCalls.{FinishedWhile}
 use Rattle.executor.specs.Lives.{Calls, Exchange}
-use Rattle.executor.specs.Sessions.{Effects, TakesWhile, followed_by, no_effects, request_effects}
+use Rattle.exec_ledger.specs.Pieces.{Effects, followed_by, no_effects}
+use Rattle.executor.specs.Sessions.{TakesWhile, request_effects}
 use Rattle.executor.specs.Sights.{Beside, Sight, ledger_of, sight}
-use Rattle.executor.specs.TurnCalls.{FinishesWhile, TurnsWhile}
+use Rattle.executor.specs.TurnCalls.{TurnsWhile}
 use Rattle.executor.specs.declared.session.InputOf.TheVariants as input
 
 -- an executor whose ledger holds the same, and all that stands beside it, is the same
@@ -32,20 +32,8 @@ request_taken false look now request x y reply serves closes = (no_effects, (ser
 -- a turn that was made was taken
 pub turn_taken : {D : Type 0} (b : Bool) (look : D → View) (now : ℕ) (x y : Sight D) (end : TurnEnd)
     → TurnsWhile b look now x y end → (d : Effects) × TakesWhile b look (input.Turn now) x y (Turn end) d
-turn_taken true look now x y end turns = (
-  record { entries = turns.turns.entries; events = turns.turns.events; pending = turns.turns.pending },
-  record { end = end; takes = turns; replies = refl; does = refl },
-)
+turn_taken true look now x y end turns = (turns.turns.effects, record { end = end; takes = turns; replies = refl; does = refl })
 turn_taken false look now x y end turns = (no_effects, (ap (λ (e : TurnEnd). Turn e) turns.0, turns.1, refl))
-
--- one that begins nothing was made, and is a call
-pub turn_finished : {D : Type 0} (b : Bool) (look : D → View) (now : ℕ) (x y : Sight D) (end : TurnEnd)
-    → FinishesWhile b look now x y end → (d : Effects) × FinishedWhile b look now x y end d
-turn_finished true look now x y end turns = (
-  record { entries = turns.turns.entries; events = turns.turns.events; pending = turns.turns.pending },
-  record { takes = turns; does = refl },
-)
-turn_finished false look now x y end turns = (no_effects, (turns.0, turns.1, refl))
 
 -- effects behind others
 pub followed_by_assoc : (a b c : Effects) → followed_by a (followed_by b c) ≡ followed_by (followed_by a b) c

@@ -1,5 +1,5 @@
 -- What an executor does with a request.
-use Rattle.std.specs.Prelude.{◌≡◌, ℕ, Bool, true, false}
+use Rattle.std.specs.Prelude.{◌≡◌, ℕ, Bool}
 use Rattle.ocf_types.specs.Answer.{event_of, reply_to}
 use Rattle.ocf_types.specs.Kinds.{Reply, Request}
 use Rattle.ocf_types.specs.declared.command.RequestOf.TheVariants as asked
@@ -8,6 +8,7 @@ use Rattle.ocf_types.specs.declared.reply.ReplyOf.TheVariants.{Refused}
 use Rattle.disk_model.specs.View.{View}
 use Rattle.exec_state.specs.Answers.{IsReplyOrMemory}
 use Rattle.exec_ledger.specs.Commands.{Obeys}
+use Rattle.exec_ledger.specs.Held.{While}
 use Rattle.exec_ledger.specs.Replies.{MemoryOnlyIf}
 use Rattle.executor.specs.Sights.{Beside, Sight, ledger_of}
 
@@ -21,9 +22,10 @@ ServesOpen look now (asked.Command command) old new reply =
 
 -- the same while it is open or closed: a closed one refuses everything
 abbrev pub ServesWhile : Bool → {D : Type 0} → (D → View) → ℕ → Request → Sight D → Sight D → Reply → Type 0
-ServesWhile true look now request old new reply = ServesOpen look now request old new reply
-ServesWhile false look now request old new reply = (reply ≡ Refused Closed) × (new ≡ old)
+ServesWhile is_open look now request old new reply =
+    While is_open (ServesOpen look now request old new reply) ((reply ≡ Refused Closed) × (new ≡ old))
 
 -- what an executor does with a request at this moment
 abbrev pub Serves : {D : Type 0} → (D → View) → ℕ → Request → Sight D → Sight D → Reply → Type 0
-Serves look now request old new reply = ServesWhile old.is_open look now request old new reply
+Serves look now request old new reply =
+    While old.is_open (ServesOpen look now request old new reply) ((reply ≡ Refused Closed) × (new ≡ old))

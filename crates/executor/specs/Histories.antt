@@ -11,7 +11,7 @@ use Rattle.ocf_types.specs.declared.event.Change.TheVariants as change
 use Rattle.ocf_types.specs.declared.event.Step.TheVariants as step
 use Rattle.ocf_types.specs.declared.operation.Running.{Running}
 use Rattle.ocf_types.specs.declared.reply.Notice.{Notice}
-use Rattle.executor.specs.Reports.{interrupted, interruption}
+use Rattle.executor.specs.Interruptions.{interrupted, interruption}
 
 -- each change applies behind those before it
 abbrev pub Follow : State → List Event → Type 0

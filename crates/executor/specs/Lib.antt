@@ -1,5 +1,6 @@
 pub mod Sights
 pub mod Reports
+pub mod Interruptions
 pub mod Commands
 pub mod Openings
 pub mod TurnCalls
@@ -12,6 +13,7 @@ pub mod Parts
 pub mod Lives
 pub mod Rows
 pub mod CallLaws
+pub mod RowLaws
 pub mod Histories
 pub mod Joins
 pub mod Machine

@@ -14,15 +14,15 @@ use Rattle.child_model.specs.Children.{Asked, ChildrenView}
 use Rattle.exec_journal.specs.Found.{FoundAs}
 use Rattle.exec_journal.specs.Opening.{OpensLike}
 use Rattle.exec_journal.specs.Room.{Roomy}
-use Rattle.exec_ledger.specs.Pieces.{HasBegin}
+use Rattle.exec_ledger.specs.Pieces.{Effects, HasBegin, followed_by, no_effects}
 use Rattle.executor.specs.Openings.{Opened, OpensDisk}
 use Rattle.exec_ledger.specs.Boots.{booted}
 use Rattle.executor.specs.declared.opening.OpenError.{OpenError}
 use Rattle.executor.specs.declared.opening.OpenError.TheVariants.{Disk}
-use Rattle.executor.specs.Reports.{dropped, interrupted}
+use Rattle.executor.specs.Interruptions.{dropped, interrupted}
 use Rattle.executor.specs.FinishCalls.{FinishedWhile}
 use Rattle.executor.specs.RowCalls.{TakesRow}
-use Rattle.executor.specs.Sessions.{Effects, Input, Takes, followed_by, no_effects}
+use Rattle.executor.specs.Sessions.{Input, Takes}
 use Rattle.executor.specs.Sights.{Sight}
 use Rattle.executor.specs.TidyCalls.{TidiesWhile}
 use Rattle.executor.specs.TurnCalls.{abandoned, with_empty_book}

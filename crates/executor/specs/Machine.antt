@@ -19,6 +19,8 @@ use Rattle.exec_state.specs.Answers.{IsReplyOrMemory}
 use Rattle.two_parts.specs.Head.{last_epoch}
 use Rattle.exec_journal.specs.Place.{Place}
 use Rattle.exec_journal.specs.Rows.{IsTooLong}
+use Rattle.exec_ledger.specs.Held.{While}
+use Rattle.exec_ledger.specs.Pieces.{Effects, followed_by, no_effects, row_effects}
 use Rattle.exec_ledger.specs.Scenes.{due_after_all, scene}
 use Rattle.exec_ledger.specs.Together.{Answered, failed}
 use Rattle.exec_turn.specs.Turn.{IsFinish, IsTurn, TurnKind}
@@ -44,11 +46,6 @@ pub record Label : Type 0 where
   pub place : Place
   pub faults : ℕ × ℕ
 
--- what calls leave: the events that are recorded, and those that a fault of the disk left pending, which are recorded or not
-pub record Left : Type 0 where
-  pub events : List Event
-  pub pending : List Event
-
 -- One thing a machine does not know is what memory there is: a question or a registration may be refused for want of it
 -- (`IsReplyOrMemory`, `Adds`), and a turn that says so begins fewer of the actions that come next, the first of them (`PickedAt`). A call
 -- that tells of it:
@@ -58,67 +55,64 @@ LacksMemory (Took (input.Turn now) reply) = reply ≡ Turn turn_end.Memory
 LacksMemory (Row now commands replies) = Contains replies (Refused Memory)
 LacksMemory _ = ⊥
 
--- It does so only where the allocator refuses growths.
-abbrev pub LacksOnlyIf : Bool → Exchange → Type 0
-LacksOnlyIf refuses e = LacksMemory e → IsTrue refuses
-
 -- The other is what a device that failed a call has done of it: the machine is closed, and these events are pending.
-abbrev pub Closes : List Event → Machine → Left → Type 0
-Closes es n left = (n.is_open ≡ false) × (left ≡ record { events = []; pending = es })
+abbrev pub Closes : List Event → Machine → Effects → Type 0
+Closes es n did = (n.is_open ≡ false) × (did ≡ row_effects false es)
 
-abbrev pub Fails : Label → List Event → Machine → Left → Type 0
-Fails l es n left = Increased l.faults.0 l.faults.1 × Closes es n left
+abbrev pub Fails : Label → List Event → Machine → Effects → Type 0
+Fails l es n did = Increased l.faults.0 l.faults.1 × Closes es n did
 
 -- the machine after events, which are recorded
 abbrev pub after_events : Machine → List Event → Machine
 after_events m es = record m { state = after_all m.state es; due = due_after_all m.state m.due es }
 
-abbrev pub GoesOn : List Event → Machine → Machine → Left → Type 0
-GoesOn es m n left = (n ≡ after_events m es) × (left ≡ record { events = es; pending = [] })
+abbrev pub GoesOn : List Event → Machine → Machine → Effects → Type 0
+GoesOn es m n did = (n ≡ after_events m es) × (did ≡ row_effects true es)
 
 -- commands at one moment: each is answered by the state after the events of those before it; all events are recorded, or the disk fails
-abbrev pub TakesAll : Label → ℕ → List Command → List Reply → Machine → Machine → Left → Type 0
-TakesAll l now cs rs m n left = (meant : List Reply) × (es : List Event) × Answered now m.state cs meant es
-    × (((rs ≡ meant) × GoesOn es m n left) ⊎ ((es ≢ []) × (rs ≡ failed meant) × Fails l es n left))
+abbrev pub TakesAll : Label → ℕ → List Command → List Reply → Machine → Machine → Effects → Type 0
+TakesAll l now cs rs m n did = (meant : List Reply) × (es : List Event) × Answered now m.state cs meant es
+    × (((rs ≡ meant) × GoesOn es m n did) ⊎ ((es ≢ []) × (rs ≡ failed meant) × Fails l es n did))
 
 -- one command, for whose event the journal may have no room
-abbrev pub TakesOne : Label → ℕ → Command → Reply → Machine → Machine → Left → Type 0
-TakesOne l now c r m n left = TakesAll l now (c ∷ []) (r ∷ []) m n left
-    ⊎ ((e : Event) × (event_of m.state now c ≡ Ok e) × (r ≡ Refused JournalFull) × IsTooLong l.place.tail (e ∷ []) × GoesOn [] m n left)
+abbrev pub TakesOne : Label → ℕ → Command → Reply → Machine → Machine → Effects → Type 0
+TakesOne l now c r m n did = TakesAll l now (c ∷ []) (r ∷ []) m n did
+    ⊎ ((e : Event) × (event_of m.state now c ≡ Ok e) × (r ≡ Refused JournalFull) × IsTooLong l.place.tail (e ∷ []) × GoesOn [] m n did)
 
 -- A turn of a kind at a moment, for which the book has to take so many answers for each resource.
-pub record MovesTurn (kind : TurnKind) (each : ℕ) (end : TurnEnd) (at : ℕ) (l : Label) (m n : Machine) (left : Left) : Type 0 where
+pub record MovesTurn (kind : TurnKind) (each : ℕ) (end : TurnEnd) (at : ℕ) (l : Label) (m n : Machine) (did : Effects) : Type 0 where
   -- what agent processes answered makes its events and its notices
-  pub turns : kind end (scene m.state m.due l.place at m.refuses) l.answers left.events left.pending l.notices
-  pub goes_on : n ≡ record (after_events m left.events) { is_open = n.is_open }
+  pub turns : kind end (scene m.state m.due l.place at m.refuses) did l.notices
+  pub answers : l.answers ≡ did.entries
+  pub goes_on : n ≡ record (after_events m did.events) { is_open = n.is_open }
   -- nothing is done exactly when the book takes less, and a fault of the disk closes the machine, and nothing else
   pub full : (end ≡ turn_end.BookFull) ↔ (l.room < each * length m.state.resources)
   pub closes : (n.is_open ≡ false) ↔ (end ≡ turn_end.Disk)
   pub cause : end ≡ turn_end.Disk → Increased l.faults.0 l.faults.1
 
 -- a tidy, by its end: it records nothing
-abbrev pub TidyEnds : TidyEnd → Label → Machine → Machine → Left → Type 0
-TidyEnds tidy.Done l m n left = GoesOn [] m n left
-TidyEnds tidy.EpochSpent l m n left = (l.place.epoch ≡ last_epoch) × GoesOn [] m n left
-TidyEnds tidy.Disk l m n left = Fails l [] n left
-TidyEnds tidy.Closed l m n left = ⊥
+abbrev pub TidyEnds : TidyEnd → Label → Machine → Machine → Effects → Type 0
+TidyEnds tidy.Done l m n did = GoesOn [] m n did
+TidyEnds tidy.EpochSpent l m n did = (l.place.epoch ≡ last_epoch) × GoesOn [] m n did
+TidyEnds tidy.Disk l m n did = Fails l [] n did
+TidyEnds tidy.Closed l m n did = ⊥
 
 -- a call that is no turn asks no agent process, and has no notice
 abbrev pub IsQuiet : Label → Type 0
 IsQuiet l = (l.answers ≡ []) × (l.notices ≡ [])
 
 -- what a call does: of an open machine, and of a closed one
-abbrev pub MovesOpen : Exchange → Label → Machine → Machine → Left → Type 0
-MovesOpen (Took (input.Request now (asked.Question q)) reply) l m n left =
-    IsQuiet l × IsReplyOrMemory (reply_to m.state q) reply × GoesOn [] m n left
-MovesOpen (Took (input.Request now (asked.Command c)) reply) l m n left = IsQuiet l × TakesOne l now c reply m n left
-MovesOpen (Took (input.Turn now) reply) l m n left =
-    (end : TurnEnd) × (reply ≡ Turn end) × MovesTurn IsTurn 3 end (moment m.state now) l m n left
-MovesOpen (Row now commands replies) l m n left = IsQuiet l × TakesAll l now commands replies m n left
-MovesOpen (Finished now end) l m n left = MovesTurn IsFinish 2 end (moment m.state now) l m n left
-MovesOpen (Tidied end) l m n left = IsQuiet l × TidyEnds end l m n left
-MovesOpen Cleared l m n left = IsQuiet l × GoesOn [] m n left
-MovesOpen Abandoned l m n left = IsQuiet l × Closes [] n left
+abbrev pub MovesOpen : Exchange → Label → Machine → Machine → Effects → Type 0
+MovesOpen (Took (input.Request now (asked.Question q)) reply) l m n did =
+    IsQuiet l × IsReplyOrMemory (reply_to m.state q) reply × GoesOn [] m n did
+MovesOpen (Took (input.Request now (asked.Command c)) reply) l m n did = IsQuiet l × TakesOne l now c reply m n did
+MovesOpen (Took (input.Turn now) reply) l m n did =
+    (end : TurnEnd) × (reply ≡ Turn end) × MovesTurn IsTurn 3 end (moment m.state now) l m n did
+MovesOpen (Row now commands replies) l m n did = IsQuiet l × TakesAll l now commands replies m n did
+MovesOpen (Finished now end) l m n did = MovesTurn IsFinish 2 end (moment m.state now) l m n did
+MovesOpen (Tidied end) l m n did = IsQuiet l × TidyEnds end l m n did
+MovesOpen Cleared l m n did = IsQuiet l × GoesOn [] m n did
+MovesOpen Abandoned l m n did = IsQuiet l × Closes [] n did
 
 abbrev pub AnswersClosed : Exchange → Type 0
 AnswersClosed (Took i reply) = reply ≡ closed_reply i
@@ -127,15 +121,13 @@ AnswersClosed (Finished now end) = end ≡ turn_end.Closed
 AnswersClosed (Tidied end) = end ≡ tidy.Closed
 AnswersClosed _ = ⊤
 
-abbrev pub MovesWhile : Bool → Label → Machine → Machine → Left → Type 0
-MovesWhile true l m n left = MovesOpen l.exchange l m n left × LacksOnlyIf m.refuses l.exchange
-MovesWhile false l m n left = IsQuiet l × AnswersClosed l.exchange × Closes [] n left
+-- the same while it is open or closed: of want of memory a call tells only where the allocator refuses growths
+abbrev pub MovesWhile : Bool → Label → Machine → Machine → Effects → Type 0
+MovesWhile is_open l m n did =
+    While is_open (MovesOpen l.exchange l m n did × (LacksMemory l.exchange → IsTrue m.refuses)) (IsQuiet l × AnswersClosed l.exchange × Closes [] n did)
 
 -- one call after the other
-abbrev pub and_then : Left → Left → Left
-and_then a b = record { events = a.events ++ b.events; pending = a.pending ++ b.pending }
-
-abbrev pub MovesAll : List Label → Machine → Machine → Left → Type 0
-MovesAll [] m n left = (n ≡ m) × (left ≡ record { events = []; pending = [] })
-MovesAll (l ∷ ls) m n left = (mid : Machine) × (first : Left) × (later : Left) × MovesWhile m.is_open l m mid first
-    × MovesAll ls mid n later × (left ≡ and_then first later)
+abbrev pub MovesAll : List Label → Machine → Machine → Effects → Type 0
+MovesAll [] m n did = (n ≡ m) × (did ≡ no_effects)
+MovesAll (l ∷ ls) m n did = (mid : Machine) × (first : Effects) × (later : Effects) × MovesWhile m.is_open l m mid first
+    × MovesAll ls mid n later × (did ≡ followed_by first later)

@@ -20,7 +20,7 @@ use Rattle.exec_journal.specs.declared.fault.JournalFault.{JournalFault}
 use Rattle.exec_journal.specs.declared.fault.JournalFault.TheVariants as journal
 use Rattle.executor.specs.declared.opening.OpenError.{OpenError}
 use Rattle.executor.specs.declared.opening.OpenError.TheVariants as why
-use Rattle.executor.specs.Reports.{dropped, interrupted}
+use Rattle.executor.specs.Interruptions.{dropped, interrupted}
 use Rattle.exec_ledger.specs.Boots.{BootsFrom, LacksBoot, booted}
 use Rattle.executor.specs.Sights.{IsSound, Sight, due_in}
 

@@ -5,9 +5,15 @@ use Rattle.ocf_types.specs.Kinds.{Command, Reply}
 use Rattle.ocf_types.specs.declared.command.RequestOf.TheVariants as asked
 use Rattle.disk_model.specs.View.{View}
 use Rattle.executor.specs.Lives.{Calls, Exchange, Row, Took}
-use Rattle.executor.specs.Sessions.{Effects}
-use Rattle.executor.specs.Sights.{Sight}
+use Rattle.exec_ledger.specs.Pieces.{Effects}
+use Rattle.exec_ledger.specs.Shares.{TakesCommands as LedgerTakesCommands}
+use Rattle.executor.specs.Sights.{Beside, Sight, ledger_of}
 use Rattle.executor.specs.declared.session.InputOf.TheVariants as input
+
+-- An executor takes commands one behind the other at this moment, none left out, each with one reply: those that stand in a
+-- row have one record.
+abbrev pub TakesCommands : {D : Type 0} → (D → View) → ℕ → List Command → Sight D → Sight D → List Reply → Type 0
+TakesCommands look now commands old new given = LedgerTakesCommands look now commands (ledger_of old) (ledger_of new) given × Beside old new
 
 -- the commands of an exchange, and what they were replied
 abbrev pub commands_of : Exchange → List Command
@@ -26,9 +32,8 @@ IsAt now (Took (input.Request at (asked.Command c)) reply) = at ≡ now
 IsAt now (Row at commands replies) = at ≡ now
 IsAt now _ = ⊥
 
--- An executor takes commands one behind the other at this moment, none left out, each with one reply: those that stand in a
--- row have one record.
-pub record TakesCommands {D : Type 0} (look : D → View) (now : ℕ) (commands : List Command) (old new : Sight D) (given : List Reply) : Type 0 where
+-- The same as calls: a command by itself, or commands in a row, one after the other.
+pub record CallsCommands {D : Type 0} (look : D → View) (now : ℕ) (commands : List Command) (old new : Sight D) (given : List Reply) : Type 0 where
   pub exchanges : List Exchange
   pub effects : Effects
   pub calls : Calls look old exchanges new effects

@@ -9,10 +9,10 @@ use Rattle.ocf_types.specs.declared.reply.Notice.{Notice}
 use Rattle.child_model.specs.Children.{Asked}
 use Rattle.child_model.specs.declared.answer.Entry.{Entry}
 use Rattle.exec_ledger.specs.Boots.{booted}
-use Rattle.exec_ledger.specs.Pieces.{HasBegin}
+use Rattle.exec_ledger.specs.Pieces.{Effects, HasBegin, followed_by}
 use Rattle.executor.specs.Lives.{MayBoot, boots}
-use Rattle.executor.specs.Machine.{Label, Left, Machine, MovesAll, and_then}
-use Rattle.executor.specs.Reports.{dropped, interrupted}
+use Rattle.executor.specs.Machine.{Label, Machine, MovesAll}
+use Rattle.executor.specs.Interruptions.{dropped, interrupted}
 use Rattle.executor.specs.declared.opening.OpenError.{OpenError}
 
 -- a service as it is seen: its moment, what its opening reported as interrupted and as dropped, the calls that returned, those under way
@@ -37,9 +37,9 @@ opened_on s now refuses =
     record { is_open = true; state = booted s now; due = due_at (booted s now) (moment s now); refuses = refuses }
 
 -- so much of what calls left remains after a crash: all that was recorded when they returned, and a prefix of the rest
-abbrev pub StandsOf : Left → Left → List Event → Type 0
+abbrev pub StandsOf : Effects → Effects → List Event → Type 0
 StandsOf returned under_way p = (later : List Event) × (others : List Event) × (p ≡ returned.events ++ later)
-    × (p ++ others ≡ (and_then returned under_way).events ++ (and_then returned under_way).pending)
+    × (p ++ others ≡ (followed_by returned under_way).events ++ (followed_by returned under_way).pending)
 
 -- the answers of agent processes in a service
 abbrev pub answers_in : SeenService → List Entry
@@ -55,8 +55,8 @@ pub record Remains (x : SeenService) (s : State) (p : List Event) : Type 0 where
   pub queued : x.queued ≡ dropped s (moment s x.now)
   pub returned : Machine
   pub last : Machine
-  pub done : Left
-  pub under_way : Left
+  pub done : Effects
+  pub under_way : Effects
   pub moves : MovesAll x.calls (opened_on s x.now x.refuses) returned done
   pub goes_on : MovesAll x.begun returned last under_way
   pub stands : StandsOf done under_way p

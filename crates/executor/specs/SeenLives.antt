@@ -6,7 +6,7 @@ use Rattle.disk_model.specs.View.{View}
 use Rattle.executor.specs.Lives.{Calls, Exchange, Finished, InOpening, InService, IsLife, Sitting, Took}
 use Rattle.executor.specs.Machine.{Label}
 use Rattle.executor.specs.Runs.{Opening, Seen, Serving}
-use Rattle.executor.specs.Sessions.{Effects}
+use Rattle.exec_ledger.specs.Pieces.{Effects}
 use Rattle.executor.specs.Sights.{Sight}
 use Rattle.executor.specs.declared.session.InputOf.TheVariants as input
 

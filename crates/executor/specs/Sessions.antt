@@ -10,14 +10,13 @@ use Rattle.ocf_types.specs.declared.refusal.Refusal.TheVariants.{Closed, Disk}
 use Rattle.ocf_types.specs.declared.reply.ReplyOf.TheVariants.{Refused, Turn}
 use Rattle.ocf_types.specs.declared.reply.TurnEnd.{TurnEnd}
 use Rattle.ocf_types.specs.declared.reply.TurnEnd.TheVariants as turn_end
-use Rattle.disk_model.specs.Runs.{CrashesTo}
 use Rattle.disk_model.specs.View.{View}
-use Rattle.child_model.specs.declared.answer.Entry.{Entry}
-use Rattle.exec_journal.specs.Room.{Roomy}
+use Rattle.exec_ledger.specs.Held.{While}
 use Rattle.exec_ledger.specs.Pieces.{Leaves}
+pub use Rattle.exec_ledger.specs.Pieces.{Effects, followed_by, no_effects}
 use Rattle.exec_ledger.specs.Scenes.{due_after_all}
 use Rattle.executor.specs.Commands.{ServesOpen}
-use Rattle.exec_ledger.specs.Replies.{pending, recorded}
+use Rattle.exec_ledger.specs.Replies.{event_effects}
 use Rattle.executor.specs.Sights.{Sight, due_in}
 use Rattle.executor.specs.TurnCalls.{TakesTurn}
 use Rattle.executor.specs.declared.session.InputOf.{InputOf}
@@ -26,23 +25,10 @@ use Rattle.executor.specs.declared.session.InputOf.TheVariants as input
 abbrev pub Input : Type 0
 Input = InputOf ParamList
 
--- what calls of an executor did: their entries in the children's book, their events, and those that a disk fault left pending
-pub record Effects : Type 0 where
-  pub entries : List Entry
-  pub events : List Event
-  pub pending : List Event
-
-abbrev pub no_effects : Effects
-no_effects = record { entries = []; events = []; pending = [] }
-
--- some effects, and then others
-abbrev pub followed_by : Effects → Effects → Effects
-followed_by a b = record { entries = a.entries ++ b.entries; events = a.events ++ b.events; pending = a.pending ++ b.pending }
-
 -- a command that is an event records it, or a disk fault leaves it pending
 abbrev pub command_effects : Result Event Refusal → Reply → Effects
 command_effects (Err refusal) reply = no_effects
-command_effects (Ok e) reply = record { entries = []; events = recorded e reply; pending = pending e reply }
+command_effects (Ok e) reply = event_effects e reply
 
 abbrev pub request_effects : State → ℕ → Request → Reply → Effects
 request_effects s now (asked.Question question) reply = no_effects
@@ -60,7 +46,7 @@ pub record TakesATurn {D : Type 0} (look : D → View) (now : ℕ) (old new : Si
   pub end : TurnEnd
   pub takes : TakesTurn look now old new end
   pub replies : reply ≡ Turn end
-  pub does : effects ≡ record { entries = takes.turns.entries; events = takes.turns.events; pending = takes.turns.pending }
+  pub does : effects ≡ takes.turns.effects
 
 abbrev pub TakesOpen : {D : Type 0} → (D → View) → Input → Sight D → Sight D → Reply → Effects → Type 0
 TakesOpen look (input.Request now request) old new reply effects = TakesRequest look now request old new reply effects
@@ -73,11 +59,12 @@ closed_reply (input.Turn now) = Turn turn_end.Closed
 
 -- an executor takes an input, while it is open or closed: a closed one does nothing
 abbrev pub TakesWhile : Bool → {D : Type 0} → (D → View) → Input → Sight D → Sight D → Reply → Effects → Type 0
-TakesWhile true look i old new reply effects = TakesOpen look i old new reply effects
-TakesWhile false look i old new reply effects = (reply ≡ closed_reply i) × (new ≡ old) × (effects ≡ no_effects)
+TakesWhile is_open look i old new reply effects =
+    While is_open (TakesOpen look i old new reply effects) ((reply ≡ closed_reply i) × (new ≡ old) × (effects ≡ no_effects))
 
 abbrev pub Takes : {D : Type 0} → (D → View) → Input → Sight D → Sight D → Reply → Effects → Type 0
-Takes look i old new reply effects = TakesWhile old.is_open look i old new reply effects
+Takes look i old new reply effects =
+    While old.is_open (TakesOpen look i old new reply effects) ((reply ≡ closed_reply i) × (new ≡ old) × (effects ≡ no_effects))
 
 -- one input after the other, none left out, each with one reply: from one sight of the executor to another
 abbrev pub Session : {D : Type 0} → (D → View) → Sight D → List Input → List Reply → Sight D → Effects → Type 0
@@ -91,7 +78,7 @@ Session look old (i ∷ is) [] new effects = ⊥
 -- What an open executor leaves that has done this: from one sight of it to another.
 pub record Leads {D : Type 0} (look : D → View) (old new : Sight D) (effects : Effects) : Type 0 where
   -- the state, what a stop at any moment leaves, and that no agent was started without its synced begin
-  pub crash : Leaves (look old.disk) (look new.disk) old.state new.state effects.entries effects.events effects.pending
+  pub crash : Leaves look old.disk new.disk old.state new.state effects
   pub book : new.children.book ≡ old.children.book ++ effects.entries
   -- these are all that its children were asked
   pub log : new.children.log ≡ old.children.log ++ effects.entries
@@ -99,8 +86,6 @@ pub record Leads {D : Type 0} (look : D → View) (old new : Sight D) (effects :
   pub site : new.site ≡ old.site
   pub reported : new.reported ≡ old.reported
   pub due : due_in new ≡ due_after_all old.state (due_in old) effects.events
-  -- what a stop leaves since its start has room for its boot
-  pub roomy : CrashesTo (look old.disk) (look new.disk) Roomy
   -- nothing is pending but after a disk fault, which closed the executor
   pub whole : new.is_open ≡ true → effects.pending ≡ []
 

@@ -1,8 +1,9 @@
 -- What an executor does in a tidy.
-use Rattle.std.specs.Prelude.{◌≡◌, Bool, true, false}
+use Rattle.std.specs.Prelude.{◌≡◌, Bool}
 use Rattle.ocf_types.specs.declared.reply.TidyEnd.{TidyEnd}
 use Rattle.ocf_types.specs.declared.reply.TidyEnd.TheVariants.{Closed}
 use Rattle.disk_model.specs.View.{View}
+use Rattle.exec_ledger.specs.Held.{While}
 use Rattle.exec_ledger.specs.Tidying.{Tidies as LedgerTidies}
 use Rattle.executor.specs.Sights.{Beside, Sight, ledger_of}
 
@@ -12,5 +13,4 @@ Tidies look old new end = LedgerTidies look (ledger_of old) (ledger_of new) end 
 
 -- the same while it is open or closed: a closed one does nothing
 abbrev pub TidiesWhile : Bool → {D : Type 0} → (D → View) → Sight D → Sight D → TidyEnd → Type 0
-TidiesWhile true look old new end = Tidies look old new end
-TidiesWhile false look old new end = (end ≡ Closed) × (new ≡ old)
+TidiesWhile is_open look old new end = While is_open (Tidies look old new end) ((end ≡ Closed) × (new ≡ old))

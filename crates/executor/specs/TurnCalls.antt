@@ -1,10 +1,11 @@
 -- What an executor does in a turn, in one that begins nothing, and as it gives its children up.
-use Rattle.std.specs.Prelude.{◌≡◌, ◌↔◌, ◌*◌, ◌<◌, ℕ, Bool, true, false, [], length}
+use Rattle.std.specs.Prelude.{◌≡◌, ◌↔◌, ◌*◌, ◌<◌, ℕ, Bool, false, [], length}
 use Rattle.ocf_types.specs.Answer.{moment}
 use Rattle.ocf_types.specs.declared.reply.TurnEnd.{TurnEnd}
 use Rattle.ocf_types.specs.declared.reply.TurnEnd.TheVariants.{BookFull, Closed, Disk}
 use Rattle.disk_model.specs.View.{View}
 use Rattle.child_model.specs.Children.{emptied, given_up}
+use Rattle.exec_ledger.specs.Held.{While}
 use Rattle.exec_ledger.specs.Scenes.{scene}
 use Rattle.exec_turn.specs.Turn.{IsFinish, IsTurn, TurnKind}
 use Rattle.exec_turn.specs.Turns.{TurnsAs}
@@ -35,12 +36,10 @@ FinishesTurn look now old new end = MakesTurn IsFinish 2 look now old new end
 
 -- both while it is open or closed: a closed one does nothing
 abbrev pub TurnsWhile : Bool → {D : Type 0} → (D → View) → ℕ → Sight D → Sight D → TurnEnd → Type 0
-TurnsWhile true look now old new end = TakesTurn look now old new end
-TurnsWhile false look now old new end = (end ≡ Closed) × (new ≡ old)
+TurnsWhile is_open look now old new end = While is_open (TakesTurn look now old new end) ((end ≡ Closed) × (new ≡ old))
 
 abbrev pub FinishesWhile : Bool → {D : Type 0} → (D → View) → ℕ → Sight D → Sight D → TurnEnd → Type 0
-FinishesWhile true look now old new end = FinishesTurn look now old new end
-FinishesWhile false look now old new end = (end ≡ Closed) × (new ≡ old)
+FinishesWhile is_open look now old new end = While is_open (FinishesTurn look now old new end) ((end ≡ Closed) × (new ≡ old))
 
 -- the executor with its book emptied, and closed with all of its children given up
 abbrev pub with_empty_book : {D : Type 0} → Sight D → Sight D

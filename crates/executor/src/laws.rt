@@ -18,11 +18,13 @@ ghost use Rattle.executor.specs.Lives.{BeginsAs, Calls, Does, Exchange, GoesOnFr
 ghost use Rattle.executor.specs.Machine.{LacksMemory};
 ghost use Rattle.executor.specs.Openings.{NotOpened, Opened};
 ghost use Rattle.executor.specs.Promise.{IsKept};
+ghost use Rattle.executor.specs.Rows.{CallsCommands, TakesCommands};
 ghost use Rattle.executor.specs.Runs.{Runs};
 ghost use Rattle.executor.specs.SeenLives.{seen};
 ghost use Rattle.executor.specs.Parts.{DistinctKeys, AreRising, IsPlain, entries_of_runs, events_of, inputs_at, own_runs, part};
 ghost use Rattle.exec_ledger.specs.Together.{Answered};
-ghost use Rattle.executor.specs.Sessions.{Effects, Input, Session};
+ghost use Rattle.exec_ledger.specs.Pieces.{Effects};
+ghost use Rattle.executor.specs.Sessions.{Input, Session};
 ghost use Rattle.executor.specs.Sights.{Sight};
 ghost use Rattle.executor.specs.Isolated.{Alone, Isolated, cut, isolated_after_all, isolated_of};
 ghost use Rattle.executor.specs.declared.opening.OpenError.{OpenError};
@@ -78,6 +80,13 @@ pub fn session_is_calls<D: Disk>()
     ensures { (x z : Sight D) (inputs : List Input) (replies : List Reply) (d : Effects)
         → Session D.view x inputs replies z d
         → Calls D.view x (as_calls inputs replies) z d }
+{}
+
+/// Commands that were taken together are calls, one after the other: each is a command by itself, or commands in a row.
+pub fn commands_are_calls<D: Disk>()
+    ensures { (now : ℕ) (commands : List Command) (given : List Reply) (x y : Sight D)
+        → TakesCommands D.view now commands x y given
+        → CallsCommands D.view now commands x y given }
 {}
 
 /// What its opening reported stays with an executor, whatever is called.

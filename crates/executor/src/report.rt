@@ -1,7 +1,7 @@
 //! What an opening says of the actions that a stopped executor left.
 ghost use Rattle.std.specs.Prelude.{◌≡◌, ◌++◌, ◌<◌, IfOk, IsTrue, OnErr, OnOk, length};
 ghost use Rattle.ocf_types.specs.Places.{entry_at};
-ghost use Rattle.executor.specs.Reports.{dropped, dropped_in, interrupted, interrupted_in};
+ghost use Rattle.executor.specs.Interruptions.{dropped, dropped_in, interrupted, interrupted_in};
 
 use exec_state::State;
 use growth::{Grows, push};

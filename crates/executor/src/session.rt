@@ -1,7 +1,8 @@
 //! Sessions: many inputs at once.
 ghost use Rattle.std.specs.Prelude.{◌≡◌, ◌++◌, IfErr, IsTrue, OnErr, OnOk, List};
 ghost use Rattle.ocf_types.specs.Kinds.{Reply};
-ghost use Rattle.executor.specs.Sessions.{Effects, Sits, Takes};
+ghost use Rattle.exec_ledger.specs.Pieces.{Effects};
+ghost use Rattle.executor.specs.Sessions.{Sits, Takes};
 
 use crate::Executor;
 use child_model::Children;

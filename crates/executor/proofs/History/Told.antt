@@ -21,7 +21,7 @@ use Rattle.ocf_types.specs.declared.event.Step.TheVariants as step
 use Rattle.ocf_types.specs.declared.operation.Running.{Running}
 use Rattle.ocf_types.specs.declared.reply.Notice.{Notice}
 use Rattle.executor.specs.Histories.{Follow, InterruptedOnce, ends_run, has_end, interruptions, is_of, told_by}
-use Rattle.executor.specs.Reports.{interrupted, interrupted_in, interruption}
+use Rattle.executor.specs.Interruptions.{interrupted, interrupted_in, interruption}
 use Rattle.executor.proofs.History.Runs.{Ran, begun_so, both_false, follow_behind, follow_first, ran, running_at, runs_in, stays}
 
 -- ids stay distinct

@@ -19,10 +19,10 @@ use Rattle.disk_model.specs.View.{View}
 use Rattle.exec_ledger.specs.Scenes.{due_after_all}
 use Rattle.exec_ledger.specs.Commands.{Obeys, Records}
 use Rattle.executor.specs.Parts.{IsPlain, commanded}
-use Rattle.exec_ledger.specs.Replies.{IsReplyTo, acknowledged, due_left, recorded}
+use Rattle.exec_ledger.specs.Replies.{IsReplyTo, acknowledged, recorded}
 use Rattle.exec_ledger.specs.Together.{Adds}
-use Rattle.executor.specs.RowCalls.{row_effects}
-use Rattle.executor.specs.Sessions.{Effects, TakesRequest, command_effects}
+use Rattle.exec_ledger.specs.Pieces.{Effects, row_effects}
+use Rattle.executor.specs.Sessions.{TakesRequest, command_effects}
 use Rattle.executor.specs.CallLaws.{same_sight}
 use Rattle.executor.specs.Sights.{Sight, due_in, ledger_of}
 use Rattle.executor.specs.Isolated.{Follows, cut}
@@ -71,11 +71,10 @@ told_or_refused e reply (inr (inr (inl memory))) = inr (refusal.Memory, memory, 
 told_or_refused e reply (inr (inr (inr disk))) = inr (refusal.Disk, disk, λ h. h)
 
 -- the event that is acknowledged is recorded
-told_done : (s : State) (e : Event) (c : Change) (moments : Due)
-    → (recorded e (acknowledged c) ≡ e ∷ []) × (due_left s e (acknowledged c) moments ≡ due_after s moments e)
-told_done s e (change.Step i (step.Exec o)) moments = (refl, refl)
-told_done s e (change.Step i (step.Recur m)) moments = (refl, refl)
-told_done s e _ moments = (refl, refl)
+told_done : (e : Event) (c : Change) → recorded e (acknowledged c) ≡ e ∷ []
+told_done e (change.Step i (step.Exec o)) = refl
+told_done e (change.Step i (step.Recur m)) = refl
+told_done e _ = refl
 
 -- the event that a command asks for is new where no test held, and names the resource that the command is about
 asked_fresh : (s : State) (c : Command) (size : ℕ) → AllByRecursion (λ t. t.1 ≡ false) (tests s c size)
@@ -126,16 +125,13 @@ commands {D} look now c old new reply effects clock takes =
     by_reply : (e : Event) → event_of old.state now c ≡ Ok e → Records look e (ledger_of old) (ledger_of new) reply
         → (reply ≡ acknowledged e.change) ⊎ IsRefused reply → Commands now c (seen old) (seen new) reply (command_effects (Ok e) reply)
     by_reply e is serves (inl told) =
-        let done = told_done old.state e e.change (due_in old) in
-        let row : recorded e reply ≡ e ∷ [] = ap (recorded e) told ∙ done.0 in
+        let row : recorded e reply ≡ e ∷ [] = ap (recorded e) told ∙ told_done e e.change in
         let after_one : new.state ≡ after old.state e = serves.crash.state ∙ ap (after_all old.state) row in record {
           no_entries = refl;
           names = subst (AllName (commanded c)) (sym row) (one_names old.state now c e is);
           does = record {
             state = serves.crash.state;
-            due =
-                serves.due ∙ ap (λ (r : Reply). due_left old.state e r (due_in old)) told ∙ done.1
-                ∙ ap (due_after_all old.state (due_in old)) (sym row);
+            due = serves.due;
             next = subst (AreFresh old.state) (sym row) (one_fresh old.state now c e is);
             clock = subst (λ (x : State). x.clock ≤ cut now) (sym after_one) (one_clock old.state now c e is clock);
           };
@@ -148,7 +144,7 @@ commands {D} look now c old new reply effects clock takes =
           names = subst (AllName (commanded c)) (sym row) tt;
           does = record {
             state = serves.crash.state;
-            due = serves.due ∙ ap (λ (r : Reply). due_left old.state e r (due_in old)) refused ∙ ap (due_after_all old.state (due_in old)) (sym row);
+            due = serves.due;
             next = subst (AreFresh old.state) (sym row) tt;
             clock = subst (λ (x : State). x.clock ≤ cut now) (sym still) clock;
           };

@@ -22,8 +22,8 @@ use Rattle.exec_ledger.specs.Scenes.{due_after_all}
 use Rattle.executor.specs.Joins.{StandsAt}
 use Rattle.executor.specs.Parts.{DistinctKeys, AreRising, IsPlain, commanded, concerns, entries_of_runs, events_of, inputs_at, is_about, own_runs, part}
 use Rattle.exec_ledger.specs.Together.{Answered}
-use Rattle.executor.specs.RowCalls.{row_effects}
-use Rattle.executor.specs.Sessions.{Effects, Input, Session, TakesWhile, closed_reply, no_effects}
+use Rattle.exec_ledger.specs.Pieces.{Effects, no_effects, row_effects}
+use Rattle.executor.specs.Sessions.{Input, Session, TakesWhile, closed_reply}
 use Rattle.executor.specs.Sights.{Sight, due_in}
 use Rattle.executor.specs.Isolated.{Alone, Isolated, IsolatedCommand, IsolatedTakes, cut, isolated_after_all, isolated_of}
 use Rattle.executor.specs.declared.session.InputOf.TheVariants as input

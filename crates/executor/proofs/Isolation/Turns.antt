@@ -29,7 +29,9 @@ use Rattle.exec_turn.specs.Starts.{Started, refusals, starts}
 use Rattle.exec_turn.specs.Turn.{IsTurn, Told, Whole}
 use Rattle.exec_ledger.specs.Scenes.{due_after_all, scene}
 use Rattle.executor.specs.Parts.{IsPlain, events_of}
-use Rattle.executor.specs.Sessions.{Effects, TakesATurn}
+use Rattle.exec_ledger.specs.Laws.{same_entries, same_events}
+use Rattle.exec_ledger.specs.Pieces.{Effects}
+use Rattle.executor.specs.Sessions.{TakesATurn}
 use Rattle.executor.specs.Sights.{Sight, due_in}
 use Rattle.executor.specs.Isolated.{Isolated, IsolatedTurn, cut, running_in, isolated_after_all}
 use Rattle.executor.proofs.Isolation.Changes.{AreFresh, IsFresh, Stands, stands_all}
@@ -88,18 +90,18 @@ pub turn_done : {D : Type 0} (look : D → View) (now : ℕ) (old new : Sight D)
 turn_done {D} look now old new given effects clock plain takes =
     let turns = takes.takes.turns in
     let is_done : takes.end ≡ Done = subst IsPlain takes.replies plain in
-    let raw : Whole Done (scene old.state (due_in old) old.place (moment old.state now) old.refuses) turns.entries turns.events turns.pending new.told =
+    let raw : Whole Done (scene old.state (due_in old) old.place (moment old.state now) old.refuses) turns.effects new.told =
     subst (λ (e : TurnEnd). IsTurn e
-    (scene old.state (due_in old) old.place (moment old.state now) old.refuses) turns.entries turns.events turns.pending new.told) is_done turns.does in
-    let whole : Whole Done (scene old.state (due_in old) old.place (cut now) old.refuses) turns.entries turns.events turns.pending new.told =
-    subst (λ (at : ℕ). Whole Done (scene old.state (due_in old) old.place at old.refuses) turns.entries turns.events turns.pending new.told)
+    (scene old.state (due_in old) old.place (moment old.state now) old.refuses) turns.effects new.told) is_done turns.does in
+    let whole : Whole Done (scene old.state (due_in old) old.place (cut now) old.refuses) turns.effects new.told =
+    subst (λ (at : ℕ). Whole Done (scene old.state (due_in old) old.place at old.refuses) turns.effects new.told)
     (moment_is old.state now clock) raw in
-    let row : effects.events ≡ turns.events = ap (λ (x : Effects). x.events) takes.does in record {
+    let row : effects.events ≡ turns.effects.events = same_events takes.does in record {
       done = takes.replies ∙ ap (λ (e : TurnEnd). reply.Turn e) is_done;
       t = whole.0;
-      entries = ap (λ (x : Effects). x.entries) takes.does ∙ whole.1;
+      entries = ap (λ (x : Effects). x.entries) takes.does ∙ same_entries whole.1;
       events =
-          row ∙ whole.2 ∙ append_assoc (results (cut now) whole.0.polled) (begins (cut now) whole.0.begun)
+          row ∙ same_events whole.1 ∙ append_assoc (results (cut now) whole.0.polled) (begins (cut now) whole.0.begun)
           (refusals (cut now) whole.0.started);
       state = turns.crash.state ∙ ap (after_all old.state) (sym row);
       due = turns.due_is ∙ ap (due_after_all old.state (due_in old)) (sym row);

@@ -4,18 +4,15 @@ use Rattle.std.proofs.lemmas.Bool.{false≢true}
 use Rattle.ocf_types.specs.Kinds.{Command, Event, Reply}
 use Rattle.ocf_types.specs.State.{after_all}
 use Rattle.ocf_types.specs.declared.reply.TurnEnd.{TurnEnd}
-use Rattle.disk_model.specs.Runs.{CrashesTo}
 use Rattle.disk_model.specs.View.{Lawful, View}
-use Rattle.exec_journal.specs.Room.{Roomy}
-use Rattle.exec_ledger.specs.Pieces.{Leaves}
+use Rattle.exec_ledger.specs.Laws.{of_closed, of_open}
+use Rattle.exec_ledger.specs.Pieces.{Effects, Leaves, followed_by, no_effects, row_effects}
 use Rattle.executor.specs.CallLaws.{followed_by_assoc, followed_by_none}
 use Rattle.executor.specs.Lives.{Abandoned, Calls, Cleared, Does, Exchange, Finished, Row, Took, Tidied}
-use Rattle.executor.specs.FinishCalls.{FinishedWhile, FinishesATurn}
-use Rattle.executor.specs.RowCalls.{TakesRow, row_effects}
-use Rattle.executor.specs.Sessions.{Effects, TakesWhile, followed_by, no_effects}
+use Rattle.executor.specs.FinishCalls.{FinishedWhile}
+use Rattle.executor.specs.RowCalls.{TakesRow}
 use Rattle.executor.specs.Sights.{Sight}
 use Rattle.exec_ledger.specs.Held.{Held}
-use Rattle.executor.specs.TidyCalls.{TidiesWhile}
 use Rattle.executor.proofs.Sessions.Growing.{Onward, leads_open, leads_still, leads_turn, onward, onward_at, onward_joined}
 
 module _ {D : Type 0} (look : D → View) where
@@ -34,14 +31,14 @@ module _ {D : Type 0} (look : D → View) where
 
   does_nothing : (e : Exchange) (x y : Sight D) (d : Effects) → x.is_open ≡ false → Does look e x y d → Closed x y d
   does_nothing (Took i reply) x y d closed does =
-      let none = subst (λ (b : Bool). TakesWhile b look i x y reply d) closed does in
+      let none = of_closed _ _ closed does in
       stays_closed x y d closed none.1 none.2
   does_nothing (Row now commands replies) x y d closed does = absurd (false≢true (sym closed ∙ does.takes.was_open))
   does_nothing (Finished now end) x y d closed does =
-      let none = subst (λ (b : Bool). FinishedWhile b look now x y end d) closed does in
+      let none = of_closed _ _ closed does in
       stays_closed x y d closed none.1 none.2
   does_nothing (Tidied end) x y d closed does =
-      let none = subst (λ (b : Bool). TidiesWhile b look x y end) closed does.0 in
+      let none = of_closed _ _ closed does.0 in
       stays_closed x y d closed none.1 does.1
   does_nothing Cleared x y d closed does = record {
     is_closed = ap (λ (z : Sight D). z.is_open) does.0 ∙ closed;
@@ -67,14 +64,12 @@ module _ {D : Type 0} (look : D → View) where
 
   -- a row goes on like any call
   row_going : (o : Bool) (x y : Sight D) (es : List Event) → y.is_open ≡ o
-      → Leaves (look x.disk) (look y.disk) x.state (after_all x.state (row_effects o es).events) [] (row_effects o es).events (row_effects o es).pending
-      → y.state ≡ after_all x.state es → CrashesTo (look x.disk) (look y.disk) Roomy → Onward look x y (row_effects o es)
-  row_going true x y es is_open leaves state roomy =
-      record { crash = leaves; state = λ _. state; roomy = roomy; whole = λ _. refl }
-  row_going false x y es closed leaves state roomy = record {
+      → Leaves look x.disk y.disk x.state (after_all x.state (row_effects o es).events) (row_effects o es)
+      → y.state ≡ after_all x.state es → Onward look x y (row_effects o es)
+  row_going true x y es is_open leaves state = record { crash = leaves; state = λ _. state; whole = λ _. refl }
+  row_going false x y es closed leaves state = record {
     crash = leaves;
     state = λ is_open. absurd (false≢true (sym closed ∙ is_open));
-    roomy = roomy;
     whole = λ is_open. absurd (false≢true (sym closed ∙ is_open));
   }
 
@@ -83,12 +78,12 @@ module _ {D : Type 0} (look : D → View) where
   row_onward x y now commands replies d takes =
       let row = takes.takes.records in
       subst (λ (e : Effects). Onward look x y e) (sym takes.does)
-      (row_going y.is_open x y takes.takes.events refl row.crash (ap (λ (h : Held D). h.state) row.went.same) row.roomy)
+      (row_going y.is_open x y takes.takes.events refl row.crash (ap (λ (h : Held D). h.state) row.went.same))
 
   -- so does a turn that begins nothing
-  finish_onward : (x y : Sight D) (now : ℕ) (end : TurnEnd) (d : Effects) → FinishesATurn look now x y end d → Onward look x y d
-  finish_onward x y now end d finishes =
-      subst (λ (e : Effects). Onward look x y e) (sym finishes.does) (onward look x y _ (leads_turn look now x y end finishes.takes))
+  finish_onward : (x y : Sight D) (now : ℕ) (end : TurnEnd) (d : Effects) → FinishedWhile true look now x y end d → Onward look x y d
+  finish_onward x y now end d (takes, does) =
+      subst (λ (e : Effects). Onward look x y e) (sym does) (onward look x y _ (leads_turn look now x y end takes))
 
   module _ (lawful : (d : D) → (look d).honest → Lawful (look d)) where
     -- one call more, of an open executor
@@ -97,45 +92,45 @@ module _ {D : Type 0} (look : D → View) where
     taken_more true w x y (Took i reply) a d is_open does so_far =
         onward_joined look w x y a d is_open so_far
         (onward look x y d (leads_open look i x y reply d (leads_still look w x a (lawful x.disk) is_open so_far)
-        (subst (λ (b : Bool). TakesWhile b look i x y reply d) is_open does)))
+        (of_open _ _ is_open does)))
     taken_more true w x y (Row now commands replies) a d is_open does so_far =
         onward_joined look w x y a d is_open so_far (row_onward x y now commands replies d does)
     taken_more true w x y (Finished now end) a d is_open does so_far =
-        let finishes = subst (λ (b : Bool). FinishedWhile b look now x y end d) is_open does in
+        let finishes = of_open _ _ is_open does in
         onward_joined look w x y a d is_open so_far (finish_onward x y now end d finishes)
     taken_more true w x y (Tidied end) a d is_open does so_far =
-        let tidies = (subst (λ (b : Bool). TidiesWhile b look x y end) is_open does.0).0 in
+        let tidies = (of_open _ _ is_open does.0).0 in
         subst (λ (b : Effects). Onward look w y (followed_by a b)) (sym does.1)
-        (onward_joined look w x y a no_effects is_open so_far (onward_at look x y no_effects tidies.crash tidies.roomy (λ _. refl)))
+        (onward_joined look w x y a no_effects is_open so_far (onward_at look x y no_effects tidies.crash (λ _. refl)))
     taken_more true w x y Cleared a d is_open does so_far =
         subst (λ (b : Effects). Onward look w y b) (sym (followed_by_none a) ∙ ap (followed_by a) (sym does.1))
         (subst (λ (z : Sight D). Onward look w z a) (sym does.0)
-        (record { crash = so_far.crash; state = so_far.state; roomy = so_far.roomy; whole = so_far.whole }))
+        (record { crash = so_far.crash; state = so_far.state; whole = so_far.whole }))
     taken_more true w x y Abandoned a d is_open does so_far =
         subst (λ (b : Effects). Onward look w y b) (sym (followed_by_none a) ∙ ap (followed_by a) (sym does.1))
         (subst (λ (z : Sight D). Onward look w z a) (sym does.0)
-        (record { crash = so_far.crash; state = λ bad. absurd (false≢true bad); roomy = so_far.roomy; whole = λ bad. absurd (false≢true bad) }))
+        (record { crash = so_far.crash; state = λ bad. absurd (false≢true bad); whole = λ bad. absurd (false≢true bad) }))
     taken_more false w x y (Took i reply) a d closed does so_far =
-        let none = subst (λ (b : Bool). TakesWhile b look i x y reply d) closed does in
+        let none = of_closed _ _ closed does in
         subst (λ (b : Effects). Onward look w y b) (sym (followed_by_none a) ∙ ap (followed_by a) (sym none.2))
         (subst (λ (z : Sight D). Onward look w z a) (sym none.1) so_far)
     taken_more false w x y (Row now commands replies) a d closed does so_far = absurd (false≢true (sym closed ∙ does.takes.was_open))
     taken_more false w x y (Finished now end) a d closed does so_far =
-        let none = subst (λ (b : Bool). FinishedWhile b look now x y end d) closed does in
+        let none = of_closed _ _ closed does in
         subst (λ (b : Effects). Onward look w y b) (sym (followed_by_none a) ∙ ap (followed_by a) (sym none.2))
         (subst (λ (z : Sight D). Onward look w z a) (sym none.1) so_far)
     taken_more false w x y (Tidied end) a d closed does so_far =
-        let none = subst (λ (b : Bool). TidiesWhile b look x y end) closed does.0 in
+        let none = of_closed _ _ closed does.0 in
         subst (λ (b : Effects). Onward look w y b) (sym (followed_by_none a) ∙ ap (followed_by a) (sym does.1))
         (subst (λ (z : Sight D). Onward look w z a) (sym none.1) so_far)
     taken_more false w x y Cleared a d closed does so_far =
         subst (λ (b : Effects). Onward look w y b) (sym (followed_by_none a) ∙ ap (followed_by a) (sym does.1))
         (subst (λ (z : Sight D). Onward look w z a) (sym does.0)
-        (record { crash = so_far.crash; state = so_far.state; roomy = so_far.roomy; whole = so_far.whole }))
+        (record { crash = so_far.crash; state = so_far.state; whole = so_far.whole }))
     taken_more false w x y Abandoned a d closed does so_far =
         subst (λ (b : Effects). Onward look w y b) (sym (followed_by_none a) ∙ ap (followed_by a) (sym does.1))
         (subst (λ (z : Sight D). Onward look w z a) (sym does.0)
-        (record { crash = so_far.crash; state = λ bad. absurd (false≢true bad); roomy = so_far.roomy; whole = λ bad. absurd (false≢true bad) }))
+        (record { crash = so_far.crash; state = λ bad. absurd (false≢true bad); whole = λ bad. absurd (false≢true bad) }))
 
     -- any calls more
     pub calls_more : (w x z : Sight D) (es : List Exchange) (a d : Effects) → Calls look x es z d → Onward look w x a

@@ -10,7 +10,7 @@ use Rattle.exec_journal.specs.Found.{FoundAs}
 use Rattle.exec_journal.specs.Room.{Roomy}
 use Rattle.exec_journal.specs.Rows.{EitherSide}
 use Rattle.executor.specs.Lives.{Serves, Service, Stands}
-use Rattle.executor.specs.Sessions.{Effects, followed_by, no_effects}
+use Rattle.exec_ledger.specs.Pieces.{Effects, followed_by, no_effects}
 use Rattle.exec_ledger.specs.Laws.{WhatStands}
 use Rattle.executor.proofs.Lives.Calls.{calls_closed, calls_more}
 use Rattle.executor.proofs.Lives.Fronts.{EachBegun, FrontOf, GoesOn, all_begun, begin_among}
@@ -118,7 +118,8 @@ module _ {D : Type 0} (look : D → View) (law : WhatStands) (lawful : (d : D) �
       each_begun : EachBegun x.opened.state (all_of (followed_by x.done x.under_way)) c x.stop (followed_by x.done x.under_way).entries
       each_begun run clock asked le =
           let begun = whole_leads.crash.starts run clock asked in
-          let stands = begun.since honest c (from_earlier clock le) in
+          let stands = begun.behind.from_start honest c
+          (from_earlier (look begun.disk).clock (subst (λ (n : ℕ). n ≤ x.stop) begun.counted le)) in
           let q = stands.0 in (
             begun.first ++ q,
             record {
@@ -153,4 +154,4 @@ module _ {D : Type 0} (look : D → View) (law : WhatStands) (lawful : (d : D) �
       pub service_roomy : Roomy c
       service_roomy =
           let later = returned_leads.crash.crash.passed.clock in
-          whole_leads.roomy.from_start honest c (from_earlier (look x.opened.disk).clock (omega (arith, later, serves.behind)))
+          whole_leads.crash.roomy.from_start honest c (from_earlier (look x.opened.disk).clock (omega (arith, later, serves.behind)))

@@ -19,7 +19,7 @@ use Rattle.exec_journal.specs.Room.{Roomy}
 use Rattle.executor.specs.Lives.{BeginsAs, EndsOpening, GoesOnFrom, MayBoot, InOpening, InService, IsLife, LifeLeaves, Lived, OpensBehind, Sat, Sitting, boots}
 use Rattle.executor.specs.Openings.{NotOpened, Opened, StartsLike}
 use Rattle.exec_ledger.specs.Boots.{booted}
-use Rattle.executor.specs.Reports.{dropped, interrupted}
+use Rattle.executor.specs.Interruptions.{dropped, interrupted}
 use Rattle.executor.specs.Sights.{Sight}
 use Rattle.executor.specs.declared.opening.OpenError.{OpenError}
 use Rattle.executor.specs.declared.opening.OpenError.TheVariants as why

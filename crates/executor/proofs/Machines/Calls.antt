@@ -3,7 +3,6 @@ use Rattle.std.proofs.Common.{◌≡◌, ◌⊎◌, inl, inr, ℕ, Bool, true, f
 use Rattle.std.proofs.lemmas.Bool.{false≢true}
 use Rattle.std.proofs.lemmas.List.{append-nil}
 use Rattle.ocf_types.specs.Answer.{event_of, moment}
-use Rattle.ocf_types.specs.Due.{Due, due_after}
 use Rattle.ocf_types.specs.Kinds.{Change, Command, Event, Reply}
 use Rattle.ocf_types.specs.State.{State, after_all}
 use Rattle.ocf_types.specs.declared.command.RequestOf.TheVariants as asked
@@ -20,34 +19,34 @@ use Rattle.child_model.specs.declared.answer.Entry.{Entry}
 use Rattle.exec_turn.specs.Turn.{IsFinish, IsTurn, TurnKind}
 use Rattle.exec_ledger.specs.Commands.{Obeys, Records}
 use Rattle.executor.specs.Lives.{Abandoned, Calls, Cleared, Does, Exchange, Finished, Row, Tidied, Took}
-use Rattle.executor.specs.Machine.{AnswersClosed, Closes, GoesOn, Label, Left, Machine, MovesAll, MovesOpen, MovesTurn, MovesWhile, TakesAll, TakesOne, TidyEnds}
-use Rattle.exec_ledger.specs.Replies.{acknowledged, due_left, pending, recorded}
+use Rattle.executor.specs.Machine.{AnswersClosed, Closes, GoesOn, Label, Machine, MovesAll, MovesOpen, MovesTurn, MovesWhile, TakesAll, TakesOne, TidyEnds}
+use Rattle.exec_ledger.specs.Replies.{acknowledged, pending, recorded}
 use Rattle.exec_ledger.specs.Together.{Adds, Answered, failed, row_replies}
-use Rattle.executor.specs.FinishCalls.{FinishedWhile, FinishesATurn}
-use Rattle.executor.specs.RowCalls.{TakesRow, row_effects}
+use Rattle.executor.specs.FinishCalls.{FinishedWhile}
+use Rattle.executor.specs.RowCalls.{TakesRow}
+use Rattle.exec_ledger.specs.Laws.{of_closed, of_open, same_entries}
+use Rattle.exec_ledger.specs.Pieces.{Effects, no_effects, row_effects}
+use Rattle.exec_ledger.specs.Scenes.{due_after_all}
 use Rattle.executor.specs.SeenLives.{label_in, labels}
-use Rattle.executor.specs.Sessions.{Effects, TakesATurn, TakesRequest, TakesWhile, command_effects, no_effects}
+use Rattle.executor.specs.Sessions.{TakesATurn, TakesRequest, command_effects}
 use Rattle.exec_ledger.specs.Held.{Held, due_in as held_due}
 use Rattle.executor.specs.CallLaws.{same_sight}
 use Rattle.executor.specs.Sights.{Beside, Sight, due_in, ledger_of}
 use Rattle.exec_ledger.specs.Tidying.{Tidies}
-use Rattle.executor.specs.TidyCalls.{TidiesWhile}
 use Rattle.executor.specs.TurnCalls.{MakesTurn}
 use Rattle.executor.specs.declared.session.InputOf.TheVariants as input
 use Rattle.executor.proofs.Memory.{memory_told}
 
--- an executor as the machine, and what its calls left
+-- an executor as the machine
 abbrev pub machine_of : {D : Type 0} → Sight D → Machine
 machine_of x = record { is_open = x.is_open; state = x.state; due = due_in x; refuses = x.refuses }
-
-abbrev pub left_of : Effects → Left
-left_of d = record { events = d.events; pending = d.pending }
 
 pub same_machine : (m n : Machine) → m.is_open ≡ n.is_open → m.state ≡ n.state → m.due ≡ n.due → m.refuses ≡ n.refuses → m ≡ n
 same_machine m n o s d a = λ k. record { is_open = o k; state = s k; due = d k; refuses = a k }
 
-same_left : (a b : Left) → a.events ≡ b.events → a.pending ≡ b.pending → a ≡ b
-same_left a b e p = λ k. record { events = e k; pending = p k }
+same_effects : (e : Event) (reply : Reply) (es ps : List Event) → recorded e reply ≡ es → pending e reply ≡ ps
+    → command_effects (Ok e) reply ≡ record { entries = []; events = es; pending = ps }
+same_effects e reply es ps r p = λ k. record { entries = []; events = r k; pending = p k }
 
 is_true : (o : Bool) → (o ≡ false → ⊥) → o ≡ true
 is_true true h = refl
@@ -60,14 +59,14 @@ not_refused (change.Step id (step.Recur m)) refusal is = cc
 not_refused _ refusal is = cc
 
 -- what of it is recorded, pending, and answered where the disk fails
-abbrev Acknowledged : State → Due → Event → Change → Type 0
-Acknowledged s due e c = (recorded e (acknowledged c) ≡ e ∷ []) × (pending e (acknowledged c) ≡ [])
-    × (due_left s e (acknowledged c) due ≡ due_after s due e) × (failed (acknowledged c ∷ []) ≡ Refused Disk ∷ [])
+abbrev Acknowledged : Event → Change → Type 0
+Acknowledged e c = (recorded e (acknowledged c) ≡ e ∷ []) × (pending e (acknowledged c) ≡ [])
+    × (failed (acknowledged c ∷ []) ≡ Refused Disk ∷ [])
 
-is_acknowledged : (s : State) (due : Due) (e : Event) (c : Change) → Acknowledged s due e c
-is_acknowledged s due e (change.Step id (step.Exec o)) = (refl, refl, refl, refl)
-is_acknowledged s due e (change.Step id (step.Recur m)) = (refl, refl, refl, refl)
-is_acknowledged s due e _ = (refl, refl, refl, refl)
+is_acknowledged : (e : Event) (c : Change) → Acknowledged e c
+is_acknowledged e (change.Step id (step.Exec o)) = (refl, refl, refl)
+is_acknowledged e (change.Step id (step.Recur m)) = (refl, refl, refl)
+is_acknowledged e _ = (refl, refl, refl)
 
 -- one answer, and the events of one command
 answers : (s : State) (now : ℕ) (c : Command) (r : Reply) (es : List Event) (v : Result Event Refusal) → event_of s now c ≡ v → Adds v r es
@@ -80,8 +79,8 @@ quiet_command (Err refusal) reply = refl
 quiet_command (Ok e) reply = refl
 
 module _ {D : Type 0} (look : D → View) where
-  still : (x y : Sight D) (d : Effects) → y ≡ x → d ≡ no_effects → GoesOn [] (machine_of x) (machine_of y) (left_of d)
-  still x y d same none = (ap machine_of same, ap left_of none)
+  still : (x y : Sight D) (d : Effects) → y ≡ x → d ≡ no_effects → GoesOn [] (machine_of x) (machine_of y) d
+  still x y d same none = (ap machine_of same, none)
 
   -- a label with what its device did, and where the journal's next record went
   abbrev step_of : Sight D → Sight D → Label
@@ -90,14 +89,14 @@ module _ {D : Type 0} (look : D → View) where
   -- a command
   records : (now : ℕ) (c : Command) (x y : Sight D) (reply : Reply) (e : Event) → event_of x.state now c ≡ Ok e
       → Records look e (ledger_of x) (ledger_of y) reply → Beside x y → x.is_open ≡ true → (y.is_open ≡ false → reply ≡ Refused Disk) → (reply ≡ Refused Disk → y.is_open ≡ false)
-      → TakesOne (step_of x y) now c reply (machine_of x) (machine_of y) (left_of (command_effects (Ok e) reply))
+      → TakesOne (step_of x y) now c reply (machine_of x) (machine_of y) (command_effects (Ok e) reply)
   records now c x y reply e is r beside was closes closed = by r.told
     where
-      so : Acknowledged x.state (due_in x) e e.change
-      so = is_acknowledged x.state (due_in x) e e.change
+      so : Acknowledged e e.change
+      so = is_acknowledged e e.change
 
       by : (reply ≡ acknowledged e.change) ⊎ ((reply ≡ Refused JournalFull) ⊎ ((reply ≡ Refused Memory) ⊎ (reply ≡ Refused Disk)))
-          → TakesOne (step_of x y) now c reply (machine_of x) (machine_of y) (left_of (command_effects (Ok e) reply))
+          → TakesOne (step_of x y) now c reply (machine_of x) (machine_of y) (command_effects (Ok e) reply)
       by (inl told) =
           let row : recorded e reply ≡ e ∷ [] = ap (recorded e) told ∙ so.0 in
           let open_still : y.is_open ≡ true = is_true y.is_open (λ bad. not_refused e.change Disk (sym told ∙ closes bad)) in
@@ -109,13 +108,13 @@ module _ {D : Type 0} (look : D → View) where
               refl,
               (
                 same_machine (machine_of y) _ (open_still ∙ sym was) (r.crash.state ∙ ap (after_all x.state) row)
-                    (r.due ∙ ap (λ (a : Reply). due_left x.state e a (due_in x)) told ∙ so.2) r.allocator,
-                same_left _ _ row (ap (pending e) told ∙ so.1),
+                    (r.due ∙ ap (due_after_all x.state (due_in x)) row) r.allocator,
+                same_effects e reply (e ∷ []) [] row (ap (pending e) told ∙ so.1),
               ),
             ),
           )
       by (inr (inl full)) =
-          inr (e, is, full, r.full full, (ap machine_of (same_sight x y (r.unchanged (inl full)) beside), same_left _ _ (ap (recorded e) full) (ap (pending e) full)))
+          inr (e, is, full, r.full full, (ap machine_of (same_sight x y (r.unchanged (inl full)) beside), same_effects e reply [] [] (ap (recorded e) full) (ap (pending e) full)))
       by (inr (inr (inl memory))) =
           inl (
             reply ∷ [],
@@ -123,7 +122,7 @@ module _ {D : Type 0} (look : D → View) where
             answers x.state now c reply [] (Ok e) is (inr (memory, (r.memory memory).0, refl)),
             inl (
               refl,
-              (ap machine_of (same_sight x y (r.unchanged (inr memory)) beside), same_left _ _ (ap (recorded e) memory) (ap (pending e) memory)),
+              (ap machine_of (same_sight x y (r.unchanged (inr memory)) beside), same_effects e reply [] [] (ap (recorded e) memory) (ap (pending e) memory)),
             ),
           )
       by (inr (inr (inr disk))) =
@@ -133,26 +132,26 @@ module _ {D : Type 0} (look : D → View) where
             answers x.state now c (acknowledged e.change) (e ∷ []) (Ok e) is (inl (refl, refl)),
             inr (
               (λ none. let bad : e ∷ [] ≡ [] = none in cc),
-              ap (λ (a : Reply). a ∷ []) disk ∙ sym so.3,
-              (r.cause disk, (closed disk, same_left _ _ (ap (recorded e) disk) (ap (pending e) disk))),
+              ap (λ (a : Reply). a ∷ []) disk ∙ sym so.2,
+              (r.cause disk, (closed disk, same_effects e reply [] (e ∷ []) (ap (recorded e) disk) (ap (pending e) disk))),
             ),
           )
 
   one_command : (now : ℕ) (c : Command) (x y : Sight D) (reply : Reply) (d : Effects) → TakesRequest look now (asked.Command c) x y reply d
-      → x.is_open ≡ true → TakesOne (step_of x y) now c reply (machine_of x) (machine_of y) (left_of d)
+      → x.is_open ≡ true → TakesOne (step_of x y) now c reply (machine_of x) (machine_of y) d
   one_command now c x y reply d takes was =
-      subst (λ (k : Effects). TakesOne (step_of x y) now c reply (machine_of x) (machine_of y) (left_of k)) (sym takes.does)
+      subst (λ (k : Effects). TakesOne (step_of x y) now c reply (machine_of x) (machine_of y) k) (sym takes.does)
       (by (event_of x.state now c) refl takes.serves.0)
     where
       by : (v : Result Event Refusal) → event_of x.state now c ≡ v → Obeys look v (ledger_of x) (ledger_of y) reply
-          → TakesOne (step_of x y) now c reply (machine_of x) (machine_of y) (left_of (command_effects v reply))
+          → TakesOne (step_of x y) now c reply (machine_of x) (machine_of y) (command_effects v reply)
       by (Err refusal) is serves =
           inl (reply ∷ [], [], answers x.state now c reply [] (Err refusal) is (serves.0, refl), inl (refl, still x y no_effects (same_sight x y serves.1 takes.serves.1) refl))
       by (Ok e) is serves = records now c x y reply e is serves takes.serves.1 was takes.closes.0 takes.closes.1
 
   -- commands in a row
   row_so : (o : Bool) (now : ℕ) (cs : List Command) (rs : List Reply) (x y : Sight D) (d : Effects) (t : TakesRow look now cs x y rs d)
-      → y.is_open ≡ o → TakesAll (step_of x y) now cs (row_replies o t.takes.meant) (machine_of x) (machine_of y) (left_of (row_effects o t.takes.events))
+      → y.is_open ≡ o → TakesAll (step_of x y) now cs (row_replies o t.takes.meant) (machine_of x) (machine_of y) (row_effects o t.takes.events)
   row_so true now cs rs x y d t is = (
     t.takes.meant,
     t.takes.events,
@@ -178,117 +177,118 @@ module _ {D : Type 0} (look : D → View) where
   )
 
   one_row : (now : ℕ) (cs : List Command) (rs : List Reply) (x y : Sight D) (d : Effects) → TakesRow look now cs x y rs d
-      → TakesAll (step_of x y) now cs rs (machine_of x) (machine_of y) (left_of d)
+      → TakesAll (step_of x y) now cs rs (machine_of x) (machine_of y) d
   one_row now cs rs x y d t =
-      subst (λ (l : List Reply). TakesAll (step_of x y) now cs l (machine_of x) (machine_of y) (left_of d)) (sym t.takes.told)
-      (subst (λ (k : Effects). TakesAll (step_of x y) now cs (row_replies y.is_open t.takes.meant) (machine_of x) (machine_of y) (left_of k)) (sym t.does)
+      subst (λ (l : List Reply). TakesAll (step_of x y) now cs l (machine_of x) (machine_of y) d) (sym t.takes.told)
+      (subst (λ (k : Effects). TakesAll (step_of x y) now cs (row_replies y.is_open t.takes.meant) (machine_of x) (machine_of y) k) (sym t.does)
       (row_so y.is_open now cs rs x y d t refl))
 
   -- a turn of a kind, by its label
   turn_so : (kind : TurnKind) (each now : ℕ) (x y : Sight D) (end : TurnEnd) (e : Exchange) (t : MakesTurn kind each look now x y end)
       → MovesTurn kind each end (moment x.state now)
-      (record { exchange = e; answers = t.turns.entries; notices = y.told; room = x.children.room; place = x.place; faults = ((look x.disk).failures, (look y.disk).failures) })
-      (machine_of x) (machine_of y) (record { events = t.turns.events; pending = t.turns.pending })
+      (record { exchange = e; answers = t.turns.effects.entries; notices = y.told; room = x.children.room; place = x.place; faults = ((look x.disk).failures, (look y.disk).failures) })
+      (machine_of x) (machine_of y) t.turns.effects
   turn_so kind each now x y end e t = record {
     turns = t.turns.does;
+    answers = refl;
     goes_on = same_machine (machine_of y) _ refl t.turns.crash.state t.turns.due_is t.allocator;
     full = t.full;
     closes = t.closes;
     cause = t.turns.cause;
   }
 
-  one_finish : (now : ℕ) (x y : Sight D) (end : TurnEnd) (d : Effects) → FinishesATurn look now x y end d
-      → MovesOpen (Finished now end) (label_in look true (Finished now end) x y d) (machine_of x) (machine_of y) (left_of d)
-  one_finish now x y end d finishes =
-      subst (λ (k : Effects). MovesTurn IsFinish 2 end (moment x.state now) (label_in look true (Finished now end) x y k) (machine_of x) (machine_of y) (left_of k))
-      (sym finishes.does) (turn_so IsFinish 2 now x y end (Finished now end) finishes.takes)
+  one_finish : (now : ℕ) (x y : Sight D) (end : TurnEnd) (d : Effects) → FinishedWhile true look now x y end d
+      → MovesOpen (Finished now end) (label_in look true (Finished now end) x y d) (machine_of x) (machine_of y) d
+  one_finish now x y end d (takes, does) =
+      subst (λ (k : Effects). MovesTurn IsFinish 2 end (moment x.state now) (label_in look true (Finished now end) x y k) (machine_of x) (machine_of y) k)
+      (sym does) (turn_so IsFinish 2 now x y end (Finished now end) takes)
 
   one_turn : (now : ℕ) (x y : Sight D) (reply : Reply) (d : Effects) → TakesATurn look now x y reply d
-      → MovesOpen (Took (input.Turn now) reply) (label_in look true (Took (input.Turn now) reply) x y d) (machine_of x) (machine_of y) (left_of d)
+      → MovesOpen (Took (input.Turn now) reply) (label_in look true (Took (input.Turn now) reply) x y d) (machine_of x) (machine_of y) d
   one_turn now x y reply d takes = (
     takes.end,
     takes.replies,
     subst (λ (k : Effects). MovesTurn IsTurn 3 takes.end (moment x.state now) (label_in look true (Took (input.Turn now) reply) x y k)
-        (machine_of x) (machine_of y) (left_of k))
+        (machine_of x) (machine_of y) k)
         (sym takes.does) (turn_so IsTurn 3 now x y takes.end (Took (input.Turn now) reply) takes.takes),
   )
 
   -- a tidy
   tidied_open : (x y : Sight D) (d : Effects) (end : TidyEnd) → (end ≡ tidy.Disk → ⊥) → Tidies look (ledger_of x) (ledger_of y) end
-      → d ≡ no_effects → x.is_open ≡ true → GoesOn [] (machine_of x) (machine_of y) (left_of d)
+      → d ≡ no_effects → x.is_open ≡ true → GoesOn [] (machine_of x) (machine_of y) d
   tidied_open x y d end other t none was = (
     same_machine (machine_of y) _ (is_true y.is_open (λ shut. other (t.closes.0 shut)) ∙ sym was) (ap (λ (h : Held D). h.state) t.same)
         (ap held_due t.same) (ap (λ (h : Held D). h.refuses) t.same),
-    ap left_of none,
+    none,
   )
 
   one_tidy : (end : TidyEnd) (x y : Sight D) (d : Effects) → Tidies look (ledger_of x) (ledger_of y) end → d ≡ no_effects → x.is_open ≡ true
-      → TidyEnds end (label_in look true (Tidied end) x y d) (machine_of x) (machine_of y) (left_of d)
+      → TidyEnds end (label_in look true (Tidied end) x y d) (machine_of x) (machine_of y) d
   one_tidy tidy.Done x y d t none was = tidied_open x y d tidy.Done (λ is. cc) t none was
   one_tidy tidy.EpochSpent x y d t none was = (t.spent.0 refl, tidied_open x y d tidy.EpochSpent (λ is. cc) t none was)
-  one_tidy tidy.Disk x y d t none was = (t.cause refl, (t.closes.1 refl, ap left_of none))
+  one_tidy tidy.Disk x y d t none was = (t.cause refl, (t.closes.1 refl, none))
   one_tidy tidy.Closed x y d t none was = t.not_closed refl
 
   -- an open executor
   moves_open : (e : Exchange) (x y : Sight D) (d : Effects) → x.is_open ≡ true → Does look e x y d
-      → MovesOpen e (label_in look true e x y d) (machine_of x) (machine_of y) (left_of d)
+      → MovesOpen e (label_in look true e x y d) (machine_of x) (machine_of y) d
   moves_open (Took (input.Request now (asked.Question q)) reply) x y d was does =
       let t : TakesRequest look now (asked.Question q) x y reply d =
-      subst (λ (b : Bool). TakesWhile b look (input.Request now (asked.Question q)) x y reply d) was does in
-      ((ap (λ (k : Effects). k.entries) t.does, refl), t.serves.0, still x y d t.serves.1 t.does)
+      of_open _ _ was does in
+      ((same_entries t.does, refl), t.serves.0, still x y d t.serves.1 t.does)
   moves_open (Took (input.Request now (asked.Command c)) reply) x y d was does =
       let t : TakesRequest look now (asked.Command c) x y reply d =
-      subst (λ (b : Bool). TakesWhile b look (input.Request now (asked.Command c)) x y reply d) was does in
-      ((ap (λ (k : Effects). k.entries) t.does ∙ quiet_command (event_of x.state now c) reply, refl), one_command now c x y reply d t was)
+      of_open _ _ was does in
+      ((same_entries t.does ∙ quiet_command (event_of x.state now c) reply, refl), one_command now c x y reply d t was)
   moves_open (Took (input.Turn now) reply) x y d was does =
-      one_turn now x y reply d (subst (λ (b : Bool). TakesWhile b look (input.Turn now) x y reply d) was does)
-  moves_open (Row now cs rs) x y d was does = ((ap (λ (k : Effects). k.entries) does.does, refl), one_row now cs rs x y d does)
+      one_turn now x y reply d (of_open _ _ was does)
+  moves_open (Row now cs rs) x y d was does = ((same_entries does.does, refl), one_row now cs rs x y d does)
   moves_open (Finished now end) x y d was does =
-      one_finish now x y end d (subst (λ (b : Bool). FinishedWhile b look now x y end d) was does)
+      one_finish now x y end d (of_open _ _ was does)
   moves_open (Tidied end) x y d was does =
-      let t = subst (λ (b : Bool). TidiesWhile b look x y end) was does.0 in
-      ((ap (λ (k : Effects). k.entries) does.1, refl), one_tidy end x y d t.0 does.1 was)
-  moves_open Cleared x y d was does = ((ap (λ (k : Effects). k.entries) does.1, refl), (ap machine_of does.0, ap left_of does.1))
+      let t = of_open _ _ was does.0 in
+      ((same_entries does.1, refl), one_tidy end x y d t.0 does.1 was)
+  moves_open Cleared x y d was does = ((same_entries does.1, refl), (ap machine_of does.0, does.1))
   moves_open Abandoned x y d was does =
-      ((ap (λ (k : Effects). k.entries) does.1, refl), (ap (λ (z : Sight D). z.is_open) does.0, ap left_of does.1))
+      ((same_entries does.1, refl), (ap (λ (z : Sight D). z.is_open) does.0, does.1))
 
   -- a closed one
-  closed_still : (x y : Sight D) (d : Effects) → x.is_open ≡ false → y ≡ x → d ≡ no_effects → Closes [] (machine_of y) (left_of d)
-  closed_still x y d was same none = (ap (λ (z : Sight D). z.is_open) same ∙ was, ap left_of none)
+  closed_still : (x y : Sight D) (d : Effects) → x.is_open ≡ false → y ≡ x → d ≡ no_effects → Closes [] (machine_of y) d
+  closed_still x y d was same none = (ap (λ (z : Sight D). z.is_open) same ∙ was, none)
 
   moves_closed : (e : Exchange) (x y : Sight D) (d : Effects) → x.is_open ≡ false → Does look e x y d
-      → (d.entries ≡ []) × AnswersClosed e × Closes [] (machine_of y) (left_of d)
+      → (d.entries ≡ []) × AnswersClosed e × Closes [] (machine_of y) d
   moves_closed (Took i reply) x y d was does =
-      let t = subst (λ (b : Bool). TakesWhile b look i x y reply d) was does in
-      (ap (λ (k : Effects). k.entries) t.2, t.0, closed_still x y d was t.1 t.2)
+      let t = of_closed _ _ was does in
+      (same_entries t.2, t.0, closed_still x y d was t.1 t.2)
   moves_closed (Row now cs rs) x y d was does = absurd (false≢true (sym was ∙ does.takes.was_open))
   moves_closed (Finished now end) x y d was does =
-      let t = subst (λ (b : Bool). FinishedWhile b look now x y end d) was does in
-      (ap (λ (k : Effects). k.entries) t.2, t.0, closed_still x y d was t.1 t.2)
+      let t = of_closed _ _ was does in
+      (same_entries t.2, t.0, closed_still x y d was t.1 t.2)
   moves_closed (Tidied end) x y d was does =
-      let t = subst (λ (b : Bool). TidiesWhile b look x y end) was does.0 in
-      (ap (λ (k : Effects). k.entries) does.1, t.0, closed_still x y d was t.1 does.1)
+      let t = of_closed _ _ was does.0 in
+      (same_entries does.1, t.0, closed_still x y d was t.1 does.1)
   moves_closed Cleared x y d was does =
-      (ap (λ (k : Effects). k.entries) does.1, tt, (ap (λ (z : Sight D). z.is_open) does.0 ∙ was, ap left_of does.1))
+      (same_entries does.1, tt, (ap (λ (z : Sight D). z.is_open) does.0 ∙ was, does.1))
   moves_closed Abandoned x y d was does =
-      (ap (λ (k : Effects). k.entries) does.1, tt, (ap (λ (z : Sight D). z.is_open) does.0, ap left_of does.1))
+      (same_entries does.1, tt, (ap (λ (z : Sight D). z.is_open) does.0, does.1))
 
   moves : (o : Bool) (e : Exchange) (x y : Sight D) (d : Effects) → x.is_open ≡ o → Does look e x y d
-      → MovesWhile o (label_in look o e x y d) (machine_of x) (machine_of y) (left_of d)
+      → MovesWhile o (label_in look o e x y d) (machine_of x) (machine_of y) d
   moves true e x y d was does = (moves_open e x y d was does, memory_told look e x y d does)
   moves false e x y d was does =
       let m = moves_closed e x y d was does in ((m.0, refl), m.1, m.2)
 
   -- calls, one after the other
   pub moves_all : (es : List Exchange) (x y : Sight D) (d : Effects) (calls : Calls look x es y d)
-      → MovesAll (labels look x es y d calls) (machine_of x) (machine_of y) (left_of d)
-  moves_all [] x y d calls = (ap machine_of calls.0, ap left_of calls.1)
+      → MovesAll (labels look x es y d calls) (machine_of x) (machine_of y) d
+  moves_all [] x y d calls = (ap machine_of calls.0, calls.1)
   moves_all (e ∷ es) x y d (mid, first, later, does, rest, is) =
-      (machine_of mid, left_of first, left_of later, moves x.is_open e x mid first refl does, moves_all es mid y later rest, ap left_of is)
+      (machine_of mid, first, later, moves x.is_open e x mid first refl does, moves_all es mid y later rest, is)
 
   -- the answers in their labels are those that their children gave
   pub labels_answers : (es : List Exchange) (x y : Sight D) (d : Effects) (calls : Calls look x es y d)
       → flat_map (λ l. l.answers) (labels look x es y d calls) ≡ d.entries
-  labels_answers [] x y d calls = sym (ap (λ (k : Effects). k.entries) calls.1)
+  labels_answers [] x y d calls = sym (same_entries calls.1)
   labels_answers (e ∷ es) x y d (mid, first, later, does, rest, is) =
-      ap (λ (l : List Entry). first.entries ++ l) (labels_answers es mid y later rest) ∙ sym (ap (λ (k : Effects). k.entries) is)
+      ap (λ (l : List Entry). first.entries ++ l) (labels_answers es mid y later rest) ∙ sym (same_entries is)

@@ -16,10 +16,9 @@ use Rattle.ocf_types.specs.declared.reply.Notice.{Notice}
 use Rattle.ocf_types.specs.declared.reply.ReplyOf.TheVariants as reply
 use Rattle.ocf_types.specs.declared.reply.TurnEnd.{TurnEnd}
 use Rattle.ocf_types.specs.declared.reply.TurnEnd.TheVariants as turn_end
-use Rattle.child_model.specs.declared.answer.Entry.{Entry}
 use Rattle.exec_ledger.specs.Actives.{Active}
 use Rattle.exec_ledger.specs.Boots.{booted}
-use Rattle.exec_ledger.specs.Pieces.{HasBegin, is_begin}
+use Rattle.exec_ledger.specs.Pieces.{Effects, HasBegin, is_begin}
 use Rattle.exec_ledger.specs.Replies.{acknowledged}
 use Rattle.exec_ledger.specs.Scenes.{Scene, scene}
 use Rattle.exec_ledger.specs.Together.{Adds, Answered, disk_each, failed, is_kept}
@@ -27,9 +26,10 @@ use Rattle.exec_turn.specs.Actives.{notice_of, result_of}
 use Rattle.exec_turn.specs.Picks.{begins}
 use Rattle.exec_turn.specs.Polls.{Polled, ends_of, result_notices, results}
 use Rattle.exec_turn.specs.Starts.{refusal_notices, refusals, refused_end}
+use Rattle.exec_ledger.specs.Laws.{same_events}
 use Rattle.exec_turn.specs.Turn.{IsFinish, IsTurn, Whole}
 use Rattle.executor.specs.Lives.{Abandoned, Cleared, Exchange, Finished, Row, Tidied, Took, boots}
-use Rattle.executor.specs.Machine.{AnswersClosed, Label, Left, Machine, MovesAll, MovesOpen, MovesWhile, TakesAll, TakesOne}
+use Rattle.executor.specs.Machine.{AnswersClosed, Label, Machine, MovesAll, MovesOpen, MovesWhile, TakesAll, TakesOne}
 use Rattle.executor.specs.Promise.{Acknowledged, AllBegun, AllRecorded, Claim, Ended, IsKept, acknowledged_in, acknowledgements, claimed, claims_of}
 use Rattle.executor.specs.Runs.{HasBegins, Opening, Remains, Runs, Seen, SeenService, Serving, opened_on}
 use Rattle.executor.specs.declared.session.InputOf.TheVariants as input
@@ -100,19 +100,19 @@ none_failed now (c ∷ cs) (reply.Turn end ∷ rs) = none_kept now cs rs
 none_claimed : (s : State) (cs : List Claim) (es : List Event) → cs ≡ [] → AllRecorded s cs es
 none_claimed s cs es none = subst (λ (ds : List Claim). AllRecorded s ds es) (sym none) tt
 
-takes_recorded : (l : Label) (now : ℕ) (cs : List Command) (rs : List Reply) (m n : Machine) (left : Left) → TakesAll l now cs rs m n left
-    → AllRecorded m.state (acknowledgements now cs rs) left.events
-takes_recorded l now cs rs m n left (meant, es, answered, inl (told, goes)) =
-    subst (λ (k : Left). AllRecorded m.state (acknowledgements now cs rs) k.events) (sym goes.1)
+takes_recorded : (l : Label) (now : ℕ) (cs : List Command) (rs : List Reply) (m n : Machine) (did : Effects) → TakesAll l now cs rs m n did
+    → AllRecorded m.state (acknowledgements now cs rs) did.events
+takes_recorded l now cs rs m n did (meant, es, answered, inl (told, goes)) =
+    subst (λ (k : Effects). AllRecorded m.state (acknowledgements now cs rs) k.events) (sym goes.1)
     (subst (λ (ts : List Reply). AllRecorded m.state (acknowledgements now cs ts) es) (sym told) (answered_recorded m.state now cs meant es answered))
-takes_recorded l now cs rs m n left (meant, es, answered, inr (some, told, fails)) =
-    none_claimed m.state (acknowledgements now cs rs) left.events (ap (acknowledgements now cs) told ∙ none_failed now cs meant)
+takes_recorded l now cs rs m n did (meant, es, answered, inr (some, told, fails)) =
+    none_claimed m.state (acknowledgements now cs rs) did.events (ap (acknowledgements now cs) told ∙ none_failed now cs meant)
 
-one_taken : (l : Label) (now : ℕ) (c : Command) (r : Reply) (m n : Machine) (left : Left) → TakesOne l now c r m n left
-    → AllRecorded m.state (acknowledgements now (c ∷ []) (r ∷ [])) left.events
-one_taken l now c r m n left (inl takes) = takes_recorded l now (c ∷ []) (r ∷ []) m n left takes
-one_taken l now c r m n left (inr (e, is, full, may, goes)) =
-    none_claimed m.state (acknowledgements now (c ∷ []) (r ∷ [])) left.events (ap (λ (t : Reply). acknowledgements now (c ∷ []) (t ∷ [])) full)
+one_taken : (l : Label) (now : ℕ) (c : Command) (r : Reply) (m n : Machine) (did : Effects) → TakesOne l now c r m n did
+    → AllRecorded m.state (acknowledgements now (c ∷ []) (r ∷ [])) did.events
+one_taken l now c r m n did (inl takes) = takes_recorded l now (c ∷ []) (r ∷ []) m n did takes
+one_taken l now c r m n did (inr (e, is, full, may, goes)) =
+    none_claimed m.state (acknowledgements now (c ∷ []) (r ∷ [])) did.events (ap (λ (t : Reply). acknowledgements now (c ∷ []) (t ∷ [])) full)
 
 -- notices: each is of its result
 ends_recorded : (s : State) (at : ℕ) (a : Active) (ends : List RunEnd) → AllRecorded s (map Ended (map (notice_of at a) ends)) (map (result_of at a) ends)
@@ -141,43 +141,43 @@ moved : (s : State) (ns ms : List Notice) (es fs : List Event) → ns ≡ ms →
 moved s ns ms es fs same same2 h =
     subst (λ (l : List Notice). AllRecorded s (map Ended l) es) (sym same) (subst (AllRecorded s (map Ended ms)) (sym same2) h)
 
-whole_recorded : (end : TurnEnd) (x : Scene) (entries : List Entry) (events pending : List Event) (told : List Notice)
-    → Whole end x entries events pending told → AllRecorded x.state (map Ended told) events
-whole_recorded end x entries events pending told (t, entries_are, es, none, ns) =
+whole_recorded : (end : TurnEnd) (x : Scene) (did : Effects) (told : List Notice) → Whole end x did told
+    → AllRecorded x.state (map Ended told) did.events
+whole_recorded end x did told (t, is, ns) =
     let s = x.state in
     let early : List Event = results x.at t.polled ++ begins x.at t.begun in
-    moved s told (result_notices x.at t.polled ++ refusal_notices x.at t.started) events (early ++ refusals x.at t.started) ns es
+    moved s told (result_notices x.at t.polled ++ refusal_notices x.at t.started) did.events (early ++ refusals x.at t.started) ns (same_events is)
     (subst (λ (cs : List Claim). AllRecorded s cs (early ++ refusals x.at t.started))
     (sym (map-append Ended (result_notices x.at t.polled) (refusal_notices x.at t.started)))
     (both_recorded s (map Ended (result_notices x.at t.polled)) early (map Ended (refusal_notices x.at t.started)) (refusals x.at t.started)
     (begun_recorded s x.at t.polled t.begun)
     (each_recorded (after_all s early) x.at (λ a. a.what) (λ a. refused_end a.answer) t.started)))
 
-turn_recorded : (end : TurnEnd) (x : Scene) (entries : List Entry) (events pending : List Event) (told : List Notice)
-    → IsTurn end x entries events pending told → AllRecorded x.state (map Ended told) events
-turn_recorded turn_end.Closed x entries events pending told none = absurd none
-turn_recorded turn_end.BookFull x entries events pending told (_, es, _, ns) = moved x.state told [] events [] ns es tt
-turn_recorded turn_end.Done x entries events pending told whole = whole_recorded turn_end.Done x entries events pending told whole
-turn_recorded turn_end.RunsSpent x entries events pending told whole = whole_recorded turn_end.RunsSpent x entries events pending told whole
-turn_recorded turn_end.Full x entries events pending told whole = whole_recorded turn_end.Full x entries events pending told whole
-turn_recorded turn_end.Memory x entries events pending told whole = whole_recorded turn_end.Memory x entries events pending told whole
-turn_recorded turn_end.Disk x entries events pending told (inl (ps, _, _, es, _, ns)) = moved x.state told [] events [] ns es tt
-turn_recorded turn_end.Disk x entries events pending told (inr (inl (ps, end, bs, _, _, _, es, _, ns))) =
-    moved x.state told (result_notices x.at ps) events (results x.at ps) ns es (results_recorded x.state x.at ps)
-turn_recorded turn_end.Disk x entries events pending told (inr (inr (end, t, _, es, _, ns))) =
-    moved x.state told (result_notices x.at t.polled) events (results x.at t.polled ++ begins x.at t.begun) ns es
+turn_recorded : (end : TurnEnd) (x : Scene) (did : Effects) (told : List Notice) → IsTurn end x did told
+    → AllRecorded x.state (map Ended told) did.events
+turn_recorded turn_end.Closed x did told none = absurd none
+turn_recorded turn_end.BookFull x did told (is, ns) = moved x.state told [] did.events [] ns (same_events is) tt
+turn_recorded turn_end.Done x did told whole = whole_recorded turn_end.Done x did told whole
+turn_recorded turn_end.RunsSpent x did told whole = whole_recorded turn_end.RunsSpent x did told whole
+turn_recorded turn_end.Full x did told whole = whole_recorded turn_end.Full x did told whole
+turn_recorded turn_end.Memory x did told whole = whole_recorded turn_end.Memory x did told whole
+turn_recorded turn_end.Disk x did told (inl (ps, _, is, ns)) = moved x.state told [] did.events [] ns (same_events is) tt
+turn_recorded turn_end.Disk x did told (inr (inl (ps, end, bs, _, _, is, ns))) =
+    moved x.state told (result_notices x.at ps) did.events (results x.at ps) ns (same_events is) (results_recorded x.state x.at ps)
+turn_recorded turn_end.Disk x did told (inr (inr (end, t, is, ns))) =
+    moved x.state told (result_notices x.at t.polled) did.events (results x.at t.polled ++ begins x.at t.begun) ns (same_events is)
     (begun_recorded x.state x.at t.polled t.begun)
 
-finish_recorded : (end : TurnEnd) (x : Scene) (entries : List Entry) (events pending : List Event) (told : List Notice)
-    → IsFinish end x entries events pending told → AllRecorded x.state (map Ended told) events
-finish_recorded turn_end.Done x entries events pending told (ps, _, _, es, _, ns) =
-    moved x.state told (result_notices x.at ps) events (results x.at ps) ns es (results_recorded x.state x.at ps)
-finish_recorded turn_end.BookFull x entries events pending told (_, es, _, ns) = moved x.state told [] events [] ns es tt
-finish_recorded turn_end.Disk x entries events pending told (ps, _, _, es, _, ns) = moved x.state told [] events [] ns es tt
-finish_recorded turn_end.Closed x entries events pending told none = absurd none
-finish_recorded turn_end.RunsSpent x entries events pending told none = absurd none
-finish_recorded turn_end.Full x entries events pending told none = absurd none
-finish_recorded turn_end.Memory x entries events pending told none = absurd none
+finish_recorded : (end : TurnEnd) (x : Scene) (did : Effects) (told : List Notice) → IsFinish end x did told
+    → AllRecorded x.state (map Ended told) did.events
+finish_recorded turn_end.Done x did told (ps, _, is, ns) =
+    moved x.state told (result_notices x.at ps) did.events (results x.at ps) ns (same_events is) (results_recorded x.state x.at ps)
+finish_recorded turn_end.BookFull x did told (is, ns) = moved x.state told [] did.events [] ns (same_events is) tt
+finish_recorded turn_end.Disk x did told (ps, _, is, ns) = moved x.state told [] did.events [] ns (same_events is) tt
+finish_recorded turn_end.Closed x did told none = absurd none
+finish_recorded turn_end.RunsSpent x did told none = absurd none
+finish_recorded turn_end.Full x did told none = absurd none
+finish_recorded turn_end.Memory x did told none = absurd none
 
 -- a step with no notice
 unnoticed : (s : State) (cs : List Claim) (ns : List Notice) (es : List Event) → ns ≡ [] → AllRecorded s cs es
@@ -187,20 +187,20 @@ unnoticed s cs ns es none h =
     (subst (λ (ds : List Claim). AllRecorded s ds es) (sym (append-nil cs)) h)
 
 -- the claims of a step
-open_recorded : (e : Exchange) (l : Label) (m n : Machine) (left : Left) → MovesOpen e l m n left
-    → AllRecorded m.state (acknowledged_in e ++ map Ended l.notices) left.events
-open_recorded (Took (input.Request now (asked.Question q)) r) l m n left h = unnoticed m.state [] l.notices left.events h.0.1 tt
-open_recorded (Took (input.Request now (asked.Command c)) r) l m n left h =
-    unnoticed m.state (acknowledgements now (c ∷ []) (r ∷ [])) l.notices left.events h.0.1 (one_taken l now c r m n left h.1)
-open_recorded (Took (input.Turn now) r) l m n left (end, replies, t) =
-    turn_recorded end (scene m.state m.due l.place (moment m.state now) m.refuses) l.answers left.events left.pending l.notices t.turns
-open_recorded (Row now cs rs) l m n left h =
-    unnoticed m.state (acknowledgements now cs rs) l.notices left.events h.0.1 (takes_recorded l now cs rs m n left h.1)
-open_recorded (Finished now end) l m n left t =
-    finish_recorded end (scene m.state m.due l.place (moment m.state now) m.refuses) l.answers left.events left.pending l.notices t.turns
-open_recorded (Tidied end) l m n left h = unnoticed m.state [] l.notices left.events h.0.1 tt
-open_recorded Cleared l m n left h = unnoticed m.state [] l.notices left.events h.0.1 tt
-open_recorded Abandoned l m n left h = unnoticed m.state [] l.notices left.events h.0.1 tt
+open_recorded : (e : Exchange) (l : Label) (m n : Machine) (did : Effects) → MovesOpen e l m n did
+    → AllRecorded m.state (acknowledged_in e ++ map Ended l.notices) did.events
+open_recorded (Took (input.Request now (asked.Question q)) r) l m n did h = unnoticed m.state [] l.notices did.events h.0.1 tt
+open_recorded (Took (input.Request now (asked.Command c)) r) l m n did h =
+    unnoticed m.state (acknowledgements now (c ∷ []) (r ∷ [])) l.notices did.events h.0.1 (one_taken l now c r m n did h.1)
+open_recorded (Took (input.Turn now) r) l m n did (end, replies, t) =
+    turn_recorded end (scene m.state m.due l.place (moment m.state now) m.refuses) did l.notices t.turns
+open_recorded (Row now cs rs) l m n did h =
+    unnoticed m.state (acknowledgements now cs rs) l.notices did.events h.0.1 (takes_recorded l now cs rs m n did h.1)
+open_recorded (Finished now end) l m n did t =
+    finish_recorded end (scene m.state m.due l.place (moment m.state now) m.refuses) did l.notices t.turns
+open_recorded (Tidied end) l m n did h = unnoticed m.state [] l.notices did.events h.0.1 tt
+open_recorded Cleared l m n did h = unnoticed m.state [] l.notices did.events h.0.1 tt
+open_recorded Abandoned l m n did h = unnoticed m.state [] l.notices did.events h.0.1 tt
 
 closed_claims : (e : Exchange) (ns : List Notice) → AnswersClosed e → ns ≡ [] → acknowledged_in e ++ map Ended ns ≡ []
 closed_claims (Took (input.Request now (asked.Question q)) r) ns h none = ap (map Ended) none
@@ -213,21 +213,21 @@ closed_claims (Tidied end) ns h none = ap (map Ended) none
 closed_claims Cleared ns h none = ap (map Ended) none
 closed_claims Abandoned ns h none = ap (map Ended) none
 
-step_recorded : (o : Bool) (l : Label) (m n : Machine) (left : Left) → MovesWhile o l m n left → AllRecorded m.state (claims_of l) left.events
-step_recorded true l m n left h = open_recorded l.exchange l m n left h.0
-step_recorded false l m n left h =
-    none_claimed m.state (claims_of l) left.events (closed_claims l.exchange l.notices h.1 h.0.1)
+step_recorded : (o : Bool) (l : Label) (m n : Machine) (did : Effects) → MovesWhile o l m n did → AllRecorded m.state (claims_of l) did.events
+step_recorded true l m n did h = open_recorded l.exchange l m n did h.0
+step_recorded false l m n did h =
+    none_claimed m.state (claims_of l) did.events (closed_claims l.exchange l.notices h.1 h.0.1)
 
 -- a closed machine's steps claim nothing
-all_closed : (ls : List Label) (m n : Machine) (left : Left) → m.is_open ≡ false → MovesAll ls m n left → flat_map claims_of ls ≡ []
-all_closed [] m n left shut h = refl
-all_closed (l ∷ ls) m n left shut (mid, first, later, moves, rest, is) =
+all_closed : (ls : List Label) (m n : Machine) (did : Effects) → m.is_open ≡ false → MovesAll ls m n did → flat_map claims_of ls ≡ []
+all_closed [] m n did shut h = refl
+all_closed (l ∷ ls) m n did shut (mid, first, later, moves, rest, is) =
     let here = subst (λ (b : Bool). MovesWhile b l m mid first) shut moves in
     ap (λ (cs : List Claim). cs ++ flat_map claims_of ls) (closed_claims l.exchange l.notices here.1 here.0.1)
     ∙ all_closed ls mid n later here.2.0 rest
 
 -- the claims of steps behind one that left the machine open or closed
-later_claims : (o : Bool) (l : Label) (ls : List Label) (m mid n : Machine) (first later : Left) → mid.is_open ≡ o
+later_claims : (o : Bool) (l : Label) (ls : List Label) (m mid n : Machine) (first later : Effects) → mid.is_open ≡ o
     → MovesWhile m.is_open l m mid first → MovesAll ls mid n later → AllRecorded mid.state (flat_map claims_of ls) later.events
     → AllRecorded (after_all m.state first.events) (flat_map claims_of ls) later.events
 later_claims true l ls m mid n first later opened moves rest recorded =
@@ -237,11 +237,11 @@ later_claims false l ls m mid n first later shut moves rest recorded =
     none_claimed (after_all m.state first.events) (flat_map claims_of ls) later.events (all_closed ls mid n later shut rest)
 
 -- the claims of steps, one after the other
-pub all_claims : (ls : List Label) (m n : Machine) (left : Left) → MovesAll ls m n left
-    → AllRecorded m.state (flat_map claims_of ls) left.events
-all_claims [] m n left h = tt
-all_claims (l ∷ ls) m n left (mid, first, later, moves, rest, is) =
-    subst (λ (k : Left). AllRecorded m.state (claims_of l ++ flat_map claims_of ls) k.events) (sym is)
+pub all_claims : (ls : List Label) (m n : Machine) (did : Effects) → MovesAll ls m n did
+    → AllRecorded m.state (flat_map claims_of ls) did.events
+all_claims [] m n did h = tt
+all_claims (l ∷ ls) m n did (mid, first, later, moves, rest, is) =
+    subst (λ (k : Effects). AllRecorded m.state (claims_of l ++ flat_map claims_of ls) k.events) (sym is)
     (both_recorded m.state (claims_of l) first.events (flat_map claims_of ls) later.events (step_recorded m.is_open l m mid first moves)
     (later_claims mid.is_open l ls m mid n first later refl moves rest (all_claims ls mid n later rest)))
 

@@ -21,9 +21,11 @@ use Rattle.exec_ledger.specs.Scenes.{Scene, scene}
 use Rattle.exec_turn.specs.Picks.{begin_of, begins as begins_at}
 use Rattle.exec_turn.specs.Polls.{Polled, entries_of, polls, result_notices, results}
 use Rattle.exec_turn.specs.Starts.{Started, refusal_notices, refusals, starts}
+use Rattle.exec_ledger.specs.Laws.{same_entries, same_events}
+use Rattle.exec_ledger.specs.Pieces.{Effects}
 use Rattle.exec_turn.specs.Turn.{IsTurn, Whole}
 use Rattle.executor.specs.Lives.{Took}
-use Rattle.executor.specs.Machine.{Label, Left, Machine, MovesWhile}
+use Rattle.executor.specs.Machine.{Label, Machine, MovesWhile}
 use Rattle.executor.specs.Promise.{Acknowledged, AllRecorded}
 use Rattle.executor.specs.Runs.{HasBegins, SeenService}
 use Rattle.executor.specs.declared.session.InputOf.TheVariants as input
@@ -65,19 +67,20 @@ abbrev waiting : Machine
 waiting = record { is_open = true; state = after_all empty (registered ∷ asked 1 ∷ []); due = λ id call. None; refuses = false }
 
 -- what a turn that ends done was told
-done_so : (answers : List Entry) (room : ℕ) (notices : List Notice) (m n : Machine) (left : Left)
-    → MovesWhile true (turned turn_end.Done answers room notices) m n left
-    → (x : Scene) × (x.state ≡ m.state) × Whole turn_end.Done x answers left.events left.pending notices
-done_so answers room notices m n left ((end, is, t), memory) =
+done_so : (answers : List Entry) (room : ℕ) (notices : List Notice) (m n : Machine) (did : Effects)
+    → MovesWhile true (turned turn_end.Done answers room notices) m n did
+    → (x : Scene) × (x.state ≡ m.state) × (answers ≡ did.entries) × Whole turn_end.Done x did notices
+done_so answers room notices m n did ((end, is, t), memory) =
     let same : end ≡ turn_end.Done = (let told : reply.Turn turn_end.Done ≡ reply.Turn end = is in cc) in
     let x : Scene = scene m.state m.due first_place (moment m.state 10) m.refuses in
-    (x, refl, subst (λ (e : TurnEnd). IsTurn e x answers left.events left.pending notices) same t.turns)
+    (x, refl, t.answers, subst (λ (e : TurnEnd). IsTurn e x did notices) same t.turns)
 
 -- a notice that no answer gives
-unanswered : (room : ℕ) (a : Notice) (more : List Notice) (m n : Machine) (left : Left)
-    → MovesWhile true (turned turn_end.Done [] room (a ∷ more)) m n left → ⊥
-unanswered room a more m n left moves =
-    let (x, here, (t, entries, events, none, told)) = done_so [] room (a ∷ more) m n left moves in
+unanswered : (room : ℕ) (a : Notice) (more : List Notice) (m n : Machine) (did : Effects)
+    → MovesWhile true (turned turn_end.Done [] room (a ∷ more)) m n did → ⊥
+unanswered room a more m n did moves =
+    let (x, here, answered, (t, is, told)) = done_so [] room (a ∷ more) m n did moves in
+    let entries = answered ∙ same_entries is in
     let no_ps = no_polls x.at t.polled (none_before (polls x.at t.polled) (starts t.clock t.started) (sym entries)) in
     let no_xs = none_mapped (λ (s : Started). record { run = s.what.running.run; at = t.clock; answer = start_answer s.answer }) t.started
     (none_after (polls x.at t.polled) (starts t.clock t.started) (sym entries)) in
@@ -86,11 +89,12 @@ unanswered room a more m n left moves =
     cc
 
 -- a start without its begin
-unbegun : (e : Entry) (room : ℕ) (notices : List Notice) (pending : List Event) (n : Machine)
-    → MovesWhile true (turned turn_end.Done (e ∷ []) room notices) waiting n (record { events = []; pending = pending }) → ⊥
-unbegun e room notices pending n moves =
-    let (x, here, (t, entries, events, none, told)) =
-    done_so (e ∷ []) room notices waiting n (record { events = []; pending = pending }) moves in
+unbegun : (e : Entry) (room : ℕ) (notices : List Notice) (n : Machine) (did : Effects) → did.events ≡ []
+    → MovesWhile true (turned turn_end.Done (e ∷ []) room notices) waiting n did → ⊥
+unbegun e room notices n did none moves =
+    let (x, here, answered, (t, is, told)) = done_so (e ∷ []) room notices waiting n did moves in
+    let entries = answered ∙ same_entries is in
+    let events = sym none ∙ same_events is in
     let early : List Event = results x.at t.polled ++ begins_at x.at t.begun in
     let no_bs = none_mapped (begin_of x.at) t.begun
     (none_after (results x.at t.polled) (begins_at x.at t.begun) (none_before early (refusals x.at t.started) (sym events))) in
@@ -101,16 +105,16 @@ unbegun e room notices pending n moves =
     cc
 
 -- the book told as full where it takes three answers for each resource
-full_with_room : (answers : List Entry) (notices : List Notice) (n : Machine) (left : Left)
-    → MovesWhile true (turned turn_end.BookFull answers 3 notices) waiting n left → ⊥
-full_with_room answers notices n left ((end, is, t), memory) =
+full_with_room : (answers : List Entry) (notices : List Notice) (n : Machine) (did : Effects)
+    → MovesWhile true (turned turn_end.BookFull answers 3 notices) waiting n did → ⊥
+full_with_room answers notices n did ((end, is, t), memory) =
     let same : end ≡ turn_end.BookFull = (let told : reply.Turn turn_end.BookFull ≡ reply.Turn end = is in cc) in
     let less : 3 < 3 = t.full.0 same in omega (arith, less)
 
 -- want of memory of which no growth was refused
-memory_at_once : (answers : List Entry) (room : ℕ) (notices : List Notice) (n : Machine) (left : Left)
-    → MovesWhile true (turned turn_end.Memory answers room notices) waiting n left → ⊥
-memory_at_once answers room notices n left moves = let bad : false ≡ true = moves.1 refl in cc
+memory_at_once : (answers : List Entry) (room : ℕ) (notices : List Notice) (n : Machine) (did : Effects)
+    → MovesWhile true (turned turn_end.Memory answers room notices) waiting n did → ⊥
+memory_at_once answers room notices n did moves = let bad : false ≡ true = moves.1 refl in cc
 
 -- a crash after which the begin of an agent that was started is lost
 abbrev started : SeenService

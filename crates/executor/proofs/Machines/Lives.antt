@@ -18,16 +18,16 @@ use Rattle.executor.specs.Machine.{Label, Machine, MovesAll}
 use Rattle.executor.specs.Runs.{Opening, Remains, Runs, Seen, SeenService, answers_in, opened_on}
 use Rattle.executor.specs.Openings.{StartsLike}
 use Rattle.exec_ledger.specs.Boots.{booted}
-use Rattle.executor.specs.Reports.{dropped, interrupted}
+use Rattle.executor.specs.Interruptions.{dropped, interrupted}
 use Rattle.executor.specs.SeenLives.{labels, seen}
-use Rattle.executor.specs.Sessions.{followed_by}
+use Rattle.exec_ledger.specs.Pieces.{followed_by}
 use Rattle.executor.specs.Sights.{due_in}
 use Rattle.executor.specs.declared.opening.OpenError.{OpenError}
 use Rattle.executor.specs.declared.opening.OpenError.TheVariants as why
 use Rattle.exec_ledger.specs.Laws.{WhatStands}
 use Rattle.executor.proofs.Lives.Services.{service_stands, whole_leads}
 use Rattle.executor.proofs.Lives.Whole.{OneFinding, behind_boots, one_state}
-use Rattle.executor.proofs.Machines.Calls.{labels_answers, left_of, machine_of, moves_all, same_machine}
+use Rattle.executor.proofs.Machines.Calls.{labels_answers, machine_of, moves_all, same_machine}
 
 module _ {D : Type 0} (look : D → View) (law : WhatStands) (once : OneFinding) (lawful : (d : D) → (look d).honest → Lawful (look d))
     (start : State) where
@@ -117,9 +117,9 @@ module _ {D : Type 0} (look : D → View) (law : WhatStands) (once : OneFinding)
     queued = queued;
     returned = machine_of x.returned;
     last = machine_of x.last;
-    done = left_of x.done;
-    under_way = left_of x.under_way;
-    moves = subst (λ (m : Machine). MovesAll (view_of x s).calls m (machine_of x.returned) (left_of x.done)) machine
+    done = x.done;
+    under_way = x.under_way;
+    moves = subst (λ (m : Machine). MovesAll (view_of x s).calls m (machine_of x.returned) x.done) machine
         (moves_all look s.calls x.opened x.returned x.done s.returns);
     goes_on = moves_all look s.begun x.returned x.last x.under_way s.goes_on;
     stands = (stands.later, stands.others, stands.acknowledged, stands.front);

@@ -12,7 +12,7 @@ use Rattle.ocf_types.specs.declared.operation.Running.{Running}
 use Rattle.ocf_types.specs.declared.reply.Notice.{Notice}
 use Rattle.executor.specs.Histories.{IsWithin, interruptions}
 use Rattle.executor.specs.Lives.{boots}
-use Rattle.executor.specs.Reports.{interrupted, interrupted_in, interruption}
+use Rattle.executor.specs.Interruptions.{interrupted, interrupted_in, interruption}
 use Rattle.executor.specs.Runs.{Opening, Runs, Seen, Serving}
 use Rattle.executor.specs.SeenLives.{reports}
 use Rattle.executor.proofs.History.Runs.{both_false, rests}

@@ -23,16 +23,17 @@ use Rattle.ocf_types.specs.declared.reply.TidyEnd.TheVariants as tidy
 use Rattle.ocf_types.specs.declared.reply.TurnEnd.{TurnEnd}
 use Rattle.ocf_types.specs.declared.reply.TurnEnd.TheVariants as turn_end
 use Rattle.ocf_types.specs.declared.reply.Notice.{Notice}
-use Rattle.child_model.specs.declared.answer.Entry.{Entry}
 use Rattle.exec_ledger.specs.Actives.{Active, active}
 use Rattle.exec_ledger.specs.Scenes.{Scene, behind, scene}
 use Rattle.exec_turn.specs.Picks.{ArePicks, begins}
 use Rattle.exec_turn.specs.Polls.{Polled, ending, ends_of, results}
 use Rattle.exec_turn.specs.Starts.{Started, refusals, refused_end}
-use Rattle.exec_turn.specs.Turn.{EachPolled, IsFinish, IsTurn, PickedAt, PicksBehind, Told, TurnKind, Whole}
+use Rattle.exec_ledger.specs.Laws.{same_events, same_pending}
+use Rattle.exec_ledger.specs.Pieces.{Effects, followed_by, no_effects, row_effects}
+use Rattle.exec_turn.specs.Turn.{EachPolled, IsFinish, IsTurn, PickedAt, Told, TurnKind, Whole}
 use Rattle.executor.specs.Histories.{Follow, IsInOrder}
 use Rattle.executor.specs.Lives.{Abandoned, Cleared, Exchange, Finished, Row, Tidied, Took, boots}
-use Rattle.executor.specs.Machine.{GoesOn, Label, Left, Machine, MovesAll, MovesOpen, MovesTurn, MovesWhile, TakesAll, TidyEnds, and_then}
+use Rattle.executor.specs.Machine.{GoesOn, Label, Machine, MovesAll, MovesOpen, MovesTurn, MovesWhile, TakesAll, TidyEnds}
 use Rattle.executor.specs.Runs.{Opening, Runs, Seen, Serving, Sits, opened_on}
 use Rattle.exec_ledger.specs.Boots.{booted}
 use Rattle.exec_ledger.specs.Together.{Adds, Answered}
@@ -119,7 +120,8 @@ refusals_follow at s bs xs each runs apart =
     (each_unmap (RunsHere s) (λ x. x.what) xs (subst (AllByRecursion (RunsHere s)) (sym each) runs))
     (subst (IsDistinct bytes_eq) (ap ids_of (sym each) ∙ map-map (λ (a : Active). a.id) (λ (x : Started). x.what) xs) apart)
 
-two_follow : (end : TurnEnd) (x : Scene) (ps : List Polled) (bs : List Active) → EachPolled x ps → PicksBehind end x ps bs
+two_follow : (end : TurnEnd) (x : Scene) (ps : List Polled) (bs : List Active) → EachPolled x ps
+    → PickedAt end (behind x (results x.at ps)) bs
     → Fine x.state → Follow x.state (results x.at ps ++ begins x.at bs)
 two_follow end x ps bs polled picked fine =
     let one = results_follow x.at x.state ps polled.each fine in
@@ -156,81 +158,82 @@ some_pending s es fs events pending is rest follow = record {
   whole = λ none. absurd (none refl);
 }
 
-whole_follows : (end : TurnEnd) (x : Scene) (entries : List Entry) (events pending : List Event) (told : List Notice)
-    → Whole end x entries events pending told → TurnFollows end x.state events pending
-whole_follows end x entries events pending told (t, entries_are, is, none, told_is) =
-    all_recorded end x.state _ events pending is none (three_follow end x t)
+whole_follows : (end : TurnEnd) (x : Scene) (did : Effects) (told : List Notice) → Whole end x did told
+    → TurnFollows end x.state did.events did.pending
+whole_follows end x did told (t, is, told_is) =
+    all_recorded end x.state _ did.events did.pending (same_events is) (same_pending is) (three_follow end x t)
 
-turn_follows : (end : TurnEnd) (x : Scene) (entries : List Entry) (events pending : List Event) (told : List Notice)
-    → IsTurn end x entries events pending told → TurnFollows end x.state events pending
-turn_follows turn_end.Closed x entries events pending told bad = absurd bad
-turn_follows turn_end.BookFull x entries events pending told does =
-    all_recorded turn_end.BookFull x.state [] events pending does.1 does.2 (λ fine. tt)
-turn_follows turn_end.Done x entries events pending told does = whole_follows turn_end.Done x entries events pending told does
-turn_follows turn_end.RunsSpent x entries events pending told does = whole_follows turn_end.RunsSpent x entries events pending told does
-turn_follows turn_end.Full x entries events pending told does = whole_follows turn_end.Full x entries events pending told does
-turn_follows turn_end.Memory x entries events pending told does = whole_follows turn_end.Memory x entries events pending told does
-turn_follows turn_end.Disk x entries events pending told (inl (ps, polled, entries_are, none, is, told_is)) =
-    some_pending x.state [] (results x.at ps) events pending none is (λ fine. results_follow x.at x.state ps polled.each fine)
-turn_follows turn_end.Disk x entries events pending told (inr (inl (ps, end, bs, polled, picked, entries_are, is, rest, told_is))) =
-    some_pending x.state (results x.at ps) (begins x.at bs) events pending is rest (two_follow end x ps bs polled picked)
-turn_follows turn_end.Disk x entries events pending told (inr (inr (end, t, entries_are, is, rest, told_is))) =
-    some_pending x.state (results x.at t.polled ++ begins x.at t.begun) (refusals x.at t.started) events pending is rest
-    (three_follow end x t)
+turn_follows : (end : TurnEnd) (x : Scene) (did : Effects) (told : List Notice) → IsTurn end x did told
+    → TurnFollows end x.state did.events did.pending
+turn_follows turn_end.Closed x did told bad = absurd bad
+turn_follows turn_end.BookFull x did told (is, none) =
+    all_recorded turn_end.BookFull x.state [] did.events did.pending (same_events is) (same_pending is) (λ fine. tt)
+turn_follows turn_end.Done x did told does = whole_follows turn_end.Done x did told does
+turn_follows turn_end.RunsSpent x did told does = whole_follows turn_end.RunsSpent x did told does
+turn_follows turn_end.Full x did told does = whole_follows turn_end.Full x did told does
+turn_follows turn_end.Memory x did told does = whole_follows turn_end.Memory x did told does
+turn_follows turn_end.Disk x did told (inl (ps, polled, is, told_is)) =
+    some_pending x.state [] (results x.at ps) did.events did.pending (same_events is) (same_pending is)
+    (λ fine. results_follow x.at x.state ps polled.each fine)
+turn_follows turn_end.Disk x did told (inr (inl (ps, end, bs, polled, picked, is, told_is))) =
+    some_pending x.state (results x.at ps) (begins x.at bs) did.events did.pending (same_events is) (same_pending is)
+    (two_follow end x ps bs polled picked)
+turn_follows turn_end.Disk x did told (inr (inr (end, t, is, told_is))) =
+    some_pending x.state (results x.at t.polled ++ begins x.at t.begun) (refusals x.at t.started) did.events did.pending (same_events is)
+    (same_pending is) (three_follow end x t)
 
 -- one that begins nothing
-finish_follows : (end : TurnEnd) (x : Scene) (entries : List Entry) (events pending : List Event) (told : List Notice)
-    → IsFinish end x entries events pending told → TurnFollows end x.state events pending
-finish_follows turn_end.Done x entries events pending told (ps, polled, entries_are, is, none, told_is) =
-    all_recorded turn_end.Done x.state (results x.at ps) events pending is none (λ fine. results_follow x.at x.state ps polled.each fine)
-finish_follows turn_end.BookFull x entries events pending told does =
-    all_recorded turn_end.BookFull x.state [] events pending does.1 does.2 (λ fine. tt)
-finish_follows turn_end.Disk x entries events pending told (ps, polled, entries_are, none, is, told_is) =
-    some_pending x.state [] (results x.at ps) events pending none is (λ fine. results_follow x.at x.state ps polled.each fine)
-finish_follows turn_end.Closed x entries events pending told bad = absurd bad
-finish_follows turn_end.RunsSpent x entries events pending told bad = absurd bad
-finish_follows turn_end.Full x entries events pending told bad = absurd bad
-finish_follows turn_end.Memory x entries events pending told bad = absurd bad
-
-abbrev nothing : Left
-nothing = record { events = []; pending = [] }
+finish_follows : (end : TurnEnd) (x : Scene) (did : Effects) (told : List Notice) → IsFinish end x did told
+    → TurnFollows end x.state did.events did.pending
+finish_follows turn_end.Done x did told (ps, polled, is, told_is) =
+    all_recorded turn_end.Done x.state (results x.at ps) did.events did.pending (same_events is) (same_pending is)
+    (λ fine. results_follow x.at x.state ps polled.each fine)
+finish_follows turn_end.BookFull x did told (is, none) =
+    all_recorded turn_end.BookFull x.state [] did.events did.pending (same_events is) (same_pending is) (λ fine. tt)
+finish_follows turn_end.Disk x did told (ps, polled, is, told_is) =
+    some_pending x.state [] (results x.at ps) did.events did.pending (same_events is) (same_pending is)
+    (λ fine. results_follow x.at x.state ps polled.each fine)
+finish_follows turn_end.Closed x did told bad = absurd bad
+finish_follows turn_end.RunsSpent x did told bad = absurd bad
+finish_follows turn_end.Full x did told bad = absurd bad
+finish_follows turn_end.Memory x did told bad = absurd bad
 
 -- What calls leave, from one machine to another: it applies, and an open machine stands behind it.
-pub record Went (m n : Machine) (left : Left) : Type 0 where
-  pub follow : m.is_open ≡ true → Fine m.state → Follow m.state (left.events ++ left.pending)
-  pub onward : n.is_open ≡ true → (m.is_open ≡ true) × (n.state ≡ after_all m.state left.events) × (left.pending ≡ [])
-  pub closed : m.is_open ≡ false → (left ≡ nothing) × (n.is_open ≡ false)
+pub record Went (m n : Machine) (did : Effects) : Type 0 where
+  pub follow : m.is_open ≡ true → Fine m.state → Follow m.state (did.events ++ did.pending)
+  pub onward : n.is_open ≡ true → (m.is_open ≡ true) × (n.state ≡ after_all m.state did.events) × (did.pending ≡ [])
+  pub closed : m.is_open ≡ false → (did ≡ no_effects) × (n.is_open ≡ false)
 
-went_on : (m n : Machine) (es : List Event) (left : Left) → m.is_open ≡ true → n.state ≡ after_all m.state es
-    → left ≡ record { events = es; pending = [] } → (Fine m.state → Follow m.state es) → Went m n left
-went_on m n es left opened state is follow = subst (Went m n) (sym is) (record {
+went_on : (m n : Machine) (es : List Event) (did : Effects) → m.is_open ≡ true → n.state ≡ after_all m.state es
+    → did ≡ row_effects true es → (Fine m.state → Follow m.state es) → Went m n did
+went_on m n es did opened state is follow = subst (Went m n) (sym is) (record {
   follow = λ o fine. subst (Follow m.state) (sym (append-nil es)) (follow fine);
   onward = λ o. (opened, state, refl);
   closed = λ shut. absurd (false≢true (sym shut ∙ opened));
 })
 
-went_wrong : (m n : Machine) (es fs : List Event) (left : Left) → m.is_open ≡ true → n.is_open ≡ false
-    → left ≡ record { events = es; pending = fs } → (Fine m.state → Follow m.state (es ++ fs)) → Went m n left
-went_wrong m n es fs left opened shut is follow = subst (Went m n) (sym is) (record {
+went_wrong : (m n : Machine) (es fs : List Event) (did : Effects) → m.is_open ≡ true → n.is_open ≡ false
+    → did ≡ record { entries = []; events = es; pending = fs } → (Fine m.state → Follow m.state (es ++ fs)) → Went m n did
+went_wrong m n es fs did opened shut is follow = subst (Went m n) (sym is) (record {
   follow = λ o fine. follow fine;
   onward = λ o. absurd (false≢true (sym shut ∙ o));
   closed = λ bad. absurd (false≢true (sym bad ∙ opened));
 })
 
-goes_on : (m n : Machine) (es : List Event) (left : Left) → m.is_open ≡ true → GoesOn es m n left → (Fine m.state → Follow m.state es) → Went m n left
-goes_on m n es left opened crash follow = went_on m n es left opened (ap (λ (k : Machine). k.state) crash.0) crash.1 follow
+goes_on : (m n : Machine) (es : List Event) (did : Effects) → m.is_open ≡ true → GoesOn es m n did → (Fine m.state → Follow m.state es) → Went m n did
+goes_on m n es did opened crash follow = went_on m n es did opened (ap (λ (k : Machine). k.state) crash.0) crash.1 follow
 
-takes_all : (l : Label) (m n : Machine) (now : ℕ) (cs : List Command) (rs : List Reply) (left : Left) → m.is_open ≡ true → TakesAll l now cs rs m n left
-    → Went m n left
-takes_all l m n now cs rs left opened (meant, es, answered, inl (told, crash)) =
-    goes_on m n es left opened crash (λ fine. answered_follow m.state now cs meant es fine.low answered)
-takes_all l m n now cs rs left opened (meant, es, answered, inr (some, told, fails)) =
-    went_wrong m n [] es left opened fails.1.0 fails.1.1 (λ fine. answered_follow m.state now cs meant es fine.low answered)
+takes_all : (l : Label) (m n : Machine) (now : ℕ) (cs : List Command) (rs : List Reply) (did : Effects) → m.is_open ≡ true → TakesAll l now cs rs m n did
+    → Went m n did
+takes_all l m n now cs rs did opened (meant, es, answered, inl (told, crash)) =
+    goes_on m n es did opened crash (λ fine. answered_follow m.state now cs meant es fine.low answered)
+takes_all l m n now cs rs did opened (meant, es, answered, inr (some, told, fails)) =
+    went_wrong m n [] es did opened fails.1.0 fails.1.1 (λ fine. answered_follow m.state now cs meant es fine.low answered)
 
 -- a turn of a kind, what it leaves of which applies
-turn_went : (kind : TurnKind) (each : ℕ) (end : TurnEnd) (at : ℕ) (l : Label) (m n : Machine) (left : Left) → m.is_open ≡ true
-    → MovesTurn kind each end at l m n left → TurnFollows end m.state left.events left.pending → Went m n left
-turn_went kind each end at l m n left opened t follows = record {
+turn_went : (kind : TurnKind) (each : ℕ) (end : TurnEnd) (at : ℕ) (l : Label) (m n : Machine) (did : Effects) → m.is_open ≡ true
+    → MovesTurn kind each end at l m n did → TurnFollows end m.state did.events did.pending → Went m n did
+turn_went kind each end at l m n did opened t follows = record {
   follow = λ o fine. follows.follow fine;
   onward = λ o. (
     opened,
@@ -240,38 +243,38 @@ turn_went kind each end at l m n left opened t follows = record {
   closed = λ bad. absurd (false≢true (sym bad ∙ opened));
 }
 
-tidied : (end : TidyEnd) (l : Label) (m n : Machine) (left : Left) → m.is_open ≡ true → TidyEnds end l m n left → Went m n left
-tidied tidy.Done l m n left opened crash = goes_on m n [] left opened crash (λ fine. tt)
-tidied tidy.EpochSpent l m n left opened (spent, crash) = goes_on m n [] left opened crash (λ fine. tt)
-tidied tidy.Disk l m n left opened (cause, fails) = went_wrong m n [] [] left opened fails.0 fails.1 (λ fine. tt)
-tidied tidy.Closed l m n left opened bad = absurd bad
+tidied : (end : TidyEnd) (l : Label) (m n : Machine) (did : Effects) → m.is_open ≡ true → TidyEnds end l m n did → Went m n did
+tidied tidy.Done l m n did opened crash = goes_on m n [] did opened crash (λ fine. tt)
+tidied tidy.EpochSpent l m n did opened (spent, crash) = goes_on m n [] did opened crash (λ fine. tt)
+tidied tidy.Disk l m n did opened (cause, fails) = went_wrong m n [] [] did opened fails.0 fails.1 (λ fine. tt)
+tidied tidy.Closed l m n did opened bad = absurd bad
 
-moves_open : (e : Exchange) (l : Label) (m n : Machine) (left : Left) → m.is_open ≡ true → MovesOpen e l m n left → Went m n left
-moves_open (Took (input.Request now (asked.Question q)) reply) l m n left opened h = goes_on m n [] left opened h.2 (λ fine. tt)
-moves_open (Took (input.Request now (asked.Command c)) reply) l m n left opened (quiet, inl takes) =
-    takes_all l m n now (c ∷ []) (reply ∷ []) left opened takes
-moves_open (Took (input.Request now (asked.Command c)) reply) l m n left opened (quiet, inr full) = goes_on m n [] left opened full.4 (λ fine. tt)
-moves_open (Took (input.Turn now) reply) l m n left opened (end, replies, t) =
-    turn_went IsTurn 3 end (moment m.state now) l m n left opened t
-    (turn_follows end (scene m.state m.due l.place (moment m.state now) m.refuses) l.answers left.events left.pending l.notices t.turns)
-moves_open (Row now cs rs) l m n left opened takes = takes_all l m n now cs rs left opened takes.1
-moves_open (Finished now end) l m n left opened t =
-    turn_went IsFinish 2 end (moment m.state now) l m n left opened t
-    (finish_follows end (scene m.state m.due l.place (moment m.state now) m.refuses) l.answers left.events left.pending l.notices t.turns)
-moves_open (Tidied end) l m n left opened (quiet, ends) = tidied end l m n left opened ends
-moves_open Cleared l m n left opened crash = goes_on m n [] left opened crash.1 (λ fine. tt)
-moves_open Abandoned l m n left opened fails = went_wrong m n [] [] left opened fails.1.0 fails.1.1 (λ fine. tt)
+moves_open : (e : Exchange) (l : Label) (m n : Machine) (did : Effects) → m.is_open ≡ true → MovesOpen e l m n did → Went m n did
+moves_open (Took (input.Request now (asked.Question q)) reply) l m n did opened h = goes_on m n [] did opened h.2 (λ fine. tt)
+moves_open (Took (input.Request now (asked.Command c)) reply) l m n did opened (quiet, inl takes) =
+    takes_all l m n now (c ∷ []) (reply ∷ []) did opened takes
+moves_open (Took (input.Request now (asked.Command c)) reply) l m n did opened (quiet, inr full) = goes_on m n [] did opened full.4 (λ fine. tt)
+moves_open (Took (input.Turn now) reply) l m n did opened (end, replies, t) =
+    turn_went IsTurn 3 end (moment m.state now) l m n did opened t
+    (turn_follows end (scene m.state m.due l.place (moment m.state now) m.refuses) did l.notices t.turns)
+moves_open (Row now cs rs) l m n did opened takes = takes_all l m n now cs rs did opened takes.1
+moves_open (Finished now end) l m n did opened t =
+    turn_went IsFinish 2 end (moment m.state now) l m n did opened t
+    (finish_follows end (scene m.state m.due l.place (moment m.state now) m.refuses) did l.notices t.turns)
+moves_open (Tidied end) l m n did opened (quiet, ends) = tidied end l m n did opened ends
+moves_open Cleared l m n did opened crash = goes_on m n [] did opened crash.1 (λ fine. tt)
+moves_open Abandoned l m n did opened fails = went_wrong m n [] [] did opened fails.1.0 fails.1.1 (λ fine. tt)
 
-pub moves_so : (o : Bool) (l : Label) (m n : Machine) (left : Left) → m.is_open ≡ o → MovesWhile o l m n left → Went m n left
-moves_so true l m n left opened h = moves_open l.exchange l m n left opened h.0
-moves_so false l m n left shut h = subst (Went m n) (sym h.2.1) (record {
+pub moves_so : (o : Bool) (l : Label) (m n : Machine) (did : Effects) → m.is_open ≡ o → MovesWhile o l m n did → Went m n did
+moves_so true l m n did opened h = moves_open l.exchange l m n did opened h.0
+moves_so false l m n did shut h = subst (Went m n) (sym h.2.1) (record {
   follow = λ o fine. tt;
   onward = λ o. absurd (false≢true (sym h.2.0 ∙ o));
   closed = λ o. (refl, h.2.0);
 })
 
 -- one part behind another
-went_both : (m k n : Machine) (a b : Left) → Went m k a → Went k n b → Went m n (and_then a b)
+went_both : (m k n : Machine) (a b : Effects) → Went m k a → Went k n b → Went m n (followed_by a b)
 went_both m k n a b one two = record {
   follow = λ o fine. by k.is_open refl (one.follow o fine) fine;
   onward = λ o.
@@ -284,7 +287,7 @@ went_both m k n a b one two = record {
   closed = λ o.
       let first = one.closed o in
       let later = two.closed first.1 in
-      ((λ i. and_then (first.0 i) (later.0 i)), later.1);
+      ((λ i. followed_by (first.0 i) (later.0 i)), later.1);
 }
   where
     by : (o : Bool) → k.is_open ≡ o → Follow m.state (a.events ++ a.pending) → Fine m.state
@@ -299,17 +302,17 @@ went_both m k n a b one two = record {
         (follow_both m.state a.events (b.events ++ b.pending) here (subst (λ (s : State). Follow s (b.events ++ b.pending)) first.1 behind_it)))
     by false shut so_far fine =
         let none = (two.closed shut).0 in
-        subst (λ (l : Left). Follow m.state ((a.events ++ l.events) ++ (a.pending ++ l.pending))) (sym none)
+        subst (λ (l : Effects). Follow m.state ((a.events ++ l.events) ++ (a.pending ++ l.pending))) (sym none)
         (subst (λ (l : List Event). Follow m.state (l ++ (a.pending ++ []))) (sym (append-nil a.events))
         (subst (λ (l : List Event). Follow m.state (a.events ++ l)) (sym (append-nil a.pending)) so_far))
 
-pub moves_all_so : (ls : List Label) (m n : Machine) (left : Left) → MovesAll ls m n left → Went m n left
-moves_all_so [] m n left (same, none) = subst (Went m n) (sym none) (record {
+pub moves_all_so : (ls : List Label) (m n : Machine) (did : Effects) → MovesAll ls m n did → Went m n did
+moves_all_so [] m n did (same, none) = subst (Went m n) (sym none) (record {
   follow = λ o fine. tt;
   onward = λ o. (ap (λ (k : Machine). k.is_open) (sym same) ∙ o, ap (λ (k : Machine). k.state) same, refl);
   closed = λ o. (refl, ap (λ (k : Machine). k.is_open) same ∙ o);
 })
-moves_all_so (l ∷ ls) m n left (mid, first, later, moves, rest, is) =
+moves_all_so (l ∷ ls) m n did (mid, first, later, moves, rest, is) =
     subst (Went m n) (sym is)
     (went_both m mid n first later (moves_so m.is_open l m mid first refl moves) (moves_all_so ls mid n later rest))
 

@@ -15,14 +15,14 @@ use Rattle.exec_journal.specs.Place.{Place}
 use Rattle.exec_journal.specs.Rows.{IsTooLong}
 use Rattle.exec_ledger.specs.Actives.{Active}
 use Rattle.exec_ledger.specs.Laws.{asked_one}
-use Rattle.exec_ledger.specs.Pieces.{HasBegin}
+use Rattle.exec_ledger.specs.Pieces.{Effects, HasBegin, no_effects}
 use Rattle.exec_ledger.specs.Replies.{acknowledged}
 use Rattle.exec_ledger.specs.Scenes.{scene}
 use Rattle.exec_turn.specs.Picks.{begins as begins_at}
 use Rattle.exec_turn.specs.Turn.{Told}
 use Rattle.executor.specs.Lives.{Took}
-use Rattle.executor.specs.Machine.{Label, Left, Machine, MovesWhile, after_events}
-use Rattle.executor.specs.Reports.{interrupted}
+use Rattle.executor.specs.Machine.{Label, Machine, MovesWhile, after_events}
+use Rattle.executor.specs.Interruptions.{interrupted}
 use Rattle.executor.specs.Runs.{HasBegins, Remains, Runs, SeenService, Serving, opened_on}
 use Rattle.executor.specs.declared.session.InputOf.TheVariants as input
 use Rattle.executor.proofs.History.Examples.{asked as exec_event, begins, boot, r1, registered}
@@ -36,8 +36,8 @@ abbrev answer : Entry
 answer = record { run = 1; at = 7; answer = start_answer (Ok tt) }
 
 -- the machine before and after each
-abbrev left_by : Event → Left
-left_by e = record { events = e ∷ []; pending = [] }
+abbrev left_by : List Entry → Event → Effects
+left_by answers e = record { entries = answers; events = e ∷ []; pending = [] }
 
 abbrev at_first : Machine
 at_first = opened_on start 0 false
@@ -77,7 +77,7 @@ module _ (p : Place) (fits : IsTooLong p.tail (begins_at 10 (begun ∷ [])) → 
     faults = (0, 0);
   }
 
-  ask_moves : MovesWhile true asks at_first with_action (left_by (exec_event 1))
+  ask_moves : MovesWhile true asks at_first with_action (left_by [] (exec_event 1))
   ask_moves = (
     (
       (refl, refl),
@@ -102,13 +102,14 @@ module _ (p : Place) (fits : IsTooLong p.tail (begins_at 10 (begun ∷ [])) → 
     each_started = refl;
   }
 
-  turn_moves : MovesWhile true turns with_action with_run (left_by (begins 1 1))
+  turn_moves : MovesWhile true turns with_action with_run (left_by (answer ∷ []) (begins 1 1))
   turn_moves = (
     (
       turn_end.Done,
       refl,
       record {
-        turns = (told, refl, refl, refl, refl);
+        turns = (told, refl, refl);
+        answers = refl;
         goes_on = refl;
         full = ((λ is. absurd (cc)), (λ less. let l : 256 < 3 = less in absurd (omega (arith, l))));
         closes = ((λ is. absurd (cc)), (λ is. absurd (cc)));
@@ -130,19 +131,16 @@ module _ (p : Place) (fits : IsTooLong p.tail (begins_at 10 (begun ∷ [])) → 
       let same = asked_one answer (record { run = run; at = clock; answer = h.0 }) h.2 in
       subst (λ (n : ℕ). HasBegin n recorded) (ap (λ (e : Entry). e.run) same) refl
 
-  abbrev nothing : Left
-  nothing = record { events = []; pending = [] }
-
   first_remains : Remains first start recorded
   first_remains = record {
     ran = refl;
     queued = refl;
     returned = with_action;
     last = with_run;
-    done = left_by (exec_event 1);
-    under_way = left_by (begins 1 1);
-    moves = (with_action, left_by (exec_event 1), nothing, ask_moves, (refl, refl), refl);
-    goes_on = (with_run, left_by (begins 1 1), nothing, turn_moves, (refl, refl), refl);
+    done = left_by [] (exec_event 1);
+    under_way = left_by (answer ∷ []) (begins 1 1);
+    moves = (with_action, left_by [] (exec_event 1), no_effects, ask_moves, (refl, refl), refl);
+    goes_on = (with_run, left_by (answer ∷ []) (begins 1 1), no_effects, turn_moves, (refl, refl), refl);
     stands = (begins 1 1 ∷ [], [], refl, refl);
     begins = has_begin;
   }
@@ -165,8 +163,8 @@ module _ (p : Place) (fits : IsTooLong p.tail (begins_at 10 (begun ∷ [])) → 
     queued = refl;
     returned = opened_on (after_all start recorded) 30 false;
     last = opened_on (after_all start recorded) 30 false;
-    done = nothing;
-    under_way = nothing;
+    done = no_effects;
+    under_way = no_effects;
     moves = (refl, refl);
     goes_on = (refl, refl);
     stands = ([], [], refl, refl);

@@ -26,7 +26,7 @@ use Rattle.executor.specs.declared.opening.OpenError.{OpenError}
 use Rattle.executor.specs.declared.opening.OpenError.TheVariants as why
 use Rattle.exec_ledger.specs.Boots.{Boots, BootsFrom, LacksBoot, booted}
 use Rattle.executor.specs.Openings.{IsQuiet, LacksRoom, NotOpened, Opened, OpensDisk, StartsLike, told_fault, told_slot, IsForeign, IsOver, IsOwn, IsUnready}
-use Rattle.executor.specs.Reports.{dropped, interrupted}
+use Rattle.executor.specs.Interruptions.{dropped, interrupted}
 use Rattle.exec_ledger.specs.Held.{Held}
 use Rattle.executor.specs.Sights.{Sight, due_in, ledger_of}
 use Rattle.exec_turn.specs.Turns.{ChildrenMatch}

@@ -4,7 +4,8 @@ use Rattle.ocf_types.specs.Kinds.{Reply}
 use Rattle.disk_model.specs.View.{View}
 use Rattle.executor.specs.Joins.{as_calls}
 use Rattle.executor.specs.Lives.{Calls}
-use Rattle.executor.specs.Sessions.{Effects, Input, Session}
+use Rattle.exec_ledger.specs.Pieces.{Effects}
+use Rattle.executor.specs.Sessions.{Input, Session}
 use Rattle.executor.specs.Sights.{Sight}
 
 pub session_is_calls : {D : Type 0} (look : D → View) (x z : Sight D) (is : List Input) (rs : List Reply) (d : Effects)

@@ -1,5 +1,5 @@
 -- Sessions grow by one input at their end, and what their calls leave joins.
-use Rattle.std.proofs.Common.{◌≡◌, ◌↔◌, ℕ, Bool, true, false, true≢false, Result, Ok, Err, List, [], ◌∷◌, ◌++◌, refl, sym, ◌∙◌, ap, subst, append_assoc, ⊎_elim}
+use Rattle.std.proofs.Common.{◌≡◌, ◌↔◌, ℕ, Bool, true, false, true≢false, Result, Ok, Err, List, [], ◌∷◌, ◌++◌, refl, sym, ◌∙◌, ap, subst, append_assoc}
 use Rattle.std.proofs.lemmas.List.{append-nil}
 use Rattle.ocf_types.specs.Kinds.{Event, Reply, Request}
 use Rattle.ocf_types.specs.Laws.{after_all-append}
@@ -11,25 +11,22 @@ use Rattle.ocf_types.specs.declared.reply.TurnEnd.{TurnEnd}
 use Rattle.disk_model.specs.View.{View, Lawful}
 use Rattle.child_model.specs.declared.answer.Entry.{Entry}
 use Rattle.exec_ledger.specs.Scenes.{due_after_all}
-use Rattle.executor.specs.Sessions.{Effects, Input, Session, Takes, TakesWhile, followed_by, no_effects, request_effects, Leads, Sits, TakesOpen, command_effects}
+use Rattle.executor.specs.Sessions.{Input, Session, Takes, TakesWhile, request_effects, Leads, Sits, TakesOpen, command_effects}
 use Rattle.executor.specs.Sights.{Beside, Sight, due_in, ledger_of, IsSound, Keeps}
 use Rattle.ocf_types.specs.Answer.{event_of}
 use Rattle.ocf_types.specs.declared.command.RequestOf.TheVariants as asked
 use Rattle.ocf_types.specs.declared.refusal.Refusal.{Refusal}
-use Rattle.disk_model.specs.Laws.{joined as runs_joined, left_now, started}
-use Rattle.disk_model.specs.Runs.{CrashesTo}
+use Rattle.disk_model.specs.Laws.{left_now, started}
 use Rattle.child_model.specs.Children.{ChildrenView}
 use Rattle.exec_journal.specs.Room.{Roomy}
-use Rattle.exec_journal.specs.Rows.{EitherSide}
-use Rattle.exec_ledger.specs.Laws.{asked_none, due_after_all-append, joined, told}
-use Rattle.exec_ledger.specs.Pieces.{Leaves}
+use Rattle.exec_ledger.specs.Laws.{WhatStands, due_after_all-append, joined, settled_leaves, settles, whole as no_call}
+use Rattle.exec_ledger.specs.Pieces.{Effects, Leaves, followed_by, no_effects}
 use Rattle.exec_ledger.specs.Commands.{Obeys}
 use Rattle.executor.specs.Commands.{ServesOpen}
-use Rattle.exec_ledger.specs.Replies.{due_left, pending, recorded}
+use Rattle.exec_ledger.specs.Replies.{pending}
 use Rattle.executor.specs.CallLaws.{followed_by_assoc, followed_by_none, same_sight}
 use Rattle.exec_turn.specs.Turn.{TurnKind}
 use Rattle.executor.specs.TurnCalls.{MakesTurn}
-use Rattle.exec_ledger.specs.Laws.{WhatStands, settled_found, settled_roomy}
 use Rattle.executor.specs.declared.session.InputOf.TheVariants as input
 
 -- one input more
@@ -61,63 +58,49 @@ session_more look x y z (j ∷ is) (q ∷ rs) i r a b (m, first, later, takes, r
 pub leads_start : {D : Type 0} (look : D → View) (law : WhatStands) (x : Sight D) → ((look x.disk).honest → Lawful (look x.disk))
     → Keeps look x → Leads look x x no_effects
 leads_start look law x lawful keeps = record {
-  crash = told (look x.disk) x.state [] lawful (settled_found law.found x.place x.state (look x.disk) keeps.journal) asked_none;
+  crash = settled_leaves law x.place x.state look x.disk lawful keeps.journal keeps.room;
   book = sym (append-nil x.children.book);
   log = sym (append-nil x.children.log);
   site = refl;
   reported = refl;
   due = refl;
-  roomy = settled_roomy law.once x.place x.state (look x.disk) lawful keeps.journal keeps.room;
   whole = λ is_open. refl;
 }
 
 -- What calls leave, whatever became of the children's book: from one sight of an executor to another. What a disk fault closed may
 -- have gone on to a state that is not recorded.
 pub record Onward {D : Type 0} (look : D → View) (old new : Sight D) (effects : Effects) : Type 0 where
-  pub crash : Leaves (look old.disk) (look new.disk) old.state (after_all old.state effects.events) effects.entries effects.events effects.pending
+  pub crash : Leaves look old.disk new.disk old.state (after_all old.state effects.events) effects
   pub state : new.is_open ≡ true → new.state ≡ after_all old.state effects.events
-  pub roomy : CrashesTo (look old.disk) (look new.disk) Roomy
   pub whole : new.is_open ≡ true → effects.pending ≡ []
 
 -- where the state is the one that is recorded
 pub onward_at : {D : Type 0} (look : D → View) (x y : Sight D) (d : Effects)
-    → Leaves (look x.disk) (look y.disk) x.state y.state d.entries d.events d.pending → CrashesTo (look x.disk) (look y.disk) Roomy
-    → (y.is_open ≡ true → d.pending ≡ []) → Onward look x y d
-onward_at look x y d leaves roomy whole = record {
-  crash = subst (λ (t : State). Leaves (look x.disk) (look y.disk) x.state t d.entries d.events d.pending) leaves.state leaves;
+    → Leaves look x.disk y.disk x.state y.state d → (y.is_open ≡ true → d.pending ≡ []) → Onward look x y d
+onward_at look x y d leaves whole = record {
+  crash = subst (λ (t : State). Leaves look x.disk y.disk x.state t d) leaves.state leaves;
   state = λ _. leaves.state;
-  roomy = roomy;
   whole = whole;
 }
 
 pub onward : {D : Type 0} (look : D → View) (x y : Sight D) (d : Effects) → Leads look x y d → Onward look x y d
-onward look x y d leads = onward_at look x y d leads.crash leads.roomy leads.whole
+onward look x y d leads = onward_at look x y d leads.crash leads.whole
 
 -- where calls left it open, nothing is left but what they left
 pub leads_still : {D : Type 0} (look : D → View) (w x : Sight D) (a : Effects) → ((look x.disk).honest → Lawful (look x.disk))
     → x.is_open ≡ true → Onward look w x a → Leads look x x no_effects
 leads_still look w x a lawful is_open so_far = record {
-  crash = told (look x.disk) x.state [] lawful
-      (λ h c now. ⊎_elim (λ here. here) (λ here. here)
-      (subst (λ (p : List Event). EitherSide x.state p c) (so_far.whole is_open)
-      (subst (λ (s : State). EitherSide s a.pending c) (sym (so_far.state is_open)) (so_far.crash.now h c now)))) asked_none;
+  crash = no_call look x.disk x.state lawful
+      (settles look w.disk x.disk w.state x.state a (so_far.whole is_open)
+      (subst (λ (s : State). Leaves look w.disk x.disk w.state s a) (sym (so_far.state is_open)) so_far.crash))
+      (started (look x.disk) Roomy (left_now (look w.disk) (look x.disk) Roomy so_far.crash.roomy lawful) lawful);
   book = sym (append-nil x.children.book);
   log = sym (append-nil x.children.log);
   site = refl;
   reported = refl;
   due = refl;
-  roomy = started (look x.disk) Roomy (left_now (look w.disk) (look x.disk) Roomy so_far.roomy lawful) lawful;
   whole = λ is_open. refl;
 }
-
-due_of_reply : (s : State) (due : Due) (e : Event) (reply : Reply) → due_left s e reply due ≡ due_after_all s due (recorded e reply)
-due_of_reply s due e (Refused refusal) = refl
-due_of_reply s due e Done = refl
-due_of_reply s due e (Accepted call key) = refl
-due_of_reply s due e (ListOf ids) = refl
-due_of_reply s due e (Info info) = refl
-due_of_reply s due e (History results) = refl
-due_of_reply s due e (Turn end) = refl
 
 no_pending : (e : Event) (reply : Reply) → (reply ≡ Refused Disk → ⊥) → pending e reply ≡ []
 no_pending e (Refused Disk) not_disk = absurd (not_disk refl)
@@ -133,8 +116,7 @@ leads_command look x y (Ok e) reply still records beside closes = record {
   log = ap (λ (c : ChildrenView). c.log) beside.children ∙ sym (append-nil x.children.log);
   site = beside.site;
   reported = beside.reported;
-  due = records.due ∙ due_of_reply x.state (due_in x) e reply;
-  roomy = records.roomy;
+  due = records.due;
   whole = λ is_open. no_pending e reply (λ disk. absurd (true≢false (sym is_open ∙ closes.1 disk)));
 }
 
@@ -149,7 +131,7 @@ leads_request look now (asked.Command command) x y reply still serves closes =
 -- what a turn of any kind leaves
 pub leads_turn : {D : Type 0} {kind : TurnKind} {most : ℕ} (look : D → View) (now : ℕ) (x y : Sight D) (end : TurnEnd)
     (takes : MakesTurn kind most look now x y end)
-    → Leads look x y (record { entries = takes.turns.entries; events = takes.turns.events; pending = takes.turns.pending })
+    → Leads look x y takes.turns.effects
 leads_turn look now x y end takes = record {
   crash = takes.turns.crash;
   book = takes.turns.book;
@@ -157,7 +139,6 @@ leads_turn look now x y end takes = record {
   site = takes.site;
   reported = takes.reported;
   due = takes.turns.due_is;
-  roomy = takes.turns.roomy;
   whole = λ is_open. takes.turns.whole (λ disk. absurd (true≢false (sym is_open ∙ takes.closes.1 disk)));
 }
 
@@ -177,19 +158,13 @@ onward_joined look x y z a b is_open one two =
     let nothing : a.pending ≡ [] = one.whole is_open in
     let t : State = after_all x.state a.events in
     let all : after_all x.state (a.events ++ b.events) ≡ after_all t b.events = after_all-append x.state a.events b.events in
-    let later : Leaves (look y.disk) (look z.disk) t (after_all t b.events) b.entries b.events b.pending =
-    subst (λ (s : State). Leaves (look y.disk) (look z.disk) s (after_all s b.events) b.entries b.events b.pending) (one.state is_open)
-    two.crash in
-    let joined_at : Leaves (look x.disk) (look z.disk) x.state (after_all t b.events) (a.entries ++ b.entries) (a.events ++ b.events) b.pending =
-    joined (look x.disk) (look y.disk) (look z.disk) x.state t (after_all t b.events) a.entries b.entries a.events b.events b.pending
-    (subst (λ (p : List Event). Leaves (look x.disk) (look y.disk) x.state t a.entries a.events p) nothing one.crash) later in record {
+    let later : Leaves look y.disk z.disk t (after_all t b.events) b =
+    subst (λ (s : State). Leaves look y.disk z.disk s (after_all s b.events) b) (one.state is_open) two.crash in
+    record {
       crash =
-          subst (λ (p : List Event). Leaves (look x.disk) (look z.disk) x.state (after_all x.state (a.events ++ b.events)) (a.entries ++ b.entries)
-          (a.events ++ b.events) (p ++ b.pending)) (sym nothing)
-          (subst (λ (s : State). Leaves (look x.disk) (look z.disk) x.state s (a.entries ++ b.entries) (a.events ++ b.events) b.pending)
-          (sym all) joined_at);
+          subst (λ (s : State). Leaves look x.disk z.disk x.state s (followed_by a b)) (sym all)
+          (joined look x.disk y.disk z.disk x.state t (after_all t b.events) a b nothing one.crash later);
       state = λ still. two.state still ∙ ap (λ (s : State). after_all s b.events) (one.state is_open) ∙ sym all;
-      roomy = runs_joined (look x.disk) (look y.disk) (look z.disk) Roomy one.roomy two.roomy;
       whole = λ still. ap (λ (p : List Event). p ++ b.pending) nothing ∙ two.whole still;
     }
 
@@ -200,8 +175,7 @@ leads_joined look x y z a b is_open one two =
     let reached : z.state ≡ after_all x.state (a.events ++ b.events) = two.crash.state
     ∙ ap (λ (s : State). after_all s b.events) one.crash.state ∙ sym (after_all-append x.state a.events b.events) in record {
       crash =
-          subst (λ (s : State). Leaves (look x.disk) (look z.disk) x.state s (a.entries ++ b.entries) (a.events ++ b.events)
-          (a.pending ++ b.pending)) (sym reached) on.crash;
+          subst (λ (s : State). Leaves look x.disk z.disk x.state s (followed_by a b)) (sym reached) on.crash;
       book = two.book ∙ ap (λ (es : List Entry). es ++ b.entries) one.book ∙ append_assoc x.children.book a.entries b.entries;
       log = two.log ∙ ap (λ (es : List Entry). es ++ b.entries) one.log ∙ append_assoc x.children.log a.entries b.entries;
       site = two.site ∙ one.site;
@@ -210,7 +184,6 @@ leads_joined look x y z a b is_open one two =
           two.due ∙ ap (λ (s : State). due_after_all s (due_in y) b.events) one.crash.state
           ∙ ap (λ (d : Due). due_after_all (after_all x.state a.events) d b.events) one.due
           ∙ sym (due_after_all-append x.state (due_in x) a.events b.events);
-      roomy = on.roomy;
       whole = on.whole;
     }
 

@@ -22,8 +22,8 @@ returns-then-room-len-clause-finishes g c =
     let x = scene_of h (moment h.state c.args.now) in
     subst (λ (l : List Notice). Finishes g.D.Disk.view h.disk h.disk x h.state (due_in h) from from l turn_end.BookFull)
     (sym c.clear.ensures.items)
-    (book_full IsFinish g.D.Disk.view h.disk x from (refl, refl, refl, refl) (whole v h.state lawful found)
-    (settled_roomy c.what_stands.ensures.once h.place h.state v lawful kept.journal kept.room))
+    (book_full IsFinish g.D.Disk.view h.disk x from (refl, refl) (whole g.D.Disk.view h.disk h.state lawful found
+    (settled_roomy c.what_stands.ensures.once h.place h.state v lawful kept.journal kept.room)))
 
 pub returns-in-Ok-clause-finishes : goal.returns-in-Ok-clause-finishes
 returns-in-Ok-clause-finishes g c =

@@ -1,7 +1,8 @@
-use Rattle.std.proofs.Common.{◌≡◌, Bool, true, true≢false, refl, sym, subst, ◌∙◌}
+use Rattle.std.proofs.Common.{◌≡◌, true, true≢false, refl, sym, subst, ◌∙◌}
 use Rattle.ocf_types.specs.declared.reply.TurnEnd.{TurnEnd}
 use Rattle.ocf_types.specs.Answer.{moment}
 use Rattle.child_model.specs.Children.{Admits}
+use Rattle.exec_ledger.specs.Laws.{while_open}
 use Rattle.exec_ledger.specs.Scenes.{scene_of}
 use Rattle.exec_turn.specs.Turn.{IsFinish}
 use Rattle.exec_turn.specs.Turns.{told_of}
@@ -37,12 +38,12 @@ returns g c =
       full = turn.full;
       unchanged = λ is.
           let same = turn.unchanged is in
-          let none = (subst (λ (end : TurnEnd). IsFinish end (scene_of e.ledger (moment e.ledger.state c.args.now)) turn.finishes.entries
-          turn.finishes.events turn.finishes.pending y.told) is turn.finishes.does).3 in
+          let none = (subst (λ (end : TurnEnd). IsFinish end (scene_of e.ledger (moment e.ledger.state c.args.now)) turn.finishes.effects y.told) is
+          turn.finishes.does).1 in
           λ i. sight (same.0 i) (g.C.Children.view (same.1 i)) e.site (none i) (reported_of e.reported);
       closes = turn.closes;
     } in
     record {
       finishes = subst (λ (z : Sight _). FinishesWhile z.is_open g.D.Disk.view c.args.now z y c.finish_turn-end.result) c.self.view_is
-          (subst (λ (b : Bool). FinishesWhile b g.D.Disk.view c.args.now x y c.finish_turn-end.result) (sym was) takes);
+          (while_open _ was takes);
     }

@@ -1,6 +1,7 @@
 use Rattle.std.proofs.Common.{subst, sym}
 use Rattle.ocf_types.specs.declared.reply.ReplyOf.TheVariants.{Turn}
-use Rattle.executor.specs.Sessions.{Effects, Input, Takes}
+use Rattle.exec_ledger.specs.Pieces.{Effects}
+use Rattle.executor.specs.Sessions.{Input, Takes}
 use Rattle.executor.specs.CallLaws.{request_taken, turn_taken}
 use Rattle.executor.proofs.executor.Executor.take.Goals as goal
 

@@ -1,7 +1,8 @@
-use Rattle.std.proofs.Common.{◌≡◌, Bool, true, true≢false, refl, sym, subst, ◌∙◌}
+use Rattle.std.proofs.Common.{◌≡◌, true, true≢false, refl, sym, subst, ◌∙◌}
 use Rattle.ocf_types.specs.declared.reply.TurnEnd.{TurnEnd}
 use Rattle.ocf_types.specs.Answer.{moment}
 use Rattle.child_model.specs.Children.{Admits}
+use Rattle.exec_ledger.specs.Laws.{while_open}
 use Rattle.exec_ledger.specs.Scenes.{scene_of}
 use Rattle.exec_turn.specs.Turn.{IsTurn}
 use Rattle.exec_turn.specs.Turns.{told_of}
@@ -40,12 +41,12 @@ returns g c =
       full = turn.full;
       unchanged = λ is.
           let same = turn.unchanged is in
-          let none = (subst (λ (end : TurnEnd). IsTurn end (scene_of e.ledger (moment e.ledger.state c.args.now)) turn.turns.entries
-          turn.turns.events turn.turns.pending y.told) is turn.turns.does).3 in
+          let none = (subst (λ (end : TurnEnd). IsTurn end (scene_of e.ledger (moment e.ledger.state c.args.now)) turn.turns.effects y.told) is
+          turn.turns.does).1 in
           λ i. sight (same.0 i) (g.C.Children.view (same.1 i)) e.site (none i) (reported_of e.reported);
       closes = turn.closes;
     } in
     record {
       turns = subst (λ (z : Sight _). TurnsWhile z.is_open g.D.Disk.view c.args.now z y c.take_turn-end.result) c.self.view_is
-          (subst (λ (b : Bool). TurnsWhile b g.D.Disk.view c.args.now x y c.take_turn-end.result) (sym was) takes);
+          (while_open _ was takes);
     }

@@ -1,0 +1,31 @@
+-- What becomes of the actions that a stopped executor left, as an opening tells it.
+use Rattle.std.specs.Prelude.{ℕ, List, map, option_to_list}
+use Rattle.std.specs.List.{flat_map}
+use Rattle.ocf_types.specs.Resource.{Resource, dropped_of, ended_of}
+use Rattle.ocf_types.specs.State.{State}
+use Rattle.ocf_types.specs.declared.operation.Op.{Op}
+use Rattle.ocf_types.specs.declared.operation.Running.{Running}
+use Rattle.ocf_types.specs.declared.outcome.Outcome.TheVariants.{Interrupted}
+use Rattle.ocf_types.specs.declared.reply.Notice.{Notice}
+
+-- a resource's action that ran is interrupted
+abbrev pub interruption : List ℕ → ℕ → Running → Notice
+interruption id at x = record { id = id; result = ended_of Interrupted at x }
+
+-- a resource's action that was queued is dropped
+abbrev pub drop_notice : List ℕ → ℕ → Op → Notice
+drop_notice id at o = record { id = id; result = dropped_of at o }
+
+abbrev pub interrupted_in : ℕ → List ℕ × Resource → List Notice
+interrupted_in at e = map (interruption e.0 at) (option_to_list e.1.history.running)
+
+abbrev pub dropped_in : ℕ → List ℕ × Resource → List Notice
+dropped_in at e = map (drop_notice e.0 at) e.1.history.queue
+
+-- what ran, by registration
+abbrev pub interrupted : State → ℕ → List Notice
+interrupted s at = flat_map (interrupted_in at) s.resources
+
+-- what was queued, by registration and then by call
+abbrev pub dropped : State → ℕ → List Notice
+dropped s at = flat_map (dropped_in at) s.resources
