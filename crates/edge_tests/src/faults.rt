@@ -113,10 +113,10 @@ fn unread(alloc: Global) -> Option<Result<(), Fault>> {
         left: b"{\"op\":\"list\"}\n{\"op\":\"list\"}",
         stumbles: false,
     };
-    let mut reader = BufReader::with_capacity(alloc, 5, Patient::new(input, 0)).ok()?;
+    let reader = BufReader::with_capacity(alloc, 5, Patient::new(input, 0)).ok()?;
     let mut writer = Vec::new(alloc);
     let disk = MemDisk::new(alloc);
-    let ended = ended(alloc, disk, &[], &mut reader, &mut writer)?;
+    let ended = ended(alloc, disk, &[], reader, &mut writer)?;
     (writer.as_slice() == b"{\"ok\":true,\"resources\":[]}\n".as_slice()).then(|| ended)
 }
 
@@ -159,8 +159,7 @@ fn writes_that_take_little_are_made_again(rt: HostRuntime) {
         taken: Vec::new(alloc),
         stumbles: false,
     };
-    let mut reader = TOGETHER;
-    let ended = ended(alloc, MemDisk::new(alloc), &[], &mut reader, &mut writer);
+    let ended = ended(alloc, MemDisk::new(alloc), &[], TOGETHER, &mut writer);
     assert_eq!(rt; ended, Some(Ok(())));
     assert_eq!(rt;
         writer.taken.as_slice(),

@@ -7,6 +7,7 @@ use exec_commands::NoticeForm;
 use exec_lines::{Input, Output};
 use exec_output::Fault;
 use exec_session::{LineRoom, Pace, RunContext, Way, run_lines};
+use exec_trace::Edge;
 use executor::Executor;
 use std::alloc::Global;
 use std::collections::VecDeque;
@@ -42,29 +43,28 @@ fn children(alloc: Global, polls: &[Poll]) -> Option<Scripted> {
 }
 
 /// How a run ends over a journal that is opened at moment 5,000. Its drains make at most three turns.
-pub fn ended<R: Input, W: Output>(
+pub fn ended<R: Input + Drop, W: Output>(
     alloc: Global,
     disk: MemDisk,
     polls: &[Poll],
-    reader: &mut R,
+    reader: R,
     writer: &mut W,
 ) -> Option<Result<(), Fault>> {
     ended_in_way(alloc, Way::Run, disk, polls, reader, writer)
 }
 
 // The same of a run that goes this way.
-fn ended_in_way<R: Input, W: Output>(
+fn ended_in_way<R: Input + Drop, W: Output>(
     alloc: Global,
     way: Way,
     disk: MemDisk,
     polls: &[Poll],
-    reader: &mut R,
+    reader: R,
     writer: &mut W,
 ) -> Option<Result<(), Fault>> {
     let children = children(alloc, polls)?;
     let context = RunContext {
         alloc,
-        clock: &Standing,
         metadata: &NoMetadata,
         way,
         form: NoticeForm::Short,
@@ -74,11 +74,12 @@ fn ended_in_way<R: Input, W: Output>(
     };
     match Executor::open(alloc, disk, children, nowhere(alloc), 5_000) {
         Ok((executor, report)) => {
-            let mut client = Teller::new(alloc, writer, &executor);
+            let client = Teller::new(alloc, writer, &executor);
             let Ok(room) = LineRoom::new(alloc) else {
                 return None;
             };
-            let run = run_lines(&context, reader, &mut client, executor, &report, room);
+            let edge = Edge::new(reader, client, &Standing);
+            let run = run_lines(&context, edge, (executor, report), room);
             Some(run.ended)
         }
         Err(_) => None,
@@ -93,9 +94,8 @@ pub fn writes(
     lines: &[u8],
     wanted: &[u8],
 ) -> Option<Result<(), Fault>> {
-    let mut reader = lines;
     let mut writer = Vec::new(alloc);
-    let ended = ended(alloc, disk, polls, &mut reader, &mut writer)?;
+    let ended = ended(alloc, disk, polls, lines, &mut writer)?;
     (writer.as_slice() == wanted).then(|| ended)
 }
 
@@ -107,9 +107,8 @@ pub fn ended_in(
     lines: &[u8],
     room: &mut [u8],
 ) -> Option<Result<(), Fault>> {
-    let mut reader = lines;
     let mut writer = room;
-    ended(alloc, disk, polls, &mut reader, &mut writer)
+    ended(alloc, disk, polls, lines, &mut writer)
 }
 
 /// Registers r1, starts it, and drains.
@@ -138,10 +137,9 @@ fn a_drain_makes_as_many_turns_as_it_may(rt: HostRuntime) {
 
 // What a run that serves writes over these lines, all of which are there at once.
 fn served(alloc: Global, polls: &[Poll], lines: &[u8], wanted: &[u8]) -> bool {
-    let mut reader = lines;
     let mut writer = Vec::new(alloc);
     let disk = MemDisk::new(alloc);
-    let ended = ended_in_way(alloc, Way::Serve, disk, polls, &mut reader, &mut writer);
+    let ended = ended_in_way(alloc, Way::Serve, disk, polls, lines, &mut writer);
     ended == Some(Ok(())) && writer.as_slice() == wanted
 }
 

@@ -1,12 +1,20 @@
 -- A drain that goes on.
-use Rattle.std.proofs.Common.{◌≡◌, ◌↔◌, ℕ, Bool, true, false, Option, None, refl, sym, ap, ◌∙◌}
+use Rattle.std.proofs.Common.{◌≡◌, ◌≤◌, ◌+◌, ◌↔◌, ℕ, Bool, true, false, not, List, [], ◌∷◌, ◌++◌, length, Option, None, Some, refl, sym, ap, subst, ◌∙◌, arith, length-append}
+use Rattle.ocf_types.specs.Boot.{any_busy}
 use Rattle.ocf_types.specs.declared.reply.TurnEnd.{TurnEnd}
 use Rattle.ocf_types.specs.declared.reply.TurnEnd.TheVariants as turn_end
 use Rattle.disk_model.specs.View.{View}
+use Rattle.executor.specs.Sights.{Sight}
 use Rattle.exec_commands.specs.declared.ends.DrainEnd.{DrainEnd}
-use Rattle.exec_session.specs.Drains.{MakesTurn, Spot, end_behind}
+use Rattle.exec_trace.specs.Edges.{rest_events}
+use Rattle.exec_trace.specs.Events.{last_shown}
+use Rattle.exec_trace.specs.declared.event.IoEvent.{IoEvent}
+use Rattle.exec_trace.specs.declared.event.IoEvent.TheVariants.{Asked, Shown}
+use Rattle.exec_session.specs.Drains.{Drains, GoesOn, MakesTurn, Rests, end_at, end_behind, further}
 use Rattle.exec_session.specs.Rules.{Rules}
+use Rattle.exec_session.specs.Spots.{Keeps, MayBreakOff, Pauses, Position, Spot, behind, noted}
 use Rattle.exec_session.specs.declared.drain.Terms.{Terms}
+use Rattle.exec_session.proofs.EventLemmas.{longer, pause_lasts, shown_last, unasked, was_noted}
 
 -- it does so behind a turn that is done
 done : (t : Terms) (turns now : ℕ) (end : TurnEnd) (idle : Bool) → end_behind t turns now end idle ≡ None → end ≡ turn_end.Done
@@ -28,13 +36,55 @@ still_open t turns now end idle false closes e = let is = sym (done t turns now 
 pub closes : {D : Type 0} (look : D → View) (rules : Rules) (now : ℕ) (p q : Spot D)
     (end : TurnEnd)
     → MakesTurn look rules now p q end → (q.executor.is_open ≡ false) ↔ (end ≡ turn_end.Disk)
-closes look rules now p q end made = by made.middle.is_open refl
+closes {D} look rules now p q end made = by made.middle.is_open refl
   where
     by : (b : Bool) → made.middle.is_open ≡ b → (q.executor.is_open ≡ false) ↔ (end ≡ turn_end.Disk)
     by true is_open = (made.takes is_open).closes
-    by false closed = let fails = made.fails closed in (λ _. fails.0, λ _. ap (λ x. x.is_open) fails.1 ∙ closed)
+    by false closed = let fails = made.fails closed in (λ _. fails.0, λ _. ap (λ (s : Spot D). s.executor.is_open) fails.1 ∙ closed)
 
 -- what was told of its end, of an executor that was asked whether it is idle
 pub told_end : (t : Terms) (turns now : ℕ) (end : TurnEnd) (idle asked : Bool) (told given : Option DrainEnd)
     → told ≡ end_behind t turns now end asked → asked ≡ idle → told ≡ given → end_behind t turns now end idle ≡ given
 told_end t turns now end idle asked told given is was same = ap (λ b. end_behind t turns now end b) (sym was) ∙ sym is ∙ same
+
+module _ {D : Type 0} where
+  -- a pause, somebody hears still, and a reading
+  pub rests : (told : Spot D) (mid q : Position D) (heard : Bool) (after : ℕ) → heard ≡ true → Pauses heard told mid.at → q ≡ noted mid (Shown after)
+      → Rests told q.at after
+  rests told mid q heard after hears paused is =
+      (mid.at, subst (λ (b : Bool). Pauses b told mid.at) hears paused, ap (λ (P : Position D). P.at) is)
+
+  pub paused_executor : (heard : Bool) (p q : Spot D) → Pauses heard p q → q.executor ≡ p.executor
+  paused_executor heard p q (micros, short, is) = ap (λ (s : Spot D). s.executor) is
+
+  pub rests_executor : (told q : Spot D) (after : ℕ) → Rests told q after → q.executor ≡ told.executor
+  rests_executor told q after (m, paused, is) = ap (λ (s : Spot D). s.executor) is ∙ paused_executor true told m paused
+
+  pub rests_shown : (told q : Spot D) (after : ℕ) → Rests told q after → last_shown q.events ≡ Some after
+  rests_shown told q after (m, paused, is) = ap (λ (s : Spot D). last_shown s.events) is ∙ shown_last m.events after
+
+  -- a pause asks something at least
+  pub paused_longer : (heard : Bool) (p q : Spot D) → Pauses heard p q → length p.events + 1 ≤ length q.events
+  paused_longer heard p q (micros, short, is) =
+      subst (λ (s : Spot D). length p.events + 1 ≤ length s.events) (sym is)
+      (let one = longer p.events (rest_events micros) in omega (arith, one, length-append (p.events ++ rest_events micros) (Asked heard ∷ [])))
+
+  -- where nobody hears any more, that is the last event
+  pub unheard_cause : (heard : Bool) (p q : Spot D) → heard ≡ false → Pauses heard p q → MayBreakOff q.events
+  unheard_cause heard p q gone (micros, short, is) =
+      unasked (p.events ++ rest_events micros) q.events
+      (ap (λ (s : Spot D). s.events) is ∙ ap (λ (b : Bool). (p.events ++ rest_events micros) ++ Asked b ∷ []) gone)
+
+  pub unheard_pause : (heard : Bool) (p q : Spot D) → heard ≡ false → Pauses heard p q → Pauses false p q
+  unheard_pause heard p q gone paused = subst (λ (b : Bool). Pauses b p q) gone paused
+
+  pub heard_pause : (heard : Bool) (p q : Spot D) → heard ≡ true → Pauses heard p q → Pauses true p q
+  heard_pause heard p q hears paused = subst (λ (b : Bool). Pauses b p q) hears paused
+
+  -- what was told of its end is that of the executor behind the turn
+  pub told_end_at : (t : Terms) (turns now : ℕ) (end : TurnEnd) (told q : Spot D) (asked : Bool) (given found : Option DrainEnd)
+      → q.executor ≡ told.executor → given ≡ end_behind t turns now end asked → asked ≡ not (any_busy q.executor.state) → given ≡ found
+      → end_at t turns now end told.executor ≡ found
+  told_end_at t turns now end told q asked given found same is was so =
+      told_end t turns now end (not (any_busy told.executor.state)) asked given found is
+      (was ∙ ap (λ (x : Sight D). not (any_busy x.state)) same) so

@@ -1,10 +1,13 @@
+pub mod EventLemmas
+pub mod WorkerLemmas
+pub mod AnswerLemmas
 pub mod DrainLemmas
 pub mod WaitLemmas
-pub mod ServeLemmas
+pub mod RoundLemmas
 pub mod CallLemmas
 pub mod TellLemmas
-pub mod HeardLemmas
 pub mod HeldLemmas
 pub mod LeaveLemmas
 pub mod BreakLemmas
 pub mod RoomLemmas
+pub mod LastLemmas

@@ -1,32 +1,42 @@
--- A run whose commands wait to be answered together, line by line.
-use Rattle.std.proofs.Common.{◌≡◌, ◌≢◌, ◌⊎◌, ℕ, ◌+◌, ◌≤◌, Bool, true, false, true≢false, List, [], ◌∷◌, ◌++◌, length, Option, Result, Ok, Err, IfOk}
-use Rattle.std.proofs.Common.{refl, sym, ap, subst, ◌∙◌, inl, inr, arith, length-append}
+-- A run between two lines, step by step.
+use Rattle.std.proofs.Common.{◌≡◌, ◌≢◌, ◌⊎◌, ℕ, ◌+◌, ◌≤◌, Bool, true, false, true≢false, List, [], ◌∷◌, ◌++◌, length, map, Option, Some, None, Result, Ok, Err, IfOk, IsErr}
+use Rattle.std.proofs.Common.{refl, sym, ap, subst, ◌∙◌, inl, inr, arith, length-append, take_all}
+use Rattle.std.proofs.lemmas.List.{append-nil, map-append}
+use Rattle.std.proofs.lemmas.List.Elements.{All-nil}
+use Rattle.std.proofs.KnownBytes.{Consumes-nil}
 use Rattle.ocf_types.specs.Kinds.{Command}
+use Rattle.ocf_types.specs.Limits.{num_max}
 use Rattle.ocf_types.specs.declared.reply.TurnEnd.{TurnEnd}
 use Rattle.ocf_types.specs.declared.reply.TurnEnd.TheVariants.{Done}
 use Rattle.disk_model.specs.View.{View}
 use Rattle.executor.specs.Sights.{Sight}
-use Rattle.exec_client.specs.Heard.{Heard}
+use Rattle.exec_lines.specs.Buffer.{line_bytes}
+use Rattle.exec_lines.specs.Pieces.{IsMidLine}
+use Rattle.exec_output.specs.declared.send.IoFault.{IoFault}
+use Rattle.exec_trace.specs.Events.{is_failure}
+use Rattle.exec_trace.specs.declared.event.IoEvent.{IoEvent}
+use Rattle.exec_trace.specs.declared.event.IoEvent.TheVariants.{Read}
 use Rattle.exec_session.specs.Answers.{Source}
-use Rattle.exec_session.specs.Drains.{Spot, spot}
+use Rattle.exec_session.specs.Breaks.{BreaksOff, at_once, in_event, in_line, in_row}
+use Rattle.exec_session.specs.Broken.{RowBreaks}
+use Rattle.exec_session.specs.Gathered.{waiting}
+use Rattle.exec_session.specs.Held.{AnswersHeld, asks, held_lines}
+use Rattle.exec_session.specs.Pending.{IsClear}
+use Rattle.exec_session.specs.Progress.{ReadsInput}
 use Rattle.exec_session.specs.Rules.{Rules}
-use Rattle.exec_session.specs.Progress.{Position, Takes, position}
-use Rattle.exec_session.specs.Runs.{MakesTurns, MayGoOn, MayTake, Reaches, ReachesEnd, ReachesFault, closed_line, here, line, row}
-use Rattle.exec_session.specs.Together.{AnswersAll, ReadsCommand, ReadsCommands}
-use Rattle.exec_session.specs.Waiting.{ComesOrEnds, HasCome, IsTaken, MayTakeBehind, MayWait}
-use Rattle.exec_session.specs.declared.lines.Progress.{Progress}
-use Rattle.exec_session.specs.declared.lines.Progress.TheVariants.{End}
+use Rattle.exec_session.specs.Runs.{IsLook, IsWait, Lines, MakesTurns, MayGoOn, MayRest, MayTake, Reaches, ReachesFault, of_command}
+use Rattle.exec_session.specs.Runs.{answers, here, looks, passes, reads, row, waits}
+use Rattle.exec_session.specs.Spots.{MayBreakOff, Position, Spot, behind, position}
+use Rattle.exec_session.specs.Together.{AnswersAll}
+use Rattle.exec_session.specs.Waiting.{Comes, ComesOrEnds, HasCome, HasFound, IsFound, IsReadTo, IsTaken, MayTakeBehind, MayWait, Midway, TakesFound, found_lines, midway}
 use Rattle.exec_session.specs.declared.context.Way.{Way}
 use Rattle.exec_session.specs.declared.context.Way.TheVariants.{Run, Serve}
+use Rattle.exec_session.specs.declared.held.Held.{Held}
+use Rattle.exec_session.specs.declared.lines.Found.{Found}
+use Rattle.exec_session.specs.declared.lines.Found.TheVariants as found
 use Rattle.exec_session.specs.declared.lines.Taken.{Taken}
 use Rattle.exec_session.specs.declared.lines.Taken.TheVariants as taken
-
--- one command more is read
-reads_more : (way : Way) (a b c : Option (List ℕ)) (commands : List Command) (command : Command) → ReadsCommands way a commands b
-    → ReadsCommand way b c command → ReadsCommands way a (commands ++ command ∷ []) c
-reads_more way a b c [] command same read = (c, subst (λ x. ReadsCommand way x c command) same read, refl)
-reads_more way a b c (first ∷ others) command (behind, one, more) read =
-    (behind, one, reads_more way behind b c others command more read)
+use Rattle.exec_session.specs.declared.pending.Pending.{Pending}
 
 -- a run by lines alone takes any line, one that serves 64 behind a turn
 pub may_run : (way : Way) (most : ℕ) → way ≡ Run → MayTakeBehind way most
@@ -42,202 +52,477 @@ pub go_run : {D : Type 0} (way : Way) (x : Sight D) → way ≡ Run → MayGoOn 
 go_run Run x is = tt
 go_run Serve x is = absurd cc
 
-pub no_turns : (way : Way) → way ≡ Run → MakesTurns way → ⊥
-no_turns Run is serves = serves
-no_turns Serve is serves = absurd cc
-
 pub go_open : {D : Type 0} (way : Way) (x : Sight D) → x.is_open ≡ true → MayGoOn way x
 go_open Run x is_open = tt
 go_open Serve x is_open = is_open
-
-pub still_serves : {D : Type 0} (way : Way) (x : Sight D) → MakesTurns way → MayGoOn way x → x.is_open ≡ false → ⊥
-still_serves Run x serves goes_on closed = serves
-still_serves Serve x serves goes_on closed = true≢false (sym goes_on ∙ closed)
 
 pub if_ok : {A E : Type 0} (P Q : A → Type 0) (r : Result A E) → ((x : A) → P x → Q x) → IfOk r P → IfOk r Q
 if_ok P Q (Ok x) to p = to x p
 if_ok P Q (Err e) to p = tt
 
 -- none waits
-pub none_waits : {D : Type 0} (x : Sight D) (commands : List Command) → commands ≡ [] → MayWait x commands
-none_waits x commands none = record { few = omega (arith, ap length none); while_open = λ _. none }
+pub none_waits : {D : Type 0} (way : Way) (x : Sight D) (pending : Pending) → waiting pending.gathered ≡ [] → (way ≡ Run → pending.held ≡ None)
+    → MayWait way x pending
+none_waits way x pending none free =
+    record { few = omega (arith, ap length none); while_open = λ _. none; free = free }
 
 -- while some wait the executor is open
-pub open_while : {D : Type 0} (x : Sight D) (commands : List Command) → MayWait x commands → commands ≢ [] → x.is_open ≡ true
-open_while x commands may some = by x.is_open refl
+pub open_while : {D : Type 0} (way : Way) (x : Sight D) (pending : Pending) → MayWait way x pending → waiting pending.gathered ≢ []
+    → x.is_open ≡ true
+open_while way x pending may some = by x.is_open refl
   where
     by : (b : Bool) → x.is_open ≡ b → x.is_open ≡ true
     by true is_open = is_open
     by false closed = absurd (some (may.while_open closed))
 
--- nothing is done yet
-pub at_first : {D : Type 0} (look : D → View) (source : Source) (rules : Rules) (p : Position D) → MayGoOn rules.way p.executor
-    → HasCome look source rules p Done 0 [] p
-at_first look source rules p goes_on = (0, inl (omega arith), record { left = p.left; read = refl; reached = here; goes_on = goes_on })
+-- an error of a step is that of a run that broke off
+pub comes_err : {D : Type 0} (look : D → View) (source : Source) (rules : Rules) (p : Position D) (own : TurnEnd) (most : ℕ) (s : Midway D)
+    (r : Result Taken IoFault) → IsErr r → BreaksOff look source rules p s.place.at → Comes look source rules p own most s r
+comes_err look source rules p own most s (Ok x) bad breaks = let none : ⊥ = cc in absurd none
+comes_err look source rules p own most s (Err e) bad breaks = breaks
+
+-- while no line is held a part of the next one was read
+pub mid_before : (held : Option Held) → held ≡ None → (left : Option (List ℕ)) (kept : List ℕ) (now : Option (List ℕ))
+    → IsReadTo held left kept now → IsMidLine left kept now
+mid_before held free left kept now read = subst (λ (h : Option Held). IsReadTo h left kept now) free read
+
+-- with an empty buffer the next line begins
+pub begins : (left now : Option (List ℕ)) (kept : List ℕ) → left ≡ now → kept ≡ [] → IsMidLine left kept now
+begins left now kept same none = subst (λ (l : Option (List ℕ)). IsMidLine l kept now) (sym same) (record {
+  part = [];
+  unended = All-nil (λ b. b ≢ 10);
+  front = none ∙ sym (take_all 131073 [] (omega arith));
+  read = Consumes-nil now;
+})
+
+-- while no line is held
+begins_free : (held : Option Held) (left now : Option (List ℕ)) (kept : List ℕ) → held ≡ None → left ≡ now → kept ≡ []
+    → IsReadTo held left kept now
+begins_free held left now kept free same none =
+    subst (λ (h : Option Held). IsReadTo h left kept now) (sym free) (begins left now kept same none)
 
 module _ {D : Type 0} (look : D → View) (source : Source) (rules : Rules) (p : Position D) (own : TurnEnd) where
-  abbrev Come : ℕ → List Command → Position D → Type 0
-  Come most commands q = HasCome look source rules p own most commands q
+  abbrev At : ℕ → Lines → Position D → Type 0
+  At n lines q = Reaches look source rules p own n lines q
 
-  abbrev Closed : Sight D → Type 0
-  Closed executor = executor.is_open ≡ false
+  abbrev Come : ℕ → Position D → List Command → Option Held → List ℕ → Type 0
+  Come most place commands held kept =
+      HasCome look source rules p own most (record { place = place; commands = commands; held = held; kept = kept })
 
-  -- none waits
-  pub come_none : (most : ℕ) (commands : List Command) (q : Position D) → commands ≡ [] → Come most [] q → Come most commands q
-  come_none most commands q none come = subst (λ cs. Come most cs q) (sym none) come
+  abbrev Finds : ℕ → List Command → Found → Position D → Type 0
+  Finds most commands what q = HasFound look source rules p own most commands what q
 
   -- more lines were allowed
-  pub come_more : (n m : ℕ) (commands : List Command) (q : Position D) → n ≤ m → Come n commands q → Come m commands q
-  come_more n m commands q le (count, inl few, waits) = (count, inl (omega (arith, le, few)), waits)
-  come_more n m commands q le (count, inr closed, waits) = (count, inr closed, waits)
-
-  -- a command more waits
-  pub one_waits : (most : ℕ) (commands commands' : List Command) (command : Command) (executor : Sight D)
-      (left now : Option (List ℕ)) (heard : Heard D) → executor.is_open ≡ true → ReadsCommand rules.way left now command
-      → commands' ≡ commands ++ command ∷ [] → Come most commands (position executor left heard)
-      → Come (most + 1) commands' (position executor now heard)
-  one_waits most commands commands' command executor left now heard is_open read same (count, few, waits) = (
-    count,
-    more few,
-    record {
-      left = waits.left;
-      read =
-          subst (λ cs. ReadsCommands rules.way waits.left cs now) (sym same)
-          (reads_more rules.way waits.left left now commands command waits.read read);
-      reached = waits.reached;
-      goes_on = go_open rules.way executor is_open;
-    },
-  )
-    where
-      more : (count + length commands ≤ most) ⊎ Closed executor → (count + length commands' ≤ most + 1) ⊎ Closed executor
-      more (inl le) = inl (omega (arith, le, ap length same, length-append commands (command ∷ [])))
-      more (inr closed) = absurd (true≢false (sym is_open ∙ closed))
-
-  -- all that wait are answered
-  pub all_answered : (most : ℕ) → ((n : ℕ) → n + 1 ≤ most → MayTake rules.way n) → (commands : List Command)
-      (old new : Sight D) (left : Option (List ℕ)) (heard heard' : Heard D)
-      → (commands ≢ [] → old.is_open ≡ true) → Come most commands (position old left heard)
-      → AnswersAll look rules commands (spot old heard) (spot new heard') → MayGoOn rules.way new → Come most [] (position new left heard')
-  all_answered most may [] old new left heard heard' is_open (count, few, waits) same goes_on =
-      let executor : new ≡ old = ap (λ (s : Spot D). s.executor) same in
-      let told : heard' ≡ heard = ap (λ (s : Spot D). s.heard) same in
-      let moved = subst (λ (e : Sight D). Come most [] (position e left heard)) (sym executor) (count, few, waits) in
-      subst (λ (h : Heard D). Come most [] (position new left h)) (sym told) moved
-  all_answered most may (first ∷ others) old new left heard heard' is_open (count, inr closed, waits) answers goes_on =
-      absurd (true≢false (sym (is_open (λ none. cc)) ∙ closed))
-  all_answered most may (first ∷ others) old new left heard heard' is_open (count, inl few, waits) answers goes_on = (
-    count + length others + 1,
-    inl (omega (arith, few)),
-    record {
-      left = left;
-      read = refl;
-      reached =
-          row own count (position old waits.left heard) (position new left heard') first others waits.reached (is_open (λ none. cc))
-          (may (count + length others) (omega (arith, few))) (record { read = waits.read; answered = answers });
-      goes_on = goes_on;
-    },
-  )
-
-  -- with none that waits the run is at the line that is next
-  pub at_line : (most : ℕ) (q : Position D) → Come most [] q → (count : ℕ)
-      × ((count ≤ most) ⊎ Closed q.executor) × Reaches look source rules p own count q
-  at_line most q (count, few, waits) = (
-    count,
-    fewer few,
-    subst (λ left. Reaches look source rules p own count (position q.executor left q.heard)) (sym waits.read) waits.reached,
-  )
-    where
-      fewer : (count + 0 ≤ most) ⊎ Closed q.executor → (count ≤ most) ⊎ Closed q.executor
-      fewer (inl le) = inl (omega (arith, le))
-      fewer (inr closed) = inr closed
-
-  -- commands that wait are answered, and that closes the executor of a run that serves
-  pub answered_closed : (most : ℕ) → ((n : ℕ) → n + 1 ≤ most → MayTake rules.way n) → (commands : List Command)
-      (old new : Sight D) (left : Option (List ℕ)) (heard heard' : Heard D)
-      → (commands ≢ [] → old.is_open ≡ true) → Come most commands (position old left heard)
-      → AnswersAll look rules commands (spot old heard) (spot new heard') → MakesTurns rules.way → Closed new
-      → ReachesFault look source rules p (spot new heard')
-  answered_closed most may [] old new left heard heard' is_open (count, few, waits) same serves closed =
-      let executor : new ≡ old = ap (λ (s : Spot D). s.executor) same in
-      absurd (still_serves rules.way old serves waits.goes_on (ap (λ (e : Sight D). e.is_open) (sym executor) ∙ closed))
-  answered_closed most may (first ∷ others) old new left heard heard' is_open (count, inr shut, waits) answers serves closed =
-      absurd (true≢false (sym (is_open (λ none. cc)) ∙ shut))
-  answered_closed most may (first ∷ others) old new left heard heard' is_open (count, inl few, waits) answers serves closed = record {
-    serves = serves;
-    own = own;
-    count = count + length others + 1;
-    last = position new left heard';
-    reached =
-        row own count (position old waits.left heard) (position new left heard') first others waits.reached (is_open (λ none. cc))
-        (may (count + length others) (omega (arith, few))) (record { read = waits.read; answered = answers });
-    is_closed = closed;
-    at_last = refl;
+  pub come_more : (n m : ℕ) (commands : List Command) (held : Option Held) (kept : List ℕ) (place : Position D) → n ≤ m
+      → Come n place commands held kept → Come m place commands held kept
+  come_more n m commands held kept place le come = record {
+    count = come.count;
+    few = omega (arith, le, come.few);
+    left = come.left;
+    mid = come.mid;
+    reached = come.reached;
+    goes_on = come.goes_on;
   }
 
-  -- the same, as the run goes on
-  pub answered_step : (most : ℕ) → ((n : ℕ) → n + 1 ≤ most → MayTake rules.way n) → (commands : List Command)
-      (old new : Sight D) (left : Option (List ℕ)) (heard heard' : Heard D) (step : Taken)
-      → (commands ≢ [] → old.is_open ≡ true) → Come most commands (position old left heard)
-      → AnswersAll look rules commands (spot old heard) (spot new heard') → IsTaken rules.way new false step
-      → ComesOrEnds look source rules p own most [] (position new left heard') step
-  answered_step most may commands old new left heard heard' taken.More is_open come answers (none, goes_on) =
-      all_answered most may commands old new left heard heard' is_open come answers goes_on
-  answered_step most may commands old new left heard heard' taken.End is_open come answers (none, goes_on) = absurd cc
-  answered_step most may commands old new left heard heard' taken.Closed is_open come answers (serves, closed) =
-      answered_closed most may commands old new left heard heard' is_open come answers serves closed
+  -- a look, and a wait
+  pub looked : (most : ℕ) (commands : List Command) (held : Option Held) (kept : List ℕ) (place place' : Position D) (event : IoEvent)
+      → IsLook event → place' ≡ position (behind place.at event) place.left → Come most place commands held kept
+      → Come most place' commands held kept
+  looked most commands held kept place place' event is same come =
+      subst (λ (w : Position D). Come most w commands held kept) (sym same) (record {
+        count = come.count;
+        few = come.few;
+        left = come.left;
+        mid = come.mid;
+        reached =
+            looks own come.count (map of_command commands ++ held_lines held) (position place.at come.left) event come.reached is;
+        goes_on = come.goes_on;
+      })
 
-  -- a run that does not go on ends where it is, whatever it has read
-  pub step_ends : (n m : ℕ) (cs ds : List Command) (executor : Sight D) (left left' : Option (List ℕ)) (heard : Heard D) (step : Taken)
-      → step ≢ taken.More → IsTaken rules.way executor false step
-      → ComesOrEnds look source rules p own n cs (position executor left heard) step
-      → ComesOrEnds look source rules p own m ds (position executor left' heard) step
-  step_ends n m cs ds executor left left' heard taken.More ends is come = absurd (ends refl)
-  step_ends n m cs ds executor left left' heard taken.End ends (none, goes_on) come = absurd cc
-  step_ends n m cs ds executor left left' heard taken.Closed ends is come = come
+  pub waited : (most : ℕ) (commands : List Command) (held : Option Held) (kept : List ℕ) (place place' : Position D) (event : IoEvent)
+      → commands ≡ [] → MayRest (held_lines held) → IsWait place.at.executor event → place' ≡ position (behind place.at event) place.left
+      → Come most place commands held kept → Come most place' commands held kept
+  waited most commands held kept place place' event none rests is same come =
+      subst (λ (w : Position D). Come most w commands held kept) (sym same) (record {
+        count = come.count;
+        few = come.few;
+        left = come.left;
+        mid = come.mid;
+        reached =
+            waits own come.count (map of_command commands ++ held_lines held) (position place.at come.left) event come.reached
+            come.goes_on (subst (λ (cs : List Command). MayRest (map of_command cs ++ held_lines held)) (sym none) rests) is;
+        goes_on = come.goes_on;
+      })
 
-  -- the next line is taken
-  pub line_taken : (most : ℕ) → MayTakeBehind rules.way most → (q q' : Position D) (s : Progress)
-      → Come most [] q → Takes look source rules q q' s
-      → (n : ℕ) × ((n ≤ most + 1) ⊎ Closed q'.executor) × Reaches look source rules p own n q'
-  line_taken most may q q' s come takes = by q.executor.is_open refl (at_line most q come)
+  -- what was asked failed, or the loops have gone round
+  pub event_breaks : (most : ℕ) (commands : List Command) (held : Option Held) (kept : List ℕ) (place : Position D) (q : Spot D)
+      (event : IoEvent) → is_failure event ≡ true → q ≡ behind place.at event → Come most place commands held kept
+      → BreaksOff look source rules p q
+  event_breaks most commands held kept place q event fails same come = record {
+    own = own;
+    count = come.count;
+    lines = map of_command commands ++ held_lines held;
+    last = position place.at come.left;
+    reached = come.reached;
+    breaks = in_event event fails same;
+    cause = inl (record { before = place.at.events; last = event; is_last = ap (λ (s : Spot D). s.events) same; fails = fails });
+  }
+
+  pub bound_breaks : (most : ℕ) (commands : List Command) (held : Option Held) (kept : List ℕ) (place : Position D)
+      → num_max ≤ length place.at.events → Come most place commands held kept → BreaksOff look source rules p place.at
+  bound_breaks most commands held kept place many come = record {
+    own = own;
+    count = come.count;
+    lines = map of_command commands ++ held_lines held;
+    last = position place.at come.left;
+    reached = come.reached;
+    breaks = at_once refl;
+    cause = inr many;
+  }
+
+  -- a part of the next line was read
+  pub read_part : (most : ℕ) (commands : List Command) (held : Option Held) (kept kept' : List ℕ) (place place' : Position D)
+      → held ≡ None → place'.at ≡ behind place.at (Read true) → (come : Come most place commands held kept)
+      → IsMidLine come.left kept' place'.left → Come most place' commands held kept'
+  read_part most commands held kept kept' place place' free same come mid = record {
+    count = come.count;
+    few = come.few;
+    left = come.left;
+    mid = subst (λ (h : Option Held). IsReadTo h come.left kept' place'.left) (sym free) mid;
+    reached =
+        subst (λ (s : Spot D). At come.count (map of_command commands ++ held_lines held) (position s come.left)) (sym same)
+        (looks own come.count (map of_command commands ++ held_lines held) (position place.at come.left) (Read true) come.reached refl);
+    goes_on = subst (λ (s : Spot D). MayGoOn rules.way s.executor) (sym same) come.goes_on;
+  }
+
+  -- what stands next was read
+  pub found_next : (most : ℕ) (commands : List Command) (held : Option Held) (kept : List ℕ) (place place' : Position D) (what : Found)
+      → held ≡ None → place'.at ≡ behind place.at (Read true) → (come : Come most place commands held kept)
+      → ReadsInput rules.way come.left place'.left what → Finds most commands what place'
+  found_next most commands held kept place place' what free same come input = by what input
     where
-      by : (b : Bool) → q.executor.is_open ≡ b
-          → (count : ℕ) × ((count ≤ most) ⊎ Closed q.executor) × Reaches look source rules p own count q
-          → (n : ℕ) × ((n ≤ most + 1) ⊎ Closed q'.executor) × Reaches look source rules p own n q'
-      by true is_open (count, inl few, reached) =
-          (count + 1, inl (omega (arith, few)), line own count q q' s reached is_open (may count few) takes)
-      by true is_open (count, inr closed, reached) = absurd (true≢false (sym is_open ∙ closed))
-      by false closed (count, few, reached) =
-          (0, inl (omega arith), closed_line own count q q' s reached closed come.2.goes_on takes)
+      before : At come.count (map of_command commands ++ []) (position place.at come.left)
+      before =
+          subst (λ (h : Option Held). At come.count (map of_command commands ++ held_lines h) (position place.at come.left)) free
+          come.reached
 
-  -- the same, as the run goes on
-  pub one_taken : (most : ℕ) → MayTakeBehind rules.way most → (q q' : Position D) (s : Progress) (has_ended : Bool) (step : Taken)
-      → (has_ended ≡ true → s ≡ End) → Come most [] q → Takes look source rules q q' s → IsTaken rules.way q'.executor has_ended step
-      → ComesOrEnds look source rules p own (most + 1) [] q' step
-  one_taken most may q q' s has_ended taken.End is come takes (ended, goes_on) =
-      let (count, few, reached) = at_line most q come in
-      record {
-        own = own;
-        count = count;
-        last = q;
-        reached = reached;
-        end = subst (λ x. Takes look source rules q q' x) (is ended) takes;
+      goes_on : MayGoOn rules.way place'.at.executor
+      goes_on = subst (λ (s : Spot D). MayGoOn rules.way s.executor) (sym same) come.goes_on
+
+      looked_at : At come.count (map of_command commands ++ []) (position place'.at come.left)
+      looked_at =
+          subst (λ (s : Spot D). At come.count (map of_command commands ++ []) (position s come.left)) (sym same)
+          (looks own come.count (map of_command commands ++ []) (position place.at come.left) (Read true) before refl)
+
+      by : (f : Found) → ReadsInput rules.way come.left place'.left f → Finds most commands f place'
+      by (found.Line line) input = record {
+        count = come.count;
+        few = come.few;
+        left = place'.left;
+        next = refl;
+        reached =
+            subst (λ (s : Spot D). At come.count (map of_command commands ++ line ∷ []) (position s place'.left)) (sym same)
+            (reads own come.count commands (position place.at come.left) place'.left line
+            (subst (λ (ls : Lines). At come.count ls (position place.at come.left)) (append-nil (map of_command commands)) before)
+            come.goes_on input);
         goes_on = goes_on;
       }
-  one_taken most may q q' s has_ended taken.More is come takes (none, goes_on) =
-      let (count, few, reached) = line_taken most may q q' s come takes in
-      (count, waits_none count few, record { left = q'.left; read = refl; reached = reached; goes_on = goes_on })
-    where
-      waits_none : (count : ℕ) → (count ≤ most + 1) ⊎ Closed q'.executor → (count + 0 ≤ most + 1) ⊎ Closed q'.executor
-      waits_none count (inl le) = inl (omega (arith, le))
-      waits_none count (inr closed) = inr closed
-  one_taken most may q q' s has_ended taken.Closed is come takes (serves, closed) =
-      let (count, few, reached) = line_taken most may q q' s come takes in
-      record { serves = serves; own = own; count = count; last = q'; reached = reached; is_closed = closed; at_last = refl }
+      by found.Empty input = record {
+        count = come.count;
+        few = come.few;
+        left = come.left;
+        next = input;
+        reached = looked_at;
+        goes_on = goes_on;
+      }
+      by found.End input = record {
+        count = come.count;
+        few = come.few;
+        left = come.left;
+        next = input;
+        reached = looked_at;
+        goes_on = goes_on;
+      }
 
-  -- a run by lines alone that does not go on has come to the end of its input
-  pub run_ends : rules.way ≡ Run → (most : ℕ) (commands : List Command) (q : Position D) (step : Taken) → step ≢ taken.More
-      → ComesOrEnds look source rules p own most commands q step → ReachesEnd look source rules p q
-  run_ends way most commands q taken.More ends come = absurd (ends refl)
-  run_ends way most commands q taken.End ends come = come
-  run_ends way most commands q taken.Closed ends come = absurd (no_turns rules.way way come.serves)
+  -- then there was a look
+  pub found_looked : (most : ℕ) (commands : List Command) (what : Found) (q q' : Position D) (event : IoEvent) → IsLook event
+      → q' ≡ position (behind q.at event) q.left → Finds most commands what q → Finds most commands what q'
+  found_looked most commands what q q' event is same finds =
+      subst (λ (w : Position D). Finds most commands what w) (sym same) (record {
+        count = finds.count;
+        few = finds.few;
+        left = finds.left;
+        next = finds.next;
+        reached =
+            looks own finds.count (map of_command commands ++ found_lines what) (position q.at finds.left) event finds.reached is;
+        goes_on = finds.goes_on;
+      })
+
+  -- it is held
+  pub found_held : (most : ℕ) (commands : List Command) (held : Option Held) (kept : List ℕ) (h : Held) (what : Found) (q : Position D)
+      → what ≡ found.Line (Ok (asks h)) → held ≡ Some h → kept ≡ [] → Finds most commands what q
+      → Come (most + 1) q commands held kept
+  found_held most commands held kept h what q is holds none finds =
+      subst (λ (o : Option Held). Come (most + 1) q commands o kept) (sym holds)
+      (by (subst (λ (f : Found). Finds most commands f q) is finds))
+    where
+      by : Finds most commands (found.Line (Ok (asks h))) q → Come (most + 1) q commands (Some h) kept
+      by it = record {
+        count = it.count;
+        few = omega (arith, it.few);
+        left = it.left;
+        mid = (sym it.next, none);
+        reached = it.reached;
+        goes_on = it.goes_on;
+      }
+
+  -- it waits, as it is a command
+  pub one_waits : (most : ℕ) (commands commands' : List Command) (held : Option Held) (kept : List ℕ) (command : Command) (q : Position D)
+      → held ≡ None → kept ≡ [] → commands' ≡ commands ++ command ∷ [] → Finds most commands (found.Line (of_command command)) q
+      → Come (most + 1) q commands' held kept
+  one_waits most commands commands' held kept command q free none more finds = record {
+    count = finds.count;
+    few = omega (arith, finds.few, ap length more, length-append commands (command ∷ []));
+    left = finds.left;
+    mid = begins_free held finds.left q.left kept free finds.next none;
+    reached =
+        subst (λ (ls : Lines). At finds.count ls (position q.at finds.left)) (sym same) finds.reached;
+    goes_on = finds.goes_on;
+  }
+    where
+      same : map of_command commands' ++ held_lines held ≡ map of_command commands ++ of_command command ∷ []
+      same =
+          ap (λ (cs : List Command). map of_command cs ++ held_lines held) more
+          ∙ ap (λ (h : Option Held). map of_command (commands ++ command ∷ []) ++ held_lines h) free
+          ∙ append-nil (map of_command (commands ++ command ∷ [])) ∙ map-append of_command commands (command ∷ [])
+
+  -- all that wait are answered
+  row_reached : (count most : ℕ) → ((n : ℕ) → n + 1 ≤ most → MayTake rules.way n) → (commands : List Command) (lines : Lines)
+      (at at' : Spot D) (left : Option (List ℕ)) → count + length commands ≤ most → (commands ≢ [] → at.executor.is_open ≡ true)
+      → At count (map of_command commands ++ lines) (position at left) → AnswersAll look rules commands at at'
+      → (n : ℕ) × (n ≤ most) × At n lines (position at' left)
+  row_reached count most may [] lines at at' left few is_open reached same =
+      (count, omega (arith, few), subst (λ (s : Spot D). At count lines (position s left)) (sym same) reached)
+  row_reached count most may (first ∷ others) lines at at' left few is_open reached answered = (
+    count + length others + 1,
+    omega (arith, few),
+    row own count first others lines (position at left) at' reached (is_open (λ none. cc))
+        (may (count + length others) (omega (arith, few))) answered,
+  )
+
+  -- that broke off
+  row_broken : (count : ℕ) (commands : List Command) (lines : Lines) (at s : Spot D) (left : Option (List ℕ))
+      → (commands ≢ [] → at.executor.is_open ≡ true) → At count (map of_command commands ++ lines) (position at left)
+      → RowBreaks look rules commands at s → MayBreakOff s.events → BreaksOff look source rules p s
+  row_broken count [] lines at s left is_open reached broke cause = absurd broke
+  row_broken count (first ∷ others) lines at s left is_open reached broke cause = record {
+    own = own;
+    count = count;
+    lines = map of_command (first ∷ others) ++ lines;
+    last = position at left;
+    reached = reached;
+    breaks = in_row (first ∷ others) lines refl (is_open (λ none. cc)) broke;
+    cause = cause;
+  }
+
+  pub come_row_breaks : (most : ℕ) (commands : List Command) (held : Option Held) (kept : List ℕ) (place : Position D) (s : Spot D)
+      → (commands ≢ [] → place.at.executor.is_open ≡ true) → Come most place commands held kept
+      → RowBreaks look rules commands place.at s → MayBreakOff s.events → BreaksOff look source rules p s
+  come_row_breaks most commands held kept place s is_open come broke cause =
+      row_broken come.count commands (held_lines held) place.at s come.left is_open come.reached broke cause
+
+  pub found_row_breaks : (most : ℕ) (commands : List Command) (what : Found) (q : Position D) (s : Spot D)
+      → (commands ≢ [] → q.at.executor.is_open ≡ true) → Finds most commands what q
+      → RowBreaks look rules commands q.at s → MayBreakOff s.events → BreaksOff look source rules p s
+  found_row_breaks most commands what q s is_open finds broke cause =
+      row_broken finds.count commands (found_lines what) q.at s finds.left is_open finds.reached broke cause
+
+  -- as the run goes on
+  pub come_answered : (most : ℕ) → ((n : ℕ) → n + 1 ≤ most → MayTake rules.way n) → (commands commands' : List Command)
+      (held : Option Held) (kept : List ℕ) (place place' : Position D) (step : Taken) → (commands ≢ [] → place.at.executor.is_open ≡ true)
+      → commands' ≡ [] → place'.left ≡ place.left → Come most place commands held kept
+      → AnswersAll look rules commands place.at place'.at → IsTaken rules.way place'.at.executor false step
+      → ComesOrEnds look source rules p own most
+      (record { place = place'; commands = commands'; held = held; kept = kept }) step
+  come_answered most may commands commands' held kept place place' step is_open none same come answered is =
+      by step is (row_reached come.count most may commands (held_lines held) place.at place'.at come.left come.few is_open come.reached
+      answered)
+    where
+      by : (s : Taken) → IsTaken rules.way place'.at.executor false s
+          → (n : ℕ) × (n ≤ most) × At n (held_lines held) (position place'.at come.left)
+          → ComesOrEnds look source rules p own most
+          (record { place = place'; commands = commands'; held = held; kept = kept }) s
+      by taken.More (not_ended, goes_on) (n, few, reached) = record {
+        count = n;
+        few = omega (arith, few, ap length none);
+        left = come.left;
+        mid = subst (λ (l : Option (List ℕ)). IsReadTo held come.left kept l) (sym same) come.mid;
+        reached =
+            subst (λ (cs : List Command). At n (map of_command cs ++ held_lines held) (position place'.at come.left)) (sym none)
+            reached;
+        goes_on = goes_on;
+      }
+      by taken.End (ended, goes_on) at = absurd cc
+      by taken.Leaves is at = absurd is
+      by taken.Closed (serves, closed) (n, few, reached) = record {
+        serves = serves;
+        own = own;
+        count = n;
+        lines = held_lines held;
+        left = come.left;
+        reached = reached;
+        is_closed = closed;
+      }
+
+  -- the same before what was read is answered
+  pub found_answered : (most : ℕ) → ((n : ℕ) → n + 1 ≤ most → MayTake rules.way n) → (commands : List Command) (what : Found)
+      (q q' : Position D) → (commands ≢ [] → q.at.executor.is_open ≡ true) → q'.left ≡ q.left → Finds most commands what q
+      → AnswersAll look rules commands q.at q'.at → MayGoOn rules.way q'.at.executor → Finds most [] what q'
+  found_answered most may commands what q q' is_open same finds answered goes_on =
+      let (n, few, reached) = row_reached finds.count most may commands (found_lines what) q.at q'.at finds.left finds.few is_open
+      finds.reached answered in
+      record {
+        count = n;
+        few = omega (arith, few);
+        left = finds.left;
+        next = subst (λ (l : Option (List ℕ)). IsFound what finds.left l) (sym same) finds.next;
+        reached = reached;
+        goes_on = goes_on;
+      }
+
+  pub found_closed : (most : ℕ) → ((n : ℕ) → n + 1 ≤ most → MayTake rules.way n) → (commands : List Command) (what : Found)
+      (q q' : Position D) → (commands ≢ [] → q.at.executor.is_open ≡ true) → Finds most commands what q
+      → AnswersAll look rules commands q.at q'.at → MakesTurns rules.way → q'.at.executor.is_open ≡ false
+      → ReachesFault look source rules p q'.at
+  found_closed most may commands what q q' is_open finds answered serves closed =
+      let (n, few, reached) = row_reached finds.count most may commands (found_lines what) q.at q'.at finds.left finds.few is_open
+      finds.reached answered in
+      record {
+        serves = serves;
+        own = own;
+        count = n;
+        lines = found_lines what;
+        left = finds.left;
+        reached = reached;
+        is_closed = closed;
+      }
+
+  -- a run that does not go on behind them ends where it is
+  pub step_ends : (most : ℕ) → ((n : ℕ) → n + 1 ≤ most → MayTake rules.way n) → (commands commands' : List Command) (held : Option Held)
+      (kept : List ℕ) (what : Found) (q q' : Position D) (step : Taken) → (commands ≢ [] → q.at.executor.is_open ≡ true)
+      → Finds most commands what q → AnswersAll look rules commands q.at q'.at → step ≢ taken.More
+      → IsTaken rules.way q'.at.executor false step
+      → ComesOrEnds look source rules p own (most + 1)
+      (record { place = q'; commands = commands'; held = held; kept = kept }) step
+  step_ends most may commands commands' held kept what q q' taken.More is_open finds answered ends is = absurd (ends refl)
+  step_ends most may commands commands' held kept what q q' taken.End is_open finds answered ends (ended, goes_on) = absurd cc
+  step_ends most may commands commands' held kept what q q' taken.Leaves is_open finds answered ends is = absurd is
+  step_ends most may commands commands' held kept what q q' taken.Closed is_open finds answered ends (serves, closed) =
+      found_closed most may commands what q q' is_open finds answered serves closed
+
+  -- what was read was answered, or it was no line
+  pub found_taken : (most : ℕ) → MayTakeBehind rules.way most → (commands : List Command) (held : Option Held) (kept : List ℕ)
+      (what : Found) (q q' : Position D) (has_ended : Bool) (step : Taken) → commands ≡ [] → held ≡ None → kept ≡ []
+      → q'.left ≡ q.left → Finds most [] what q → TakesFound look source rules what q.at q'.at (Ok has_ended)
+      → IsTaken rules.way q'.at.executor has_ended step
+      → ComesOrEnds look source rules p own (most + 1)
+      (record { place = q'; commands = commands; held = held; kept = kept }) step
+  found_taken most may commands held kept what q q' has_ended step none free empty same finds takes is =
+      by what finds takes
+    where
+      Ends : Taken → Type 0
+      Ends s =
+          ComesOrEnds look source rules p own (most + 1)
+          (record { place = q'; commands = commands; held = held; kept = kept }) s
+
+      -- behind one line more
+      further : (left : Option (List ℕ)) (n : ℕ) → n ≤ most + 1 → left ≡ q'.left → At n [] (position q'.at left) → (s : Taken)
+          → IsTaken rules.way q'.at.executor false s → Ends s
+      further left n few now reached taken.More (not_ended, goes_on) = record {
+        count = n;
+        few = omega (arith, few, ap length none);
+        left = left;
+        mid = begins_free held left q'.left kept free now empty;
+        reached =
+            subst (λ (cs : List Command). At n (map of_command cs ++ held_lines held) (position q'.at left)) (sym none)
+            (subst (λ (h : Option Held). At n (held_lines h) (position q'.at left)) (sym free) reached);
+        goes_on = goes_on;
+      }
+      further left n few now reached taken.End (ended, goes_on) = absurd cc
+      further left n few now reached taken.Leaves is = absurd is
+      further left n few now reached taken.Closed (serves, closed) = record {
+        serves = serves;
+        own = own;
+        count = n;
+        lines = [];
+        left = left;
+        reached = reached;
+        is_closed = closed;
+      }
+
+      -- at the end of the input
+      ended : Finds most [] found.End q → q'.at ≡ q.at → (s : Taken) → IsTaken rules.way q'.at.executor true s → Ends s
+      ended it same_at taken.More (not_ended, goes_on) = absurd cc
+      ended it same_at taken.End (has_ended, goes_on) = record {
+        own = own;
+        count = it.count;
+        left = it.left;
+        reached = subst (λ (s : Spot D). At it.count [] (position s it.left)) (sym same_at) it.reached;
+        end = it.next;
+        goes_on = goes_on;
+      }
+      ended it same_at taken.Leaves is = absurd is
+      ended it same_at taken.Closed (serves, closed) = record {
+        serves = serves;
+        own = own;
+        count = it.count;
+        lines = [];
+        left = it.left;
+        reached = subst (λ (s : Spot D). At it.count [] (position s it.left)) (sym same_at) it.reached;
+        is_closed = closed;
+      }
+
+      by : (f : Found) → Finds most [] f q → TakesFound look source rules f q.at q'.at (Ok has_ended) → Ends step
+      by (found.Line line) it (not_ended, answered) =
+          further it.left (it.count + 1) (omega (arith, it.few)) (it.next ∙ sym same)
+          (answers own it.count line (position q.at it.left) q'.at it.reached it.goes_on (may it.count (omega (arith, it.few))) answered)
+          step (subst (λ (b : Bool). IsTaken rules.way q'.at.executor b step) not_ended is)
+      by found.Empty it (not_ended, same_at) =
+          further q.left (it.count + 1) (omega (arith, it.few)) (sym same)
+          (subst (λ (s : Spot D). At (it.count + 1) [] (position s q.left)) (sym same_at)
+          (passes own it.count (position q.at it.left) q.left it.reached it.goes_on (may it.count (omega (arith, it.few))) it.next))
+          step (subst (λ (b : Bool). IsTaken rules.way q'.at.executor b step) not_ended is)
+      by found.End it (at_end, same_at) =
+          ended it same_at step (subst (λ (b : Bool). IsTaken rules.way q'.at.executor b step) at_end is)
+
+  pub found_breaks : (most : ℕ) (what : Found) (q : Position D) (s : Spot D) (fault : IoFault) → Finds most [] what q
+      → TakesFound look source rules what q.at s (Err fault) → BreaksOff look source rules p s
+  found_breaks most what q s fault finds broke = by what finds broke
+    where
+      by : (f : Found) → Finds most [] f q → TakesFound look source rules f q.at s (Err fault) → BreaksOff look source rules p s
+      by (found.Line line) it (breaks, cause) = record {
+        own = own;
+        count = it.count;
+        lines = line ∷ [];
+        last = position q.at it.left;
+        reached = it.reached;
+        breaks = in_line line refl it.goes_on breaks;
+        cause = cause;
+      }
+      by found.Empty it none = absurd none
+      by found.End it none = absurd none
+
+-- nothing is done yet
+pub first_come : {D : Type 0} (look : D → View) (source : Source) (rules : Rules) (p : Position D) (pending : Pending) → IsClear pending
+    → MayGoOn rules.way p.at.executor → HasCome look source rules p Done 0 (midway p pending)
+first_come look source rules p pending clear goes_on = record {
+  count = 0;
+  few = omega (arith, ap length clear.none);
+  left = p.left;
+  mid = begins_free pending.held p.left p.left (line_bytes pending.buffer) clear.free refl clear.buffer;
+  reached =
+      subst (λ (cs : List Command). Reaches look source rules p Done 0 (map of_command cs ++ held_lines pending.held) p)
+      (sym clear.none)
+      (subst (λ (h : Option Held). Reaches look source rules p Done 0 (held_lines h) p) (sym clear.free) here);
+  goes_on = goes_on;
+}

@@ -1,5 +1,5 @@
 -- What a line is answered.
-use Rattle.std.specs.Prelude.{◌≡◌, ◌≢◌, ◌↔◌, ℕ, ◌+◌, Bool, List, true, false, Option, Result, Ok, Err}
+use Rattle.std.specs.Prelude.{◌≡◌, ◌≢◌, ◌↔◌, ℕ, ◌+◌, Bool, List, [], ◌∷◌, true, false, Option, Result, Ok, Err}
 use Rattle.std.specs.Global.{Vec}
 use Rattle.ocf_types.specs.Kinds.{Reply, Request}
 use Rattle.ocf_types.specs.declared.refusal.Refusal.{Refusal}
@@ -21,8 +21,11 @@ use Rattle.exec_commands.specs.declared.line.Line.{Line}
 use Rattle.exec_commands.specs.declared.line.Line.TheVariants as line
 use Rattle.exec_commands.specs.declared.reply.LineReply.{LineReply}
 use Rattle.exec_commands.specs.declared.reply.LineReply.TheVariants as answer
-use Rattle.exec_session.specs.Drains.{Drains, Spot}
+use Rattle.exec_client.specs.Said.{Answered}
+use Rattle.exec_trace.specs.declared.event.IoEvent.TheVariants.{Shown}
+use Rattle.exec_session.specs.Drains.{Drains}
 use Rattle.exec_session.specs.Rules.{Rules, MakesRoom}
+use Rattle.exec_session.specs.Spots.{Spot, Telling, behind, moved}
 use Rattle.exec_session.specs.declared.context.Way.{Way}
 use Rattle.exec_session.specs.declared.context.Way.TheVariants.{Run, Serve}
 
@@ -65,38 +68,47 @@ IsClosedReply source (Ok line.Leave) reply = reply ≡ refused refusal.Closed
 IsClosedReply source (Ok (line.Request request)) reply = reply ≡ refused refusal.Closed
 IsClosedReply source (Err why) reply = reply ≡ refused refusal.Closed
 
--- a drain from the moment that the clock shows, whatever that is, for so many milliseconds and turns at most
+-- a drain from the moment that the clock shows, for so many milliseconds and turns at most
 abbrev pub DrainsFor : {D : Type 0} → (D → View) → Bool → ℕ → Rules → Spot D
     → Spot D → LineReply → Type 0
 DrainsFor look ends_idle limit rules p q reply =
     (now : ℕ) × (end : DrainEnd) × (reply ≡ answer.Drain end)
-    × Drains look rules (record { ends_idle = ends_idle; until = now + limit; most = rules.most_turns }) now p q end
+    × Drains look rules (record { ends_idle = ends_idle; until = now + limit; most = rules.most_turns }) now (behind p (Shown now)) q end
 
--- What an open executor does with a request, at the moment that the clock shows, whatever that is: room is made, and then it is
--- served. Where a disk fault closed the executor as room was made, it is refused for that and nothing else is done.
+-- A drain, and then the client is told how it ended, which it is told so.
+pub record DrainTold {D : Type 0} (tells_so : Telling D) (look : D → View) (ends_idle : Bool) (limit : ℕ) (rules : Rules)
+    (p q : Spot D) : Type 0 where
+  pub reply : LineReply
+  pub noticed : Spot D
+  pub drains : DrainsFor look ends_idle limit rules p noticed reply
+  pub tells : tells_so noticed q (Answered reply ∷ [])
+
+-- What an open executor does with a request, at the moment that the clock shows: room is made, and then it is served. Where a disk fault
+-- closed the executor as room was made, it is refused for that and nothing else is done.
 pub record ServesNow {D : Type 0} (look : D → View) (rules : Rules) (request : Request)
-    (old new : Sight D) (reply : LineReply) : Type 0 where
-  pub middle : Sight D
+    (p q : Spot D) (reply : LineReply) : Type 0 where
   pub now : ℕ
+  pub middle : Sight D
   pub given : Reply
   pub told : reply ≡ answer.Request given
-  pub room : MakesRoom look rules now old middle
-  pub serves : middle.is_open ≡ true → Serves look now request middle new given
-  pub fails : middle.is_open ≡ false → (given ≡ Refused refusal.Disk) × (new ≡ middle)
-  pub closes : new.is_open ≡ false ↔ (given ≡ Refused refusal.Disk)
+  pub shown : q ≡ behind (moved p q.executor) (Shown now)
+  pub room : MakesRoom look rules now p.executor middle
+  pub serves : middle.is_open ≡ true → Serves look now request middle q.executor given
+  pub fails : middle.is_open ≡ false → (given ≡ Refused refusal.Disk) × (q.executor ≡ middle)
+  pub closes : q.executor.is_open ≡ false ↔ (given ≡ Refused refusal.Disk)
 
 -- how a tidy ended that was asked for
-abbrev pub TidiesNow : {D : Type 0} → (D → View) → Sight D → Sight D → LineReply → Type 0
-TidiesNow look old new reply = (end : TidyEnd) × (reply ≡ answer.Tidy end) × Tidies look old new end
+abbrev pub TidiesNow : {D : Type 0} → (D → View) → Spot D → Spot D → LineReply → Type 0
+TidiesNow look p q reply =
+    (end : TidyEnd) × (reply ≡ answer.Tidy end) × Tidies look p.executor q.executor end × (q ≡ moved p q.executor)
 
 -- what an open executor answers to a line: from the spot of its start to that at which the reply is told
 abbrev pub IsOpenReply : {D : Type 0} → (D → View) → Source → Rules → Spot D
     → Spot D → Result Line Refusal → LineReply → Type 0
-IsOpenReply look source rules p q (Ok (line.Request request)) reply =
-    ServesNow look rules request p.executor q.executor reply × (q.heard ≡ p.heard)
+IsOpenReply look source rules p q (Ok (line.Request request)) reply = ServesNow look rules request p q reply
 IsOpenReply look source rules p q (Ok (line.Drain limit)) reply = DrainsFor look true limit rules p q reply
 IsOpenReply look source rules p q (Ok (line.Watch limit)) reply = DrainsFor look false limit rules p q reply
-IsOpenReply look source rules p q (Ok line.Tidy) reply = TidiesNow look p.executor q.executor reply × (q.heard ≡ p.heard)
+IsOpenReply look source rules p q (Ok line.Tidy) reply = TidiesNow look p q reply
 IsOpenReply look source rules p q (Ok line.Leave) reply = (reply ≡ refused refusal.UnknownOp) × (q ≡ p)
 IsOpenReply look source rules p q (Ok (line.Meta provider agent limit)) reply =
     IsMetaReply source provider agent limit reply × (q ≡ p)

@@ -8,37 +8,31 @@ use Rattle.executor.specs.Sights.{Sight}
 use Rattle.executor.specs.TurnCalls.{TakesTurn, with_empty_book}
 use Rattle.exec_commands.specs.declared.ends.DrainEnd.{DrainEnd}
 use Rattle.exec_commands.specs.declared.ends.DrainEnd.TheVariants.{Idle, Limit, Turns, Turn}
-use Rattle.exec_client.specs.Heard.{Heard, Hears}
-use Rattle.exec_client.specs.Said.{Said}
 use Rattle.exec_client.specs.Tells.{noticed}
+use Rattle.exec_trace.specs.Events.{last_shown}
+use Rattle.exec_trace.specs.declared.event.IoEvent.TheVariants.{Shown}
 use Rattle.exec_session.specs.Rules.{Rules, MakesRoom}
+use Rattle.exec_session.specs.Spots.{Pauses, Spot, Telling, Tells, behind, moved}
 use Rattle.exec_session.specs.declared.drain.Terms.{Terms}
 
--- where an answer stands: its executor, and what the client has heard
-pub record Spot (D : Type 0) : Type 0 where
-  pub executor : Sight D
-  pub heard : Heard D
-
-abbrev pub spot : {D : Type 0} → Sight D → Heard D → Spot D
-spot executor heard = record { executor = executor; heard = heard }
-
--- how a client hears what it is told: from what it has heard to what it has heard then
-abbrev pub Hearing : Type 0 → Type 1
-Hearing D = Heard D → Heard D → List Said → Type 0
-
--- A turn at this moment: the book is emptied and room is made, then the turn is made, and its notices are told, which the client
--- hears so. Where a disk fault closed the executor as room was made, no turn is made and nothing is told.
-pub record TurnHeard {D : Type 0} (hears_so : Hearing D) (look : D → View) (rules : Rules) (now : ℕ) (p q : Spot D)
+-- A turn at this moment, which the clock showed last: the book is emptied and room is made, then the turn is made, and its notices are
+-- told, which the client is told so. Where a disk fault closed the executor as room was made, no turn is made and nothing is told.
+pub record TurnHeard {D : Type 0} (tells_so : Telling D) (look : D → View) (rules : Rules) (now : ℕ) (p q : Spot D)
     (end : TurnEnd) : Type 0 where
+  pub shown : last_shown p.events ≡ Some now
   pub middle : Sight D
   pub room : MakesRoom look rules now (with_empty_book p.executor) middle
   pub takes : middle.is_open ≡ true → TakesTurn look now middle q.executor end
-  pub hears : middle.is_open ≡ true → hears_so p.heard q.heard (noticed q.executor)
-  pub fails : middle.is_open ≡ false → (end ≡ Disk) × (q.executor ≡ middle) × (q.heard ≡ p.heard)
+  pub tells : middle.is_open ≡ true → tells_so (moved p q.executor) q (noticed q.executor)
+  pub fails : middle.is_open ≡ false → (end ≡ Disk) × (q ≡ moved p middle)
 
--- the client hears all of them
+-- the client is told all of them
 abbrev pub MakesTurn : {D : Type 0} → (D → View) → Rules → ℕ → Spot D → Spot D → TurnEnd → Type 0
-MakesTurn look rules now p q end = TurnHeard (Hears rules.form) look rules now p q end
+MakesTurn look rules now p q end = TurnHeard (Tells rules.form) look rules now p q end
+
+-- Between two turns: a short pause, then the client hears still, and then the clock shows this moment.
+abbrev pub Rests : {D : Type 0} → Spot D → Spot D → ℕ → Type 0
+Rests {D} p q after = (m : Spot D) × Pauses true p m × (q ≡ behind m (Shown after))
 
 -- how a drain ends behind its turn of this number, which ended so and left the executor idle or not, at the moment that
 -- the clock shows then; none where it goes on
@@ -52,14 +46,14 @@ end_behind t turns now end idle = Some (Turn end)
 abbrev pub end_at : {D : Type 0} → Terms → ℕ → ℕ → TurnEnd → Sight D → Option DrainEnd
 end_at t turns now end e = end_behind t turns now end (not (any_busy e.state))
 
--- So many turns were made, none of which ended the drain, each at the moment that the clock showed behind the one before:
--- the first at the start, and the next one will be at this moment.
+-- So many turns were made, none of which ended the drain, each at the moment that the clock showed behind the one before: the first at
+-- the start, and the next one will be at this moment.
 pub data GoesOn {D : Type 0} (look : D → View) (rules : Rules) (t : Terms) (start : ℕ)
     (p : Spot D) : ℕ → ℕ → Spot D → Type 0 where
   at_start : GoesOn look rules t start p 0 start p
-  further : (turns now after : ℕ) (m q : Spot D) (end : TurnEnd)
-      → GoesOn look rules t start p turns now m → MakesTurn look rules now m q end
-      → end_at t (turns + 1) after end q.executor ≡ None
+  further : (turns now after : ℕ) (m told q : Spot D) (end : TurnEnd)
+      → GoesOn look rules t start p turns now m → MakesTurn look rules now m told end → Rests told q after
+      → end_at t (turns + 1) after end told.executor ≡ None
       → GoesOn look rules t start p (turns + 1) after q
 
 -- A whole drain from this start: turns that go on, and the one that ends it.
@@ -69,7 +63,9 @@ pub record Drains {D : Type 0} (look : D → View) (rules : Rules) (t : Terms) (
   pub now : ℕ
   pub after : ℕ
   pub last : Spot D
+  pub told : Spot D
   pub turn_end : TurnEnd
   pub gone_on : GoesOn look rules t start p turns now last
-  pub made : MakesTurn look rules now last q turn_end
-  pub ended : end_at t (turns + 1) after turn_end q.executor ≡ Some end
+  pub made : MakesTurn look rules now last told turn_end
+  pub rests : Rests told q after
+  pub ended : end_at t (turns + 1) after turn_end told.executor ≡ Some end

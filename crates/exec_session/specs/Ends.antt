@@ -4,43 +4,43 @@ use Rattle.disk_model.specs.View.{View}
 use Rattle.child_model.specs.Children.{ChildrenView, given_up}
 use Rattle.executor.specs.Sights.{Sight}
 use Rattle.executor.specs.declared.report.Report.{Report}
-use Rattle.exec_client.specs.Heard.{Heard, Hears}
+use Rattle.exec_client.specs.Heard.{Heard}
 use Rattle.exec_client.specs.MayTell.{StandsBehind}
+use Rattle.exec_trace.specs.Edges.{EdgeView}
 use Rattle.exec_output.specs.declared.fault.Fault.{Fault}
 use Rattle.exec_output.specs.declared.fault.Fault.TheVariants.{Disk, InputOrOutput, ReplyMemory}
-use Rattle.exec_session.specs.declared.session.Run.{Run as RunResult}
 use Rattle.exec_session.specs.Answers.{Source}
 use Rattle.exec_session.specs.Breaks.{RunBreaks}
-use Rattle.exec_session.specs.Drains.{spot}
+use Rattle.exec_session.specs.Reports.{TellsReport}
 use Rattle.exec_session.specs.Rules.{Rules}
-use Rattle.exec_session.specs.Progress.{Position, position}
-use Rattle.exec_session.specs.Runs.{Finishes, report_told}
+use Rattle.exec_session.specs.Runs.{Finishes}
+use Rattle.exec_session.specs.Spots.{Position, Spot, position, spot}
 
 -- the report is told first, and then all lines are answered, or a disk fault ends a run that serves
 pub record Runs {D N : Type 0} (look : D → View) (source : Source) (rules : Rules) (report : Report N)
     (p q : Position D) : Type 0 where
-  pub reported : Heard D
-  pub report_first : Hears rules.form p.heard reported (report_told report)
-  pub lines : Finishes look source rules (record p { heard = reported }) q
+  pub reported : Spot D
+  pub report_first : TellsReport rules.form report p.at reported
+  pub lines : Finishes look source rules (record p { at = reported }) q
 
 -- how a run ends that leads from one place to another
 abbrev pub EndsAs : {D N T : Type 0} → (D → View) → Source → Rules → Report N → Position D
     → Position D → Result T Fault → Type 0
-EndsAs look source rules report p q (Ok done) = Runs look source rules report p q × (q.executor.is_open ≡ true)
+EndsAs look source rules report p q (Ok done) = Runs look source rules report p q × (q.at.executor.is_open ≡ true)
 EndsAs look source rules report p q (Err Disk) =
-    Runs look source rules report p q × (q.executor.is_open ≡ false)
-EndsAs look source rules report p q (Err InputOrOutput) = RunBreaks look source rules report p (spot q.executor q.heard)
-EndsAs look source rules report p q (Err ReplyMemory) = RunBreaks look source rules report p (spot q.executor q.heard)
+    Runs look source rules report p q × (q.at.executor.is_open ≡ false)
+EndsAs look source rules report p q (Err InputOrOutput) = RunBreaks look source rules report p q.at
+EndsAs look source rules report p q (Err ReplyMemory) = RunBreaks look source rules report p q.at
 EndsAs look source rules report p q (Err _) = ⊥
 
--- A run that begins at this place ended, with what the reader has left then and what the client has heard: at its end all
--- children are given up, and they and the disk are handed back.
+-- A run that begins at this place ended, with what its edge shows then: at its end all children are given up, and they and the disk are
+-- handed back.
 pub record Ended {D C N : Type 0} (look : D → View) (tend : C → ChildrenView) (source : Source) (rules : Rules) (report : Report N)
-    (p : Position D) (left : Option (List ℕ)) (heard : Heard D) (run : RunResult D C) : Type 0 where
+    (p : Position D) (edge : EdgeView D) (ended : Result Unit Fault) (disk : D) (children : C) : Type 0 where
   pub last : Sight D
-  pub ends : EndsAs look source rules report p (position last left heard) run.ended
-  pub disk : run.disk ≡ last.disk
-  pub children : tend run.children ≡ given_up last.children
+  pub ends : EndsAs look source rules report p (position (spot last edge.heard edge.events) edge.left) ended
+  pub disk_is : disk ≡ last.disk
+  pub children_are : tend children ≡ given_up last.children
 
 -- However a run ends, its executor did nothing but calls since it was opened, and is closed; and all that its client was told
 -- stands behind what they recorded. This disk and these children are those that it handed back.

@@ -1,16 +1,15 @@
 -- A line that a run holds which serves: it asks for metadata, or for the end of the run.
-use Rattle.std.specs.Prelude.{◌≡◌, ⊤, Bool, true, false, Result, Ok, Err}
+use Rattle.std.specs.Prelude.{◌≡◌, ⊤, List, [], ◌∷◌, Option, Some, None, Bool, true, false, Result, Ok, Err}
 use Rattle.ocf_types.specs.declared.refusal.Refusal.{Refusal}
-use Rattle.ocf_types.specs.declared.reply.TurnEnd.{TurnEnd}
 use Rattle.disk_model.specs.View.{View}
 use Rattle.exec_commands.specs.declared.line.Line.{Line}
 use Rattle.exec_commands.specs.declared.line.Line.TheVariants as line
 use Rattle.exec_output.specs.declared.send.IoFault.{IoFault}
 use Rattle.exec_session.specs.Answers.{Source}
-use Rattle.exec_session.specs.Breaks.{BreaksIn}
-use Rattle.exec_session.specs.Drains.{spot}
-use Rattle.exec_session.specs.Progress.{Answers, Position, Stays}
+use Rattle.exec_session.specs.Progress.{Answers, AnswersSo}
 use Rattle.exec_session.specs.Rules.{Rules}
+use Rattle.exec_session.specs.Runs.{Lines}
+use Rattle.exec_session.specs.Spots.{MayBreakOff, Spot, TellsPart}
 use Rattle.exec_session.specs.declared.context.Way.{Way}
 use Rattle.exec_session.specs.declared.context.Way.TheVariants.{Run}
 use Rattle.exec_session.specs.declared.held.Held.{Held}
@@ -22,6 +21,11 @@ use Rattle.exec_session.specs.declared.lines.Found.TheVariants as found
 abbrev pub asks : Held → Line
 asks (held.Metadata provider agent limit) = line.Meta provider agent limit
 asks held.Leave = line.Leave
+
+-- it as a line that was read and is not answered, where one is held
+abbrev pub held_lines : Option Held → Lines
+held_lines None = []
+held_lines (Some h) = Ok (asks h) ∷ []
 
 -- A run that goes so may answer this line as soon as it is read: a run that answers lines alone answers each so, and one that serves
 -- each but a question for metadata, and the one that asks it to end.
@@ -36,7 +40,8 @@ MayTakeAtOnce way (found.Line line) = MayAnswerAtOnce way line
 MayTakeAtOnce way _ = ⊤
 
 -- the held line was answered, or its agent has not answered by now and nothing was done, or the run broke off in the reply
-abbrev pub AnswersHeld : {D : Type 0} → (D → View) → Source → Rules → TurnEnd → Position D → Position D → Result Bool IoFault → Type 0
-AnswersHeld look source rules own p q (Ok true) = Answers look source rules p q
-AnswersHeld look source rules own p q (Ok false) = Stays p q
-AnswersHeld look source rules own p q (Err fault) = BreaksIn look source rules own p (spot q.executor q.heard)
+abbrev pub AnswersHeld : {D : Type 0} → (D → View) → Source → Rules → Held → Spot D → Spot D → Result Bool IoFault → Type 0
+AnswersHeld look source rules held p q (Ok true) = Answers look source rules (Ok (asks held)) p q
+AnswersHeld look source rules held p q (Ok false) = q ≡ p
+AnswersHeld look source rules held p q (Err fault) =
+    AnswersSo (TellsPart rules.form) look source rules (Ok (asks held)) p q × MayBreakOff q.events

@@ -5,43 +5,51 @@ use Rattle.ocf_types.specs.declared.reply.TurnEnd.TheVariants.{Disk}
 use Rattle.disk_model.specs.View.{View}
 use Rattle.exec_turn.specs.Actives.{any_running}
 use Rattle.executor.specs.TurnCalls.{FinishesTurn, with_empty_book}
-use Rattle.exec_commands.specs.declared.ends.DrainEnd.TheVariants.{Turn}
-use Rattle.exec_commands.specs.declared.reply.LineReply.TheVariants.{Drain, Left}
-use Rattle.exec_client.specs.Heard.{Heard, Hears, HearsPart}
+use Rattle.exec_commands.specs.declared.reply.LineReply.TheVariants.{Left}
 use Rattle.exec_client.specs.Said.{Answered}
 use Rattle.exec_client.specs.Tells.{noticed}
-use Rattle.exec_session.specs.Drains.{Hearing, Spot, spot}
+use Rattle.exec_trace.specs.declared.event.IoEvent.TheVariants.{Shown}
+use Rattle.exec_session.specs.Reports.{ended}
 use Rattle.exec_session.specs.Rules.{Rules}
+use Rattle.exec_session.specs.Spots.{Pauses, Spot, Telling, Tells, TellsPart, behind, moved}
 
--- A turn at this moment that begins nothing: the book is emptied, the turn is made, and its notices are told, which the client hears
--- so.
-pub record FinishHeard {D : Type 0} (hears_so : Hearing D) (look : D → View) (now : ℕ) (p q : Spot D) (end : TurnEnd) : Type 0 where
+-- The clock shows a moment, and a turn is made then that begins nothing: the book is emptied, the turn is made, and its notices are told,
+-- which the client is told so.
+pub record FinishHeard {D : Type 0} (tells_so : Telling D) (look : D → View) (p q : Spot D) : Type 0 where
+  pub now : ℕ
+  pub end : TurnEnd
   pub takes : FinishesTurn look now (with_empty_book p.executor) q.executor end
-  pub hears : hears_so p.heard q.heard (noticed q.executor)
+  pub tells : tells_so (behind (moved p q.executor) (Shown now)) q (noticed q.executor)
 
--- Turns were made that begin nothing, each while an action ran: from one spot to another.
+-- so while an action runs, which the client is told so
+pub record WindsOne {D : Type 0} (tells_so : Telling D) (look : D → View) (p q : Spot D) : Type 0 where
+  pub is_open : p.executor.is_open ≡ true
+  pub runs : any_running p.executor.state ≡ true
+  pub heard : FinishHeard tells_so look p q
+
+-- Turns were made that begin nothing, each while an action ran, and each followed by a short pause: from one spot to another.
 pub data WindsDown {D : Type 0} (look : D → View) (rules : Rules) (p : Spot D) : Spot D → Type 0 where
   at_first : WindsDown look rules p p
-  further : (now : ℕ) (m q : Spot D) (end : TurnEnd) → WindsDown look rules p m → m.executor.is_open ≡ true
-      → any_running m.executor.state ≡ true → FinishHeard (Hears rules.form) look now m q end → WindsDown look rules p q
+  further : (m told q : Spot D) → WindsDown look rules p m → WindsOne (Tells rules.form) look m told
+      → told.executor.is_open ≡ true → Pauses true told q → WindsDown look rules p q
 
--- The last line that the client hears, which it hears so: the reply once nothing runs, or the line of the disk fault that closed the
--- executor.
-pub data LastHeard {D : Type 0} (hears_so : Hearing D) (p : Spot D) (heard : Heard D) : Type 0 where
-  left : p.executor.is_open ≡ true → any_running p.executor.state ≡ false → hears_so p.heard heard (Answered Left ∷ [])
-      → LastHeard hears_so p heard
-  fault : p.executor.is_open ≡ false → hears_so p.heard heard (Answered (Drain (Turn Disk)) ∷ []) → LastHeard hears_so p heard
+-- An orderly end, from the spot at which it was asked for, of whose last line the client is told so: the reply once nothing runs, or the
+-- line of the disk fault that closed the executor in the turn before.
+pub data LeavesSo {D : Type 0} (tells_so : Telling D) (look : D → View) (rules : Rules) (p q : Spot D) : Type 0 where
+  left : (m : Spot D) → WindsDown look rules p m → m.executor.is_open ≡ true → any_running m.executor.state ≡ false
+      → tells_so m q (Answered Left ∷ []) → LeavesSo tells_so look rules p q
+  fault : (m told : Spot D) → WindsDown look rules p m → WindsOne (Tells rules.form) look m told
+      → told.executor.is_open ≡ false → tells_so told q (ended Disk ∷ []) → LeavesSo tells_so look rules p q
 
--- An orderly end, from the spot at which it was asked for.
-pub record LeavesFrom {D : Type 0} (look : D → View) (rules : Rules) (p q : Spot D) : Type 0 where
-  pub done : Heard D
-  pub winds : WindsDown look rules p (spot q.executor done)
-  pub last : LastHeard (Hears rules.form) (spot q.executor done) q.heard
+-- the client is told all of it
+abbrev pub LeavesFrom : {D : Type 0} → (D → View) → Rules → Spot D → Spot D → Type 0
+LeavesFrom look rules p q = LeavesSo (Tells rules.form) look rules p q
 
--- One that broke off: behind turns, in the notices of one, or in the last line.
+-- One that broke off: in the notices of a turn, behind one, where nobody heard any more what was told, or in the last line; or it had
+-- made as many turns as its loop goes round.
 pub data LeaveBreaks {D : Type 0} (look : D → View) (rules : Rules) (p q : Spot D) : Type 0 where
-  behind_turns : WindsDown look rules p q → LeaveBreaks look rules p q
-  in_turn : (now : ℕ) (m : Spot D) (end : TurnEnd) → WindsDown look rules p m → m.executor.is_open ≡ true
-      → any_running m.executor.state ≡ true → FinishHeard (HearsPart rules.form) look now m q end → LeaveBreaks look rules p q
-  in_line : (done : Heard D) → WindsDown look rules p (spot q.executor done)
-      → LastHeard (HearsPart rules.form) (spot q.executor done) q.heard → LeaveBreaks look rules p q
+  in_turn : (m : Spot D) → WindsDown look rules p m → WindsOne (TellsPart rules.form) look m q → LeaveBreaks look rules p q
+  unheard : (m told : Spot D) → WindsDown look rules p m → WindsOne (Tells rules.form) look m told → Pauses false told q
+      → LeaveBreaks look rules p q
+  in_line : LeavesSo (TellsPart rules.form) look rules p q → LeaveBreaks look rules p q
+  spent : WindsDown look rules p q → LeaveBreaks look rules p q

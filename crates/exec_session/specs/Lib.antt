@@ -1,5 +1,6 @@
 pub mod Answers
 pub mod Breaks
+pub mod Broken
 pub mod Drains
 pub mod Ends
 pub mod Gathered
@@ -7,9 +8,10 @@ pub mod Held
 pub mod Leaving
 pub mod Limits
 pub mod Pending
+pub mod Reports
 pub mod Rules
 pub mod Progress
 pub mod Runs
-pub mod Serving
+pub mod Spots
 pub mod Together
 pub mod Waiting

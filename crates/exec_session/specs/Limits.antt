@@ -8,3 +8,11 @@ lines_a_turn = 64
 -- how many commands are answered together at most
 abbrev pub most_together : ℕ
 most_together = 64
+
+-- how many microseconds a pause between two turns has at most
+abbrev pub longest_pause : ℕ
+longest_pause = 10000
+
+-- how many milliseconds a run waits for input at most before it looks anew
+abbrev pub longest_wait : ℕ
+longest_wait = 1000

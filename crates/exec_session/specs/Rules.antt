@@ -21,7 +21,7 @@ pub record Rules : Type 0 where
   pub most_turns : ℕ
   pub tidy_at : ℕ
 
-abbrev pub rules_of : {K M : Type 0} → RunContext K M → Rules
+abbrev pub rules_of : {M : Type 0} → RunContext M → Rules
 rules_of context =
     record { way = context.way; form = context.form; most_turns = context.most_turns; tidy_at = context.tidy_at }
 

@@ -1,37 +1,32 @@
 -- Whole runs.
-use Rattle.std.specs.Prelude.{◌≡◌, ◌≢◌, ◌⊎◌, ℕ, ◌+◌, ◌<◌, ⊤, List, [], ◌∷◌, ◌++◌, length, map, true, false, Result, Ok}
+use Rattle.std.specs.Prelude.{◌≡◌, ◌≢◌, ◌⊎◌, ℕ, ◌+◌, ◌*◌, ◌<◌, ◌≤◌, ⊤, List, [], ◌∷◌, ◌++◌, length, map, true, false, Option, Result, Ok}
+use Rattle.std.specs.Io.KnownBytes.{IsAtEnd}
 use Rattle.disk_model.specs.View.{View}
-use Rattle.executor.specs.Reports.{report_of}
 use Rattle.executor.specs.Sights.{Sight}
-use Rattle.executor.specs.declared.report.Report.{Report}
+use Rattle.ocf_types.specs.Boot.{any_busy}
 use Rattle.ocf_types.specs.Kinds.{Command}
+use Rattle.ocf_types.specs.declared.command.RequestOf.TheVariants as asked
+use Rattle.ocf_types.specs.declared.refusal.Refusal.{Refusal}
 use Rattle.ocf_types.specs.declared.reply.TurnEnd.{TurnEnd}
 use Rattle.ocf_types.specs.declared.reply.TurnEnd.TheVariants.{Disk, Done}
-use Rattle.exec_commands.specs.declared.ends.DrainEnd.TheVariants.{Turn}
-use Rattle.exec_commands.specs.declared.reply.LineReply.TheVariants.{Drain}
-use Rattle.exec_client.specs.Heard.{Heard, Hears, IsTold}
+use Rattle.exec_client.specs.Heard.{Heard, IsTold}
 use Rattle.exec_client.specs.MayTell.{StandsBehind}
-use Rattle.exec_client.specs.Said.{Answered, Reported, Said}
-use Rattle.exec_session.specs.declared.lines.Progress.{Progress}
-use Rattle.exec_session.specs.declared.lines.Progress.TheVariants.{End}
+use Rattle.exec_client.specs.Said.{Said}
 use Rattle.exec_session.specs.declared.context.Way.{Way}
 use Rattle.exec_session.specs.declared.context.Way.TheVariants.{Run, Serve}
-use Rattle.exec_commands.specs.declared.line.Line.TheVariants.{Leave}
+use Rattle.exec_commands.specs.declared.line.Line.{Line}
+use Rattle.exec_commands.specs.declared.line.Line.TheVariants as line
 use Rattle.exec_session.specs.Answers.{Source}
-use Rattle.exec_session.specs.Drains.{Hearing, MakesTurn, Spot, spot}
+use Rattle.exec_trace.specs.declared.event.IoEvent.{IoEvent}
+use Rattle.exec_trace.specs.declared.event.IoEvent.TheVariants.{Asked, Looked, Peeked, Read, Rested, Sent, Shown}
+use Rattle.exec_session.specs.Drains.{MakesTurn}
 use Rattle.exec_session.specs.Leaving.{LeavesFrom}
-use Rattle.exec_session.specs.Limits.{lines_a_turn}
+use Rattle.exec_session.specs.Limits.{lines_a_turn, longest_pause, longest_wait}
+use Rattle.exec_session.specs.Reports.{ended}
 use Rattle.exec_session.specs.Rules.{Rules}
-use Rattle.exec_session.specs.Progress.{Position, ReadsLine, Takes}
-use Rattle.exec_session.specs.Together.{AnswersRow}
-
--- what is told of the opening's report: what was interrupted, and then what was dropped
-abbrev pub report_told : {M : Type 0} → Report M → List Said
-report_told r = map Reported r.interrupted.items ++ map Reported r.dropped.items
-
--- the report is that of the opening that gave this executor
-abbrev pub IsReportOf : {D M : Type 0} → Sight D → Report M → Type 0
-IsReportOf x r = x.reported ≡ report_of r
+use Rattle.exec_session.specs.Progress.{Answers, PassesLine, ReadsLine}
+use Rattle.exec_session.specs.Spots.{Position, Spot, Telling, Tells, behind, position, spot}
+use Rattle.exec_session.specs.Together.{AnswersTogether}
 
 -- a client of the executor that was just opened, and is open, who was told nothing yet
 abbrev pub IsNew : {D : Type 0} → Heard D → Sight D → Type 0
@@ -52,92 +47,135 @@ abbrev pub MayGoOn : {D : Type 0} → Way → Sight D → Type 0
 MayGoOn Run x = ⊤
 MayGoOn Serve x = x.is_open ≡ true
 
--- the line that says how a turn ended, as a drain says it
-abbrev pub ended : TurnEnd → Said
-ended end = Answered (Drain (Turn end))
-
 -- How an own turn ended is news behind the own turn before, of which Done is told where there was none: it ended otherwise than that,
 -- and is not done. A disk fault is told as the run ends.
 abbrev pub IsNews : TurnEnd → TurnEnd → Type 0
 IsNews before end = (end ≢ before) × (end ≢ Done) × (end ≢ Disk)
 
--- the client is told how an own turn ended, which it hears so, where that is news, and nothing where it is none
-pub data NewsHeard {D : Type 0} (hears_so : Hearing D) (before end : TurnEnd) (old new : Heard D) : Type 0 where
-  news : IsNews before end → hears_so old new (ended end ∷ []) → NewsHeard hears_so before end old new
-  no_news : (IsNews before end → ⊥) → new ≡ old → NewsHeard hears_so before end old new
+-- the client is told how an own turn ended, which it is told so, where that is news, and nothing where it is none
+pub data NewsSo {D : Type 0} (tells_so : Telling D) (before end : TurnEnd) (p q : Spot D) : Type 0 where
+  news : IsNews before end → tells_so p q (ended end ∷ []) → NewsSo tells_so before end p q
+  no_news : (IsNews before end → ⊥) → q ≡ p → NewsSo tells_so before end p q
 
--- A turn that a run makes by itself behind one that ended so: the client hears its notices, and how it ended where that is news.
-pub record MakesOwnTurn {D : Type 0} (look : D → View) (rules : Rules) (now : ℕ) (before : TurnEnd) (p q : Spot D)
-    (end : TurnEnd) : Type 0 where
-  pub noticed : Heard D
-  pub made : MakesTurn look rules now p (spot q.executor noticed) end
-  pub told : NewsHeard (Hears rules.form) before end noticed q.heard
+-- A turn that a run makes by itself behind one that ended so, at the moment that the clock shows as it begins: the client hears its
+-- notices, and how it ended where that is news.
+pub record MakesOwnTurn {D : Type 0} (look : D → View) (rules : Rules) (before : TurnEnd) (p q : Spot D) (end : TurnEnd) : Type 0 where
+  pub now : ℕ
+  pub noticed : Spot D
+  pub made : MakesTurn look rules now (behind p (Shown now)) noticed end
+  pub told : NewsSo (Tells rules.form) before end noticed q
 
--- Line after line, in their order, none of them left out, commands that arrived together in a row; a run that serves makes
--- turns between them. Only one that answers lines alone goes on once its executor is closed. The end is that of the last turn
--- that it made by itself, the number how many lines an open executor answered since then.
-pub data Reaches {D : Type 0} (look : D → View) (source : Source) (rules : Rules)
-    (p : Position D) : TurnEnd → ℕ → Position D → Type 0 where
-  here : Reaches look source rules p Done 0 p
-  line : (own : TurnEnd) (n : ℕ) (m q : Position D) (s : Progress) → Reaches look source rules p own n m
-      → m.executor.is_open ≡ true → MayTake rules.way n
-      → Takes look source rules m q s → Reaches look source rules p own (n + 1) q
-  row : (own : TurnEnd) (n : ℕ) (m q : Position D) (first : Command) (others : List Command) → Reaches look source rules p own n m
-      → m.executor.is_open ≡ true → MayTake rules.way (n + length others)
-      → AnswersRow look rules (first ∷ others) m q → Reaches look source rules p own (n + length others + 1) q
-  closed_line : (own : TurnEnd) (n : ℕ) (m q : Position D) (s : Progress) → Reaches look source rules p own n m
-      → m.executor.is_open ≡ false → MayGoOn rules.way m.executor → Takes look source rules m q s → Reaches look source rules p own 0 q
-  turn : (own : TurnEnd) (n now : ℕ) (m q : Position D) (end : TurnEnd) → Reaches look source rules p own n m → MakesTurns rules.way
-      → m.executor.is_open ≡ true
-      → MakesOwnTurn look rules now own (spot m.executor m.heard) (spot q.executor q.heard) end → q.left ≡ m.left
-      → Reaches look source rules p end 0 q
+-- lines that were read, each as this or refused, and are not answered yet
+abbrev pub Lines : Type 0
+Lines = List (Result Line Refusal)
+
+-- a line that is a command
+abbrev pub of_command : Command → Result Line Refusal
+of_command command = Ok (line.Request (asked.Command command))
+
+-- the next line is read: what is left goes on behind it, and the log by that read
+abbrev pub read_to : {D : Type 0} → Position D → Option (List ℕ) → Position D
+read_to p left = position (behind p.at (Read true)) left
+
+-- What is asked while a run goes on to its next line: whether something is there, without a wait, and a read of a part of a line or
+-- of none.
+abbrev pub IsLook : IoEvent → Type 0
+IsLook (Looked millis ready) = millis ≡ 0
+IsLook (Peeked has_line) = ⊤
+IsLook (Read done) = done ≡ true
+IsLook _ = ⊥
+
+-- What is asked while a run waits: for input, for a second at most and while anything is queued or runs no longer than a pause between
+-- two turns; for such a pause; for a moment; and whether anybody hears what is told.
+abbrev pub IsWait : {D : Type 0} → Sight D → IoEvent → Type 0
+IsWait x (Looked millis ready) = (millis ≤ longest_wait) × (any_busy x.state ≡ true → millis * 1000 ≤ longest_pause)
+IsWait x (Rested micros) = micros ≤ longest_pause
+IsWait x (Shown moment) = ⊤
+IsWait x (Asked heard) = heard ≡ true
+IsWait x _ = ⊥
+
+-- With these lines a run may wait, and may make a turn: each line that was read is answered, but one that asks an agent for metadata.
+abbrev pub MayRest : Lines → Type 0
+MayRest [] = ⊤
+MayRest (Ok (line.Meta provider agent limit) ∷ []) = ⊤
+MayRest _ = ⊥
+
+-- From a place a run has come to another: it read line after line, in their order, none of them left out, and has not answered
+-- these yet; it answered the others in that order, commands that were read one behind the other in a row; a run that serves made turns
+-- between them. Each reading of the clock that an answer or a turn goes by stands behind the read of the last line before it. Only a run
+-- that answers lines alone goes on once its executor is closed. The end is that of the last turn that it made by itself, the number
+-- how many lines it answered or passed over since then.
+pub data Reaches {D : Type 0} (look : D → View) (source : Source) (rules : Rules) (p : Position D)
+    : TurnEnd → ℕ → Lines → Position D → Type 0 where
+  here : Reaches look source rules p Done 0 [] p
+  looks : (own : TurnEnd) (n : ℕ) (lines : Lines) (m : Position D) (event : IoEvent) → Reaches look source rules p own n lines m
+      → IsLook event → Reaches look source rules p own n lines (position (behind m.at event) m.left)
+  waits : (own : TurnEnd) (n : ℕ) (lines : Lines) (m : Position D) (event : IoEvent) → Reaches look source rules p own n lines m
+      → MayGoOn rules.way m.at.executor → MayRest lines → IsWait m.at.executor event → Reaches look source rules p own n lines (position (behind m.at event) m.left)
+  reads : (own : TurnEnd) (n : ℕ) (commands : List Command) (m : Position D) (left : Option (List ℕ)) (found : Result Line Refusal)
+      → Reaches look source rules p own n (map of_command commands) m → MayGoOn rules.way m.at.executor
+      → ReadsLine rules.way m.left left found
+      → Reaches look source rules p own n (map of_command commands ++ found ∷ []) (read_to m left)
+  passes : (own : TurnEnd) (n : ℕ) (m : Position D) (left : Option (List ℕ)) → Reaches look source rules p own n [] m
+      → MayGoOn rules.way m.at.executor → MayTake rules.way n → PassesLine m.left left
+      → Reaches look source rules p own (n + 1) [] (position m.at left)
+  answers : (own : TurnEnd) (n : ℕ) (found : Result Line Refusal) (m : Position D) (q : Spot D)
+      → Reaches look source rules p own n (found ∷ []) m → MayGoOn rules.way m.at.executor → MayTake rules.way n
+      → Answers look source rules found m.at q → Reaches look source rules p own (n + 1) [] (position q m.left)
+  row : (own : TurnEnd) (n : ℕ) (first : Command) (others : List Command) (lines : Lines) (m : Position D) (q : Spot D)
+      → Reaches look source rules p own n (map of_command (first ∷ others) ++ lines) m → m.at.executor.is_open ≡ true
+      → MayTake rules.way (n + length others) → AnswersTogether look rules (first ∷ others) m.at q
+      → Reaches look source rules p own (n + length others + 1) lines (position q m.left)
+  turn : (own : TurnEnd) (n : ℕ) (lines : Lines) (m : Position D) (q : Spot D) (end : TurnEnd)
+      → Reaches look source rules p own n lines m → MakesTurns rules.way → MayRest lines → m.at.executor.is_open ≡ true
+      → MakesOwnTurn look rules own m.at q end → Reaches look source rules p end 0 lines (position q m.left)
 
 -- so up to the end of the input
-pub record ReachesEnd {D : Type 0} (look : D → View) (source : Source) (rules : Rules)
-    (p q : Position D) : Type 0 where
+pub record ReachesEnd {D : Type 0} (look : D → View) (source : Source) (rules : Rules) (p : Position D) (q : Spot D) : Type 0 where
   pub own : TurnEnd
   pub count : ℕ
-  pub last : Position D
-  pub reached : Reaches look source rules p own count last
-  pub end : Takes look source rules last q End
+  pub left : Option (List ℕ)
+  pub reached : Reaches look source rules p own count [] (position q left)
+  pub end : IsAtEnd left
   pub goes_on : MayGoOn rules.way q.executor
 
 -- so up to where a disk fault has closed the executor of a run that serves
-pub record ReachesFault {D : Type 0} (look : D → View) (source : Source) (rules : Rules)
-    (p : Position D) (q : Spot D) : Type 0 where
+pub record ReachesFault {D : Type 0} (look : D → View) (source : Source) (rules : Rules) (p : Position D) (q : Spot D) : Type 0 where
   pub serves : MakesTurns rules.way
   pub own : TurnEnd
   pub count : ℕ
-  pub last : Position D
-  pub reached : Reaches look source rules p own count last
-  pub is_closed : last.executor.is_open ≡ false
-  pub at_last : q ≡ spot last.executor last.heard
+  pub lines : Lines
+  pub left : Option (List ℕ)
+  pub reached : Reaches look source rules p own count lines (position q left)
+  pub is_closed : q.executor.is_open ≡ false
 
--- A disk fault ended a run that serves: nothing more was done, no line taken, and the last that the client heard is the line of
+-- so up to where a line has asked a run that serves to end, which is not answered yet
+pub record ReachesLeave {D : Type 0} (look : D → View) (source : Source) (rules : Rules) (p : Position D) (q : Spot D) : Type 0 where
+  pub serves : MakesTurns rules.way
+  pub own : TurnEnd
+  pub count : ℕ
+  pub left : Option (List ℕ)
+  pub reached : Reaches look source rules p own count (Ok line.Leave ∷ []) (position q left)
+  pub is_open : q.executor.is_open ≡ true
+
+-- A disk fault ended a run that serves: nothing more was done, no line answered, and the last that the client heard is the line of
 -- the fault.
-pub record EndsByFault {D : Type 0} (look : D → View) (source : Source) (rules : Rules)
-    (p : Position D) (q : Spot D) : Type 0 where
-  pub heard : Heard D
-  pub fault : ReachesFault look source rules p (spot q.executor heard)
-  pub hears : Hears rules.form heard q.heard (ended Disk ∷ [])
+pub record EndsByFault {D : Type 0} (look : D → View) (source : Source) (rules : Rules) (p : Position D) (q : Spot D) : Type 0 where
+  pub last : Spot D
+  pub fault : ReachesFault look source rules p last
+  pub tells : Tells rules.form last q (ended Disk ∷ [])
 
--- A run that serves was asked to end by the next line, and made an orderly end: no line behind that was taken.
-pub record EndsInOrder {D : Type 0} (look : D → View) (source : Source) (rules : Rules)
-    (p q : Position D) : Type 0 where
-  pub serves : MakesTurns rules.way
-  pub own : TurnEnd
-  pub count : ℕ
-  pub last : Position D
-  pub reached : Reaches look source rules p own count last
-  pub is_open : last.executor.is_open ≡ true
-  pub asked : ReadsLine rules.way last.left q.left (Ok Leave)
-  pub leaves : LeavesFrom look rules (spot last.executor last.heard) (spot q.executor q.heard)
+-- A run that serves was asked to end by the last line that it read, and made an orderly end.
+pub record EndsInOrder {D : Type 0} (look : D → View) (source : Source) (rules : Rules) (p : Position D) (q : Spot D) : Type 0 where
+  pub last : Spot D
+  pub asked : ReachesLeave look source rules p last
+  pub leaves : LeavesFrom look rules last q
 
 -- all lines were answered, or a disk fault ended a run that serves, or it was asked to end
 abbrev pub Finishes : {D : Type 0} → (D → View) → Source → Rules → Position D → Position D → Type 0
 Finishes look source rules p q =
-    ReachesEnd look source rules p q
-    ⊎ (EndsByFault look source rules p (spot q.executor q.heard) ⊎ EndsInOrder look source rules p q)
+    ReachesEnd look source rules p q.at
+    ⊎ (EndsByFault look source rules p q.at ⊎ EndsInOrder look source rules p q.at)
 
 -- Calls alone lead from one spot to another, with these exchanges, and what was told meanwhile stands behind what they recorded.
 pub record GoesByCalls {D : Type 0} (look : D → View) (p q : Spot D) : Type 0 where

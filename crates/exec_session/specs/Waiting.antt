@@ -1,62 +1,151 @@
--- A run whose commands wait to be answered together.
-use Rattle.std.specs.Prelude.{◌≡◌, ◌⊎◌, ℕ, ◌+◌, ◌<◌, ◌≤◌, Bool, true, false, List, [], length, Option, Result, Ok, Err}
+-- A run between two lines, some of which may wait to be answered.
+use Rattle.std.specs.Prelude.{◌≡◌, ◌⊎◌, ⊤, ℕ, ◌+◌, ◌<◌, ◌≤◌, Bool, true, false, List, [], ◌∷◌, ◌++◌, length, map, Option, Some, None, Result, Ok, Err}
+use Rattle.std.specs.Io.KnownBytes.{IsAtEnd}
 use Rattle.ocf_types.specs.Kinds.{Command}
 use Rattle.ocf_types.specs.declared.reply.TurnEnd.{TurnEnd}
 use Rattle.disk_model.specs.View.{View}
 use Rattle.executor.specs.Sights.{Sight}
+use Rattle.exec_lines.specs.Buffer.{line_bytes}
+use Rattle.exec_lines.specs.Pieces.{IsMidLine}
 use Rattle.exec_output.specs.declared.send.IoFault.{IoFault}
+use Rattle.exec_trace.specs.declared.event.IoEvent.{IoEvent}
+use Rattle.exec_trace.specs.declared.event.IoEvent.TheVariants.{Looked}
 use Rattle.exec_session.specs.Answers.{Source}
-use Rattle.exec_session.specs.Breaks.{BreaksOff}
-use Rattle.exec_session.specs.Drains.{spot}
+use Rattle.exec_session.specs.Breaks.{AnswerBreaks, BreaksOff}
+use Rattle.exec_session.specs.Gathered.{waiting}
+use Rattle.exec_session.specs.Held.{held_lines}
 use Rattle.exec_session.specs.Limits.{most_together}
+use Rattle.exec_session.specs.Progress.{Answers, PassesLine}
 use Rattle.exec_session.specs.Rules.{Rules}
-use Rattle.exec_session.specs.Progress.{Position, position}
-use Rattle.exec_session.specs.Runs.{MakesTurns, MayGoOn, MayTake, Reaches, ReachesEnd, ReachesFault}
-use Rattle.exec_session.specs.Together.{ReadsCommands}
+use Rattle.exec_session.specs.Runs.{IsWait, Lines, MakesTurns, MayGoOn, MayTake, Reaches, ReachesEnd, ReachesFault, ReachesLeave, of_command}
+use Rattle.exec_session.specs.Spots.{MayBreakOff, Position, Spot, behind, position}
 use Rattle.exec_session.specs.declared.context.Way.{Way}
+use Rattle.exec_session.specs.declared.context.Way.TheVariants.{Run, Serve}
+use Rattle.exec_session.specs.declared.held.Held.{Held}
+use Rattle.exec_session.specs.declared.lines.Found.{Found}
+use Rattle.exec_session.specs.declared.lines.Found.TheVariants as found
 use Rattle.exec_session.specs.declared.lines.Taken.{Taken}
-use Rattle.exec_session.specs.declared.lines.Taken.TheVariants.{Closed, End, More}
+use Rattle.exec_session.specs.declared.lines.Taken.TheVariants.{Closed, End, Leaves, More}
+use Rattle.exec_session.specs.declared.pending.Pending.{Pending}
 
--- these commands may wait: there is room for one more, and none waits once the executor is closed
-pub record MayWait {D : Type 0} (x : Sight D) (commands : List Command) : Type 0 where
-  pub few : length commands < most_together
-  pub while_open : x.is_open ≡ false → commands ≡ []
+-- What was read may stay unanswered: there is room for one command more, none waits once the executor is closed, and a run by lines alone
+-- holds no line.
+pub record MayWait {D : Type 0} (way : Way) (x : Sight D) (pending : Pending) : Type 0 where
+  pub few : length (waiting pending.gathered) < most_together
+  pub while_open : x.is_open ≡ false → waiting pending.gathered ≡ []
+  pub free : way ≡ Run → pending.held ≡ None
 
--- A run has come from a place so far that these commands wait: they were read, one behind the other, and since then nothing was
--- done with the executor and nothing told. It goes on from there.
-pub record Waits {D : Type 0} (look : D → View) (source : Source) (rules : Rules)
-    (p : Position D) (own : TurnEnd) (count : ℕ) (commands : List Command) (q : Position D) : Type 0 where
+-- where a session is: its position, the commands that wait, the line behind them where it is held, and what was read of the next
+-- line
+pub record Midway (D : Type 0) : Type 0 where
+  pub place : Position D
+  pub commands : List Command
+  pub held : Option Held
+  pub kept : List ℕ
+
+abbrev pub midway : {D : Type 0} → Position D → Pending → Midway D
+midway place pending = record {
+  place = place;
+  commands = waiting pending.gathered;
+  held = pending.held;
+  kept = line_bytes pending.buffer;
+}
+
+-- Of what was left behind the last line a prefix of the next one was read, which the buffer keeps; while a line is held nothing was.
+abbrev pub IsReadTo : Option Held → Option (List ℕ) → List ℕ → Option (List ℕ) → Type 0
+IsReadTo None left kept now = IsMidLine left kept now
+IsReadTo (Some held) left kept now = (now ≡ left) × (kept ≡ [])
+
+-- A run has come from a place so far: the commands that wait and the line that is held were read and are not answered, its last own
+-- turn ended so, and of at most so many lines since then the others were answered.
+pub record HasCome {D : Type 0} (look : D → View) (source : Source) (rules : Rules)
+    (p : Position D) (own : TurnEnd) (most : ℕ) (s : Midway D) : Type 0 where
+  pub count : ℕ
+  pub few : count + length s.commands ≤ most
   pub left : Option (List ℕ)
-  pub read : ReadsCommands rules.way left commands q.left
-  pub reached : Reaches look source rules p own count (position q.executor left q.heard)
-  pub goes_on : MayGoOn rules.way q.executor
+  pub mid : IsReadTo s.held left s.kept s.place.left
+  pub reached :
+      Reaches look source rules p own count (map of_command s.commands ++ held_lines s.held) (position s.place.at left)
+  pub goes_on : MayGoOn rules.way s.place.at.executor
 
--- it has come so far, its last own turn ended so, with at most so many lines since then, those that wait too, or with a closed
--- executor
-abbrev pub HasCome : {D : Type 0} → (D → View) → Source → Rules → Position D → TurnEnd → ℕ
-    → List Command → Position D → Type 0
-HasCome look source rules p own most commands q =
-    (count : ℕ) × ((count + length commands ≤ most) ⊎ (q.executor.is_open ≡ false))
-    × Waits look source rules p own count commands q
+-- nothing was asked, or whether something is there, without a wait
+abbrev pub LooksOnce : {D : Type 0} → Position D → Position D → Type 0
+LooksOnce p q = (q ≡ p) ⊎ ((ready : Bool) × (q ≡ position (behind p.at (Looked 0 ready)) p.left))
 
--- it has come so far, or to the end of the input, or to a disk fault
-abbrev pub ComesOrEnds : {D : Type 0} → (D → View) → Source → Rules → Position D → TurnEnd → ℕ
-    → List Command → Position D → Taken → Type 0
-ComesOrEnds look source rules p own most commands q More = HasCome look source rules p own most commands q
-ComesOrEnds look source rules p own most commands q End = ReachesEnd look source rules p q
-ComesOrEnds look source rules p own most commands q Closed = ReachesFault look source rules p (spot q.executor q.heard)
+-- A run waited: one thing was asked behind the other.
+pub data Waits {D : Type 0} (p : Position D) : Position D → Type 0 where
+  still : Waits p p
+  more : (m : Position D) (event : IoEvent) → Waits p m → IsWait m.at.executor event → Waits p (position (behind m.at event) m.left)
+
+-- the line in what was read, which is not answered yet
+abbrev pub found_lines : Found → Lines
+found_lines (found.Line line) = line ∷ []
+found_lines _ = []
+
+-- of what was left behind the last line this was found, and this is left: a line is behind by now, the other is not
+abbrev pub IsFound : Found → Option (List ℕ) → Option (List ℕ) → Type 0
+IsFound (found.Line line) left now = left ≡ now
+IsFound found.Empty left now = PassesLine left now
+IsFound found.End left now = IsAtEnd left
+
+-- A run has come so far that these commands wait, and has read what stands next, which is not answered.
+pub record HasFound {D : Type 0} (look : D → View) (source : Source) (rules : Rules)
+    (p : Position D) (own : TurnEnd) (most : ℕ) (commands : List Command) (found : Found) (q : Position D) : Type 0 where
+  pub count : ℕ
+  pub few : count + length commands ≤ most
+  pub left : Option (List ℕ)
+  pub next : IsFound found left q.left
+  pub reached : Reaches look source rules p own count (map of_command commands ++ found_lines found) (position q.at left)
+  pub goes_on : MayGoOn rules.way q.at.executor
+
+-- What stands next in the input was answered, or passed over, or is its end, as is said; or an answer broke off.
+abbrev pub TakesFound : {D : Type 0} → (D → View) → Source → Rules → Found → Spot D → Spot D → Result Bool IoFault → Type 0
+TakesFound look source rules (found.Line line) p q (Ok has_ended) = (has_ended ≡ false) × Answers look source rules line p q
+TakesFound look source rules found.Empty p q (Ok has_ended) = (has_ended ≡ false) × (q ≡ p)
+TakesFound look source rules found.End p q (Ok has_ended) = (has_ended ≡ true) × (q ≡ p)
+TakesFound look source rules (found.Line line) p q (Err fault) = AnswerBreaks look source rules line p q × MayBreakOff q.events
+TakesFound look source rules _ p q (Err fault) = ⊥
+
+-- it has come so far, or to the end of the input, or to a disk fault, or to the line that asks it to end
+abbrev pub ComesOrEnds : {D : Type 0} → (D → View) → Source → Rules → Position D → TurnEnd → ℕ → Midway D → Taken → Type 0
+ComesOrEnds look source rules p own most s More = HasCome look source rules p own most s
+ComesOrEnds look source rules p own most s End = ReachesEnd look source rules p s.place.at
+ComesOrEnds look source rules p own most s Closed = ReachesFault look source rules p s.place.at
+ComesOrEnds look source rules p own most s Leaves = ReachesLeave look source rules p s.place.at
 
 -- or it broke off
-abbrev pub Comes : {D : Type 0} → (D → View) → Source → Rules → Position D → TurnEnd → ℕ
-    → List Command → Position D → Result Taken IoFault → Type 0
-Comes look source rules p own most commands q (Ok taken) = ComesOrEnds look source rules p own most commands q taken
-Comes look source rules p own most commands q (Err fault) = BreaksOff look source rules p (spot q.executor q.heard)
+abbrev pub Comes : {D : Type 0} → (D → View) → Source → Rules → Position D → TurnEnd → ℕ → Midway D → Result Taken IoFault → Type 0
+Comes look source rules p own most s (Ok taken) = ComesOrEnds look source rules p own most s taken
+Comes look source rules p own most s (Err fault) = BreaksOff look source rules p s.place.at
 
 -- whether the input has ended, and whether the run goes on from there: one that serves does not once its executor is closed
 abbrev pub IsTaken : {D : Type 0} → Way → Sight D → Bool → Taken → Type 0
 IsTaken way x has_ended More = (has_ended ≡ false) × MayGoOn way x
 IsTaken way x has_ended End = (has_ended ≡ true) × MayGoOn way x
 IsTaken way x has_ended Closed = MakesTurns way × (x.is_open ≡ false)
+IsTaken way x has_ended Leaves = ⊥
+
+-- With what was read a round may begin: it may stay unanswered, and in a run that serves no command waits, and its executor is open.
+pub record MayBegin {D : Type 0} (way : Way) (x : Sight D) (pending : Pending) : Type 0 where
+  pub waits : MayWait way x pending
+  pub serves : way ≡ Serve → (x.is_open ≡ true) × (waiting pending.gathered ≡ [])
+
+-- A round of a run that serves begins behind a turn, with no line behind that; one of a run by lines alone anywhere.
+abbrev pub IsRound : Way → ℕ → Type 0
+IsRound Run most = ⊤
+IsRound Serve most = most ≡ 0
+
+-- a run has come to the begin of a round
+abbrev pub HasComeRound : {D : Type 0} → (D → View) → Source → Rules → Position D → TurnEnd → Midway D → Type 0
+HasComeRound look source rules p own s = (most : ℕ) × IsRound rules.way most × HasCome look source rules p own most s
+
+-- a round leads to the begin of the next one, or the run ends by it, or broke off
+abbrev pub GoesRound : {D : Type 0} → (D → View) → Source → Rules → Position D → TurnEnd → Midway D → Result Taken IoFault → Type 0
+GoesRound look source rules p own s (Ok More) = HasComeRound look source rules p own s
+GoesRound look source rules p own s (Ok End) = ReachesEnd look source rules p s.place.at
+GoesRound look source rules p own s (Ok Closed) = ReachesFault look source rules p s.place.at
+GoesRound look source rules p own s (Ok Leaves) = ReachesLeave look source rules p s.place.at
+GoesRound look source rules p own s (Err fault) = BreaksOff look source rules p s.place.at
 
 -- a run may take a line behind at most so many since its last turn
 abbrev pub MayTakeBehind : Way → ℕ → Type 0

@@ -1,4 +1,4 @@
-//! What a run stands on beside its executor, its input and its output.
+//! What a run stands on beside its executor, its input, its output and its clock.
 use crate::pace::Pace;
 use exec_commands::NoticeForm;
 use std::alloc::Global;
@@ -12,12 +12,10 @@ pub enum Way {
     Serve,
 }
 
-/// What a run is given beside its executor, its input and its output.
+/// What a run is given beside its executor, its input, its output and its clock.
 #[derive(Drop)]
-pub struct RunContext<'a, K, M> {
+pub struct RunContext<'a, M> {
     pub alloc: Global,
-    /// It shows the moments, and pauses go by it.
-    pub clock: &'a K,
     pub metadata: &'a M,
     pub way: Way,
     /// What a notice tells.

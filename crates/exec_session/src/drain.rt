@@ -1,22 +1,21 @@
 //! Drains and watches: turns, each with its notices.
-ghost use Rattle.std.specs.Prelude.{◌≡◌, true, IfOk, OnErr, IfErr, IsTrue};
-ghost use Rattle.exec_client.specs.MayTell.{AllStand};
+ghost use Rattle.std.specs.Prelude.{◌≡◌, true, IfErr, IfOk, IsTrue, OnErr, Some};
 ghost use Rattle.exec_output.specs.declared.send.IoFault.TheVariants.{Memory};
-ghost use Rattle.exec_session.specs.Breaks.{DrainBreaks};
-ghost use Rattle.exec_session.specs.Drains.{Drains, end_behind, spot};
+ghost use Rattle.exec_session.specs.Broken.{DrainBreaks};
+ghost use Rattle.exec_session.specs.Drains.{Drains, end_behind};
 ghost use Rattle.exec_session.specs.Rules.{rules_of};
+ghost use Rattle.exec_session.specs.Spots.{Keeps, MayBreakOff};
+ghost use Rattle.exec_trace.specs.Events.{last_shown};
 
 use crate::context::RunContext;
-use crate::metadata::Metadata;
-use crate::pause::{Pause, rest};
-use crate::turn::make_turn;
+use crate::pause::Pause;
+use crate::worker::Worker;
 use child_model::Children;
 use disk_model::Disk;
 use exec_client::Client;
 use exec_commands::DrainEnd;
-use exec_lines::moment_now;
+use exec_lines::Input;
 use exec_output::IoFault;
-use executor::Executor;
 use ocf_types::{NUM_MAX, TurnEnd};
 use std::rt::Clock;
 
@@ -52,38 +51,45 @@ impl Terms {
     }
 }
 
-/// Makes turns up to the end of a drain that begins at this moment. Between two turns in which nothing happened it pauses.
-/// It stops where nobody can hear any more what it tells.
-pub fn drain<D: Disk + Drop, C: Children + Drop, T: Client<D, C>, K: Clock, M: Metadata>(
-    context: &RunContext<K, M>,
-    client: &mut T,
-    executor: &mut Executor<D, C>,
-    terms: Terms,
-    start: u64,
-) -> Result<DrainEnd, IoFault>
-    requires open { executor.old.is_open ≡ true }
-    requires stands { AllStand D.view (T.heard client.old) executor.old }
-    ensures stands { AllStand D.view (T.heard client.new) executor.new }
-    ensures opened { (T.heard client.new).opened ≡ (T.heard client.old).opened }
-    ensures drains { IfOk result (λ end. Drains D.view (rules_of context.now) terms start
-        (spot executor.old (T.heard client.old)) (spot executor.new (T.heard client.new)) end) }
-    ensures breaks { OnErr result (DrainBreaks D.view (rules_of context.now) terms start
-        (spot executor.old (T.heard client.old)) (spot executor.new (T.heard client.new))) }
-    ensures memory { IfErr result (λ f. f ≡ Memory → IsTrue T.refuses) }
-{
-    let mut now = start;
-    let mut pause = Pause::new();
-    for turns in 0..NUM_MAX {
-        pause.before_turn(context.clock);
-        let end = make_turn(context, client, executor, now)?;
-        rest(context.clock, pause.behind_turn(context.clock, executor));
-        if !client.is_heard() {
-            return Err(IoFault::InputOrOutput);
+impl<'a, R: Input, D: Disk + Drop, C: Children + Drop, T: Client<D, C>, K: Clock> Worker<
+    'a,
+    R,
+    D,
+    C,
+    T,
+    K,
+> {
+    /// Makes turns up to the end of a drain that begins at this moment, which the clock showed last. Between two turns in which nothing
+    /// happened it pauses. It stops where nobody can hear any more what it tells.
+    pub fn drain<M>(
+        &mut self,
+        context: &RunContext<M>,
+        terms: Terms,
+        start: u64,
+    ) -> Result<DrainEnd, IoFault>
+        requires open { self.old.at.executor.is_open ≡ true }
+        requires shown { last_shown self.old.at.events ≡ Some start }
+        ensures keeps { Keeps self.old self.new }
+        ensures drains { IfOk result
+            (Drains D.view (rules_of context.now) terms start self.old.at self.new.at) }
+        ensures breaks { OnErr result
+            (DrainBreaks D.view (rules_of context.now) terms start self.old.at self.new.at) }
+        ensures cause { OnErr result (MayBreakOff self.new.at.events) }
+        ensures memory { IfErr result (λ f. f ≡ Memory → IsTrue T.refuses) }
+    {
+        let mut now = start;
+        let mut pause = Pause::new();
+        for turns in 0..NUM_MAX {
+            pause.before_turn(self.clock());
+            let end = self.make_turn(context, now)?;
+            if !self.pauses(&mut pause) {
+                return Err(IoFault::InputOrOutput);
+            }
+            now = self.now();
+            if let Some(end) = terms.end_behind(turns + 1, now, end, self.idle()) {
+                return Ok(end);
+            }
         }
-        now = moment_now(context.clock).get();
-        if let Some(end) = terms.end_behind(turns + 1, now, end, executor.idle()) {
-            return Ok(end);
-        }
+        Err(IoFault::InputOrOutput)
     }
-    Err(IoFault::InputOrOutput)
 }

@@ -1,23 +1,21 @@
 //! A line that is held: turns go on, and no line after it is read, until what it asks for is there.
-ghost use Rattle.std.specs.Prelude.{◌≡◌, true, List, ℕ, Ok, Option, IfErr, IfOk, IsTrue};
-ghost use Rattle.ocf_types.specs.declared.reply.TurnEnd.{TurnEnd};
-ghost use Rattle.exec_client.specs.MayTell.{AllStand};
+ghost use Rattle.std.specs.Prelude.{◌≡◌, true, Ok, IfErr, IfOk, IsTrue};
 ghost use Rattle.exec_output.specs.declared.send.IoFault.TheVariants.{Memory};
 ghost use Rattle.exec_session.specs.Held.{AnswersHeld, MayTakeAtOnce, asks};
-ghost use Rattle.exec_session.specs.Progress.{ReadsLine, position};
 ghost use Rattle.exec_session.specs.Rules.{rules_of};
-ghost use Rattle.exec_session.specs.declared.context.Way.{Way};
+ghost use Rattle.exec_session.specs.Spots.{Keeps};
 ghost use Rattle.exec_session.specs.declared.lines.Found.TheVariants as found;
 
-use crate::context::RunContext;
+use crate::context::{RunContext, Way};
 use crate::lines::Found;
 use crate::metadata::Metadata;
+use crate::worker::Worker;
 use child_model::Children;
 use disk_model::Disk;
-use exec_client::{Client, Told};
+use exec_client::Client;
 use exec_commands::{Line, LineReply};
+use exec_lines::Input;
 use exec_output::IoFault;
-use executor::Executor;
 use ocf_types::{AgentType, Provider};
 use std::rt::Clock;
 
@@ -34,12 +32,17 @@ pub enum Held {
     Leave,
 }
 
-/// What stands next, where it is a line that a run holds which serves; anything else is handed back.
-pub fn held_in(next: Found) -> Result<Held, Found>
+/// What stands next, where it is a line that a run holds which goes so; anything else is handed back.
+#[tactic(auto, using(crate::proofs::HeldLemmas::found_at_once))]
+pub fn held_in(way: Way, next: Found) -> Result<Held, Found>
     ensures held { IfOk result (λ held. next ≡ found.Line (Ok (asks held))) }
+    ensures serves { IfOk result (λ _. way ≡ Way.Serve) }
     ensures same { IfErr result (λ other. other ≡ next) }
-    ensures at_once { IfErr result (λ other. (way : Way) → MayTakeAtOnce way other) }
+    ensures at_once { IfErr result (λ other. MayTakeAtOnce way other) }
 {
+    if way == Way::Run {
+        return Err(next);
+    }
     match next {
         Found::Line(
             Ok(
@@ -61,21 +64,23 @@ pub fn held_in(next: Found) -> Result<Held, Found>
 }
 
 /// Answers a line that is held for an agent's metadata, where the agent has answered by now. Whether it has.
-pub fn answer_held<D: Disk + Drop, C: Children + Drop, T: Client<D, C>, K: Clock, M: Metadata>(
-    context: &RunContext<K, M>,
-    client: &mut T,
-    executor: &Executor<D, C>,
+pub fn answer_held<
+    R: Input,
+    D: Disk + Drop,
+    C: Children + Drop,
+    T: Client<D, C>,
+    K: Clock,
+    M: Metadata,
+>(
+    worker: &mut Worker<'_, R, D, C, T, K>,
+    context: &RunContext<'_, M>,
     line: &Held,
 ) -> Result<bool, IoFault>
-    requires open { executor.now.is_open ≡ true }
-    requires stands { AllStand D.view (T.heard client.old) executor.now }
-    ensures stands { AllStand D.view (T.heard client.new) executor.now }
-    ensures opened { (T.heard client.new).opened ≡ (T.heard client.old).opened }
-    ensures answers { (own : TurnEnd) (left now : Option (List ℕ))
-        → ReadsLine context.now.way left now (Ok (asks line.now))
-        → AnswersHeld D.view (M.gives context.now.metadata.now) (rules_of context.now) own
-        (position executor.now left (T.heard client.old))
-        (position executor.now now (T.heard client.new)) result }
+    requires open { worker.old.at.executor.is_open ≡ true }
+    ensures keeps { Keeps worker.old worker.new }
+    ensures stays { IfOk result (λ _. worker.new.at.executor ≡ worker.old.at.executor) }
+    ensures answers { AnswersHeld D.view (M.gives context.now.metadata.now) (rules_of context.now) line.now
+        worker.old.at worker.new.at result }
     ensures memory { IfErr result (λ f. f ≡ Memory → IsTrue T.refuses) }
 {
     let Held::Metadata {
@@ -92,7 +97,6 @@ pub fn answer_held<D: Disk + Drop, C: Children + Drop, T: Client<D, C>, K: Clock
     let Some(given) = asked else {
         return Ok(false);
     };
-    let reply = LineReply::Meta(given);
-    client.tell(executor, context.form, &Told::Reply(&reply))?;
+    worker.tell_reply(context, &LineReply::Meta(given))?;
     Ok(true)
 }

@@ -4,6 +4,7 @@
 
 mod answer;
 mod context;
+mod desk;
 mod drain;
 mod gathered;
 mod held;
@@ -14,6 +15,7 @@ mod metadata;
 mod pace;
 mod pause;
 mod pending;
+mod reading;
 mod report;
 mod room;
 mod serve;
@@ -21,6 +23,7 @@ mod session;
 mod together;
 mod turn;
 mod wait;
+mod worker;
 
 pub use context::{RunContext, Way};
 pub use metadata::Metadata;

@@ -1,12 +1,12 @@
 //! The pause between two turns.
 ghost use Rattle.std.specs.Prelude.{◌≤◌};
+ghost use Rattle.exec_session.specs.Limits.{longest_pause};
 
 use child_model::{Answer, Children, Entry, Poll};
 use disk_model::Disk;
 use executor::Executor;
 use std::rt::Clock;
-use std::thread::sleep;
-use std::time::{Duration, Instant};
+use std::time::Instant;
 
 // The shortest pause that is not nothing, in microseconds.
 const SHORTEST: u64 = 20;
@@ -76,7 +76,8 @@ impl Pause {
 
     // The longest pause behind the turn that was made, in microseconds.
     fn longest(&self, clock: &impl Clock, idle: bool) -> u64
-        ensures { SHORTEST ≤ result }
+        ensures least { SHORTEST ≤ result }
+        ensures most { result ≤ longest_pause }
     {
         if idle {
             return LONGEST_IDLE;
@@ -91,19 +92,14 @@ impl Pause {
         &mut self,
         clock: &impl Clock,
         executor: &Executor<D, C>,
-    ) -> u64 {
+    ) -> u64
+        ensures most { result ≤ longest_pause }
+    {
         if self.quiet.is_none() || !is_quiet(executor.book()) {
             self.quiet = self.began;
             return 0;
         }
         let longest = self.longest(clock, executor.idle());
         (micros_since(clock, self.quiet) / GROWTH).clamp(SHORTEST, longest)
-    }
-}
-
-/// Pauses for so many microseconds.
-pub fn rest(clock: &impl Clock, micros: u64) {
-    if micros > 0 {
-        sleep(clock, Duration::from_micros(micros));
     }
 }

@@ -1,6 +1,8 @@
 //! What a run has read of its input and not answered yet.
-ghost use Rattle.std.specs.Prelude.{◌≡◌, IfOk, IsTrue, OnErr, Some};
+ghost use Rattle.std.specs.Prelude.{◌≡◌, false, IfOk, IsTrue, OnErr, Some};
+ghost use Rattle.exec_session.specs.Held.{held_lines};
 ghost use Rattle.exec_session.specs.Pending.{IsClear};
+ghost use Rattle.exec_session.specs.Runs.{MayRest};
 ghost use Rattle.exec_session.specs.declared.held.Held.TheVariants.{Leave};
 
 use crate::gathered::Gathered;
@@ -38,7 +40,8 @@ impl Pending {
 
     /// Whether the line that is held asks for the end of the run.
     pub fn is_leaving(&self) -> bool
-        ensures { IsTrue result → self.now.held ≡ Some Leave }
+        ensures leaves { IsTrue result → self.now.held ≡ Some Leave }
+        ensures rests { result ≡ false → MayRest (held_lines self.now.held) }
     {
         matches!(self.held, Some(Held::Leave))
     }

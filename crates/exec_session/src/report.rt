@@ -1,35 +1,45 @@
 //! What an opening reports, as it is told.
-ghost use Rattle.std.specs.Prelude.{◌≡◌, ◌++◌, List, OnErr, OnOk, IfErr, IsTrue};
-ghost use Rattle.exec_client.specs.Heard.{Hears, HearsPart};
-ghost use Rattle.exec_client.specs.Said.{Said};
-ghost use Rattle.exec_client.specs.MayTell.{AllStand};
+ghost use Rattle.std.specs.Prelude.{◌≡◌, IfErr, IsTrue, OnErr, OnOk};
 ghost use Rattle.exec_output.specs.declared.send.IoFault.TheVariants.{Memory};
-ghost use Rattle.exec_session.specs.Runs.{IsReportOf, report_told};
+ghost use Rattle.exec_session.specs.Reports.{IsReportOf, ReportBreaks, TellsReport};
+ghost use Rattle.exec_session.specs.Spots.{Keeps, MayBreakOff};
 
+use crate::context::RunContext;
+use crate::worker::Worker;
 use child_model::Children;
 use disk_model::Disk;
 use exec_client::{Client, Told};
-use exec_commands::NoticeForm;
+use exec_lines::Input;
 use exec_output::IoFault;
-use executor::{Executor, Report};
+use executor::Report;
+use std::rt::Clock;
 
-/// Tells what an opening reports: what was interrupted, and then what was dropped.
-pub fn tell_report<D: Disk + Drop, C: Children + Drop, T: Client<D, C>>(
-    client: &mut T,
-    executor: &Executor<D, C>,
-    form: NoticeForm,
-    report: &Report,
-) -> Result<(), IoFault>
-    requires stands { AllStand D.view (T.heard client.old) executor.now }
-    requires reported { IsReportOf executor.now report.now }
-    ensures stands { AllStand D.view (T.heard client.new) executor.now }
-    ensures opened { (T.heard client.new).opened ≡ (T.heard client.old).opened }
-    ensures told { OnOk result
-        (Hears form.entry (T.heard client.old) (T.heard client.new) (report_told report.now)) }
-    ensures breaks { OnErr result ((said rest : List Said) × (report_told report.now ≡ said ++ rest)
-        × HearsPart form.entry (T.heard client.old) (T.heard client.new) said) }
-    ensures memory { IfErr result (λ f. f ≡ Memory → IsTrue T.refuses) }
-{
-    client.tell(executor, form, &Told::Report(report.interrupted.as_slice()))?;
-    client.tell(executor, form, &Told::Report(report.dropped.as_slice()))
+impl<'a, R: Input, D: Disk + Drop, C: Children + Drop, T: Client<D, C>, K: Clock> Worker<
+    'a,
+    R,
+    D,
+    C,
+    T,
+    K,
+> {
+    /// Tells what an opening reports: what was interrupted, and then what was dropped.
+    pub fn tell_report<M>(
+        &mut self,
+        context: &RunContext<M>,
+        report: &Report,
+    ) -> Result<(), IoFault>
+        requires reported { IsReportOf self.old.at.executor report.now }
+        ensures keeps { Keeps self.old self.new }
+        ensures told { OnOk result
+            (TellsReport context.now.form report.now self.old.at self.new.at) }
+        ensures breaks { OnErr result
+            (ReportBreaks context.now.form report.now self.old.at self.new.at) }
+        ensures cause { OnErr result (MayBreakOff self.new.at.events) }
+        ensures memory { IfErr result (λ f. f ≡ Memory → IsTrue T.refuses) }
+    {
+        let interrupted = Told::Report(report.interrupted.as_slice());
+        self.tell(context.form, &interrupted)?;
+        let dropped = Told::Report(report.dropped.as_slice());
+        self.tell(context.form, &dropped)
+    }
 }

@@ -8,10 +8,10 @@ ghost use Rattle.exec_session.specs.Rules.{MakesRoom, is_at_leisure, is_monitor_
 use crate::context::RunContext;
 use child_model::Children;
 use disk_model::Disk;
-use exec_lines::moment_now;
 use executor::Executor;
 use ocf_types::{EVENT_LIMIT, PART_LIMIT, RESERVE, TidyEnd};
 use std::rt::Clock;
+use std::time::Instant;
 
 // How many bytes a tidy has to gain at least: a quarter of a part. So one that gains less is made once the tail has grown
 // by that much.
@@ -59,8 +59,8 @@ fn is_at_leisure<D: Disk + Drop, C: Children + Drop>(
 
 // Whether the tail is past the first mark, would fall by what is worthwhile, and nothing would wait for that or the tail is past the
 // second mark.
-fn is_tidy_due<D: Disk + Drop, C: Children + Drop, K, M>(
-    context: &RunContext<K, M>,
+fn is_tidy_due<D: Disk + Drop, C: Children + Drop, M>(
+    context: &RunContext<M>,
     executor: &Executor<D, C>,
     now: u64,
     pace: u64,
@@ -78,24 +78,33 @@ fn is_tidy_due<D: Disk + Drop, C: Children + Drop, K, M>(
     SECOND_MARK < tail || is_at_leisure(executor, now, pace * pieces(executor))
 }
 
+// How many milliseconds it is since then; nothing where the clock fails.
+fn millis_since(clock: &impl Clock, then: Option<Instant>) -> u64 {
+    match then.map(|then| then.elapsed(clock)) {
+        Some(Ok(passed)) => u64::try_from(passed.as_millis()).unwrap_or(u64::MAX),
+        _ => 0,
+    }
+}
+
 /// Tidies the journal, and notes how long a piece of that took.
 pub fn tidy_timed<D: Disk + Drop, C: Children + Drop, K: Clock, M>(
-    context: &RunContext<K, M>,
+    context: &RunContext<M>,
+    clock: &K,
     executor: &mut Executor<D, C>,
 ) -> TidyEnd
     ensures tidies { TidiesWhile executor.old.is_open D.view executor.old executor.new result }
 {
     let pieces = pieces(executor);
-    let start = moment_now(context.clock).get();
+    let start = Instant::now(clock).ok();
     let end = executor.tidy();
-    let millis = moment_now(context.clock).get().saturating_sub(start);
-    context.pace.took(millis, pieces);
+    context.pace.took(millis_since(clock, start), pieces);
     end
 }
 
 /// Tidies the journal where that is due at this moment. Whether the executor is open then: a disk fault closes it.
 pub fn make_room<D: Disk + Drop, C: Children + Drop, K: Clock, M>(
-    context: &RunContext<K, M>,
+    context: &RunContext<M>,
+    clock: &K,
     executor: &mut Executor<D, C>,
     now: u64,
 ) -> bool
@@ -108,6 +117,6 @@ pub fn make_room<D: Disk + Drop, C: Children + Drop, K: Clock, M>(
     if !is_tidy_due(context, executor, now, pace) {
         return true;
     }
-    tidy_timed(context, executor);
+    tidy_timed(context, clock, executor);
     executor.is_open()
 }

@@ -1,209 +1,280 @@
-//! Command lines answered one by one.
-ghost use Rattle.std.specs.Prelude.{◌≡◌, ℕ, ◌+◌, [], true, OnErr, OnOk, IfErr, IsTrue};
-ghost use Rattle.ocf_types.specs.declared.reply.TurnEnd.{TurnEnd};
-ghost use Rattle.exec_client.specs.MayTell.{AllStand};
+//! A run over its input: lines answered one by one, and turns by itself where it serves.
+ghost use Rattle.std.specs.Prelude.{◌≡◌, ◌<◌, [], length, true, OnErr, OnOk, IfErr, IfOk, IsTrue};
+ghost use Rattle.ocf_types.specs.declared.reply.TurnEnd.TheVariants.{Done};
 ghost use Rattle.exec_output.specs.Faults.{HasCause};
 ghost use Rattle.exec_output.specs.declared.send.IoFault.TheVariants.{Memory};
-ghost use Rattle.exec_session.specs.Breaks.{EndsOrBreaks, RunBreaks};
-ghost use Rattle.exec_session.specs.Drains.{spot};
+ghost use Rattle.exec_session.specs.Breaks.{EndsOrBreaks, OwnTurnBreaks, RunBreaks};
 ghost use Rattle.exec_session.specs.Ends.{ClosesByCalls, Ended, EndsAs, Runs};
 ghost use Rattle.exec_session.specs.Gathered.{waiting};
 ghost use Rattle.exec_session.specs.Pending.{IsClear};
+ghost use Rattle.exec_session.specs.Reports.{IsReportOf};
 ghost use Rattle.exec_session.specs.Rules.{rules_of};
-ghost use Rattle.exec_session.specs.Progress.{Position, position};
-ghost use Rattle.exec_session.specs.Runs.{IsNew, IsReportOf};
-ghost use Rattle.exec_session.specs.Waiting.{Comes, HasCome, MayTakeBehind, MayWait};
+ghost use Rattle.exec_session.specs.Runs.{IsNew, IsNews, MakesOwnTurn, NewsSo};
+ghost use Rattle.exec_session.specs.Spots.{Keeps, Lasts, MayBreakOff, Position, Tells, TellsPart, at_of};
+ghost use Rattle.exec_session.specs.Waiting.{GoesRound, HasComeRound, MayBegin, midway};
+ghost use Rattle.exec_session.specs.declared.lines.Taken.TheVariants.{More};
 
 use crate::context::{RunContext, Way};
-use crate::lines::{Taken, found_in, take_found};
+use crate::desk::Desk;
+use crate::lines::Taken;
 use crate::metadata::Metadata;
-use crate::pending::{LineRoom, Pending};
-use crate::report::tell_report;
-use crate::serve::serve_all;
+use crate::pause::Pause;
+use crate::pending::LineRoom;
+use crate::wait::wait;
+use crate::worker::Worker;
 use child_model::Children;
 use disk_model::Disk;
 use exec_client::Client;
-use exec_lines::{Input, next_line};
+use exec_lines::Input;
 use exec_output::{Fault, IoFault};
+use exec_trace::Edge;
 use executor::{Executor, Report};
-use ocf_types::NUM_MAX;
-use std::alloc::Global;
+use ocf_types::{NUM_MAX, TurnEnd};
 use std::rt::Clock;
 
 /// How a run ended, and what it hands back.
 #[derive(Drop)]
-pub struct Run<D: Drop, C: Drop> {
+pub struct Run<'a, R: Input, D: Disk + Drop, C: Children + Drop, T: Client<D, C>, K: Clock> {
     pub ended: Result<(), Fault>,
+    /// The reader and the client, and all that was asked of them and of the clock.
+    pub edge: Edge<'a, R, D, C, T, K>,
     pub disk: D,
     /// None of them lives.
     pub children: C,
 }
 
-// Reads the next line and takes it.
-fn take_next<R: Input, D: Disk + Drop, C: Children + Drop, T: Client<D, C>, K: Clock, M: Metadata>(
-    context: &RunContext<K, M>,
-    reader: &mut R,
-    client: &mut T,
-    executor: &mut Executor<D, C>,
-    pending: &mut Pending,
-) -> Result<Taken, IoFault>
-    requires way { context.now.way ≡ Way.Run }
-    requires waits { MayWait executor.old (waiting pending.old.gathered) }
-    requires stands { AllStand D.view (T.heard client.old) executor.old }
-    ensures waits { MayWait executor.new (waiting pending.new.gathered) }
-    ensures stands { AllStand D.view (T.heard client.new) executor.new }
-    ensures opened { (T.heard client.new).opened ≡ (T.heard client.old).opened }
-    ensures takes { (p : Position D) (own : TurnEnd) (most : ℕ)
-        → MayTakeBehind context.now.way most
-        → HasCome D.view (M.gives context.now.metadata.now) (rules_of context.now) p own
-        most (waiting pending.old.gathered)
-        (position executor.old (R.remaining reader.old) (T.heard client.old))
-        → Comes D.view (M.gives context.now.metadata.now) (rules_of context.now) p own
-        (most + 1)
-        (waiting pending.new.gathered)
-        (position executor.new (R.remaining reader.new) (T.heard client.new)) result }
-    ensures memory { IfErr result (λ f. f ≡ Memory → IsTrue T.refuses) }
-{
-    let next = next_line(reader, &mut pending.buffer)?;
-    let found = found_in(context.way, context.alloc, &pending.buffer, next);
-    let has_next = reader.has_line();
-    take_found(
-        context,
-        client,
-        executor,
-        &mut pending.gathered,
-        found,
-        has_next,
-    )
+// A run.
+#[derive(Drop)]
+struct Session<'a, R: Input, D: Disk + Drop, C: Children + Drop, T: Client<D, C>, K: Clock> {
+    desk: Desk<'a, R, D, C, T, K>,
+    pause: Pause,
+    // How the last turn ended that the run made by itself.
+    own: TurnEnd,
 }
 
-// Answers line after line, up to the end of the input. Nothing was read that is not answered.
-fn answer_all<R: Input, D: Disk + Drop, C: Children + Drop, T: Client<D, C>, K: Clock, M: Metadata>(
-    context: &RunContext<K, M>,
-    reader: &mut R,
-    client: &mut T,
-    executor: &mut Executor<D, C>,
-    pending: &mut Pending,
+// Whether it is news how an own turn ended.
+fn is_news(before: TurnEnd, end: TurnEnd) -> bool
+    ensures news { IsTrue result → IsNews before end }
+    ensures none { IsNews before end → IsTrue result }
+{
+    end != before && end != TurnEnd::Done && end != TurnEnd::Disk
+}
+
+// Tells how an own turn ended, where that is news.
+fn tell_news<R: Input, D: Disk + Drop, C: Children + Drop, T: Client<D, C>, K: Clock, M: Metadata>(
+    worker: &mut Worker<'_, R, D, C, T, K>,
+    context: &RunContext<'_, M>,
+    before: TurnEnd,
+    end: TurnEnd,
 ) -> Result<(), IoFault>
-    requires way { context.now.way ≡ Way.Run }
-    requires clear { IsClear pending.old }
-    requires stands { AllStand D.view (T.heard client.old) executor.old }
-    ensures stands { AllStand D.view (T.heard client.new) executor.new }
-    ensures opened { (T.heard client.new).opened ≡ (T.heard client.old).opened }
-    ensures lines { EndsOrBreaks D.view (M.gives context.now.metadata.now) (rules_of context.now)
-        (position executor.old (R.remaining reader.old) (T.heard client.old))
-        (position executor.new (R.remaining reader.new) (T.heard client.new)) result }
+    ensures keeps { Keeps worker.old worker.new }
+    ensures told { OnOk result (NewsSo (Tells context.now.form) before end worker.old.at worker.new.at) }
+    ensures breaks { OnErr result
+        (NewsSo (TellsPart context.now.form) before end worker.old.at worker.new.at) }
+    ensures cause { OnErr result (MayBreakOff worker.new.at.events) }
     ensures memory { IfErr result (λ f. f ≡ Memory → IsTrue T.refuses) }
 {
-    for _ in 0..NUM_MAX {
-        if take_next(context, reader, client, executor, pending)? != Taken::More {
-            return Ok(());
+    if is_news(before, end) {
+        worker.tell_end(context, end)
+    } else {
+        Ok(())
+    }
+}
+
+// Makes a turn now, behind an own one that ended so, and tells its end where that is news.
+fn make_own_turn<
+    R: Input,
+    D: Disk + Drop,
+    C: Children + Drop,
+    T: Client<D, C>,
+    K: Clock,
+    M: Metadata,
+>(
+    worker: &mut Worker<'_, R, D, C, T, K>,
+    context: &RunContext<'_, M>,
+    pause: &mut Pause,
+    before: TurnEnd,
+) -> Result<TurnEnd, IoFault>
+    requires open { worker.old.at.executor.is_open ≡ true }
+    ensures keeps { Keeps worker.old worker.new }
+    ensures longer { length worker.old.at.events < length worker.new.at.events }
+    ensures made { IfOk result (λ end. MakesOwnTurn D.view (rules_of context.now) before
+        worker.old.at worker.new.at end) }
+    ensures breaks { OnErr result (OwnTurnBreaks D.view (rules_of context.now) before
+        worker.old.at worker.new.at) }
+    ensures cause { OnErr result (MayBreakOff worker.new.at.events) }
+    ensures memory { IfErr result (λ f. f ≡ Memory → IsTrue T.refuses) }
+{
+    pause.before_turn(worker.clock());
+    let now = worker.now();
+    let end = worker.make_turn(context, now)?;
+    tell_news(worker, context, before, end)?;
+    Ok(end)
+}
+
+impl<'a, R: Input, D: Disk + Drop, C: Children + Drop, T: Client<D, C>, K: Clock> Session<
+    'a,
+    R,
+    D,
+    C,
+    T,
+    K,
+> {
+    // Answers the lines that are there, and makes a turn behind at most 64 of them; where nothing happened in it, waits for the next
+    // line.
+    fn serve_round<M: Metadata>(&mut self, context: &RunContext<'_, M>) -> Result<Taken, IoFault>
+        requires way { context.now.way ≡ Way.Serve }
+        requires begins { MayBegin context.now.way self.old.desk.worker.at.executor
+            self.old.desk.pending }
+        ensures begins { IfOk result (λ taken. taken ≡ More → MayBegin context.now.way
+            self.new.desk.worker.at.executor self.new.desk.pending) }
+        ensures lasts { Lasts self.old.desk.worker.at self.new.desk.worker.at }
+        ensures longer { IfOk result (λ taken. taken ≡ More
+            → length self.old.desk.worker.at.events < length self.new.desk.worker.at.events) }
+        ensures goes { (p : Position D)
+            → HasComeRound D.view (M.gives context.now.metadata.now) (rules_of context.now) p self.old.own
+            (midway self.old.desk.worker self.old.desk.pending)
+            → GoesRound D.view (M.gives context.now.metadata.now) (rules_of context.now) p self.new.own
+            (midway self.new.desk.worker self.new.desk.pending) result }
+        ensures memory { IfErr result (λ f. f ≡ Memory → IsTrue T.refuses) }
+    {
+        let taken = self.desk.answer_round(context)?;
+        if taken != Taken::More {
+            return Ok(taken);
+        }
+        if self.desk.pending.is_leaving() {
+            return Ok(Taken::Leaves);
+        }
+        let end = make_own_turn(&mut self.desk.worker, context, &mut self.pause, self.own)?;
+        self.own = end;
+        if !self.desk.worker.is_open() {
+            return Ok(Taken::Closed);
+        }
+        let holds = self.desk.pending.held.is_some();
+        if wait(&mut self.desk.worker, &mut self.pause, holds) {
+            Ok(Taken::More)
+        } else {
+            Err(IoFault::InputOrOutput)
         }
     }
-    Err(IoFault::InputOrOutput)
-}
 
-// Answers the lines of the input, up to its end, in the way that is set. Nothing was read that is not answered.
-fn answer_in_way<
-    R: Input,
-    D: Disk + Drop,
-    C: Children + Drop,
-    T: Client<D, C>,
-    K: Clock,
-    M: Metadata,
->(
-    context: &RunContext<K, M>,
-    reader: &mut R,
-    client: &mut T,
-    executor: &mut Executor<D, C>,
-    pending: &mut Pending,
-) -> Result<(), IoFault>
-    requires clear { IsClear pending.old }
-    requires open { executor.old.is_open ≡ true }
-    requires stands { AllStand D.view (T.heard client.old) executor.old }
-    ensures stands { AllStand D.view (T.heard client.new) executor.new }
-    ensures opened { (T.heard client.new).opened ≡ (T.heard client.old).opened }
-    ensures lines { EndsOrBreaks D.view (M.gives context.now.metadata.now) (rules_of context.now)
-        (position executor.old (R.remaining reader.old) (T.heard client.old))
-        (position executor.new (R.remaining reader.new) (T.heard client.new)) result }
-    ensures memory { IfErr result (λ f. f ≡ Memory → IsTrue T.refuses) }
-{
-    match context.way {
-        Way::Run => answer_all(context, reader, client, executor, pending),
-        Way::Serve => serve_all(context, reader, client, executor, pending),
+    // One round: of a run by lines alone a read, and the answer to the line that it completes.
+    fn round<M: Metadata>(&mut self, context: &RunContext<'_, M>) -> Result<Taken, IoFault>
+        requires begins { MayBegin context.now.way self.old.desk.worker.at.executor
+            self.old.desk.pending }
+        ensures begins { IfOk result (λ taken. taken ≡ More → MayBegin context.now.way
+            self.new.desk.worker.at.executor self.new.desk.pending) }
+        ensures lasts { Lasts self.old.desk.worker.at self.new.desk.worker.at }
+        ensures longer { IfOk result (λ taken. taken ≡ More
+            → length self.old.desk.worker.at.events < length self.new.desk.worker.at.events) }
+        ensures goes { (p : Position D)
+            → HasComeRound D.view (M.gives context.now.metadata.now) (rules_of context.now) p self.old.own
+            (midway self.old.desk.worker self.old.desk.pending)
+            → GoesRound D.view (M.gives context.now.metadata.now) (rules_of context.now) p self.new.own
+            (midway self.new.desk.worker self.new.desk.pending) result }
+        ensures memory { IfErr result (λ f. f ≡ Memory → IsTrue T.refuses) }
+    {
+        match context.way {
+            Way::Run => self.desk.take_read(context),
+            Way::Serve => self.serve_round(context),
+        }
     }
 }
 
-// Tells the report, and then answers all lines. Nothing was read that is not answered.
-fn report_and_answer<
-    R: Input,
-    D: Disk + Drop,
-    C: Children + Drop,
-    T: Client<D, C>,
-    K: Clock,
-    M: Metadata,
->(
-    context: &RunContext<K, M>,
-    reader: &mut R,
-    client: &mut T,
-    executor: &mut Executor<D, C>,
-    report: &Report,
-    pending: &mut Pending,
-) -> Result<(), IoFault>
-    requires clear { IsClear pending.old }
-    requires reported { IsReportOf executor.old report.now }
-    requires open { executor.old.is_open ≡ true }
-    requires stands { AllStand D.view (T.heard client.old) executor.old }
-    ensures stands { AllStand D.view (T.heard client.new) executor.new }
-    ensures opened { (T.heard client.new).opened ≡ (T.heard client.old).opened }
-    ensures runs { OnOk result
-        (Runs D.view (M.gives context.now.metadata.now) (rules_of context.now) report.now
-        (position executor.old (R.remaining reader.old) (T.heard client.old))
-        (position executor.new (R.remaining reader.new) (T.heard client.new))) }
-    ensures breaks { OnErr result
-        (RunBreaks D.view (M.gives context.now.metadata.now) (rules_of context.now) report.now
-        (position executor.old (R.remaining reader.old) (T.heard client.old))
-        (spot executor.new (T.heard client.new))) }
-    ensures memory { IfErr result (λ f. f ≡ Memory → IsTrue T.refuses) }
-{
-    tell_report(client, executor, context.form, report)?;
-    answer_in_way(context, reader, client, executor, pending)?;
-    Ok(())
-}
+impl<'a, R: Input, D: Disk + Drop, C: Children + Drop, T: Client<D, C>, K: Clock> Session<
+    'a,
+    R,
+    D,
+    C,
+    T,
+    K,
+> {
+    // Nothing was read, and no turn was made.
+    fn new(
+        edge: Edge<'a, R, D, C, T, K>,
+        executor: Executor<D, C>,
+        room: LineRoom,
+    ) -> Session<'a, R, D, C, T, K>
+        requires fresh { IsNew edge.heard executor }
+        ensures place { result.desk.worker ≡ at_of executor edge.entry }
+        ensures clear { IsClear result.desk.pending }
+        ensures none { result.own ≡ Done }
+    {
+        Session {
+            desk: Desk {
+                worker: Worker::new(edge, executor),
+                pending: room.into_pending(),
+            },
+            pause: Pause::new(),
+            own: TurnEnd::Done,
+        }
+    }
 
-// Writes the report, and then answers all lines; how the program ends behind that.
-fn answer_lines<
-    R: Input,
-    D: Disk + Drop,
-    C: Children + Drop,
-    T: Client<D, C>,
-    K: Clock,
-    M: Metadata,
->(
-    context: &RunContext<K, M>,
-    reader: &mut R,
-    client: &mut T,
-    executor: &mut Executor<D, C>,
-    report: &Report,
-    pending: &mut Pending,
-) -> Result<(), Fault>
-    requires clear { IsClear pending.old }
-    requires reported { IsReportOf executor.old report.now }
-    requires open { executor.old.is_open ≡ true }
-    requires stands { AllStand D.view (T.heard client.old) executor.old }
-    ensures stands { AllStand D.view (T.heard client.new) executor.new }
-    ensures opened { (T.heard client.new).opened ≡ (T.heard client.old).opened }
-    ensures ends { EndsAs D.view (M.gives context.now.metadata.now)
-        (rules_of context.now) report.now
-        (position executor.old (R.remaining reader.old) (T.heard client.old))
-        (position executor.new (R.remaining reader.new) (T.heard client.new)) result }
-    ensures memory { IfErr result (HasCause T.refuses) }
-{
-    match report_and_answer(context, reader, client, executor, report, pending) {
-        Ok(()) if executor.is_open() => Ok(()),
-        Ok(()) => Err(Fault::Disk),
-        Err(IoFault::InputOrOutput) => Err(Fault::InputOrOutput),
-        Err(IoFault::Memory) => Err(Fault::ReplyMemory),
+    // Answers the lines of the input up to its end, round by round. Once a disk fault has closed the executor a run that serves tells
+    // that, and ends; and so it does once a line has asked it to, when what runs has ended.
+    fn answer_all<M: Metadata>(&mut self, context: &RunContext<'_, M>) -> Result<(), IoFault>
+        requires clear { IsClear self.old.desk.pending }
+        requires none { self.old.own ≡ Done }
+        requires open { self.old.desk.worker.at.executor.is_open ≡ true }
+        ensures lasts { Lasts self.old.desk.worker.at self.new.desk.worker.at }
+        ensures ends { EndsOrBreaks D.view (M.gives context.now.metadata.now) (rules_of context.now)
+            self.old.desk.worker self.new.desk.worker result }
+        ensures memory { IfErr result (λ f. f ≡ Memory → IsTrue T.refuses) }
+    {
+        for _rounds in 0..NUM_MAX {
+            match self.round(context)? {
+                Taken::More => {}
+                Taken::End => return Ok(()),
+                Taken::Closed => return self.desk.worker.tell_end(context, TurnEnd::Disk),
+                Taken::Leaves => return self.desk.worker.leave(context),
+            }
+        }
+        Err(IoFault::InputOrOutput)
+    }
+
+    // Tells the report, and then answers all lines.
+    fn report_and_answer<M: Metadata>(
+        &mut self,
+        context: &RunContext<'_, M>,
+        report: &Report,
+    ) -> Result<(), IoFault>
+        requires clear { IsClear self.old.desk.pending }
+        requires none { self.old.own ≡ Done }
+        requires open { self.old.desk.worker.at.executor.is_open ≡ true }
+        requires reported { IsReportOf self.old.desk.worker.at.executor report.now }
+        ensures lasts { Lasts self.old.desk.worker.at self.new.desk.worker.at }
+        ensures runs { OnOk result (Runs D.view (M.gives context.now.metadata.now) (rules_of context.now)
+            report.now self.old.desk.worker self.new.desk.worker) }
+        ensures breaks { OnErr result (RunBreaks D.view (M.gives context.now.metadata.now)
+            (rules_of context.now) report.now self.old.desk.worker self.new.desk.worker.at) }
+        ensures memory { IfErr result (λ f. f ≡ Memory → IsTrue T.refuses) }
+    {
+        self.desk.worker.tell_report(context, report)?;
+        self.answer_all(context)?;
+        Ok(())
+    }
+
+    // Tells the report, and then answers all lines; how the program ends behind that.
+    fn answer_lines<M: Metadata>(
+        &mut self,
+        context: &RunContext<'_, M>,
+        report: &Report,
+    ) -> Result<(), Fault>
+        requires clear { IsClear self.old.desk.pending }
+        requires none { self.old.own ≡ Done }
+        requires open { self.old.desk.worker.at.executor.is_open ≡ true }
+        requires reported { IsReportOf self.old.desk.worker.at.executor report.now }
+        ensures lasts { Lasts self.old.desk.worker.at self.new.desk.worker.at }
+        ensures ends { EndsAs D.view (M.gives context.now.metadata.now) (rules_of context.now) report.now
+            self.old.desk.worker self.new.desk.worker result }
+        ensures memory { IfErr result (HasCause T.refuses) }
+    {
+        match self.report_and_answer(context, report) {
+            Ok(()) if self.desk.worker.is_open() => Ok(()),
+            Ok(()) => Err(Fault::Disk),
+            Err(IoFault::InputOrOutput) => Err(Fault::InputOrOutput),
+            Err(IoFault::Memory) => Err(Fault::ReplyMemory),
+        }
     }
 }
 
@@ -214,6 +285,7 @@ fn answer_lines<
 /// turn that ended so; input or output that fails is another, and so is a reply that finds no memory. In any case all children are
 /// given up then, and the executor closed. The room for lines is handed in, so that none is refused between the opening and its report.
 pub fn run_lines<
+    'a,
     R: Input,
     D: Disk + Drop,
     C: Children + Drop,
@@ -221,30 +293,30 @@ pub fn run_lines<
     K: Clock,
     M: Metadata,
 >(
-    context: &RunContext<K, M>,
-    reader: &mut R,
-    client: &mut T,
-    mut executor: Executor<D, C>,
-    report: &Report,
+    context: &RunContext<'_, M>,
+    edge: Edge<'a, R, D, C, T, K>,
+    opened: (Executor<D, C>, Report),
     room: LineRoom,
-) -> Run<D, C>
-    requires fresh { IsNew (T.heard client.old) executor }
-    requires reported { IsReportOf executor report.now }
-    ensures ends { Ended D.view C.view (M.gives context.now.metadata.now)
-        (rules_of context.now) report.now
-        (position executor (R.remaining reader.old) (T.heard client.old))
-        (R.remaining reader.new) (T.heard client.new) result }
-    ensures told { ClosesByCalls D.view executor (T.heard client.new) result.disk
+) -> Run<'a, R, D, C, T, K>
+    requires fresh { IsNew edge.heard opened.0 }
+    requires reported { IsReportOf opened.0 opened.1 }
+    ensures ends { Ended D.view C.view (M.gives context.now.metadata.now) (rules_of context.now) opened.1
+        (at_of opened.0 edge.entry)
+        result.edge result.ended result.disk result.children }
+    ensures told { ClosesByCalls D.view opened.0 result.edge.heard result.disk
         (C.view result.children) }
     ensures none_lives { (C.view result.children).live ≡ [] }
     ensures memory { IfErr result.ended (HasCause T.refuses) }
 {
-    let mut pending = room.into_pending();
-    let ended = answer_lines(context, reader, client, &mut executor, report, &mut pending);
+    let (executor, report) = opened;
+    let mut session = Session::new(edge, executor, room);
+    let ended = session.answer_lines(context, &report);
+    let (edge, mut executor) = session.desk.worker.into_parts();
     executor.abandon();
     let (disk, children) = executor.close();
     Run {
         ended,
+        edge,
         disk,
         children,
     }

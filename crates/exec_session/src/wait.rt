@@ -1,16 +1,17 @@
 //! The wait behind a turn of a run that serves.
-ghost use Rattle.std.specs.Prelude.{◌≡◌, true, IfErr, IsTrue};
-ghost use Rattle.exec_output.specs.declared.send.IoFault.TheVariants.{Memory};
+ghost use Rattle.std.specs.Prelude.{◌≡◌, ◌≤◌, ◌*◌, true};
+ghost use Rattle.ocf_types.specs.Boot.{any_busy};
+ghost use Rattle.exec_session.specs.Limits.{longest_pause, longest_wait};
+ghost use Rattle.exec_session.specs.Spots.{Position, noted};
+ghost use Rattle.exec_session.specs.Waiting.{Waits};
+ghost use Rattle.exec_trace.specs.declared.event.IoEvent.TheVariants.{Asked};
 
-use crate::context::RunContext;
-use crate::pause::{Pause, rest};
-use crate::pending::Pending;
+use crate::pause::Pause;
+use crate::worker::Worker;
 use child_model::Children;
 use disk_model::Disk;
 use exec_client::Client;
-use exec_lines::{Input, moment_now};
-use exec_output::IoFault;
-use executor::Executor;
+use exec_lines::Input;
 use std::rt::Clock;
 
 // The longest wait while nothing is queued or runs, in milliseconds.
@@ -18,64 +19,63 @@ const LONGEST_IDLE: u32 = 1_000;
 
 // How long may be waited for a line behind a turn, in microseconds: not at all behind one in which something happened, and
 // while nothing is queued or runs until the next monitor is due.
-fn wait_micros<D: Disk + Drop, C: Children + Drop, K: Clock, M>(
-    context: &RunContext<K, M>,
-    executor: &Executor<D, C>,
+#[tactic(auto, using(crate::proofs::RoundLemmas::waits_none, crate::proofs::RoundLemmas::waits_once))]
+fn wait_micros<R: Input, D: Disk + Drop, C: Children + Drop, T: Client<D, C>, K: Clock>(
+    worker: &mut Worker<'_, R, D, C, T, K>,
     pause: &mut Pause,
-) -> u64 {
-    let micros = pause.behind_turn(context.clock, executor);
-    if micros == 0 || !executor.idle() {
+) -> u64
+    ensures waits { Waits worker.old worker.new }
+    ensures busy { any_busy worker.old.at.executor.state ≡ true → result ≤ longest_pause }
+{
+    let micros = pause.behind_turn(worker.clock(), &worker.executor);
+    if micros == 0 || !worker.idle() {
         return micros;
     }
-    let now = moment_now(context.clock).get();
-    match executor.first_due() {
+    let now = worker.now();
+    match worker.first_due() {
         Some(due) if due <= now => micros,
         Some(due) => 1_000 * (due - now).min(u64::from(LONGEST_IDLE)),
         None => 1_000 * u64::from(LONGEST_IDLE),
     }
 }
 
+// For so many microseconds may be waited: for how many milliseconds input is waited for.
+fn look_millis(micros: u64) -> u32
+    ensures most { result ≤ longest_wait }
+    ensures part { result * 1000 ≤ micros }
+{
+    (micros / 1_000).min(u64::from(LONGEST_IDLE)) as u32
+}
+
 // Waits until a line is there, something may have ended, or a monitor is due.
-fn wait_for_line<R: Input, D: Disk + Drop, C: Children + Drop, K: Clock, M>(
-    context: &RunContext<K, M>,
-    reader: &mut R,
-    executor: &Executor<D, C>,
+#[tactic(auto, using(crate::proofs::RoundLemmas::waits_more, crate::proofs::RoundLemmas::waits_rest))]
+fn wait_for_line<R: Input, D: Disk + Drop, C: Children + Drop, T: Client<D, C>, K: Clock>(
+    worker: &mut Worker<'_, R, D, C, T, K>,
     pause: &mut Pause,
 )
-    ensures same { R.remaining reader.new ≡ R.remaining reader.old }
+    ensures waits { Waits worker.old worker.new }
 {
-    let micros = wait_micros(context, executor, pause);
+    let micros = wait_micros(worker, pause);
     if micros < 1_000 {
-        rest(context.clock, micros);
+        worker.rest(micros);
     } else {
-        reader.is_ready((micros / 1_000).min(u64::from(LONGEST_IDLE)) as u32);
+        worker.look(look_millis(micros));
     }
 }
 
 /// Waits until a line is there, something may have ended, or a monitor is due; while a line is held, no longer than between two turns
-/// of a watch, and not at all before its agent was asked. It stops where nobody hears what is told. There is nothing to wait for once
-/// a disk fault has closed the executor.
-pub fn wait<R: Input, D: Disk + Drop, C: Children + Drop, T: Client<D, C>, K: Clock, M>(
-    context: &RunContext<K, M>,
-    reader: &mut R,
-    client: &T,
-    executor: &Executor<D, C>,
+/// of a watch, and not at all before its agent was asked. Whether what is told may still reach somebody.
+pub fn wait<R: Input, D: Disk + Drop, C: Children + Drop, T: Client<D, C>, K: Clock>(
+    worker: &mut Worker<'_, R, D, C, T, K>,
     pause: &mut Pause,
-    pending: &Pending,
-) -> Result<(), IoFault>
-    requires open { executor.now.is_open ≡ true }
-    ensures same { R.remaining reader.new ≡ R.remaining reader.old }
-    ensures memory { IfErr result (λ f. f ≡ Memory → IsTrue T.refuses) }
+    holds: bool,
+) -> bool
+    ensures waits { (m : Position D) × Waits worker.old m × (worker.new ≡ noted m (Asked result)) }
 {
-    pause.holds(pending.held.is_some());
-    if pending.held.is_some() {
-        rest(context.clock, pause.behind_turn(context.clock, executor));
-    } else {
-        wait_for_line(context, reader, executor, pause);
+    pause.holds(holds);
+    if holds {
+        return worker.pauses(pause);
     }
-    if client.is_heard() {
-        Ok(())
-    } else {
-        Err(IoFault::InputOrOutput)
-    }
+    wait_for_line(worker, pause);
+    worker.is_heard()
 }

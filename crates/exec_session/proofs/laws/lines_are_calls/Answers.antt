@@ -3,5 +3,5 @@ use Rattle.exec_session.proofs.laws.lines_are_calls.Goals as goal
 
 pub returns : goal.returns
 returns g c =
-    λ rules own n p q reaches.
-    lines_go g.D.Disk.view rules (g.M.Metadata.gives c.args.metadata.now) p own n q reaches
+    λ rules own n lines p q reaches.
+    lines_go g.D.Disk.view rules (g.M.Metadata.gives c.args.metadata.now) p own n lines q reaches

@@ -1,39 +1,48 @@
-use Rattle.std.proofs.Common.{ap, subst, ◌∙◌}
+use Rattle.std.proofs.Common.{ap, subst, sym, ◌∙◌}
 use Rattle.executor.specs.Sights.{Sight}
 use Rattle.exec_client.proofs.Growing.{abandoned_stands, all_still_stand}
 use Rattle.exec_client.specs.MayTell.{StandsBehind}
-use Rattle.exec_session.proofs.TellLemmas.{new_stands}
+use Rattle.exec_session.specs.Rules.{rules_of}
+use Rattle.exec_session.specs.Spots.{Position}
+use Rattle.exec_session.proofs.BreakLemmas.{ends_from}
 use Rattle.exec_session.proofs.session.run_lines.Goals as goal
 
-pub returns-clause-ends : goal.returns-clause-ends
-returns-clause-ends g c = record {
-  last = c.answer_lines-ended.new.executor;
-  ends = c.answer_lines-ended.ensures.ends;
-  disk = c.close-disk.ensures.disk ∙ ap (λ (x : Sight g.row.D.Denot). x.disk) c.abandon.ensures.abandoned;
-  children = c.close-disk.ensures.children ∙ ap (λ (x : Sight g.row.D.Denot). x.children) c.abandon.ensures.abandoned;
-}
+pub answer_lines-ended-requires : goal.answer_lines-ended-requires
+answer_lines-ended-requires g c =
+    let place = c.new-session.ensures.place in record {
+      clear = c.new-session.ensures.clear;
+      none = c.new-session.ensures.none;
+      «open» = ap (λ (w : Position _). w.at.executor.is_open) place ∙ c.requires.fresh.2;
+      reported = ap (λ (w : Position _). w.at.executor.reported) place ∙ c.requires.reported;
+    }
 
-pub answer_lines-ended-requires-clause-stands : goal.answer_lines-ended-requires-clause-stands
-answer_lines-ended-requires-clause-stands g c =
-    new_stands g.D.Disk.view (g.T.Client.heard c.args.client.now) c.args.executor c.requires.fresh
+pub returns-clause-ends : goal.returns-clause-ends
+returns-clause-ends g c =
+    let look = g.D.Disk.view in
+    let source = g.M.Metadata.gives c.args.context.now.metadata.now in
+    let rules = rules_of c.args.context.now in
+    let (edge, executor) = c.into_parts-edge.result in record {
+      last = executor;
+      ends =
+          ends_from look source rules _ _ _ _ _ c.answer_lines-ended.result c.new-session.ensures.place
+          (sym c.into_parts-edge.ensures.parts) c.answer_lines-ended.ensures.ends;
+      disk_is = c.close-disk.ensures.disk ∙ ap (λ (x : Sight g.row.D.Denot). x.disk) c.abandon.ensures.abandoned;
+      children_are = c.close-disk.ensures.children ∙ ap (λ (x : Sight g.row.D.Denot). x.children) c.abandon.ensures.abandoned;
+    }
 
 pub returns-clause-told : goal.returns-clause-told
 returns-clause-told g c =
     let look = g.D.Disk.view in
-    let heard = g.T.Client.heard c.answer_lines-ended.new.client in
-    let middle = c.answer_lines-ended.new.executor in
+    let (edge, executor) = c.into_parts-edge.result in
     let last = c.abandon.new.self in
-    let stands = all_still_stand look heard middle last c.answer_lines-ended.ensures.stands
-    (abandoned_stands look middle last c.abandon.ensures.abandoned) in
+    let stands = all_still_stand look edge.heard executor last c.into_parts-edge.ensures.stands
+    (abandoned_stands look executor last c.abandon.ensures.abandoned) in
+    let opened = ap (λ (w : Position _). w.at.heard.opened) c.into_parts-edge.ensures.parts ∙ c.answer_lines-ended.ensures.lasts.opened
+    ∙ ap (λ (w : Position _). w.at.heard.opened) c.new-session.ensures.place ∙ c.requires.fresh.0 in
     record {
       last = last;
-      stands =
-          subst (λ (o : Sight g.row.D.Denot). StandsBehind look o last heard.told)
-          (c.answer_lines-ended.ensures.opened ∙ c.requires.fresh.0) stands;
+      stands = subst (λ (o : Sight g.row.D.Denot). StandsBehind look o last edge.heard.told) opened stands;
       is_closed = ap (λ (x : Sight g.row.D.Denot). x.is_open) c.abandon.ensures.abandoned;
       disk_is = c.close-disk.ensures.disk;
       children_are = c.close-disk.ensures.children;
     }
-
-pub answer_lines-ended-requires-clause-open : goal.answer_lines-ended-requires-clause-open
-answer_lines-ended-requires-clause-open g c = c.requires.fresh.2

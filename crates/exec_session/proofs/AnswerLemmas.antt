@@ -1,0 +1,125 @@
+-- What a line is answered, as the relations say it.
+use Rattle.std.proofs.Common.{◌≡◌, ◌+◌, ◌↔◌, ◌⊎◌, ℕ, Bool, true, false, List, [], ◌∷◌, Option, Result, Ok, Err, OnErr, OnOk, inl, inr, refl, sym, ap, subst, true≢false, ◌∙◌}
+use Rattle.ocf_types.specs.Kinds.{Reply, Request}
+use Rattle.ocf_types.specs.declared.refusal.Refusal.{Refusal}
+use Rattle.ocf_types.specs.declared.refusal.Refusal.TheVariants as refusal
+use Rattle.ocf_types.specs.declared.reply.ReplyOf.TheVariants.{Refused}
+use Rattle.ocf_types.specs.declared.reply.TidyEnd.{TidyEnd}
+use Rattle.disk_model.specs.View.{View}
+use Rattle.executor.specs.Commands.{Serves}
+use Rattle.executor.specs.Sights.{Sight}
+use Rattle.exec_commands.specs.declared.line.Line.{Line}
+use Rattle.exec_commands.specs.declared.line.Line.TheVariants as line
+use Rattle.exec_commands.specs.declared.reply.LineReply.{LineReply}
+use Rattle.exec_commands.specs.declared.reply.LineReply.TheVariants as answer
+use Rattle.exec_client.specs.Said.{Answered}
+use Rattle.exec_trace.specs.Edges.{EdgeView}
+use Rattle.exec_trace.specs.declared.event.IoEvent.TheVariants.{Shown}
+use Rattle.exec_session.specs.Answers.{DrainTold, DrainsFor, IsClosedReply, IsOpenReply, IsReply, Source}
+use Rattle.exec_session.specs.Breaks.{AnswerBreaks}
+use Rattle.exec_session.specs.Broken.{DrainBreaks, DrainBreaksFor, ReplyBreaks}
+use Rattle.exec_session.specs.Drains.{Drains}
+use Rattle.exec_session.specs.declared.drain.Terms.{Terms}
+use Rattle.exec_commands.specs.declared.ends.DrainEnd.{DrainEnd}
+use Rattle.exec_session.specs.Progress.{Answers, AnswersSo}
+use Rattle.exec_session.specs.Rules.{MakesRoom, Rules}
+use Rattle.exec_session.specs.Spots.{Position, Spot, Telling, Tells, TellsPart, at_of, behind, moved, noted, spot}
+
+module _ {D : Type 0} (look : D → View) (source : Source) (rules : Rules) where
+  module _ (tells_so : Telling D) where
+    -- what an open executor answers
+    pub open_answered : (found : Result Line Refusal) (reply : LineReply) (p noticed q : Spot D) → p.executor.is_open ≡ true
+        → IsOpenReply look source rules p noticed found reply → tells_so noticed q (Answered reply ∷ [])
+        → AnswersSo tells_so look source rules found p q
+    open_answered found reply p noticed q is_open is tells = record {
+      reply = reply;
+      noticed = noticed;
+      answered = record { while_open = λ _. is; once_closed = λ closed. absurd (true≢false (sym is_open ∙ closed)) };
+      tells = tells;
+    }
+
+    -- what a closed one answers
+    pub closed_answered : (found : Result Line Refusal) (reply : LineReply) (p q : Spot D) → p.executor.is_open ≡ false
+        → IsClosedReply source found reply → tells_so p q (Answered reply ∷ []) → AnswersSo tells_so look source rules found p q
+    closed_answered found reply p q closed is tells = record {
+      reply = reply;
+      noticed = p;
+      answered = record { while_open = λ is_open. absurd (true≢false (sym is_open ∙ closed)); once_closed = λ _. (is, refl) };
+      tells = tells;
+    }
+
+    -- a request, at the moment that the clock showed
+    pub request_answered : (now : ℕ) (request : Request) (x r y : Sight D) (e : EdgeView D) (p m : Position D) (q : Spot D) (given : Reply)
+        → m ≡ noted p (Shown now) → at_of x e ≡ m → p.at.executor.is_open ≡ true → MakesRoom look rules now x r
+        → (r.is_open ≡ true → Serves look now request r y given) → (r.is_open ≡ false → (given ≡ Refused refusal.Disk) × (y ≡ r))
+        → (y.is_open ≡ false ↔ (given ≡ Refused refusal.Disk)) → tells_so (spot y e.heard e.events) q (Answered (answer.Request given) ∷ [])
+        → AnswersSo tells_so look source rules (Ok (line.Request request)) p.at q
+    request_answered now request x r y e p m q given is_noted is is_open room serves fails closes tells =
+        let is_p = is ∙ is_noted in
+        open_answered (Ok (line.Request request)) (answer.Request given) p.at (spot y e.heard e.events) q is_open (record {
+          now = now;
+          middle = r;
+          given = given;
+          told = refl;
+          shown = ap (λ (P : Position D). moved P.at y) is_p;
+          room = subst (λ (z : Sight D). MakesRoom look rules now z r) (ap (λ (P : Position D). P.at.executor) is_p) room;
+          serves = serves;
+          fails = fails;
+          closes = closes;
+        }) tells
+
+  -- the reply of a tell that was made, or broke off
+  pub answers_by : {T E : Type 0} (r : Result T E) (found : Result Line Refusal) (reply : LineReply) (p noticed q : Spot D)
+      → ((tells_so : Telling D) → tells_so noticed q (Answered reply ∷ []) → AnswersSo tells_so look source rules found p q)
+      → OnOk r (Tells rules.form noticed q (Answered reply ∷ [])) → OnOk r (Answers look source rules found p q)
+  answers_by (Ok done) found reply p noticed q answers tells = answers (Tells rules.form) tells
+  answers_by (Err fault) found reply p noticed q answers tells = tt
+
+  pub breaks_by : {T E : Type 0} (r : Result T E) (found : Result Line Refusal) (reply : LineReply) (p noticed q : Spot D)
+      → ((tells_so : Telling D) → tells_so noticed q (Answered reply ∷ []) → AnswersSo tells_so look source rules found p q)
+      → OnErr r (TellsPart rules.form noticed q (Answered reply ∷ [])) → OnErr r (AnswerBreaks look source rules found p q)
+  breaks_by (Ok done) found reply p noticed q answers tells = tt
+  breaks_by (Err fault) found reply p noticed q answers tells = inl (answers (TellsPart rules.form) tells)
+
+  -- a drain or a watch, of which this is an open executor's answer
+  pub drain_answers : {T E : Type 0} (r : Result T E) (found : Result Line Refusal) (ends_idle : Bool) (limit : ℕ) (p q : Spot D)
+      → p.executor.is_open ≡ true
+      → ((noticed : Spot D) (reply : LineReply) → DrainsFor look ends_idle limit rules p noticed reply → IsOpenReply look source rules p noticed found reply)
+      → OnOk r (DrainTold (Tells rules.form) look ends_idle limit rules p q) → OnOk r (Answers look source rules found p q)
+  drain_answers (Ok done) found ends_idle limit p q is_open is told =
+      open_answered (Tells rules.form) found told.reply p told.noticed q is_open (is told.noticed told.reply told.drains) told.tells
+  drain_answers (Err fault) found ends_idle limit p q is_open is told = tt
+
+  pub drain_breaks : {T E : Type 0} (r : Result T E) (found : Result Line Refusal) (ends_idle : Bool) (limit : ℕ) (p q : Spot D)
+      → p.executor.is_open ≡ true
+      → ((noticed : Spot D) (reply : LineReply) → DrainsFor look ends_idle limit rules p noticed reply → IsOpenReply look source rules p noticed found reply)
+      → (DrainBreaksFor look ends_idle limit rules p q → ReplyBreaks look rules p q found)
+      → OnErr r (DrainTold (TellsPart rules.form) look ends_idle limit rules p q ⊎ DrainBreaksFor look ends_idle limit rules p q)
+      → OnErr r (AnswerBreaks look source rules found p q)
+  drain_breaks (Ok done) found ends_idle limit p q is_open is broke breaks = tt
+  drain_breaks (Err fault) found ends_idle limit p q is_open is broke (inl told) =
+      inl (open_answered (TellsPart rules.form) found told.reply p told.noticed q is_open (is told.noticed told.reply told.drains) told.tells)
+  drain_breaks (Err fault) found ends_idle limit p q is_open is broke (inr breaks) = inr (is_open, broke breaks)
+
+module _ {D : Type 0} (look : D → View) (rules : Rules) (ends_idle : Bool) (limit n start : ℕ) (p m q : Position D) where
+  abbrev Held : ℕ → Terms
+  Held most = record { ends_idle = ends_idle; until = start + most; most = rules.most_turns }
+
+  -- a drain from the moment that the clock showed
+  pub drains_for : (end : DrainEnd) → n ≡ limit → m ≡ noted p (Shown start) → Drains look rules (Held n) start m.at q.at end
+      → DrainsFor look ends_idle limit rules p.at q.at (answer.Drain end)
+  drains_for end same is drains = (
+    start,
+    end,
+    refl,
+    subst (λ (l : ℕ). Drains look rules (Held l) start (behind p.at (Shown start)) q.at end) same
+        (subst (λ (P : Position D). Drains look rules (Held n) start P.at q.at end) is drains),
+  )
+
+  pub drain_breaks_for : n ≡ limit → m ≡ noted p (Shown start) → DrainBreaks look rules (Held n) start m.at q.at
+      → DrainBreaksFor look ends_idle limit rules p.at q.at
+  drain_breaks_for same is breaks = (
+    start,
+    subst (λ (l : ℕ). DrainBreaks look rules (Held l) start (behind p.at (Shown start)) q.at) same
+        (subst (λ (P : Position D). DrainBreaks look rules (Held n) start P.at q.at) is breaks),
+  )

@@ -1,0 +1,124 @@
+-- What was asked grows, and what stays meanwhile.
+use Rattle.std.proofs.Common.{◌≡◌, ◌≤◌, ◌+◌, ℕ, Bool, true, false, List, [], ◌∷◌, ◌++◌, length, Option, Some, None, Result, Ok, Err, OnErr, OnOk, IfOk, inl, refl, sym, ap, subst, ◌∙◌, arith, length-append}
+use Rattle.std.specs.Prelude.{is_ok}
+use Rattle.exec_commands.specs.declared.notice.NoticeForm.{NoticeForm}
+use Rattle.exec_client.specs.Heard.{Hears, HearsPart}
+use Rattle.exec_client.specs.Said.{Said}
+use Rattle.executor.specs.Sights.{Sight}
+use Rattle.exec_trace.specs.Edges.{EdgeView, rest_events}
+use Rattle.exec_trace.specs.Events.{EndsInFailure, later_of, last_shown}
+use Rattle.exec_trace.specs.declared.event.IoEvent.{IoEvent}
+use Rattle.exec_trace.specs.declared.event.IoEvent.TheVariants.{Asked, Looked, Peeked, Read, Rested, Sent, Shown}
+use Rattle.exec_session.specs.Spots.{Keeps, Lasts, MayBreakOff, Pauses, Position, Spot, Tells, TellsPart, at_of, behind, noted, paused, spot}
+
+-- a reading is the last one
+pub shown_last : (es : List IoEvent) (now : ℕ) → last_shown (es ++ Shown now ∷ []) ≡ Some now
+shown_last [] now = refl
+shown_last (Shown moment ∷ es) now = ap (later_of moment) (shown_last es now)
+shown_last (Looked millis ready ∷ es) now = shown_last es now
+shown_last (Peeked has_line ∷ es) now = shown_last es now
+shown_last (Read done ∷ es) now = shown_last es now
+shown_last (Rested micros ∷ es) now = shown_last es now
+shown_last (Sent done ∷ es) now = shown_last es now
+shown_last (Asked heard ∷ es) now = shown_last es now
+
+pub longer : (xs ys : List IoEvent) → length xs ≤ length (xs ++ ys)
+longer xs ys = omega (arith, length-append xs ys)
+
+-- a send, or a question, that failed is the last event
+pub unsent : (es es' : List IoEvent) → es' ≡ es ++ Sent false ∷ [] → MayBreakOff es'
+unsent es es' is = inl (record { before = es; last = Sent false; is_last = is; fails = refl })
+
+pub unasked : (es es' : List IoEvent) → es' ≡ es ++ Asked false ∷ [] → MayBreakOff es'
+unasked es es' is = inl (record { before = es; last = Asked false; is_last = is; fails = refl })
+
+module _ {D : Type 0} where
+  -- only the executor was changed
+  pub moved_keeps : (x y : Sight D) (e : EdgeView D) (p : Position D) → at_of x e ≡ p → Keeps p (at_of y e)
+  moved_keeps x y e p is = subst (λ (P : Position D). Keeps P (at_of y e)) is (record { opened = refl; longer = omega arith }, refl)
+
+  pub here_keeps : (p : Position D) → Keeps p p
+  here_keeps p = (record { opened = refl; longer = omega arith }, refl)
+
+  pub both_last : (p m q : Spot D) → Lasts p m → Lasts m q → Lasts p q
+  both_last p m q one two = record { opened = two.opened ∙ one.opened; longer = omega (arith, one.longer, two.longer) }
+
+  pub both_keep : (p m q : Position D) → Keeps p m → Keeps m q → Keeps p q
+  both_keep p m q one two = (both_last p.at m.at q.at one.0 two.0, two.1 ∙ one.1)
+
+  pub same_keeps : (p q r : Position D) → q ≡ r → Keeps p r → Keeps p q
+  same_keeps p q r is keeps = subst (λ (s : Position D). Keeps p s) (sym is) keeps
+
+  -- something was asked
+  pub noted_keeps : (p : Position D) (event : IoEvent) → Keeps p (noted p event)
+  noted_keeps p event = (record { opened = refl; longer = longer p.at.events (event ∷ []) }, refl)
+
+  pub was_noted : (p q : Position D) (event : IoEvent) → q ≡ noted p event → Keeps p q
+  was_noted p q event is = same_keeps p q (noted p event) is (noted_keeps p event)
+
+  pub pause_lasts : (heard : Bool) (p q : Spot D) → Pauses heard p q → Lasts p q
+  pause_lasts heard p q (micros, short, is) =
+      subst (λ (r : Spot D). Lasts p r) (sym is) (record {
+        opened = refl;
+        longer =
+            let one = longer p.events (rest_events micros) in
+            let two = longer (p.events ++ rest_events micros) (Asked heard ∷ []) in
+            omega (arith, one, two);
+      })
+
+  pub pause_keeps : (heard : Bool) (p q : Position D) → q.left ≡ p.left → Pauses heard p.at q.at → Keeps p q
+  pause_keeps heard p q left paused = (pause_lasts heard p.at q.at paused, left)
+
+  pub told_lasts : (form : NoticeForm) (p q : Spot D) (said : List Said) → Tells form p q said → Lasts p q
+  told_lasts form p q said tells = record {
+    opened = tells.hears.told.0;
+    longer = subst (λ (es : List IoEvent). length p.events ≤ length es) (sym tells.events) (longer p.events (Sent true ∷ []));
+  }
+
+  pub part_lasts : (form : NoticeForm) (p q : Spot D) (said : List Said) → TellsPart form p q said → Lasts p q
+  part_lasts form p q said tells = record {
+    opened = tells.hears.told.0;
+    longer = subst (λ (es : List IoEvent). length p.events ≤ length es) (sym tells.events) (longer p.events (Sent false ∷ []));
+  }
+
+  -- what a client is told by an edge, from where the executor is seen so
+  module _ (form : NoticeForm) (said : List Said) (x : Sight D) (e e' : EdgeView D) where
+    abbrev Old : Spot D
+    Old = spot x e.heard e.events
+
+    abbrev New : Spot D
+    New = spot x e'.heard e'.events
+
+    pub sends : {E : Type 0} (r : Result Unit E) → OnOk r (Hears form e.heard e'.heard said)
+        → e'.events ≡ e.events ++ Sent (is_ok r) ∷ [] → OnOk r (Tells form Old New said)
+    sends (Ok done) hears is = record { executor = refl; hears = hears; events = is }
+    sends (Err fault) hears is = tt
+
+    pub sends_part : {E : Type 0} (r : Result Unit E) → OnErr r (HearsPart form e.heard e'.heard said)
+        → e'.events ≡ e.events ++ Sent (is_ok r) ∷ [] → OnErr r (TellsPart form Old New said)
+    sends_part (Ok done) hears is = tt
+    sends_part (Err fault) hears is = record { executor = refl; hears = hears; events = is }
+
+    pub send_cause : {E : Type 0} (r : Result Unit E) → e'.events ≡ e.events ++ Sent (is_ok r) ∷ [] → OnErr r (MayBreakOff e'.events)
+    send_cause (Ok done) is = tt
+    send_cause (Err fault) is = unsent e.events e'.events is
+
+    pub send_keeps : (r : Bool) (p : Position D) (y : Sight D) → at_of y e ≡ p → e'.heard.opened ≡ e.heard.opened → e'.left ≡ e.left
+        → e'.events ≡ e.events ++ Sent r ∷ [] → Keeps p (at_of x e')
+    send_keeps r p y is told left events =
+        subst (λ (P : Position D). Keeps P (at_of x e')) is (
+          record {
+            opened = told;
+            longer = subst (λ (es : List IoEvent). length e.events ≤ length es) (sym events) (longer e.events (Sent r ∷ []));
+          },
+          left,
+        )
+
+-- what holds of a value, or of an error
+pub ok_map : {T E : Type 0} (r : Result T E) (A B : Type 0) → (A → B) → OnOk r A → OnOk r B
+ok_map (Ok x) A B f a = f a
+ok_map (Err e) A B f a = tt
+
+pub err_map : {T E : Type 0} (r : Result T E) (A B : Type 0) → (A → B) → OnErr r A → OnErr r B
+err_map (Ok x) A B f a = tt
+err_map (Err e) A B f a = f a

@@ -1,0 +1,319 @@
+-- A round of a run that serves: the lines that are there, a turn, and a wait.
+use Rattle.std.proofs.Common.{◌≡◌, ◌≢◌, ℕ, ◌+◌, ◌≤◌, zero, suc, Bool, true, false, List, [], ◌∷◌, ◌++◌, length, map, Option, Some, None, MatchOption, Result, Ok, Err, IsErr}
+use Rattle.std.proofs.Common.{refl, sym, ap, subst, ◌∙◌, inl, inr, arith}
+use Rattle.std.proofs.lemmas.List.{append-nil}
+use Rattle.std.specs.Prelude.{nat_lt, if◌then◌else◌}
+use Rattle.ocf_types.specs.Kinds.{Command}
+use Rattle.ocf_types.specs.declared.reply.TurnEnd.{TurnEnd}
+use Rattle.ocf_types.specs.declared.reply.TurnEnd.TheVariants.{Done}
+use Rattle.disk_model.specs.View.{View}
+use Rattle.executor.specs.Sights.{Sight}
+use Rattle.exec_commands.specs.declared.line.Line.TheVariants as line
+use Rattle.exec_output.specs.declared.send.IoFault.{IoFault}
+use Rattle.exec_trace.specs.Edges.{rest_events}
+use Rattle.exec_trace.specs.declared.event.IoEvent.{IoEvent}
+use Rattle.exec_trace.specs.declared.event.IoEvent.TheVariants.{Looked, Rested}
+use Rattle.exec_session.specs.Answers.{Source}
+use Rattle.exec_session.specs.Breaks.{BreaksOff, OwnTurnBreaks, in_line, in_own_turn}
+use Rattle.exec_session.specs.Gathered.{waiting}
+use Rattle.exec_session.specs.Held.{AnswersHeld, asks, held_lines}
+use Rattle.exec_session.specs.Limits.{longest_pause}
+use Rattle.exec_session.specs.Pending.{IsClear}
+use Rattle.exec_session.specs.Rules.{Rules}
+use Rattle.exec_session.specs.Runs.{IsWait, Lines, MakesOwnTurn, MakesTurns, MayGoOn, MayRest, MayTake, Reaches, ReachesFault, ReachesLeave, answers, of_command, turn}
+use Rattle.exec_session.specs.Spots.{Lasts, MayBreakOff, Position, Spot, behind, noted, paused, position, spot}
+use Rattle.exec_session.specs.Waiting.{Comes, ComesOrEnds, GoesRound, HasCome, HasComeRound, IsReadTo, IsRound, LooksOnce, MayBegin, MayTakeBehind, MayWait, Midway, Waits, midway, more, still}
+use Rattle.exec_session.specs.declared.context.Way.{Way}
+use Rattle.exec_session.specs.declared.context.Way.TheVariants.{Run, Serve}
+use Rattle.exec_session.specs.declared.held.Held.{Held}
+use Rattle.exec_session.specs.declared.held.Held.TheVariants as held
+use Rattle.exec_session.specs.declared.lines.Taken.{Taken}
+use Rattle.exec_session.specs.declared.lines.Taken.TheVariants as taken
+use Rattle.exec_session.specs.declared.pending.Pending.{Pending}
+use Rattle.exec_session.proofs.LastLemmas.{lasts_both, lasts_event, lasts_noted, lasts_same}
+use Rattle.exec_session.proofs.WaitLemmas.{begins, come_more, first_come, go_open, looked, none_waits, waited}
+
+pub at_none : {A : Type 0} (o : Option A) (P : Type 0) (Q : A → Type 0) → o ≡ None → MatchOption o P Q → P
+at_none None P Q is m = m
+at_none (Some x) P Q is m = absurd cc
+
+pub at_some : {A : Type 0} (o : Option A) (x : A) (P : Type 0) (Q : A → Type 0) → o ≡ Some x → MatchOption o P Q → Q x
+at_some o x P Q is m = subst (λ v. MatchOption v P Q) is m
+
+pub turns_serve : (way : Way) → way ≡ Serve → MakesTurns way
+turns_serve Run is = absurd cc
+turns_serve Serve is = tt
+
+pub open_serves : {D : Type 0} (way : Way) (x : Sight D) → way ≡ Serve → MayGoOn way x → x.is_open ≡ true
+open_serves Run x is goes_on = absurd cc
+open_serves Serve x is goes_on = goes_on
+
+zero_round : (way : Way) → way ≡ Serve → (most : ℕ) → IsRound way most → most ≡ 0
+zero_round Run is most round = absurd cc
+zero_round Serve is most round = round
+
+any_round : (way : Way) → IsRound way 0
+any_round Run = tt
+any_round Serve = refl
+
+pub run_round : (way : Way) → way ≡ Run → (most : ℕ) → IsRound way most
+run_round Run is most = tt
+run_round Serve is most = absurd cc
+
+-- a round may begin
+pub run_begins : {D : Type 0} (way : Way) (x : Sight D) (pending : Pending) → way ≡ Run → MayWait way x pending → MayBegin way x pending
+run_begins way x pending run waits = record { waits = waits; serves = λ serve. absurd cc }
+
+pub serve_begins : {D : Type 0} (way : Way) (x : Sight D) (pending : Pending) → way ≡ Serve → x.is_open ≡ true
+    → waiting pending.gathered ≡ [] → MayBegin way x pending
+serve_begins way x pending serve is_open none =
+    record { waits = none_waits way x pending none (λ run. absurd cc); serves = λ _. (is_open, none) }
+
+-- where a run is, by its parts
+pub position_is : {D : Type 0} (q : Position D) (s : Spot D) (left : Option (List ℕ)) → q.at ≡ s → q.left ≡ left → q ≡ position s left
+position_is {D} q s left same same' =
+    ap (λ (t : Spot D). position t q.left) same ∙ ap (λ (l : Option (List ℕ)). position s l) same'
+
+-- waits, one behind the other
+module _ {D : Type 0} where
+  pub waits_more : (p m q : Position D) (event : IoEvent) → Waits p m → IsWait m.at.executor event → q ≡ noted m event → Waits p q
+  waits_more p m q event waits is same = subst (λ (w : Position D). Waits p w) (sym same) (more m event waits is)
+
+  pub waits_last : (p q : Position D) → Waits p q → Lasts p.at q.at
+  waits_last p _ still = lasts_same p.at p.at refl
+  waits_last p _ (more m event waits is) =
+      lasts_both p.at m.at (behind m.at event) (waits_last p m waits) (lasts_event m.at (behind m.at event) event refl)
+
+  pub waits_executor : (p q : Position D) → Waits p q → q.at.executor ≡ p.at.executor
+  waits_executor p _ still = refl
+  waits_executor p _ (more m event waits is) = waits_executor p m waits
+
+  pub waits_once : (p q : Position D) (event : IoEvent) → IsWait p.at.executor event → q ≡ noted p event → Waits p q
+  waits_once p q event is same = waits_more p p q event still is same
+
+  pub waits_none : (p q : Position D) → q ≡ p → Waits p q
+  waits_none p q same = subst (λ (w : Position D). Waits p w) (sym same) still
+
+  pub waits_rest : (p m q : Position D) (micros : ℕ) → micros ≤ longest_pause → Waits p m
+      → q ≡ position (paused m.at micros) m.left → Waits p q
+  waits_rest p m q micros short waits same = by (nat_lt 0 micros) refl
+    where
+      at : Bool → Position D
+      at b = position (spot m.at.executor m.at.heard (m.at.events ++ (if b then Rested micros ∷ [] else []))) m.left
+
+      by : (b : Bool) → nat_lt 0 micros ≡ b → Waits p q
+      by true is = waits_more p m q (Rested micros) waits short (same ∙ ap at is)
+      by false is =
+          subst (λ (w : Position D). Waits p w)
+          (sym (same ∙ ap at is
+          ∙ ap (λ (es : List IoEvent). position (spot m.at.executor m.at.heard es) m.left) (append-nil m.at.events))) waits
+
+-- a look that may have been made
+pub wait_looked : {D : Type 0} (way : Way) (p q : Position D) (pending : Pending) → LooksOnce p q → MayWait way p.at.executor pending
+    → MayWait way q.at.executor pending
+wait_looked way p q pending (inl same) may =
+    subst (λ (w : Position _). MayWait way w.at.executor pending) (sym same) may
+wait_looked way p q pending (inr (ready, same)) may =
+    subst (λ (w : Position _). MayWait way w.at.executor pending) (sym same) may
+
+pub lasts_looked : {D : Type 0} (p q : Position D) → LooksOnce p q → Lasts p.at q.at
+lasts_looked p q (inl same) = lasts_same p.at q.at (ap (λ (w : Position _). w.at) same)
+lasts_looked p q (inr (ready, same)) = lasts_noted p q (Looked 0 ready) same
+
+module _ {D : Type 0} (look : D → View) (source : Source) (rules : Rules) (p : Position D) (own : TurnEnd) where
+  abbrev At : ℕ → Lines → Position D → Type 0
+  At n lines q = Reaches look source rules p own n lines q
+
+  abbrev Come : ℕ → Position D → List Command → Option Held → List ℕ → Type 0
+  Come most place commands held kept =
+      HasCome look source rules p own most (record { place = place; commands = commands; held = held; kept = kept })
+
+  -- a look that may have been made
+  pub looked_once : (most : ℕ) (commands : List Command) (held : Option Held) (kept : List ℕ) (place place' : Position D)
+      → LooksOnce place place' → Come most place commands held kept → Come most place' commands held kept
+  looked_once most commands held kept place place' (inl same) come =
+      subst (λ (w : Position D). Come most w commands held kept) (sym same) come
+  looked_once most commands held kept place place' (inr (ready, same)) come =
+      looked look source rules p own most commands held kept place place' (Looked 0 ready) refl same come
+
+  -- a wait
+  pub waits_come : (most : ℕ) (commands : List Command) (held : Option Held) (kept : List ℕ) (place : Position D) (place' : Position D)
+      → commands ≡ [] → MayRest (held_lines held) → Waits place place' → Come most place commands held kept
+      → Come most place' commands held kept
+  waits_come most commands held kept place _ none rests still come = come
+  waits_come most commands held kept place _ none rests (more m event waits is) come =
+      waited look source rules p own most commands held kept m (position (behind m.at event) m.left) event none rests is refl
+      (waits_come most commands held kept place m none rests waits come)
+
+  -- the lines that are unanswered where no command waits
+  none_but_held : (count : ℕ) (commands : List Command) (held : Option Held) (q : Position D) → commands ≡ []
+      → At count (map of_command commands ++ held_lines held) q → At count (held_lines held) q
+  none_but_held count commands held q none reached =
+      subst (λ (cs : List Command). At count (map of_command cs ++ held_lines held) q) none reached
+
+  -- a line asked a run to end
+  pub come_leave : rules.way ≡ Serve → (most : ℕ) (commands : List Command) (o : Option Held) (kept : List ℕ) (place : Position D)
+      → commands ≡ [] → o ≡ Some held.Leave → Come most place commands o kept → ReachesLeave look source rules p place.at
+  come_leave way most commands o kept place none is come = record {
+    serves = turns_serve rules.way way;
+    own = own;
+    count = come.count;
+    left = come.left;
+    reached =
+        subst (λ (h : Option Held). At come.count (held_lines h) (position place.at come.left)) is
+        (none_but_held come.count commands o (position place.at come.left) none come.reached);
+    is_open = open_serves rules.way place.at.executor way come.goes_on;
+  }
+
+  -- the line that is held was answered, or broke off
+  pub held_answered : rules.way ≡ Serve → (most : ℕ) → MayTakeBehind rules.way most → (commands : List Command) (held : Option Held)
+      (h : Held) (kept : List ℕ) (place place' : Position D) → commands ≡ [] → held ≡ Some h → place'.left ≡ place.left
+      → Come most place commands held kept → AnswersHeld look source rules h place.at place'.at (Ok true)
+      → MayGoOn rules.way place'.at.executor → Come (most + 1) place' commands None kept
+  held_answered way most may commands held h kept place place' none is same come answered goes_on = record {
+    count = come.count + 1;
+    few = omega (arith, come.few, ap length none);
+    left = come.left;
+    mid = begins come.left place'.left kept (sym read.0 ∙ sym same) read.1;
+    reached =
+        subst (λ (cs : List Command). At (come.count + 1) (map of_command cs ++ []) (position place'.at come.left)) (sym none)
+        (answers own come.count (Ok (asks h)) (position place.at come.left) place'.at before come.goes_on
+        (may come.count (omega (arith, come.few))) answered);
+    goes_on = goes_on;
+  }
+    where
+      read : (place.left ≡ come.left) × (kept ≡ [])
+      read = subst (λ (o : Option Held). IsReadTo o come.left kept place.left) is come.mid
+
+      before : At come.count (Ok (asks h) ∷ []) (position place.at come.left)
+      before =
+          subst (λ (o : Option Held). At come.count (held_lines o) (position place.at come.left)) is
+          (none_but_held come.count commands held (position place.at come.left) none come.reached)
+
+  -- its agent has not answered by now
+  pub held_still : (most : ℕ) (commands : List Command) (held : Option Held) (kept : List ℕ) (place place' : Position D)
+      → place'.at ≡ place.at → place'.left ≡ place.left → Come most place commands held kept → Come most place' commands held kept
+  held_still most commands held kept place place' same same' come =
+      subst (λ (w : Position D). Come most w commands held kept) (sym (position_is place' place.at place.left same same')) come
+
+  pub held_breaks : (most : ℕ) (commands : List Command) (held : Option Held) (h : Held) (kept : List ℕ) (place : Position D) (s : Spot D)
+      (fault : IoFault) → commands ≡ [] → held ≡ Some h → Come most place commands held kept
+      → AnswersHeld look source rules h place.at s (Err fault) → BreaksOff look source rules p s
+  held_breaks most commands held h kept place s fault none is come (broke, cause) = record {
+    own = own;
+    count = come.count;
+    lines = Ok (asks h) ∷ [];
+    last = position place.at come.left;
+    reached =
+        subst (λ (o : Option Held). At come.count (held_lines o) (position place.at come.left)) is
+        (none_but_held come.count commands held (position place.at come.left) none come.reached);
+    breaks = in_line (Ok (asks h)) refl come.goes_on (inl broke);
+    cause = cause;
+  }
+
+  -- a turn of its own
+  turned : rules.way ≡ Serve → (most : ℕ) (commands : List Command) (held : Option Held) (kept : List ℕ) (place place' : Position D)
+      (end : TurnEnd) → commands ≡ [] → MayRest (held_lines held) → (come : Come most place commands held kept)
+      → MakesOwnTurn look rules own place.at place'.at end
+      → Reaches look source rules p end 0 (held_lines held) (position place'.at come.left)
+  turned way most commands held kept place place' end none rests come made =
+      turn own come.count (held_lines held) (position place.at come.left) place'.at end
+      (none_but_held come.count commands held (position place.at come.left) none come.reached) (turns_serve rules.way way) rests
+      (open_serves rules.way place.at.executor way come.goes_on) made
+
+  -- which leaves the executor open, or closes it, or breaks off
+  pub turn_made : rules.way ≡ Serve → (most : ℕ) (commands : List Command) (held : Option Held) (kept : List ℕ) (place place' : Position D)
+      (end : TurnEnd) → commands ≡ [] → MayRest (held_lines held) → place'.left ≡ place.left → Come most place commands held kept
+      → MakesOwnTurn look rules own place.at place'.at end → place'.at.executor.is_open ≡ true
+      → HasCome look source rules p end 0 (record { place = place'; commands = commands; held = held; kept = kept })
+  turn_made way most commands held kept place place' end none rests same come made is_open = record {
+    count = 0;
+    few = omega (arith, ap length none);
+    left = come.left;
+    mid = subst (λ (l : Option (List ℕ)). IsReadTo held come.left kept l) (sym same) come.mid;
+    reached =
+        subst (λ (cs : List Command). Reaches look source rules p end 0 (map of_command cs ++ held_lines held)
+        (position place'.at come.left)) (sym none)
+        (turned way most commands held kept place place' end none rests come made);
+    goes_on = go_open rules.way place'.at.executor is_open;
+  }
+
+  pub turn_closes : rules.way ≡ Serve → (most : ℕ) (commands : List Command) (held : Option Held) (kept : List ℕ) (place place' : Position D)
+      (end : TurnEnd) → commands ≡ [] → MayRest (held_lines held) → Come most place commands held kept
+      → MakesOwnTurn look rules own place.at place'.at end → place'.at.executor.is_open ≡ false
+      → ReachesFault look source rules p place'.at
+  turn_closes way most commands held kept place place' end none rests come made closed = record {
+    serves = turns_serve rules.way way;
+    own = end;
+    count = 0;
+    lines = held_lines held;
+    left = come.left;
+    reached = turned way most commands held kept place place' end none rests come made;
+    is_closed = closed;
+  }
+
+  pub turn_breaks : rules.way ≡ Serve → (most : ℕ) (commands : List Command) (held : Option Held) (kept : List ℕ) (place : Position D)
+      (s : Spot D) → commands ≡ [] → MayRest (held_lines held) → Come most place commands held kept
+      → OwnTurnBreaks look rules own place.at s → MayBreakOff s.events → BreaksOff look source rules p s
+  turn_breaks way most commands held kept place s none rests come broke cause = record {
+    own = own;
+    count = come.count;
+    lines = held_lines held;
+    last = position place.at come.left;
+    reached = none_but_held come.count commands held (position place.at come.left) none come.reached;
+    breaks = in_own_turn (turns_serve rules.way way) rests (open_serves rules.way place.at.executor way come.goes_on) broke;
+    cause = cause;
+  }
+
+  -- a run that ends does so with more lines allowed, too
+  pub ends_more : (n m : ℕ) (commands : List Command) (held : Option Held) (kept : List ℕ) (place : Position D) (step : Taken) → n ≤ m
+      → ComesOrEnds look source rules p own n (record { place = place; commands = commands; held = held; kept = kept }) step
+      → ComesOrEnds look source rules p own m (record { place = place; commands = commands; held = held; kept = kept }) step
+  ends_more n m commands held kept place taken.More le come = come_more look source rules p own n m commands held kept place le come
+  ends_more n m commands held kept place taken.End le come = come
+  ends_more n m commands held kept place taken.Closed le come = come
+  ends_more n m commands held kept place taken.Leaves le come = come
+
+  -- a round that ends the run, or breaks off
+  pub round_ends : (most : ℕ) (s : Midway D) (step : Taken) → step ≢ taken.More → ComesOrEnds look source rules p own most s step
+      → GoesRound look source rules p own s (Ok step)
+  round_ends most s taken.More ends come = absurd (ends refl)
+  round_ends most s taken.End ends come = come
+  round_ends most s taken.Closed ends come = come
+  round_ends most s taken.Leaves ends come = come
+
+  pub round_err : (s : Midway D) (r : Result Taken IoFault) → IsErr r → BreaksOff look source rules p s.place.at
+      → GoesRound look source rules p own s r
+  round_err s (Ok x) bad breaks = let none : ⊥ = cc in absurd none
+  round_err s (Err e) bad breaks = breaks
+
+  -- a round of a run that serves begins behind a turn
+  pub round_begins : rules.way ≡ Serve → (s : Midway D) → HasComeRound look source rules p own s
+      → HasCome look source rules p own 0 s
+  round_begins way s (most, is, come) =
+      subst (λ (n : ℕ). HasCome look source rules p own n s) (zero_round rules.way way most is) come
+
+  pub round_again : rules.way ≡ Serve → (s : Midway D) → HasCome look source rules p own 0 s → HasComeRound look source rules p own s
+  round_again way s come = (0, any_round rules.way, come)
+
+  -- a round of a run by lines alone
+  pub round_read : rules.way ≡ Run → (most : ℕ) (s : Midway D) (r : Result Taken IoFault) → Comes look source rules p own most s r
+      → GoesRound look source rules p own s r
+  round_read way most s (Ok taken.More) come = (most, run_round rules.way way most, come)
+  round_read way most s (Ok taken.End) come = come
+  round_read way most s (Ok taken.Closed) come = come
+  round_read way most s (Ok taken.Leaves) come = come
+  round_read way most s (Err e) breaks = breaks
+
+-- nothing is done yet
+pub first_round : {D : Type 0} (look : D → View) (source : Source) (rules : Rules) (p : Position D) (pending : Pending) (own : TurnEnd)
+    → IsClear pending → own ≡ Done → p.at.executor.is_open ≡ true
+    → MayBegin rules.way p.at.executor pending × HasComeRound look source rules p own (midway p pending)
+first_round look source rules p pending own clear none is_open = (
+  record {
+    waits = none_waits rules.way p.at.executor pending clear.none (λ _. clear.free);
+    serves = λ _. (is_open, clear.none);
+  },
+  subst (λ (end : TurnEnd). HasComeRound look source rules p end (midway p pending)) (sym none)
+      (0, any_round rules.way, first_come look source rules p pending clear (go_open rules.way p.at.executor is_open)),
+)

@@ -1,0 +1,73 @@
+use Rattle.std.proofs.Common.{◌+◌, Some, false, arith, ap, refl, subst, sym}
+use Rattle.exec_lines.specs.Buffer.{line_bytes}
+use Rattle.exec_trace.specs.declared.event.IoEvent.TheVariants.{Peeked, Read}
+use Rattle.exec_session.specs.Gathered.{waiting}
+use Rattle.exec_session.specs.Rules.{rules_of}
+use Rattle.exec_session.specs.Spots.{Position}
+use Rattle.exec_session.specs.Waiting.{HasFound}
+use Rattle.exec_session.specs.declared.lines.Found.{Found}
+use Rattle.exec_session.proofs.LastLemmas.{lasts_both, lasts_event, lasts_noted, longer_event, longer_then}
+use Rattle.exec_session.proofs.RoundLemmas.{at_none, at_some}
+use Rattle.exec_session.proofs.WaitLemmas.{come_more, comes_err, event_breaks, found_held, found_looked, found_next, mid_before, read_part}
+use Rattle.exec_session.proofs.desk.Desk.take_read.Goals as goal
+
+pub returns-in_default-clause-takes : goal.returns-in_default-clause-takes
+returns-in_default-clause-takes g c = λ p own most may come.
+    let look = g.D.Disk.view in
+    let source = g.M.Metadata.gives c.args.context.now.metadata.now in
+    let rules = rules_of c.args.context.now in
+    let old = c.args.self.now in
+    let commands = waiting old.pending.gathered in
+    let held = old.pending.held in
+    let kept = line_bytes old.pending.buffer in
+    let kept' = line_bytes c.read.new.buffer in
+    let place' = c.read.new.self in
+    let mid = mid_before held c.requires.free come.left kept old.worker.left come.mid in
+    come_more look source rules p own most (most + 1) commands held kept' place' (omega arith)
+    (read_part look source rules p own most commands held kept kept' old.worker place' c.requires.free c.in_ok-next.ensures.noted come
+    (at_none c.in_ok-next.field-0 _ _ c.in_default.is (c.in_ok-next.ensures.gathers come.left mid)))
+
+pub returns-in-Ok-clause-takes : goal.returns-in-Ok-clause-takes
+returns-in-Ok-clause-takes g c = λ p own most may come.
+    let look = g.D.Disk.view in
+    let source = g.M.Metadata.gives c.args.context.now.metadata.now in
+    let rules = rules_of c.args.context.now in
+    let old = c.args.self.now in
+    let commands = waiting old.pending.gathered in
+    let held = old.pending.held in
+    let kept = line_bytes old.pending.buffer in
+    let place' = c.read.new.self in
+    let mid = mid_before held c.requires.free come.left kept old.worker.left come.mid in
+    let next = at_some c.in_ok-next.field-0 c.in-Some.next _ _ c.in-Some.is (c.in_ok-next.ensures.gathers come.left mid) in
+    let found = c.found_in-found.result in
+    found_held look source rules p own most commands (Some c.in-Ok.held) (line_bytes c.clear.new.self) c.in-Ok.held found place'
+    c.in-Ok.ensures.held refl c.clear.ensures
+    (found_next look source rules p own most commands held kept old.worker place' found c.requires.free c.in_ok-next.ensures.noted come
+    (c.found_in-found.ensures.found come.left place'.left next))
+
+pub returns-clause-takes : goal.returns-clause-takes
+returns-clause-takes g c = λ p own most may come.
+    let look = g.D.Disk.view in
+    let source = g.M.Metadata.gives c.args.context.now.metadata.now in
+    let rules = rules_of c.args.context.now in
+    let old = c.args.self.now in
+    let commands = waiting old.pending.gathered in
+    let held = old.pending.held in
+    let kept = line_bytes old.pending.buffer in
+    let place' = c.read.new.self in
+    let mid = mid_before held c.requires.free come.left kept old.worker.left come.mid in
+    let next = at_some c.in_ok-next.field-0 c.in-Some.next _ _ c.in-Some.is (c.in_ok-next.ensures.gathers come.left mid) in
+    let finds = found_next look source rules p own most commands held kept old.worker place' c.found_in-found.result c.requires.free
+    c.in_ok-next.ensures.noted come (c.found_in-found.ensures.found come.left place'.left next) in
+    c.take_found.ensures.takes p own most may
+    (found_looked look source rules p own most commands c.in-Err.other place' c.has_line-has_next.new.self (Peeked c.has_line-has_next.result) tt
+    c.has_line-has_next.ensures.noted
+    (subst (λ (f : Found). HasFound look source rules p own most commands f place') (sym c.in-Err.ensures.same) finds))
+
+pub returns-in_err-next-clause-takes : goal.returns-in_err-next-clause-takes
+returns-in_err-next-clause-takes g c = λ p own most may come.
+    let old = c.args.self.now in
+    comes_err _ _ _ _ own _ _ c.from_residual.result c.from_residual.ensures.0
+    (event_breaks g.D.Disk.view (g.M.Metadata.gives c.args.context.now.metadata.now) (rules_of c.args.context.now) p own most
+    (waiting old.pending.gathered) old.pending.held (line_bytes old.pending.buffer) old.worker c.read.new.self.at (Read false) refl
+    c.in_err-next.ensures.noted come)

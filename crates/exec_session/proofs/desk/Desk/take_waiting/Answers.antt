@@ -1,0 +1,106 @@
+use Rattle.std.proofs.Common.{◌≡◌, ◌+◌, arith, refl, rules, subst, sym, ◌∙◌}
+use Rattle.exec_lines.specs.Buffer.{line_bytes}
+use Rattle.exec_session.specs.Gathered.{waiting}
+use Rattle.exec_session.specs.Rules.{rules_of}
+use Rattle.exec_session.specs.Waiting.{ComesOrEnds, midway}
+use Rattle.exec_session.specs.declared.lines.Taken.TheVariants.{More}
+use Rattle.exec_session.proofs.LastLemmas.{lasts_both, lasts_same}
+use Rattle.exec_session.proofs.RoundLemmas.{ends_more, lasts_looked, looked_once, wait_looked}
+use Rattle.exec_session.proofs.WaitLemmas.{come_more, comes_err, may_serve}
+use Rattle.exec_session.proofs.desk.Desk.take_waiting.Goals as goal
+
+pub loop-reads-init : goal.loop-reads-init
+loop-reads-init g c = record {
+  way = c.requires.way;
+  waits = c.requires.waits;
+  lasts = lasts_same c.args.self.now.worker.at c.args.self.now.worker.at refl;
+  come = λ p own come. come;
+}
+
+pub returns-then-not-may_read-clause-takes : goal.returns-then-not-may_read-clause-takes
+returns-then-not-may_read-clause-takes g c = λ p own come.
+    let it = c.loop-reads.self in
+    looked_once _ _ _ p own 64 (waiting it.pending.gathered) it.pending.held (line_bytes it.pending.buffer) it.worker
+    c.may_read.new.worker c.may_read.ensures.looks
+    (come_more _ _ _ p own c.loop-reads._reads 64 (waiting it.pending.gathered) it.pending.held (line_bytes it.pending.buffer) it.worker
+    (omega (arith, c.loop-reads-test.true)) (c.loop-reads.invariant.come p own come))
+
+pub returns-then-not-may_read-clause-waits : goal.returns-then-not-may_read-clause-waits
+returns-then-not-may_read-clause-waits g c =
+    wait_looked c.args.context.now.way c.loop-reads.self.worker c.may_read.new.worker c.loop-reads.self.pending c.may_read.ensures.looks
+    c.loop-reads.invariant.waits
+
+pub returns-then-not-may_read-clause-lasts : goal.returns-then-not-may_read-clause-lasts
+returns-then-not-may_read-clause-lasts g c =
+    lasts_both c.args.self.now.worker.at c.loop-reads.self.worker.at c.may_read.new.worker.at c.loop-reads.invariant.lasts
+    (lasts_looked c.loop-reads.self.worker c.may_read.new.worker c.may_read.ensures.looks)
+
+pub take_read-requires : goal.take_read-requires
+take_read-requires g c = record {
+  free = c.may_read.ensures.free (search (rules, c.if-not-may_read.ensures));
+  waits =
+      wait_looked c.args.context.now.way c.loop-reads.self.worker c.may_read.new.worker c.loop-reads.self.pending
+      c.may_read.ensures.looks c.loop-reads.invariant.waits;
+}
+
+pub returns-then-ne-clause-takes : goal.returns-then-ne-clause-takes
+returns-then-ne-clause-takes g c = λ p own come.
+    let it = c.loop-reads.self in
+    let new = c.take_read.new.self in
+    let n = c.loop-reads._reads in
+    ends_more g.D.Disk.view (g.M.Metadata.gives c.args.context.now.metadata.now) (rules_of c.args.context.now) p own (n + 1) 64
+    (waiting new.pending.gathered) new.pending.held (line_bytes new.pending.buffer) new.worker c.in_ok-taken.taken
+    (omega (arith, c.loop-reads-test.true))
+    (c.in_ok-taken.ensures.takes p own n
+    (may_serve c.args.context.now.way n c.loop-reads.invariant.way (omega (arith, c.loop-reads-test.true)))
+    (looked_once _ _ _ p own n (waiting it.pending.gathered) it.pending.held (line_bytes it.pending.buffer) it.worker
+    c.may_read.new.worker c.may_read.ensures.looks (c.loop-reads.invariant.come p own come)))
+
+pub returns-then-ne-clause-lasts : goal.returns-then-ne-clause-lasts
+returns-then-ne-clause-lasts g c =
+    lasts_both c.args.self.now.worker.at c.loop-reads.self.worker.at c.take_read.new.self.worker.at c.loop-reads.invariant.lasts
+    (lasts_both c.loop-reads.self.worker.at c.may_read.new.worker.at c.take_read.new.self.worker.at
+    (lasts_looked c.loop-reads.self.worker c.may_read.new.worker c.may_read.ensures.looks) c.in_ok-taken.ensures.lasts)
+
+pub loop-reads-preserved : goal.loop-reads-preserved
+loop-reads-preserved g c =
+    let it = c.loop-reads.self in
+    let new = c.take_read.new.self in
+    let n = c.loop-reads._reads in
+    let more : c.in_ok-taken.taken ≡ More = search (rules, c.ne.ensures, c.if-ne.false) in
+    record {
+      way = c.loop-reads.invariant.way;
+      waits = c.in_ok-taken.ensures.waits;
+      lasts =
+          lasts_both c.args.self.now.worker.at it.worker.at new.worker.at c.loop-reads.invariant.lasts
+          (lasts_both it.worker.at c.may_read.new.worker.at new.worker.at
+          (lasts_looked it.worker c.may_read.new.worker c.may_read.ensures.looks) c.in_ok-taken.ensures.lasts);
+      come = λ p own come.
+          subst (ComesOrEnds g.D.Disk.view (g.M.Metadata.gives c.args.context.now.metadata.now) (rules_of c.args.context.now) p own (n + 1)
+          (midway new.worker new.pending)) more
+          (c.in_ok-taken.ensures.takes p own n
+          (may_serve c.args.context.now.way n c.loop-reads.invariant.way (omega (arith, c.loop-reads-test.true)))
+          (looked_once _ _ _ p own n (waiting it.pending.gathered) it.pending.held (line_bytes it.pending.buffer) it.worker
+          c.may_read.new.worker c.may_read.ensures.looks (c.loop-reads.invariant.come p own come)));
+    }
+
+pub returns-clause-takes : goal.returns-clause-takes
+returns-clause-takes g c = λ p own come.
+    let it = c.loop-reads.self in
+    come_more _ _ _ p own c.loop-reads._reads 64 (waiting it.pending.gathered) it.pending.held (line_bytes it.pending.buffer) it.worker
+    (omega (arith, c.loop-reads.auto)) (c.loop-reads.invariant.come p own come)
+
+pub returns-in_err-taken-clause-takes : goal.returns-in_err-taken-clause-takes
+returns-in_err-taken-clause-takes g c = λ p own come.
+    let it = c.loop-reads.self in
+    let n = c.loop-reads._reads in
+    comes_err _ _ _ _ own _ _ c.from_residual.result c.from_residual.ensures.0 (c.in_err-taken.ensures.takes p own n
+    (may_serve c.args.context.now.way n c.loop-reads.invariant.way (omega (arith, c.loop-reads-test.true)))
+    (looked_once _ _ _ p own n (waiting it.pending.gathered) it.pending.held (line_bytes it.pending.buffer) it.worker
+    c.may_read.new.worker c.may_read.ensures.looks (c.loop-reads.invariant.come p own come)))
+
+pub returns-in_err-taken-clause-lasts : goal.returns-in_err-taken-clause-lasts
+returns-in_err-taken-clause-lasts g c =
+    lasts_both c.args.self.now.worker.at c.loop-reads.self.worker.at c.take_read.new.self.worker.at c.loop-reads.invariant.lasts
+    (lasts_both c.loop-reads.self.worker.at c.may_read.new.worker.at c.take_read.new.self.worker.at
+    (lasts_looked c.loop-reads.self.worker c.may_read.new.worker c.may_read.ensures.looks) c.in_err-taken.ensures.lasts)

@@ -1,0 +1,19 @@
+use Rattle.std.proofs.Common.{◌≡◌}
+use Rattle.ocf_types.specs.declared.reply.TurnEnd.{TurnEnd}
+use Rattle.exec_session.specs.Rules.{rules_of}
+use Rattle.exec_session.specs.Spots.{Lasts, Position}
+use Rattle.exec_session.specs.Waiting.{HasCome, MayWait, midway}
+use Rattle.exec_session.specs.declared.context.Way.TheVariants.{Serve}
+use Rattle.exec_session.proofs.desk.Desk.take_waiting.Given as goal
+
+abbrev pub invariant-loop-reads : goal.invariant-loop-reads
+invariant-loop-reads g l = record {
+  way : l.context.way ≡ Serve;
+  waits : MayWait l.context.way l.self.worker.at.executor l.self.pending;
+  lasts : Lasts l.fn.self.worker.at l.self.worker.at;
+  come : (p : Position g.row.D.Denot) (own : TurnEnd)
+      → HasCome g.D.Disk.view (g.M.Metadata.gives l.context.metadata.now) (rules_of l.context) p own 0
+      (midway l.fn.self.worker l.fn.self.pending)
+      → HasCome g.D.Disk.view (g.M.Metadata.gives l.context.metadata.now) (rules_of l.context) p own l._reads
+      (midway l.self.worker l.self.pending);
+}

@@ -1,0 +1,79 @@
+use Rattle.std.proofs.Common.{◌≡◌, Some, ap, subst, sym, ◌∙◌}
+use Rattle.exec_lines.proofs.PieceLemmas.{on_err}
+use Rattle.exec_trace.specs.Events.{last_shown}
+use Rattle.exec_trace.specs.declared.event.IoEvent.TheVariants.{Shown}
+use Rattle.exec_session.specs.Breaks.{in_end, in_notices}
+use Rattle.exec_session.specs.Drains.{MakesTurn, TurnHeard}
+use Rattle.exec_session.specs.Rules.{rules_of}
+use Rattle.exec_session.specs.Spots.{Position, Spot, TellsPart}
+use Rattle.exec_session.proofs.EventLemmas.{both_keep, shown_last, was_noted}
+use Rattle.exec_session.proofs.LastLemmas.{lasts_both, longer_event, longer_then}
+use Rattle.exec_session.proofs.session.make_own_turn.Goals as goal
+
+pub make_turn-requires-clause-shown : goal.make_turn-requires-clause-shown
+make_turn-requires-clause-shown g c =
+    ap (λ (w : Position _). last_shown w.at.events) c.now-now.ensures.noted
+    ∙ shown_last c.args.worker.now.at.events c.now-now.result
+
+pub returns-clause-made : goal.returns-clause-made
+returns-clause-made g c = record {
+  now = c.now-now.result;
+  noticed = c.make_turn.new.self.at;
+  made =
+      subst (λ (w : Position _). MakesTurn g.D.Disk.view (rules_of c.args.context.now) c.now-now.result w.at c.make_turn.new.self.at
+      c.in_ok-end.end) c.now-now.ensures.noted c.in_ok-end.ensures.made;
+  told = c.in_ok-tell_news.ensures.told;
+}
+
+pub returns-clause-keeps : goal.returns-clause-keeps
+returns-clause-keeps g c =
+    both_keep c.args.worker.now c.now-now.new.self c.tell_news.new.worker
+    (was_noted c.args.worker.now c.now-now.new.self (Shown c.now-now.result) c.now-now.ensures.noted)
+    (both_keep c.now-now.new.self c.make_turn.new.self c.tell_news.new.worker c.in_ok-end.ensures.keeps c.in_ok-tell_news.ensures.keeps)
+
+pub returns-clause-longer : goal.returns-clause-longer
+returns-clause-longer g c =
+    longer_then c.args.worker.now.at c.now-now.new.self.at c.tell_news.new.worker.at
+    (longer_event c.args.worker.now.at c.now-now.new.self.at (Shown c.now-now.result)
+    (ap (λ (w : Position _). w.at) c.now-now.ensures.noted))
+    (lasts_both c.now-now.new.self.at c.make_turn.new.self.at c.tell_news.new.worker.at c.in_ok-end.ensures.keeps.0
+    c.in_ok-tell_news.ensures.keeps.0)
+
+pub returns-in_err-end-clause-breaks : goal.returns-in_err-end-clause-breaks
+returns-in_err-end-clause-breaks g c =
+    let (end, heard) = c.in_err-end.ensures.breaks in
+    on_err c.from_residual.result _ (in_notices c.now-now.result end
+    (subst (λ (w : Position _). TurnHeard (TellsPart c.args.context.now.form) g.D.Disk.view (rules_of c.args.context.now) c.now-now.result
+    w.at c.make_turn.new.self.at end) c.now-now.ensures.noted heard))
+
+pub returns-in_err-end-clause-keeps : goal.returns-in_err-end-clause-keeps
+returns-in_err-end-clause-keeps g c =
+    both_keep c.args.worker.now c.now-now.new.self c.make_turn.new.self
+    (was_noted c.args.worker.now c.now-now.new.self (Shown c.now-now.result) c.now-now.ensures.noted) c.in_err-end.ensures.keeps
+
+pub returns-in_err-end-clause-longer : goal.returns-in_err-end-clause-longer
+returns-in_err-end-clause-longer g c =
+    longer_then c.args.worker.now.at c.now-now.new.self.at c.make_turn.new.self.at
+    (longer_event c.args.worker.now.at c.now-now.new.self.at (Shown c.now-now.result)
+    (ap (λ (w : Position _). w.at) c.now-now.ensures.noted)) c.in_err-end.ensures.keeps.0
+
+pub returns-in_err-tell_news-clause-breaks : goal.returns-in_err-tell_news-clause-breaks
+returns-in_err-tell_news-clause-breaks g c =
+    on_err c.from_residual-in_err-tell_news.result _ (in_end c.now-now.result c.in_ok-end.end c.make_turn.new.self.at
+    (subst (λ (w : Position _). MakesTurn g.D.Disk.view (rules_of c.args.context.now) c.now-now.result w.at c.make_turn.new.self.at
+    c.in_ok-end.end) c.now-now.ensures.noted c.in_ok-end.ensures.made)
+    c.in_err-tell_news.ensures.breaks)
+
+pub returns-in_err-tell_news-clause-keeps : goal.returns-in_err-tell_news-clause-keeps
+returns-in_err-tell_news-clause-keeps g c =
+    both_keep c.args.worker.now c.now-now.new.self c.tell_news.new.worker
+    (was_noted c.args.worker.now c.now-now.new.self (Shown c.now-now.result) c.now-now.ensures.noted)
+    (both_keep c.now-now.new.self c.make_turn.new.self c.tell_news.new.worker c.in_ok-end.ensures.keeps c.in_err-tell_news.ensures.keeps)
+
+pub returns-in_err-tell_news-clause-longer : goal.returns-in_err-tell_news-clause-longer
+returns-in_err-tell_news-clause-longer g c =
+    longer_then c.args.worker.now.at c.now-now.new.self.at c.tell_news.new.worker.at
+    (longer_event c.args.worker.now.at c.now-now.new.self.at (Shown c.now-now.result)
+    (ap (λ (w : Position _). w.at) c.now-now.ensures.noted))
+    (lasts_both c.now-now.new.self.at c.make_turn.new.self.at c.tell_news.new.worker.at c.in_ok-end.ensures.keeps.0
+    c.in_err-tell_news.ensures.keeps.0)

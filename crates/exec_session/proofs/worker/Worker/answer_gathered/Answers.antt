@@ -1,0 +1,105 @@
+use Rattle.std.proofs.Common.{◌≡◌, ◌≢◌, [], ◌∷◌, List, map, OnErr, OnOk, ap, refl, sym, subst, ◌∙◌}
+use Rattle.std.specs.Prelude.{is_ok}
+use Rattle.std.specs.List.{AllByRecursion}
+use Rattle.ocf_types.specs.Kinds.{Reply}
+use Rattle.exec_client.specs.MayTell.{MayAnswer, StandsBehind}
+use Rattle.exec_client.specs.Said.{Said, answered}
+use Rattle.exec_client.proofs.Growing.{both_stand, may_tell}
+use Rattle.exec_session.specs.Gathered.{replied, waiting}
+use Rattle.exec_session.specs.Spots.{Position, Tells, TellsPart, spot}
+use Rattle.exec_session.proofs.EventLemmas.{both_keep, err_map, ok_map, here_keeps, send_cause, send_keeps, sends, sends_part, was_noted}
+use Rattle.exec_session.proofs.TellLemmas.{after_told}
+use Rattle.exec_session.proofs.WorkerLemmas.{all_answered, open_noted, row_broken, some_waits, together_heard}
+use Rattle.exec_session.proofs.worker.Worker.answer_gathered.Goals as goal
+
+pub make_room-requires : goal.make_room-requires
+make_room-requires g c = record {
+  «open» =
+      open_noted c.self.inside.executor c.self.inside.edge c.args.self.now c.now-now.new.self _ c.self.view_is c.now-now.ensures.noted
+      (c.requires.«open» (some_waits _ (sym c.is_empty.ensures ∙ c.if-is_empty.false)));
+}
+
+pub tell-requires : goal.tell-requires
+tell-requires g c =
+    let look = g.D.Disk.view in
+    let x = c.self.inside.executor in
+    let r = c.make_room.new.executor in
+    let y = c.serve_gathered.new.executor in
+    let is = sym c.replies.ensures in record {
+      may_tell =
+          may_tell look c.self.inside.edge.heard x y _ c.self.invariant
+          (subst (λ (rs : List Reply). StandsBehind look x y (map answered rs)) is
+          (both_stand look x r y [] _ c.make_room.ensures.stands c.serve_gathered.ensures.stands))
+          (subst (λ (rs : List Reply). AllByRecursion (MayAnswer y) rs) is c.serve_gathered.ensures.says);
+    }
+
+pub invariant_of-self : goal.invariant_of-self
+invariant_of-self g c =
+    let look = g.D.Disk.view in
+    let x = c.self.inside.executor in
+    let r = c.make_room.new.executor in
+    let y = c.serve_gathered.new.executor in
+    after_told look c.self.inside.edge.heard c.tell.new.self.heard x y _ c.self.invariant
+    (subst (λ (rs : List Reply). StandsBehind look x y (map answered rs)) (sym c.replies.ensures)
+    (both_stand look x r y [] _ c.make_room.ensures.stands c.serve_gathered.ensures.stands))
+    c.tell.ensures.told
+
+pub returns-clause-answers : goal.returns-clause-answers
+returns-clause-answers g c =
+    let look = g.D.Disk.view in
+    let form = c.args.context.now.form in
+    let x = c.self.inside.executor in
+    let e = c.self.inside.edge in
+    let y = c.serve_gathered.new.executor in
+    let new = c.tell.new.self in
+    let now = c.now-now.result in
+    let commands = waiting c.args.gathered.now in
+    all_answered look _ c.tell.result commands c.args.self.now.at (spot y new.heard new.events) (some_waits _ (sym c.is_empty.ensures ∙ c.if-is_empty.false))
+    (ok_map c.tell.result _ _
+    (λ tells. together_heard (Tells form) look _ now commands x y e c.args.self.now c.now-now.new.self (spot y new.heard new.events) _
+    c.now-now.ensures.noted c.self.view_is refl
+    (record {
+      middle = c.make_room.new.executor;
+      room = c.make_room.ensures.makes;
+      takes = c.serve_gathered.ensures.takes;
+      fails = c.serve_gathered.ensures.fails;
+    })
+    (subst (λ (rs : List Reply). Tells form (spot y e.heard e.events) (spot y new.heard new.events) (map answered rs)) c.replies.ensures tells))
+    (sends form _ y e new c.tell.result c.tell.ensures.hears c.tell.ensures.noted))
+
+pub returns-clause-breaks : goal.returns-clause-breaks
+returns-clause-breaks g c =
+    let look = g.D.Disk.view in
+    let form = c.args.context.now.form in
+    let x = c.self.inside.executor in
+    let e = c.self.inside.edge in
+    let y = c.serve_gathered.new.executor in
+    let new = c.tell.new.self in
+    let now = c.now-now.result in
+    let commands = waiting c.args.gathered.now in
+    row_broken look _ c.tell.result commands c.args.self.now.at (spot y new.heard new.events) (some_waits _ (sym c.is_empty.ensures ∙ c.if-is_empty.false))
+    (err_map c.tell.result _ _
+    (λ tells. together_heard (TellsPart form) look _ now commands x y e c.args.self.now c.now-now.new.self (spot y new.heard new.events) _
+    c.now-now.ensures.noted c.self.view_is refl
+    (record {
+      middle = c.make_room.new.executor;
+      room = c.make_room.ensures.makes;
+      takes = c.serve_gathered.ensures.takes;
+      fails = c.serve_gathered.ensures.fails;
+    })
+    (subst (λ (rs : List Reply). TellsPart form (spot y e.heard e.events) (spot y new.heard new.events) (map answered rs)) c.replies.ensures tells))
+    (sends_part form _ y e new c.tell.result c.tell.ensures.breaks c.tell.ensures.noted))
+
+pub returns-clause-keeps : goal.returns-clause-keeps
+returns-clause-keeps g c =
+    let m = c.now-now.new.self in
+    both_keep c.args.self.now m _ (was_noted c.args.self.now m _ c.now-now.ensures.noted)
+    (send_keeps c.args.context.now.form [] c.serve_gathered.new.executor c.self.inside.edge c.tell.new.self (is_ok c.tell.result) m
+    c.self.inside.executor c.self.view_is c.tell.ensures.told.0 c.tell.ensures.left c.tell.ensures.noted)
+
+pub returns-then-is_empty-clause-keeps : goal.returns-then-is_empty-clause-keeps
+returns-then-is_empty-clause-keeps g c = here_keeps c.args.self.now
+
+pub returns-clause-cause : goal.returns-clause-cause
+returns-clause-cause g c =
+    send_cause c.args.context.now.form [] c.serve_gathered.new.executor c.self.inside.edge c.tell.new.self c.tell.result c.tell.ensures.noted

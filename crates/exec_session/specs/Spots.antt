@@ -1,0 +1,82 @@
+-- Where a run is: its executor, what its client has heard, what was asked of the world around it, and what its reader has left.
+use Rattle.std.specs.Prelude.{◌≡◌, ◌≤◌, ◌⊎◌, ℕ, Bool, true, false, List, [], ◌∷◌, ◌++◌, length, Option}
+use Rattle.ocf_types.specs.Limits.{num_max}
+use Rattle.executor.specs.Sights.{Sight}
+use Rattle.exec_commands.specs.declared.notice.NoticeForm.{NoticeForm}
+use Rattle.exec_client.specs.Heard.{Heard, Hears, HearsPart}
+use Rattle.exec_client.specs.Said.{Said}
+use Rattle.exec_trace.specs.Edges.{EdgeView, rest_events}
+use Rattle.exec_trace.specs.Events.{EndsInFailure}
+use Rattle.exec_trace.specs.declared.event.IoEvent.{IoEvent}
+use Rattle.exec_trace.specs.declared.event.IoEvent.TheVariants.{Asked, Sent}
+use Rattle.exec_session.specs.Limits.{longest_pause}
+
+-- where an answer stands: its executor, what the client has heard, and all that was asked of reader, client and clock
+pub record Spot (D : Type 0) : Type 0 where
+  pub executor : Sight D
+  pub heard : Heard D
+  pub events : List IoEvent
+
+abbrev pub spot : {D : Type 0} → Sight D → Heard D → List IoEvent → Spot D
+spot executor heard events = record { executor = executor; heard = heard; events = events }
+
+-- where a run is: the same, and what its reader has left, where that is known
+pub record Position (D : Type 0) : Type 0 where
+  pub at : Spot D
+  pub left : Option (List ℕ)
+
+abbrev pub position : {D : Type 0} → Spot D → Option (List ℕ) → Position D
+position at left = record { at = at; left = left }
+
+-- the same, and then this was asked and answered
+abbrev pub behind : {D : Type 0} → Spot D → IoEvent → Spot D
+behind p event = spot p.executor p.heard (p.events ++ event ∷ [])
+
+-- how a client is told something: from one spot to another
+abbrev pub Telling : Type 0 → Type 1
+Telling D = Spot D → Spot D → List Said → Type 0
+
+-- It was told, and hears all of it.
+pub record Tells {D : Type 0} (form : NoticeForm) (p q : Spot D) (said : List Said) : Type 0 where
+  pub executor : q.executor ≡ p.executor
+  pub hears : Hears form p.heard q.heard said
+  pub events : q.events ≡ p.events ++ Sent true ∷ []
+
+-- It was told, and a front of it was written: that broke off.
+pub record TellsPart {D : Type 0} (form : NoticeForm) (p q : Spot D) (said : List Said) : Type 0 where
+  pub executor : q.executor ≡ p.executor
+  pub hears : HearsPart form p.heard q.heard said
+  pub events : q.events ≡ p.events ++ Sent false ∷ []
+
+-- Why a run may break off: the last that was asked failed, or as much was asked as its loops go round.
+abbrev pub MayBreakOff : List IoEvent → Type 0
+MayBreakOff events = EndsInFailure events ⊎ (num_max ≤ length events)
+
+-- What stays while a run goes on: the executor as it was opened, of which is told; and what was asked stays asked.
+pub record Lasts {D : Type 0} (p q : Spot D) : Type 0 where
+  pub opened : q.heard.opened ≡ p.heard.opened
+  pub longer : length p.events ≤ length q.events
+
+-- the same where nothing is read
+abbrev pub Keeps : {D : Type 0} → Position D → Position D → Type 0
+Keeps p q = Lasts p.at q.at × (q.left ≡ p.left)
+
+-- the same, with this executor
+abbrev pub moved : {D : Type 0} → Spot D → Sight D → Spot D
+moved p executor = spot executor p.heard p.events
+
+-- the same, and then it was paused for so many microseconds
+abbrev pub paused : {D : Type 0} → Spot D → ℕ → Spot D
+paused p micros = spot p.executor p.heard (p.events ++ rest_events micros)
+
+-- the same, and then this was asked and answered, and nothing was read
+abbrev pub noted : {D : Type 0} → Position D → IoEvent → Position D
+noted p event = position (behind p.at event) p.left
+
+-- A short pause, and then the client was asked whether it hears still, and answered so.
+abbrev pub Pauses : {D : Type 0} → Bool → Spot D → Spot D → Type 0
+Pauses heard p q = (micros : ℕ) × (micros ≤ longest_pause) × (q ≡ behind (paused p micros) (Asked heard))
+
+-- where a run is with this executor, by its edge
+abbrev pub at_of : {D : Type 0} → Sight D → EdgeView D → Position D
+at_of executor edge = position (spot executor edge.heard edge.events) edge.left

@@ -1,0 +1,207 @@
+//! Where lines are answered, one by one or together.
+ghost use Rattle.std.specs.Prelude.{◌≡◌, ℕ, ◌+◌, ◌<◌, [], true, length, IfErr, IsTrue, None};
+ghost use Rattle.ocf_types.specs.declared.reply.TurnEnd.{TurnEnd};
+ghost use Rattle.exec_output.specs.declared.send.IoFault.TheVariants.{Memory};
+ghost use Rattle.exec_session.specs.Gathered.{waiting};
+ghost use Rattle.exec_session.specs.Held.{MayTakeAtOnce};
+ghost use Rattle.exec_session.specs.Limits.{most_together};
+ghost use Rattle.exec_session.specs.Pending.{IsBetween};
+ghost use Rattle.exec_session.specs.Rules.{rules_of};
+ghost use Rattle.exec_session.specs.Runs.{of_command};
+ghost use Rattle.exec_session.specs.Spots.{Keeps, Lasts, Position};
+ghost use Rattle.exec_session.specs.Waiting.{Comes, HasCome, HasFound, IsTaken, MayTakeBehind, MayWait, TakesFound, midway};
+ghost use Rattle.exec_session.specs.declared.lines.Found.TheVariants as found;
+
+use crate::context::{RunContext, Way};
+use crate::held::held_in;
+use crate::lines::{Found, Taken, found_in};
+use crate::metadata::Metadata;
+use crate::pending::Pending;
+use crate::worker::Worker;
+use child_model::Children;
+use disk_model::Disk;
+use exec_client::Client;
+use exec_commands::Line;
+use exec_lines::Input;
+use exec_output::IoFault;
+use ocf_types::{Command, Request};
+use std::rt::Clock;
+
+/// Where lines are answered: who does what they ask, and what was read and is not answered yet.
+#[derive(Drop)]
+pub struct Desk<'a, R: Input, D: Disk + Drop, C: Children + Drop, T: Client<D, C>, K: Clock> {
+    pub worker: Worker<'a, R, D, C, T, K>,
+    pub pending: Pending,
+}
+
+// Answers what stands next in the input, behind which nothing was read. Whether it is the input's end.
+fn answer_found<
+    R: Input,
+    D: Disk + Drop,
+    C: Children + Drop,
+    T: Client<D, C>,
+    K: Clock,
+    M: Metadata,
+>(
+    worker: &mut Worker<'_, R, D, C, T, K>,
+    context: &RunContext<'_, M>,
+    found: Found,
+) -> Result<bool, IoFault>
+    requires at_once { MayTakeAtOnce context.now.way found }
+    ensures keeps { Keeps worker.old worker.new }
+    ensures takes { TakesFound D.view (M.gives context.now.metadata.now) (rules_of context.now) found
+        worker.old.at worker.new.at result }
+    ensures memory { IfErr result (λ f. f ≡ Memory → IsTrue T.refuses) }
+{
+    match found {
+        Found::End => Ok(true),
+        Found::Empty => Ok(false),
+        Found::Line(line) => {
+            worker.answer_line(context, line)?;
+            Ok(false)
+        }
+    }
+}
+
+impl<'a, R: Input, D: Disk + Drop, C: Children + Drop, T: Client<D, C>, K: Clock> Desk<
+    'a,
+    R,
+    D,
+    C,
+    T,
+    K,
+> {
+    /// How a run goes on once the input has ended or has not.
+    pub fn next_step<M>(&self, context: &RunContext<'_, M>, has_ended: bool) -> Taken
+        ensures { IsTaken context.now.way self.now.worker.at.executor has_ended result }
+    {
+        if context.way == Way::Serve && !self.worker.is_open() {
+            Taken::Closed
+        } else if has_ended {
+            Taken::End
+        } else {
+            Taken::More
+        }
+    }
+
+    // Has a command wait behind the others, and answers all of them unless the next line is there already.
+    fn take_command<M: Metadata>(
+        &mut self,
+        context: &RunContext<'_, M>,
+        command: Command,
+        has_next: bool,
+    ) -> Result<Taken, IoFault>
+        requires open { self.old.worker.at.executor.is_open ≡ true }
+        requires few { length (waiting self.old.pending.gathered) < most_together }
+        requires between { IsBetween self.old.pending }
+        ensures waits { MayWait context.now.way self.new.worker.at.executor self.new.pending }
+        ensures between { IsBetween self.new.pending }
+        ensures lasts { Lasts self.old.worker.at self.new.worker.at }
+        ensures takes { (p : Position D) (own : TurnEnd) (most : ℕ)
+            → MayTakeBehind context.now.way most
+            → HasFound D.view (M.gives context.now.metadata.now) (rules_of context.now) p own most
+            (waiting self.old.pending.gathered) (found.Line (of_command command)) self.old.worker
+            → Comes D.view (M.gives context.now.metadata.now) (rules_of context.now) p own (most + 1)
+            (midway self.new.worker self.new.pending) result }
+        ensures memory { IfErr result (λ f. f ≡ Memory → IsTrue T.refuses) }
+    {
+        self.pending.gathered.push(command);
+        if has_next && !self.pending.gathered.is_full() {
+            return Ok(Taken::More);
+        }
+        self.worker
+            .answer_gathered(context, &mut self.pending.gathered)?;
+        Ok(self.next_step(context, false))
+    }
+
+    // Answers the commands that wait, and then what stands next in the input, unless the run ends before that.
+    fn take_other<M: Metadata>(
+        &mut self,
+        context: &RunContext<'_, M>,
+        found: Found,
+    ) -> Result<Taken, IoFault>
+        requires at_once { MayTakeAtOnce context.now.way found }
+        requires waits { MayWait context.now.way self.old.worker.at.executor self.old.pending }
+        requires between { IsBetween self.old.pending }
+        ensures waits { MayWait context.now.way self.new.worker.at.executor self.new.pending }
+        ensures between { IsBetween self.new.pending }
+        ensures lasts { Lasts self.old.worker.at self.new.worker.at }
+        ensures takes { (p : Position D) (own : TurnEnd) (most : ℕ)
+            → MayTakeBehind context.now.way most
+            → HasFound D.view (M.gives context.now.metadata.now) (rules_of context.now) p own most
+            (waiting self.old.pending.gathered) found self.old.worker
+            → Comes D.view (M.gives context.now.metadata.now) (rules_of context.now) p own (most + 1)
+            (midway self.new.worker self.new.pending) result }
+        ensures memory { IfErr result (λ f. f ≡ Memory → IsTrue T.refuses) }
+    {
+        self.worker
+            .answer_gathered(context, &mut self.pending.gathered)?;
+        let step = self.next_step(context, false);
+        if step != Taken::More {
+            return Ok(step);
+        }
+        let has_ended = answer_found(&mut self.worker, context, found)?;
+        Ok(self.next_step(context, has_ended))
+    }
+
+    // Takes what stands next in the input: a command waits while the next line is there already, and else all that wait are
+    // answered together; anything else is answered behind them.
+    fn take_found<M: Metadata>(
+        &mut self,
+        context: &RunContext<'_, M>,
+        found: Found,
+        has_next: bool,
+    ) -> Result<Taken, IoFault>
+        requires at_once { MayTakeAtOnce context.now.way found }
+        requires waits { MayWait context.now.way self.old.worker.at.executor self.old.pending }
+        requires between { IsBetween self.old.pending }
+        ensures waits { MayWait context.now.way self.new.worker.at.executor self.new.pending }
+        ensures between { IsBetween self.new.pending }
+        ensures lasts { Lasts self.old.worker.at self.new.worker.at }
+        ensures takes { (p : Position D) (own : TurnEnd) (most : ℕ)
+            → MayTakeBehind context.now.way most
+            → HasFound D.view (M.gives context.now.metadata.now) (rules_of context.now) p own most
+            (waiting self.old.pending.gathered) found self.old.worker
+            → Comes D.view (M.gives context.now.metadata.now) (rules_of context.now) p own (most + 1)
+            (midway self.new.worker self.new.pending) result }
+        ensures memory { IfErr result (λ f. f ≡ Memory → IsTrue T.refuses) }
+    {
+        match found {
+            Found::Line(Ok(Line::Request(Request::Command(command)))) if self.worker.is_open() => {
+                self.take_command(context, command, has_next)
+            }
+            found => self.take_other(context, found),
+        }
+    }
+
+    /// Goes on with the line in the buffer by one read, and takes it once it is whole, or holds it.
+    pub fn take_read<M: Metadata>(&mut self, context: &RunContext<'_, M>) -> Result<Taken, IoFault>
+        requires free { self.old.pending.held ≡ None }
+        requires waits { MayWait context.now.way self.old.worker.at.executor self.old.pending }
+        ensures waits { MayWait context.now.way self.new.worker.at.executor self.new.pending }
+        ensures lasts { Lasts self.old.worker.at self.new.worker.at }
+        ensures longer { length self.old.worker.at.events < length self.new.worker.at.events }
+        ensures takes { (p : Position D) (own : TurnEnd) (most : ℕ)
+            → MayTakeBehind context.now.way most
+            → HasCome D.view (M.gives context.now.metadata.now) (rules_of context.now) p own most
+            (midway self.old.worker self.old.pending)
+            → Comes D.view (M.gives context.now.metadata.now) (rules_of context.now) p own (most + 1)
+            (midway self.new.worker self.new.pending) result }
+        ensures memory { IfErr result (λ f. f ≡ Memory → IsTrue T.refuses) }
+    {
+        let Some(next) = self.worker.read(&mut self.pending.buffer)? else {
+            return Ok(Taken::More);
+        };
+        let found = found_in(context.way, context.alloc, &self.pending.buffer, next);
+        self.pending.buffer.clear();
+        let other = match held_in(context.way, found) {
+            Ok(held) => {
+                self.pending.held = Some(held);
+                return Ok(Taken::More);
+            }
+            Err(other) => other,
+        };
+        let has_next = self.worker.has_line();
+        self.take_found(context, other, has_next)
+    }
+}

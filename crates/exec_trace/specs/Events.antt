@@ -1,0 +1,29 @@
+-- What a run asked of the world around it, and what it was answered: a list of events, the oldest first.
+use Rattle.std.specs.Prelude.{◌≡◌, ◌≤◌, ℕ, Bool, true, false, not, List, [], ◌∷◌, ◌++◌, Option, Some, None}
+use Rattle.exec_trace.specs.declared.event.IoEvent.{IoEvent}
+use Rattle.exec_trace.specs.declared.event.IoEvent.TheVariants.{Asked, Looked, Peeked, Read, Rested, Sent, Shown}
+
+-- the last of two moments, of which either may be none
+abbrev pub later_of : ℕ → Option ℕ → Option ℕ
+later_of moment None = Some moment
+later_of moment (Some last) = Some last
+
+-- the moment that the clock showed last, where it showed one
+abbrev pub last_shown : List IoEvent → Option ℕ
+last_shown [] = None
+last_shown (Shown moment ∷ events) = later_of moment (last_shown events)
+last_shown (e ∷ events) = last_shown events
+
+-- a read or a send that failed, or nobody hears any more what is sent
+abbrev pub is_failure : IoEvent → Bool
+is_failure (Read done) = not done
+is_failure (Sent done) = not done
+is_failure (Asked heard) = not heard
+is_failure _ = false
+
+-- the last event is a failure
+pub record EndsInFailure (events : List IoEvent) : Type 0 where
+  pub before : List IoEvent
+  pub last : IoEvent
+  pub is_last : events ≡ before ++ last ∷ []
+  pub fails : is_failure last ≡ true

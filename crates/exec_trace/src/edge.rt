@@ -1,0 +1,174 @@
+//! The reader, the client and the clock of a run.
+ghost use Rattle.std.specs.Prelude.{◌≡◌, [], ◌∷◌, ◌++◌, ◌≤◌, Bool, true, false, is_ok, IfErr, IfOk, IsTrue, List, MatchOption, OnErr, OnOk, Option, ℕ};
+ghost use Rattle.ocf_types.specs.Numbers.{IsMoment};
+ghost use Rattle.exec_lines.specs.Buffer.{line_bytes};
+ghost use Rattle.exec_lines.specs.Pieces.{IsMidLine, IsNext};
+ghost use Rattle.exec_client.specs.Heard.{Hears, HearsPart, IsTold};
+ghost use Rattle.exec_client.specs.MayTell.{MayTell};
+ghost use Rattle.exec_client.specs.Said.{said_in};
+ghost use Rattle.exec_output.specs.declared.send.IoFault.TheVariants.{InputOrOutput, Memory};
+ghost use Rattle.exec_trace.specs.Edges.{EdgeView, noting, rested};
+ghost use Rattle.exec_trace.specs.declared.event.IoEvent.TheVariants.{Asked, Looked, Peeked, Read, Sent, Shown};
+
+use crate::event::IoEvent;
+use child_model::Children;
+use disk_model::Disk;
+use exec_client::{Client, Told};
+use exec_commands::NoticeForm;
+use exec_lines::{Input, LineBuffer, Next, gather_line, moment_now};
+use exec_output::IoFault;
+use executor::Executor;
+use past::Past;
+use std::marker::{Model, PhantomData};
+use std::rt::Clock;
+use std::thread::sleep;
+use std::time::Duration;
+
+/// The reader, the client and the clock of a run, which are asked in no other way, and all that was asked of them.
+#[derive(Drop)]
+pub struct Edge<'a, R: Input, D: Disk + Drop, C: Children + Drop, T: Client<D, C>, K: Clock> {
+    reader: R,
+    client: T,
+    clock: &'a K,
+    past: Past<IoEvent>,
+    of: PhantomData<(D, C)>,
+}
+
+impl<'a, R: Input, D: Disk + Drop, C: Children + Drop, T: Client<D, C>, K: Clock> Model
+    for Edge<'a, R, D, C, T, K> {
+    ghost use Rattle.exec_trace.specs.Edges.{EdgeView};
+
+    ghost Value = { EdgeView D };
+
+    ghost view = { λ e. record { left = R.remaining e.reader; heard = T.heard e.client; events = e.past.items } };
+}
+
+impl<'a, R: Input, D: Disk + Drop, C: Children + Drop, T: Client<D, C>, K: Clock> Edge<
+    'a,
+    R,
+    D,
+    C,
+    T,
+    K,
+> {
+    /// Nothing was asked yet.
+    pub fn new(reader: R, client: T, clock: &'a K) -> Edge<'a, R, D, C, T, K>
+        ensures { result ≡ record { left = R.remaining reader; heard = T.heard client; events = [] } }
+    {
+        Edge {
+            reader,
+            client,
+            clock,
+            past: Past::new(),
+            of: PhantomData,
+        }
+    }
+
+    /// The clock, for the length of a pause, which is not noted.
+    pub fn clock(&self) -> &'a K {
+        self.clock
+    }
+
+    /// Waits for input for at most so many milliseconds, and says whether a read would not wait.
+    pub fn look(&mut self, millis: u32) -> bool
+        ensures noted { self.new ≡ noting self.old (Looked millis result) }
+    {
+        let ready = self.reader.is_ready(millis);
+        self.past.note(&IoEvent::Looked { millis, ready });
+        ready
+    }
+
+    /// Whether a whole line stands in what was read already.
+    pub fn has_line(&mut self) -> bool
+        ensures noted { self.new ≡ noting self.old (Peeked result) }
+    {
+        let has_line = self.reader.has_line();
+        self.past.note(&IoEvent::Peeked { has_line });
+        has_line
+    }
+
+    /// Reads once, and goes on with a line in the buffer. It gives what stands next in the input once that line is whole; none while
+    /// it goes on.
+    pub fn read(&mut self, buffer: &mut LineBuffer) -> Result<Option<Next>, IoFault>
+        ensures gathers { (left : Option (List ℕ))
+            → IsMidLine left (line_bytes buffer.old) self.old.left
+            → IfOk result (λ next. MatchOption next
+            (IsMidLine left (line_bytes buffer.new) self.new.left)
+            (λ n. IsNext left n (line_bytes buffer.new) self.new.left)) }
+        ensures fault { IfErr result (λ f. f ≡ InputOrOutput) }
+        ensures heard { self.new.heard ≡ self.old.heard }
+        ensures noted { self.new.events ≡ self.old.events ++ Read (is_ok result) ∷ [] }
+    {
+        let read = gather_line(&mut self.reader, buffer);
+        self.past.note(&IoEvent::Read { done: read.is_ok() });
+        match read {
+            Ok(next) => Ok(next),
+            Err(error) => Err(IoFault::from(error)),
+        }
+    }
+
+    /// The moment that the clock shows, in milliseconds since 1970.
+    pub fn now(&mut self) -> u64
+        ensures moment { IsMoment result }
+        ensures noted { self.new ≡ noting self.old (Shown result) }
+    {
+        let moment = moment_now(self.clock).get();
+        self.past.note(&IoEvent::Shown { moment });
+        moment
+    }
+
+    /// Pauses for so many microseconds: not at all for none.
+    pub fn rest(&mut self, micros: u64)
+        ensures noted { self.new ≡ rested self.old micros }
+    {
+        if micros > 0 {
+            sleep(self.clock, Duration::from_micros(micros));
+            self.past.note(&IoEvent::Rested { micros });
+        }
+    }
+
+    /// Tells the client this, once it stands; notices in this form. After an error a front of it may be told, and of the line behind
+    /// that a part.
+    pub fn tell(
+        &mut self,
+        executor: &Executor<D, C>,
+        form: NoticeForm,
+        what: &Told,
+    ) -> Result<(), IoFault>
+        requires may_tell { MayTell D.view self.old.heard executor.now what.now }
+        ensures told { IsTold self.old.heard self.new.heard (said_in what.now) }
+        ensures hears { OnOk result (Hears form.entry self.old.heard self.new.heard (said_in what.now)) }
+        ensures breaks { OnErr result (HearsPart form.entry self.old.heard self.new.heard (said_in what.now)) }
+        ensures memory { IfErr result (λ f. f ≡ Memory → IsTrue T.refuses) }
+        ensures left { self.new.left ≡ self.old.left }
+        ensures noted { self.new.events ≡ self.old.events ++ Sent (is_ok result) ∷ [] }
+    {
+        let told = self.client.tell(executor, form, what);
+        self.past.note(&IoEvent::Sent { done: told.is_ok() });
+        told
+    }
+
+    /// Whether what is told may still reach somebody.
+    pub fn is_heard(&mut self) -> bool
+        ensures noted { self.new ≡ noting self.old (Asked result) }
+    {
+        let heard = self.client.is_heard();
+        self.past.note(&IoEvent::Asked { heard });
+        heard
+    }
+
+    /// The reader and the client, and what was asked of them and of the clock.
+    pub fn into_parts(self) -> (R, T, Past<IoEvent>)
+        ensures left { R.remaining result.0 ≡ self.entry.left }
+        ensures heard { T.heard result.1 ≡ self.entry.heard }
+        ensures events { result.2.items ≡ self.entry.events }
+    {
+        let Edge {
+            reader,
+            client,
+            past,
+            ..
+        } = self;
+        (reader, client, past)
+    }
+}

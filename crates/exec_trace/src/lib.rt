@@ -1,0 +1,8 @@
+//! The reader, the client and the clock of a run behind one door, and all that was asked of them, for contracts.
+#![tactic(auto)]
+
+mod edge;
+mod event;
+
+pub use edge::Edge;
+pub use event::IoEvent;
