@@ -39,7 +39,7 @@ mkdir -p "$root/usr/libexec/ocfexec" "$doc/docs" "$doc/examples"
 install -m 755 examples/client.py examples/client.sh examples/with-executor.sh "$root/usr/libexec/ocfexec"
 install -m 644 examples/ocfexec.py examples/resources.py "$root/usr/libexec/ocfexec"
 install -m 644 README.md "$doc"
-install -m 644 docs/GUIDE.md docs/FORMAT.md docs/CLUSTER.md "$doc/docs"
+install -m 644 docs/GUIDE.md docs/FORMAT.md docs/protocol.schema.json docs/CLUSTER.md "$doc/docs"
 cp -R examples/*.sh examples/*.py examples/*.jsonl examples/*.service examples/*.socket examples/resource.d "$doc/examples"
 # the units of this package: its own paths, and for the client's executor options from a file that an administrator keeps
 mkdir -p "$root/lib/systemd/system" "$root/etc/default" "$root/etc/ocfexec"

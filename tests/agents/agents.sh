@@ -135,7 +135,8 @@ limited() {
     play
     took=$((($(date +%s%N) - began) / 1000000))
     replied 'metadata that do not end'
-    { [ "$took" -ge 900 ] && [ "$took" -lt 3000 ]; } || differs 'three limits of 300 milliseconds' 'under 3000' "$took"
+    [ "$took" -ge 900 ] || differs 'three limits of 300 milliseconds' 'at least 900' "$took"
+    took_less 'three limits of 300 milliseconds' 3000 "$took"
     for n in $(cat "$here/pids"); do
         ! kill -0 "$n" 2> /dev/null || differs 'an agent past its limit' 'killed' "pid $n"
     done
@@ -195,7 +196,7 @@ refused() {
 
 # An agent that ignores the signal to end is killed at its timeout, and what it started stays.
 stubborn() {
-    printf 'trap "" TERM INT HUP\nsleep 3 & echo $! > "%s"\nwhile :; do :; done\n' "$here/left" > "$agents/Stubborn"
+    printf 'trap "" TERM INT HUP\nsleep 60 & echo $! > "%s"\nwhile :; do :; done\n' "$here/left" > "$agents/Stubborn"
     { register r1 Stubborn; start r1 300; printf '{"op":"drain"}\n'; } > "$here/lines"
     play
     same 'an agent that ignores SIGTERM' 'start timed-out 1' "$(outcomes "$here/out")"

@@ -78,11 +78,7 @@ class Endings(helper.Check):
             return None
 
     def awaits_pid(self, name):
-        until = time.monotonic() + 10
-        while self.pid(name) is None:
-            self.assertLess(time.monotonic(), until, f"{name} is up")
-            time.sleep(0.005)
-        return self.pid(name)
+        return self.eventually(f"{name} is up", lambda: self.pid(name))
 
     def register(self, does, name="r1", **params):
         texts = {key: text.replace("NOTE", self.note) for key, text in {"does": does, **params}.items()}

@@ -51,26 +51,21 @@ class Metadata(helper.Check):
 
     def pids(self):
         # the numbers of the agent that is asked and of its child
-        for _ in range(500):
-            if os.path.exists(self.place("pids")):
-                with open(self.place("pids"), encoding="ascii") as file:
-                    return [int(word) for word in file.read().split()]
-            time.sleep(0.02)
-        return self.fail("no agent is asked")
+        return self.numbers_in(self.place("pids"))
 
     def gone(self, pids):
-        time.sleep(0.1)
-        self.assertEqual([pid for pid in pids if helper.is_alive(pid)], [], "processes that live on")
+        self.eventually(f"the end of the processes {pids}", lambda: not any(map(helper.is_alive, pids)))
 
     def monitors(self, run, began, ended):
         # how many notices of a monitor came between two moments
         with run.came:
             return sum(began < at < ended and '"monitor"' in line for at, line in run.lines)
 
-    def after(self, run, began, least, most, holds, seconds=10):
+    def after(self, run, began, least, most, holds, seconds=helper.PATIENCE):
         # the moment of a line that comes so many seconds after another moment
         at, value = run.awaits(holds, seconds)
-        self.assertTrue(least <= at - began <= most, f"{value} after {at - began:.2f} s")
+        self.assertGreaterEqual(at - began, least, f"seconds to {value}")
+        self.took_less(most, at - began, f"waiting for {value}")
         return at
 
     def replies(self, run):
@@ -111,8 +106,8 @@ class Metadata(helper.Check):
         pids, began = self.pids(), time.monotonic()
         run.stdout.close()
         run.stdin.close()
-        self.assertEqual(run.wait(5), 7)
-        self.assertLess(time.monotonic() - began, 1.5)
+        self.assertEqual(run.wait(helper.PATIENCE), 7)
+        self.took_less(1.5, time.monotonic() - began, "an end after the last reader")
         self.gone(pids)
 
     def test_journal(self):
@@ -122,8 +117,8 @@ class Metadata(helper.Check):
         run.tell(meta("Slow"))
         pids, began = self.pids(), time.monotonic()
         shutil.rmtree(folder)
-        self.assertEqual(run.run.wait(5), 5)
-        self.assertLess(time.monotonic() - began, 1.5)
+        self.assertEqual(run.run.wait(helper.PATIENCE), 5)
+        self.took_less(1.5, time.monotonic() - began, "an end after the journal is gone")
         self.gone(pids)
 
     def test_two(self):
@@ -131,7 +126,9 @@ class Metadata(helper.Check):
         self.takes(1)
         began = time.monotonic()
         done = helper.run("serve", "--memory", "--root", self.here, told=helper.lines(meta("Slow"), meta("Other"), LIST))
-        self.assertTrue(2 <= time.monotonic() - began < 4)
+        took = time.monotonic() - began
+        self.assertGreaterEqual(took, 2, "seconds of two agents, one after the other")
+        self.took_less(4, took, "two agents, one after the other")
         wanted = [{"meta": 13}, {"of": "Slow"}, {"meta": 14}, {"of": "Other"}, {"ok": True, "resources": []}]
         self.assertEqual((done.returncode, helper.replies(done.stdout)), (0, wanted))
 
@@ -159,8 +156,8 @@ class Metadata(helper.Check):
         began = time.monotonic()
         for one in (run, serve):
             one.tell(meta("Slow"))
-        self.after(serve, began, 29.5, 31.5, lambda value: value == {"end": "limit"}, seconds=33)
-        self.after(run, began, 32.5, 36, lambda value: value == {"meta": 13}, seconds=10)
+        self.after(serve, began, 29.5, 31.5, lambda value: value == {"end": "limit"})
+        self.after(run, began, 32.5, 36, lambda value: value == {"meta": 13})
         self.assertEqual((run.ends(), serve.ends()), (0, 0))
 
     def test_limits(self):
@@ -186,7 +183,7 @@ class Metadata(helper.Check):
                  "Closes": "exec sleep 5 > /dev/null\n", "Leaves": "sleep 2 &\n", "Nothing": "exit 0\n", "Hangs": "exec sleep 5\n"}
         for kind, body in kinds.items():
             self.agent(kind, body)
-        told = helper.lines(*[meta(kind, limit=500) for kind in [*kinds, "None"]])
+        told = helper.lines(*[meta(kind, limit=500 if kind in ("Closes", "Leaves", "Hangs") else 60_000) for kind in [*kinds, "None"]])
         served, done = [helper.run(word, "--memory", "--root", self.here, told=told) for word in ("serve", "run")]
         long = b"123456789012345\n" * 4096
         ends = ['{"end":"too-long"}', '{"code":5,"end":"failed"}', '{"code":1,"end":"failed"}', '{"end":"limit"}', '{"end":"limit"}',

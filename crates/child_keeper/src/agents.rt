@@ -13,12 +13,15 @@ use process_ends::still_runs;
 use std::alloc::{AllocError, Allocator};
 use std::io;
 use std::process::{Child, ExitStatus, OpenProcess};
+use std::time::Duration;
 
 /// A child, its run, and the resource whose action it does.
 #[derive(Drop)]
 pub struct Agent<P: OpenProcess + Drop> {
     pub run: RunId,
     pub id: RscId,
+    /// When it was begun, by the monotonic clock.
+    pub begun: Duration,
     pub child: Child<P>,
 }
 

@@ -10,9 +10,9 @@ use crate::dying::Dying;
 use crate::ending::end_agents;
 use crate::ends::poll_of;
 use crate::live::LIVE_LIMIT;
-use crate::log::Log;
 use crate::refused::{name_text, refused};
 use crate::{Answer, Children, Entry, KillFault, Poll};
+use agent_logs::{Begun, Ended, Log, LoggedEnd};
 use disk_model::Disk;
 use exec_journal::Journal;
 use growth::{GROWTH_LIMIT, Grows};
@@ -24,6 +24,7 @@ use std::alloc::{AllocError, Allocator, Global};
 use std::io::{self, Eprint};
 use std::process::{Child, OpenProcess};
 use std::rt::Clock;
+use std::time::Duration;
 use std::{mem, process};
 
 /// Agents as processes of the system. Each runs in the root folder with just the variables of its launch, and reads
@@ -89,14 +90,18 @@ impl<R: process::Processes + Clock + Eprint + ProcFiles + Drop, A: Grows> Proces
         if self.dying.has(&launch.id) && !is_stop(launch) {
             return Err(StartFault::Other);
         }
-        match spawn(&self.rt, self.alloc, &self.log, &launch.invocation) {
+        match spawn(&self.rt, self.alloc, &self.log, launch) {
             Ok(child) => Ok(child),
-            Err(error) => Err(refused_run(&self.rt, launch, &error)),
+            Err(error) => {
+                let fault = refused_run(&self.rt, launch, &error);
+                log_refused(&self.rt, &self.log, launch, fault);
+                Err(fault)
+            }
         }
     }
 
-    // Gives a child up, to be ended.
-    fn give_up(&mut self, run: RunId)
+    // Gives a child up, to be ended. The log says so.
+    fn give_up(&mut self, run: RunId, end: LoggedEnd)
         requires lives { Contains (processes_of self.old).live run }
         ensures gone { processes_of self.new
             ≡ record (processes_of self.old) {
@@ -105,11 +110,60 @@ impl<R: process::Processes + Clock + Eprint + ProcFiles + Drop, A: Grows> Proces
             } }
     {
         let agent = self.live.take(run);
+        log_end(&self.rt, &self.log, &agent, end);
         if self.killed.len() >= LIVE_LIMIT {
             self.end_given_up();
         }
         self.killed.add(agent);
     }
+}
+
+// The moment of the monotonic clock, by which times are measured.
+fn monotonic(rt: &impl Clock) -> Duration {
+    rt.monotonic().unwrap_or(Duration::ZERO)
+}
+
+// How many milliseconds have passed since a moment of the monotonic clock.
+fn millis_since(rt: &impl Clock, begun: Duration) -> u64 {
+    let passed = monotonic(rt).saturating_sub(begun);
+    u64::try_from(passed.as_millis()).unwrap_or(u64::MAX)
+}
+
+// Writes to the log that an agent has ended.
+fn log_end<R: Clock + Eprint, P: OpenProcess + Drop>(
+    rt: &R,
+    log: &Log,
+    agent: &Agent<P>,
+    end: LoggedEnd,
+) {
+    let ended = Ended {
+        run: agent.run,
+        end,
+        millis: millis_since(rt, agent.begun),
+    };
+    log.end(rt, &agent.id, ended);
+}
+
+// Writes to the log that the agents of a run that ends are killed.
+fn log_killed<R: Clock + Eprint, P: OpenProcess + Drop>(rt: &R, log: &Log, agents: &[Agent<P>]) {
+    for agent in agents {
+        log_end(rt, log, agent, LoggedEnd::Killed);
+    }
+}
+
+// Writes to the log that an agent was not started.
+fn log_refused<R: Clock + Eprint, L: Allocator>(
+    rt: &R,
+    log: &Log,
+    launch: &Launch<L>,
+    fault: StartFault,
+) {
+    let ended = Ended {
+        run: launch.run,
+        end: LoggedEnd::Refused(fault),
+        millis: 0,
+    };
+    log.end(rt, &launch.id, ended);
 }
 
 // Ends agents that were given up. What lives on is named, and asked for later.
@@ -140,17 +194,22 @@ fn tell_killed<R: Eprint + ProcFiles, P: OpenProcess + Drop>(rt: &R, agent: &Age
 }
 
 // Says on standard error which signal ended an agent, since its result does not tell that.
-fn tell_signaled<R: Eprint, P: OpenProcess + Drop>(rt: &R, agent: Agent<P>, signal: u8) {
+fn tell_signaled<R: Eprint, P: OpenProcess + Drop>(rt: &R, agent: &Agent<P>, signal: u8) {
     let (run, id) = (agent.run.get(), name_text(agent.id.as_bytes()));
     let _ = rt.eprintln(format_args!("ocfexec: run {run} of {id} was ended by signal {signal}"));
 }
 
+// The word for the action of an invocation: its last argument.
+fn action_of<L: Allocator>(invocation: &Invocation<L>) -> &str {
+    match invocation.arguments().last() {
+        Some(action) => action.as_str(),
+        None => "",
+    }
+}
+
 // Whether a launch is that of a stop, which is started whatever lives of its resource. OCF Resource Agent API 1.1, stop.
 fn is_stop<L: Allocator>(launch: &Launch<L>) -> bool {
-    match launch.invocation.arguments().last() {
-        Some(action) => action.as_str() == "stop",
-        None => false,
-    }
+    action_of(&launch.invocation) == "stop"
 }
 
 // The fault of a start that the system refuses.
@@ -163,16 +222,21 @@ fn refused_run<R: Eprint, L: Allocator>(
     refused(rt, format_args!("run {run} of {id}"), error)
 }
 
-// Starts the program of an invocation.
-fn spawn<R: process::Processes, A: Allocator + Copy, L: Allocator>(
+// Starts the program of a launch, which the log says before.
+fn spawn<R: process::Processes + Clock + Eprint, A: Allocator + Copy, L: Allocator>(
     rt: &R,
     alloc: A,
     log: &Log,
-    invocation: &Invocation<L>,
+    launch: &Launch<L>,
 ) -> io::Result<Child<R::Started>> {
-    let (output, errors) = (log.stdio()?, log.stdio()?);
-    let mut command = command_of(alloc, invocation)?;
-    write_to(&mut command, output, errors);
+    let begun = Begun {
+        call: launch.call,
+        run: launch.run,
+        action: action_of(&launch.invocation),
+    };
+    let streams = log.begin(rt, &launch.id, &begun)?;
+    let mut command = command_of(alloc, &launch.invocation)?;
+    write_to(&mut command, streams.output, streams.errors);
     command.spawn(rt)
 }
 
@@ -188,10 +252,16 @@ impl<R: process::Processes + Clock + Eprint + ProcFiles + Drop, A: Allocator + C
         launch: &Launch<L>,
     ) -> Result<(), StartFault> {
         let run = launch.run;
+        let begun = monotonic(&self.rt);
         let answer = match self.spawned(launch) {
             Ok(child) => {
                 let id = launch.id.copied();
-                self.live.add(Agent { run, id, child });
+                self.live.add(Agent {
+                    run,
+                    id,
+                    begun,
+                    child,
+                });
                 Ok(())
             }
             Err(fault) => Err(fault),
@@ -214,15 +284,22 @@ impl<R: process::Processes + Clock + Eprint + ProcFiles + Drop, A: Allocator + C
         });
         match answer {
             Poll::Running => {}
-            Poll::Exited(_) => drop(self.live.take(run)),
-            Poll::Signaled(signal) => tell_signaled(&self.rt, self.live.take(run), signal),
-            Poll::Fault => self.give_up(run),
+            Poll::Exited(code) => {
+                let agent = self.live.take(run);
+                log_end(&self.rt, &self.log, &agent, LoggedEnd::Exited(code));
+            }
+            Poll::Signaled(signal) => {
+                let agent = self.live.take(run);
+                log_end(&self.rt, &self.log, &agent, LoggedEnd::Signaled(signal));
+                tell_signaled(&self.rt, &agent, signal);
+            }
+            Poll::Fault => self.give_up(run, LoggedEnd::Lost),
         }
         answer
     }
 
     fn kill(&mut self, run: RunId) -> Result<(), KillFault> {
-        self.give_up(run);
+        self.give_up(run, LoggedEnd::Killed);
         self.book.note(Entry {
             run,
             at: 0,
@@ -237,6 +314,7 @@ impl<R: process::Processes + Clock + Eprint + ProcFiles + Drop, A: Allocator + C
 
     fn give_up_all(&mut self) {
         self.end_given_up();
+        log_killed(&self.rt, &self.log, self.live.agents.as_slice());
         mem::swap(&mut self.live, &mut self.killed);
         self.end_given_up();
         self.dying.sweep();

@@ -7,5 +7,5 @@ mod standard_error;
 mod streams;
 
 pub use signals::{children_ignored, tell_ignored};
-pub use standard_error::{explain, report, report_cause};
+pub use standard_error::{explain, is_journal, report, report_cause};
 pub use streams::{FirstError, Noted, tell_run, tell_shown};

@@ -20,9 +20,9 @@ fn device_and_inode(text: &str) -> Option<(u64, u64)> {
     Some((device.parse().ok()?, inode.parse().ok()?))
 }
 
-// Whether standard error is the stream to the system's journal that the environment names. It takes no memory, of which there may be
-// none.
-fn is_journal(rt: &HostRuntime) -> bool {
+/// Whether standard error is the stream to the system's journal that the environment names. It takes no memory, of which there may
+/// be none.
+pub fn is_journal(rt: &HostRuntime) -> bool {
     let mut room = [0u8; STREAM_LIMIT];
     let Ok(length) = rt.var("JOURNAL_STREAM", &mut room) else {
         return false;

@@ -71,6 +71,14 @@ impl FirstError {
         }
     }
 
+    /// Whether it is that nobody reads what is written any more.
+    pub fn is_unread(&self) -> bool {
+        match self.met.get() {
+            Some(error) => error.kind() == ErrorKind::BrokenPipe,
+            None => false,
+        }
+    }
+
     /// Standard input, over a reader of it, which notes its first error here.
     pub fn input<R: Read>(&self, inner: R) -> Patient<Noted<'_, R>> {
         Patient::new(Noted { inner, first: self }, libc::STDIN_FILENO)

@@ -1,17 +1,19 @@
 -- What a parse of the command line's words met, and words that give no options.
-use Rattle.std.proofs.Common.{◌≡◌, ◌≢◌, Bool, true, false, not, is_some, List, [], Some, option_map, ap, subst, ◌∙◌, sym, codes}
-use Rattle.clap.specs.Words.{Row, Text, app_of, fault_of, first_of, is_simple, is_simple_and_free, subcommand_name_of, subcommand_of}
+use Rattle.std.proofs.Common.{◌≡◌, ◌≢◌, true, is_some, inl, inr, List, [], Option, None, Some, option_map, unwrap_or, ap, subst, ◌∙◌, sym}
+use Rattle.clap.specs.Words.{Row, Text, app_of, fault_of, is_simple, is_simple_and_free, subcommand_name_of, subcommand_of}
 use Rattle.clap.specs.Words.{subcommand_rows_of, HasMatchesOf, Kinds}
 use Rattle.clap.specs.declared.builder.command.Command.{Command}
 use Rattle.clap.specs.declared.parser.matches.ArgMatches.{ArgMatches}
 use Rattle.exec_options.specs.declared.options.Subcommand.{Subcommand}
 use Rattle.exec_options.specs.declared.fault.WordsFault.{WordsFault}
-use Rattle.exec_options.specs.declared.fault.WordsFault.TheVariants.{Help, Usage, Choice, TidyAt, Root, Orphans, Since, Memory}
+use Rattle.exec_options.specs.declared.fault.WordsFault.TheVariants.{Help, Usage, Choice, TidyAt, Root, Orphans, Since, Timeout, Memory}
+use Rattle.exec_options.specs.declared.words.Wanted.TheVariants as wanted
 use Rattle.exec_options.specs.App.{ocfexec_app}
-use Rattle.exec_options.specs.Faults.{Flawed, HasFaultKind, HasFlaw, IsFault, OrphansFlaw, RootFlaw, SinceFlaw, TidyAtFlaw}
-use Rattle.exec_options.specs.Subcommands.{subcommand_word}
-use Rattle.exec_options.specs.Words.{is_true_text, Gives, IsChoice, IsReadFrom, Names}
-use Rattle.exec_options.specs.declared.options.Options.{Options}
+use Rattle.exec_options.specs.Faults.{Flawed, HasFaultKind, HasOnceFlaw, HasPlacedFlaw, IsFault, OnceFlawed, OrphansFlaw, RootFlaw}
+use Rattle.exec_options.specs.Faults.{SinceFlaw, TidyAtFlaw, TimeoutFlaw, Unnamed}
+use Rattle.exec_options.specs.Subcommands.{once_word, subcommand_word}
+use Rattle.exec_options.specs.Words.{place_in, AsksFor, IsJournalWanted, IsOnceWanted}
+use Rattle.exec_options.specs.declared.words.Wanted.{Wanted}
 use Rattle.ocf_types.specs.Laws.{some_is}
 use Rattle.exec_options.proofs.AppLemmas.{both_parts, name_in_rows}
 
@@ -29,63 +31,98 @@ pub faults : (command : Command) (words : List Text) (P : Kinds → Type 0) → 
     → (is_simple_and_free (app_of command) ≡ true → P (fault_of (app_of command) words)) → P (fault_of ocfexec_app words)
 faults command words P app holds = subst (λ a. P (fault_of a words)) app (holds (ap is_simple_and_free app))
 
--- words that name no subcommand give no options
+-- words that name another subcommand name none that has a journal
 pub unnamed : (words : List Text) (name : Text) (rows : List Row) → subcommand_of ocfexec_app words ≡ Some (name, rows)
-    → ((s : Subcommand) → name ≢ subcommand_word s)
-    → (s : Subcommand) (found : List Row) → Names words s found → ¬ IsChoice found
-unnamed words name rows named none s found names choice = none s (ap (λ (p : Text × List Row). p.0) (some_is _ _ (sym named ∙ names)))
+    → ((s : Subcommand) → name ≢ subcommand_word s) → Unnamed words
+unnamed words name rows named none s found names = none s (ap (λ (p : Text × List Row). p.0) (some_is _ _ (sym named ∙ names)))
 
-not_self : (b : Bool) → b ≡ not b → ⊥
-not_self true e = cc
-not_self false e = cc
-
--- words with both or none of `--journal` and `--memory` give no options
-pub unchosen : (words : List Text) (name : Text) (rows : List Row) → subcommand_of ocfexec_app words ≡ Some (name, rows)
-    → is_true_text (first_of (codes "memory") rows) ≡ is_some (first_of (codes "journal") rows) → (s : Subcommand) (found : List Row)
-    → Names words s found → ¬ IsChoice found
-unchosen words name rows named both s found names choice =
-    let same : found ≡ rows = ap (λ (p : Text × List Row). p.1) (some_is _ _ (sym names ∙ named)) in
-    not_self _ (sym both ∙ subst IsChoice same choice)
-
--- a subcommand's words give the options that are read from its rows
-pub given : (words : List Text) (name : Text) (rows : List Row) (s : Subcommand) (o : Options)
-    → subcommand_of ocfexec_app words ≡ Some (name, rows) → name ≡ subcommand_word s → o.subcommand ≡ s → IsReadFrom rows o → Gives words o
-given words name rows s o named is same read = record {
+-- a subcommand's words ask for the options that are read from its rows
+pub given : (home : Option Text) (words : List Text) (name : Text) (rows : List Row) (s : Subcommand) (w : Wanted)
+    → subcommand_of ocfexec_app words ≡ Some (name, rows) → name ≡ subcommand_word s → IsJournalWanted s home rows w → AsksFor home words w
+given home words name rows s (wanted.Journal o) named is (same, placed, read) = record {
   rows = rows;
-  named = named ∙ ap (λ t. Some (t, rows)) (is ∙ ap subcommand_word (sym same));
+  names = named ∙ ap (λ t. Some (t, rows)) (is ∙ ap subcommand_word (sym same));
+  placed = placed;
+  read = read;
+}
+given home words name rows s (wanted.Once o) named is none = absurd none
+
+-- and so do those of an action that is run once
+pub given_once : (home : Option Text) (words : List Text) (name : Text) (rows : List Row) (w : Wanted)
+    → subcommand_of ocfexec_app words ≡ Some (name, rows) → name ≡ once_word → IsOnceWanted rows w → AsksFor home words w
+given_once home words name rows (wanted.Journal o) named is none = absurd none
+given_once home words name rows (wanted.Once o) named is read = record {
+  rows = rows;
+  names = named ∙ ap (λ t. Some (t, rows)) is;
   read = read;
 }
 
-shown : (words : List Text) (name : Text) (rows : List Row) (s : Subcommand) (P : List Row → Type 0)
-    → subcommand_of ocfexec_app words ≡ Some (name, rows) → name ≡ subcommand_word s → IsChoice rows → P rows → Flawed words P
-shown words name rows s P named is choice flaw = record {
+shown : (home : Option Text) (words : List Text) (name : Text) (rows : List Row) (s : Subcommand) (P : List Row → Type 0)
+    → subcommand_of ocfexec_app words ≡ Some (name, rows) → name ≡ subcommand_word s → is_some (place_in s home rows) ≡ true → P rows
+    → Flawed home words P
+shown home words name rows s P named is placed flaw = record {
   subcommand = s;
   rows = rows;
-  named = named ∙ ap (λ t. Some (t, rows)) is;
-  choice = choice;
+  names = named ∙ ap (λ t. Some (t, rows)) is;
+  placed = placed;
   has_flaw = flaw;
 }
 
--- words with a flaw beside the place of the journal give no options
-pub flawed : (words : List Text) (name : Text) (rows : List Row) (s : Subcommand) (fault : WordsFault) → fault_of ocfexec_app words ≡ []
-    → subcommand_of ocfexec_app words ≡ Some (name, rows) → name ≡ subcommand_word s → IsChoice rows → HasFlaw rows fault
-    → IsFault words fault
-flawed words name rows s TidyAt parsed named is choice flaw = (parsed, shown words name rows s TidyAtFlaw named is choice flaw)
-flawed words name rows s Root parsed named is choice flaw = (parsed, shown words name rows s RootFlaw named is choice flaw)
-flawed words name rows s Orphans parsed named is choice flaw = (parsed, shown words name rows s OrphansFlaw named is choice flaw)
-flawed words name rows s Since parsed named is choice flaw = (parsed, shown words name rows s SinceFlaw named is choice flaw)
-flawed words name rows s (Help e) parsed named is choice flaw = absurd flaw
-flawed words name rows s (Usage e) parsed named is choice flaw = absurd flaw
-flawed words name rows s Choice parsed named is choice flaw = absurd flaw
-flawed words name rows s Memory parsed named is choice flaw = tt
+shown_once : (words : List Text) (name : Text) (rows : List Row) (P : List Row → Type 0)
+    → subcommand_of ocfexec_app words ≡ Some (name, rows) → name ≡ once_word → P rows → OnceFlawed words P
+shown_once words name rows P named is flaw = record {
+  rows = rows;
+  names = named ∙ ap (λ t. Some (t, rows)) is;
+  has_flaw = flaw;
+}
+
+-- words with no place for a journal, or another flaw, give no options
+pub flawed : (home : Option Text) (words : List Text) (name : Text) (rows : List Row) (s : Subcommand) (fault : WordsFault)
+    → fault_of ocfexec_app words ≡ [] → subcommand_of ocfexec_app words ≡ Some (name, rows) → name ≡ subcommand_word s
+    → HasPlacedFlaw s home rows fault → IsFault home words fault
+flawed home words name rows s Choice parsed named is none = (
+  parsed,
+  inl (record { subcommand = s; rows = rows; names = named ∙ ap (λ t. Some (t, rows)) is; none = none }),
+)
+flawed home words name rows s TidyAt parsed named is (placed, flaw) = (parsed, shown home words name rows s TidyAtFlaw named is placed flaw)
+flawed home words name rows s Root parsed named is (placed, flaw) = (parsed, inl (shown home words name rows s RootFlaw named is placed flaw))
+flawed home words name rows s Orphans parsed named is (placed, flaw) =
+    (parsed, shown home words name rows s OrphansFlaw named is placed flaw)
+flawed home words name rows s Since parsed named is (placed, flaw) = (parsed, shown home words name rows s SinceFlaw named is placed flaw)
+flawed home words name rows s Timeout parsed named is (placed, flaw) = absurd flaw
+flawed home words name rows s (Help e) parsed named is (placed, flaw) = absurd flaw
+flawed home words name rows s (Usage e) parsed named is (placed, flaw) = absurd flaw
+flawed home words name rows s Memory parsed named is (placed, flaw) = tt
+
+pub flawed_once : (home : Option Text) (words : List Text) (name : Text) (rows : List Row) (fault : WordsFault)
+    → fault_of ocfexec_app words ≡ [] → subcommand_of ocfexec_app words ≡ Some (name, rows) → name ≡ once_word → HasOnceFlaw rows fault
+    → IsFault home words fault
+flawed_once home words name rows Root parsed named is flaw = (parsed, inr (shown_once words name rows RootFlaw named is flaw))
+flawed_once home words name rows Timeout parsed named is flaw = (parsed, shown_once words name rows TimeoutFlaw named is flaw)
+flawed_once home words name rows TidyAt parsed named is flaw = absurd flaw
+flawed_once home words name rows Orphans parsed named is flaw = absurd flaw
+flawed_once home words name rows Since parsed named is flaw = absurd flaw
+flawed_once home words name rows (Help e) parsed named is flaw = absurd flaw
+flawed_once home words name rows (Usage e) parsed named is flaw = absurd flaw
+flawed_once home words name rows Choice parsed named is flaw = absurd flaw
+flawed_once home words name rows Memory parsed named is flaw = tt
 
 -- `clap`'s fault is one of these words
-pub fault_kind : (words : List Text) (fault : WordsFault) → HasFaultKind (fault_of ocfexec_app words) fault → IsFault words fault
-fault_kind words (Help e) h = h
-fault_kind words (Usage e) h = h
-fault_kind words Choice h = absurd h
-fault_kind words TidyAt h = absurd h
-fault_kind words Root h = absurd h
-fault_kind words Orphans h = absurd h
-fault_kind words Since h = absurd h
-fault_kind words Memory h = h
+pub fault_kind : (home : Option Text) (words : List Text) (fault : WordsFault) → HasFaultKind (fault_of ocfexec_app words) fault
+    → IsFault home words fault
+fault_kind home words (Help e) h = h
+fault_kind home words (Usage e) h = h
+fault_kind home words Choice h = absurd h
+fault_kind home words TidyAt h = absurd h
+fault_kind home words Root h = absurd h
+fault_kind home words Orphans h = absurd h
+fault_kind home words Since h = absurd h
+fault_kind home words Timeout h = absurd h
+fault_kind home words Memory h = h
+
+-- the texts that a match gives, and none
+pub texts_given : {X : Type 0} (o all : Option (List X)) (xs : List X) → o ≡ all → o ≡ Some xs → xs ≡ unwrap_or all []
+texts_given o all xs e is = sym (ap (λ r. unwrap_or r []) (sym e ∙ is))
+
+pub no_texts : {X : Type 0} (o all : Option (List X)) → o ≡ all → o ≡ None → [] ≡ unwrap_or all []
+no_texts o all e is = sym (ap (λ r. unwrap_or r []) (sym e ∙ is))

@@ -1,15 +1,17 @@
 -- The faults of words that give no options.
-use Rattle.std.specs.Prelude.{◌≡◌, ◌⊎◌, ℕ, ⊤, true, false, List, [], codes, is_some}
+use Rattle.std.specs.Prelude.{◌≡◌, ◌⊎◌, ℕ, ⊤, true, false, List, [], Option, None, codes, is_some}
 use Rattle.clap.specs.Words.{Kinds, Row, Text, IsAmong, fault_of, first_of, kind_of}
 use Rattle.clap.specs.declared.error.Error.{Error}
 use Rattle.clap.specs.declared.error.kind.ErrorKind.{ErrorKind}
 use Rattle.clap.specs.declared.error.kind.ErrorKind.TheVariants.{DisplayHelp, DisplayVersion}
 use Rattle.exec_options.specs.declared.options.Subcommand.{Subcommand}
 use Rattle.exec_options.specs.declared.fault.WordsFault.{WordsFault}
-use Rattle.exec_options.specs.declared.fault.WordsFault.TheVariants.{Help, Usage, Choice, TidyAt, Root, Orphans, Since, Memory}
+use Rattle.exec_options.specs.declared.fault.WordsFault.TheVariants.{Help, Usage, Choice, TidyAt, Root, Orphans, Since, Timeout, Memory}
 use Rattle.exec_options.specs.App.{ocfexec_app}
 use Rattle.ocf_types.specs.Limits.{part_limit}
-use Rattle.exec_options.specs.Words.{IsChoice, IsNumberTo, Names, is_absolute, longest_wait, orphans_text, root_text, tidy_text}
+use Rattle.exec_options.specs.Subcommands.{once_word, subcommand_word}
+use Rattle.exec_options.specs.Words.{IsNumberTo, IsTimeout, Names, is_absolute, longest_wait, orphans_text, place_in, root_text, tidy_text}
+use Rattle.exec_options.specs.Words.{timeout_text}
 
 -- a text that was asked for, and no mistake
 abbrev pub IsAsked : ErrorKind → Type 0
@@ -24,15 +26,33 @@ HasFaultKind kinds TidyAt = ⊥
 HasFaultKind kinds Root = ⊥
 HasFaultKind kinds Orphans = ⊥
 HasFaultKind kinds Since = ⊥
+HasFaultKind kinds Timeout = ⊥
 HasFaultKind kinds Memory = ⊤
 
--- the words name a subcommand and just one of `--journal` and `--memory`, and the other options that they name have this flaw
-pub record Flawed (words : List Text) (flaw : List Row → Type 0) : Type 0 where
+-- the words name a subcommand and where its journal is, and the other options that they name have this flaw
+pub record Flawed (named : Option Text) (words : List Text) (flaw : List Row → Type 0) : Type 0 where
   pub subcommand : Subcommand
   pub rows : List Row
-  pub named : Names words subcommand rows
-  pub choice : IsChoice rows
+  pub names : Names words (subcommand_word subcommand) rows
+  pub placed : is_some (place_in subcommand named rows) ≡ true
   pub has_flaw : flaw rows
+
+-- the words name an action that is to be run once, and what they name beside it has this flaw
+pub record OnceFlawed (words : List Text) (flaw : List Row → Type 0) : Type 0 where
+  pub rows : List Row
+  pub names : Names words once_word rows
+  pub has_flaw : flaw rows
+
+-- the words name a subcommand, and no place for its journal
+pub record Unplaced (named : Option Text) (words : List Text) : Type 0 where
+  pub subcommand : Subcommand
+  pub rows : List Row
+  pub names : Names words (subcommand_word subcommand) rows
+  pub none : place_in subcommand named rows ≡ None
+
+-- the words name no subcommand that has a journal
+abbrev pub Unnamed : List Text → Type 0
+Unnamed words = (s : Subcommand) (rows : List Row) → ¬ Names words (subcommand_word s) rows
 
 -- what `--tidy-at` names is no number up to a part's limit
 abbrev pub TidyAtFlaw : List Row → Type 0
@@ -50,6 +70,10 @@ OrphansFlaw rows = (n : ℕ) → ¬ IsNumberTo longest_wait (orphans_text rows) 
 abbrev pub SinceFlaw : List Row → Type 0
 SinceFlaw rows = is_some (first_of (codes "since") rows) ≡ true
 
+-- what `--timeout` names is no number of milliseconds that an action may take
+abbrev pub TimeoutFlaw : List Row → Type 0
+TimeoutFlaw rows = (n : ℕ) → ¬ IsTimeout (timeout_text rows) n
+
 -- the flaw that a fault tells of; want of memory is none
 abbrev pub HasFlaw : List Row → WordsFault → Type 0
 HasFlaw rows TidyAt = TidyAtFlaw rows
@@ -59,19 +83,34 @@ HasFlaw rows Since = SinceFlaw rows
 HasFlaw rows Memory = ⊤
 HasFlaw rows _ = ⊥
 
--- `clap` refuses the words for this, or takes them and yet they give no options: by their journal, or else by another option
-abbrev pub IsFault : List Text → WordsFault → Type 0
-IsFault words Choice = (fault_of ocfexec_app words ≡ []) × ((s : Subcommand) (rows : List Row) → Names words s rows → ¬ IsChoice rows)
-IsFault words TidyAt = (fault_of ocfexec_app words ≡ []) × Flawed words TidyAtFlaw
-IsFault words Root = (fault_of ocfexec_app words ≡ []) × Flawed words RootFlaw
-IsFault words Orphans = (fault_of ocfexec_app words ≡ []) × Flawed words OrphansFlaw
-IsFault words Since = (fault_of ocfexec_app words ≡ []) × Flawed words SinceFlaw
-IsFault words fault = HasFaultKind (fault_of ocfexec_app words) fault
+-- the same, or that there is no place for its journal
+abbrev pub HasPlacedFlaw : Subcommand → Option Text → List Row → WordsFault → Type 0
+HasPlacedFlaw s named rows Choice = place_in s named rows ≡ None
+HasPlacedFlaw s named rows fault = (is_some (place_in s named rows) ≡ true) × HasFlaw rows fault
+
+-- the same of an action that is to be run once
+abbrev pub HasOnceFlaw : List Row → WordsFault → Type 0
+HasOnceFlaw rows Root = RootFlaw rows
+HasOnceFlaw rows Timeout = TimeoutFlaw rows
+HasOnceFlaw rows Memory = ⊤
+HasOnceFlaw rows _ = ⊥
+
+-- `clap` refuses the words for this, or takes them and yet they give no options: by the place of their journal, or else by another
+-- option; the environment names this directory
+abbrev pub IsFault : Option Text → List Text → WordsFault → Type 0
+IsFault named words Choice = (fault_of ocfexec_app words ≡ []) × (Unplaced named words ⊎ Unnamed words)
+IsFault named words TidyAt = (fault_of ocfexec_app words ≡ []) × Flawed named words TidyAtFlaw
+IsFault named words Root = (fault_of ocfexec_app words ≡ []) × (Flawed named words RootFlaw ⊎ OnceFlawed words RootFlaw)
+IsFault named words Orphans = (fault_of ocfexec_app words ≡ []) × Flawed named words OrphansFlaw
+IsFault named words Since = (fault_of ocfexec_app words ≡ []) × Flawed named words SinceFlaw
+IsFault named words Timeout = (fault_of ocfexec_app words ≡ []) × OnceFlawed words TimeoutFlaw
+IsFault named words fault = HasFaultKind (fault_of ocfexec_app words) fault
 
 -- the words ask for help or the version
-abbrev pub AsksForText : List Text → Type 0
-AsksForText words = (text : Error) × IsFault words (Help text)
+abbrev pub AsksForText : Option Text → List Text → Type 0
+AsksForText named words = (text : Error) × IsFault named words (Help text)
 
--- the words are not those of the command line, or name a moment that is none
-abbrev pub IsMisused : List Text → Type 0
-IsMisused words = ((text : Error) × IsFault words (Usage text)) ⊎ IsFault words Since
+-- the words are not those of the command line, or name a moment or a timeout that is none
+abbrev pub IsMisused : Option Text → List Text → Type 0
+IsMisused named words =
+    ((text : Error) × IsFault named words (Usage text)) ⊎ (IsFault named words Since ⊎ IsFault named words Timeout)

@@ -1,5 +1,5 @@
 -- The words that name what the program does.
-use Rattle.std.specs.Prelude.{ℕ, List, codes}
+use Rattle.std.specs.Prelude.{ℕ, Bool, true, false, List, codes}
 use Rattle.exec_options.specs.declared.options.Subcommand.{Subcommand}
 use Rattle.exec_options.specs.declared.options.Subcommand.TheVariants.{Run, Serve, Show, Status, Log}
 
@@ -9,3 +9,15 @@ subcommand_word Serve = codes "serve"
 subcommand_word Show = codes "show"
 subcommand_word Status = codes "status"
 subcommand_word Log = codes "log"
+
+-- the one that has no journal
+abbrev pub once_word : List ℕ
+once_word = codes "once"
+
+-- it looks at a journal, which another program may hold, and starts no agent
+abbrev pub is_look : Subcommand → Bool
+is_look Run = false
+is_look Serve = false
+is_look Show = true
+is_look Status = true
+is_look Log = true

@@ -1,17 +1,20 @@
 -- The options that words give.
-use Rattle.std.specs.Prelude.{◌≡◌, ◌≤◌, ◌==◌, length, take, ℕ, Bool, true, false, not, List, [], ◌∷◌, Option, Some, None, is_some, option_map, unwrap_or}
-use Rattle.std.specs.Prelude.{codes, bytes_eq}
+use Rattle.std.specs.Prelude.{◌≡◌, ◌<◌, ◌≤◌, ◌==◌, ◌^◌, length, map, take, ℕ, Bool, true, false, if◌then◌else◌, List, [], ◌∷◌}
+use Rattle.std.specs.Prelude.{Option, Some, None, option_map, unwrap_or, codes, bytes_eq}
 use Rattle.std.specs.Str.Parse.{IsNumeral, digits_value, without_leading_plus}
-use Rattle.clap.specs.Words.{Row, Text, first_of, subcommand_of}
+use Rattle.clap.specs.Words.{Row, Text, all_of, first_of, subcommand_of}
 use Rattle.ocf_types.specs.Limits.{part_limit}
 use Rattle.ocf_types.specs.declared.limits.TheConstants.{ORPHANS_LIMIT}
 use Rattle.log_lines.specs.Dates.{moment_text}
 use Rattle.exec_options.specs.declared.options.Options.{Options}
+use Rattle.exec_options.specs.declared.once.OnceOptions.{OnceOptions}
+use Rattle.exec_options.specs.declared.words.Wanted.{Wanted}
+use Rattle.exec_options.specs.declared.words.Wanted.TheVariants as wanted
 use Rattle.exec_options.specs.declared.options.Subcommand.{Subcommand}
 use Rattle.exec_options.specs.declared.options.JournalPlace.{JournalPlace}
 use Rattle.exec_options.specs.declared.options.JournalPlace.TheVariants.{Folder, Memory}
-use Rattle.exec_options.specs.App.{default_orphans, default_path, default_root, default_tidy_at, ocfexec_app}
-use Rattle.exec_options.specs.Subcommands.{subcommand_word}
+use Rattle.exec_options.specs.App.{default_id, default_orphans, default_path, default_root, default_tidy_at, default_timeout, ocfexec_app}
+use Rattle.exec_options.specs.Subcommands.{is_look, once_word, subcommand_word}
 
 -- the folder that is named, or none in memory
 abbrev pub folder_of : JournalPlace → Option Text
@@ -22,11 +25,29 @@ abbrev pub is_true_text : Option Text → Bool
 is_true_text (Some t) = bytes_eq t (codes "true")
 is_true_text None = false
 
--- just one of `--journal` and `--memory` was given
-abbrev pub IsChoice : List Row → Type 0
-IsChoice rows = is_true_text (first_of (codes "memory") rows) ≡ not (is_some (first_of (codes "journal") rows))
+-- the directory of the package's journal
+abbrev pub package_folder : Text
+package_folder = codes "/var/lib/ocfexec"
 
--- what `--tidy-at`, `--orphans` and `--root` name, or their defaults
+-- the directory that is looked at where no journal is named: the one that the environment names, or the package's; who is to start
+-- agents has to name one
+abbrev pub default_folder : Subcommand → Option Text → Option Text
+default_folder s named = if is_look s then Some (unwrap_or named package_folder) else None
+
+-- a directory, or memory as none, by what `--journal` names and whether `--memory` is given: both is no place, and neither is one
+-- where a default serves
+abbrev pub place_of : Option Text → Option Text → Bool → Option (Option Text)
+place_of default (Some folder) true = None
+place_of default (Some folder) false = Some (Some folder)
+place_of default None true = Some None
+place_of default None false = option_map Some default
+
+-- where the journal is that a subcommand's words name, where the environment names this directory
+abbrev pub place_in : Subcommand → Option Text → List Row → Option (Option Text)
+place_in s named rows =
+    place_of (default_folder s named) (first_of (codes "journal") rows) (is_true_text (first_of (codes "memory") rows))
+
+-- what `--tidy-at`, `--orphans`, `--root` and `--timeout` name, or their defaults
 abbrev pub tidy_text : List Row → Text
 tidy_text rows = unwrap_or (first_of (codes "tidy-at") rows) default_tidy_at
 
@@ -36,6 +57,9 @@ orphans_text rows = unwrap_or (first_of (codes "orphans") rows) default_orphans
 abbrev pub root_text : List Row → Text
 root_text rows = unwrap_or (first_of (codes "root") rows) default_root
 
+abbrev pub timeout_text : List Row → Text
+timeout_text rows = unwrap_or (first_of (codes "timeout") rows) default_timeout
+
 -- the longest wait that `--orphans` may name, in milliseconds: a day
 abbrev pub longest_wait : ℕ
 longest_wait = ORPHANS_LIMIT
@@ -44,6 +68,10 @@ longest_wait = ORPHANS_LIMIT
 abbrev pub IsNumberTo : ℕ → Text → ℕ → Type 0
 IsNumberTo limit text n =
     IsNumeral 10 (without_leading_plus text) × (digits_value 10 (without_leading_plus text) ≡ n) × (n ≤ limit)
+
+-- a number of milliseconds that an action may take: one at least
+abbrev pub IsTimeout : Text → ℕ → Type 0
+IsTimeout text n = IsNumeral 10 (without_leading_plus text) × (digits_value 10 (without_leading_plus text) ≡ n) × (0 < n) × (n < 2 ^ 32)
 
 -- a moment whose text as RFC 3339 has it begins with this one, and the first moment where no text is named
 abbrev pub IsSince : Option Text → ℕ → Type 0
@@ -55,10 +83,12 @@ abbrev pub is_absolute : Text → Bool
 is_absolute (b ∷ more) = b == 47
 is_absolute [] = false
 
--- the options are what a subcommand's rows hold, a default in place of what they lack
+-- the journal of these options is where a subcommand's rows say, where the environment names this directory
+abbrev pub IsPlacedAt : Option Text → List Row → Options → Type 0
+IsPlacedAt named rows o = place_in o.subcommand named rows ≡ Some (folder_of o.journal)
+
+-- the other options are what a subcommand's rows hold, a default in place of what they lack
 pub record IsReadFrom (rows : List Row) (o : Options) : Type 0 where
-  pub journal : folder_of o.journal ≡ first_of (codes "journal") rows
-  pub choice : IsChoice rows
   pub any_owner : o.any_owner ≡ is_true_text (first_of (codes "any-owner") rows)
   pub tidy_at : IsNumberTo part_limit (tidy_text rows) o.tidy_at
   pub root : o.root.now ≡ root_text rows
@@ -67,6 +97,8 @@ pub record IsReadFrom (rows : List Row) (o : Options) : Type 0 where
   pub path : o.path.now ≡ unwrap_or (first_of (codes "path") rows) default_path
   pub meta_variables : o.meta_variables ≡ is_true_text (first_of (codes "meta-variables") rows)
   pub log : option_map (λ s. s.now) o.log ≡ first_of (codes "log") rows
+  pub logs : option_map (λ s. s.now) o.logs ≡ first_of (codes "logs") rows
+  pub events : o.events ≡ is_true_text (first_of (codes "events") rows)
   pub orphans : IsNumberTo longest_wait (orphans_text rows) o.orphans
   pub leave_orphans : o.leave_orphans ≡ is_true_text (first_of (codes "leave-orphans") rows)
   pub resource : option_map (λ s. s.now) o.resource ≡ first_of (codes "resource") rows
@@ -75,12 +107,47 @@ pub record IsReadFrom (rows : List Row) (o : Options) : Type 0 where
   pub since : IsSince (first_of (codes "since") rows) o.since
   pub salvage : o.salvage ≡ is_true_text (first_of (codes "salvage") rows)
 
--- by `clap`'s rules the words name this subcommand, with these rows
-abbrev pub Names : List Text → Subcommand → List Row → Type 0
-Names words s rows = subcommand_of ocfexec_app words ≡ Some (subcommand_word s, rows)
+-- the same of the options of an action that is run once
+pub record IsOnceFrom (rows : List Row) (o : OnceOptions) : Type 0 where
+  pub agent : o.agent.now ≡ unwrap_or (first_of (codes "agent") rows) []
+  pub action : o.action.now ≡ unwrap_or (first_of (codes "action") rows) []
+  pub parameters : map (λ s. s.now) o.parameters.items ≡ unwrap_or (all_of (codes "parameters") rows) []
+  pub timeout : IsTimeout (timeout_text rows) o.timeout
+  pub id : o.id.now ≡ unwrap_or (first_of (codes "id") rows) default_id
+  pub root : o.root.now ≡ root_text rows
+  pub absolute : is_absolute o.root.now ≡ true
+  pub via : option_map (λ s. s.now) o.via ≡ first_of (codes "via") rows
+  pub path : o.path.now ≡ unwrap_or (first_of (codes "path") rows) default_path
+  pub meta_variables : o.meta_variables ≡ is_true_text (first_of (codes "meta-variables") rows)
 
--- the words name a subcommand whose rows hold the options
-pub record Gives (words : List Text) (o : Options) : Type 0 where
+-- a subcommand with these rows asks for this
+abbrev pub IsJournalWanted : Subcommand → Option Text → List Row → Wanted → Type 0
+IsJournalWanted s named rows (wanted.Journal o) = (o.subcommand ≡ s) × IsPlacedAt named rows o × IsReadFrom rows o
+IsJournalWanted s named rows (wanted.Once o) = ⊥
+
+-- an action that is to be run once, with these rows, is this
+abbrev pub IsOnceWanted : List Row → Wanted → Type 0
+IsOnceWanted rows (wanted.Journal o) = ⊥
+IsOnceWanted rows (wanted.Once o) = IsOnceFrom rows o
+
+-- by `clap`'s rules the words name the subcommand of this name, with these rows
+abbrev pub Names : List Text → Text → List Row → Type 0
+Names words name rows = subcommand_of ocfexec_app words ≡ Some (name, rows)
+
+-- the words name a subcommand whose rows hold the options, where the environment names this directory
+pub record Gives (named : Option Text) (words : List Text) (o : Options) : Type 0 where
   pub rows : List Row
-  pub named : Names words o.subcommand rows
+  pub names : Names words (subcommand_word o.subcommand) rows
+  pub placed : IsPlacedAt named rows o
   pub read : IsReadFrom rows o
+
+-- the words name an action that is to be run once, and their rows hold these options
+pub record GivesOnce (words : List Text) (o : OnceOptions) : Type 0 where
+  pub rows : List Row
+  pub names : Names words once_word rows
+  pub read : IsOnceFrom rows o
+
+-- the words ask for this
+abbrev pub AsksFor : Option Text → List Text → Wanted → Type 0
+AsksFor named words (wanted.Journal o) = Gives named words o
+AsksFor named words (wanted.Once o) = GivesOnce words o

@@ -2,12 +2,22 @@
 ghost use Rattle.std.specs.Prelude.{◌≡◌, false, IfOk, codes};
 ghost use Rattle.clap.specs.Words.{app_of, rule_of, new_app};
 ghost use Rattle.clap.specs.declared.builder.command.Command.TheViews.{out-Command};
-ghost use Rattle.exec_options.specs.App.{text_rule, text_rule_or, flag_rule, with_agent_app, with_journal_app, with_options_app, with_site_app, with_log_app, with_status_app, word_rule};
-ghost use Rattle.exec_options.specs.App.{top_app, ocfexec_app};
+ghost use Rattle.exec_options.specs.App.{text_rule, text_rule_or, flag_rule, word_rule, words_rule, needed_rule};
+ghost use Rattle.exec_options.specs.App.{with_agent_app, with_call_app, with_journal_app, with_log_app, with_options_app, with_place_app, with_site_app, with_status_app};
+ghost use Rattle.exec_options.specs.App.{top_app, run_app, serve_app, show_app, status_app, log_app, once_app, ocfexec_app};
 
 use crate::texts;
 use clap::{Arg, ArgAction, Command};
 use std::alloc::{AllocError, Global};
+
+/// The directory of the package's journal, which is looked at where none is named.
+pub const JOURNAL: &str = "/var/lib/ocfexec";
+
+/// The id of the resource of an action that is run once where nothing is named.
+pub const ID: &str = "once";
+
+/// How many milliseconds an action that is run once may take where nothing is named.
+pub const TIMEOUT: &str = "20000";
 
 /// The folder of the agents where none is named.
 pub const ROOT: &str = "/usr/lib/ocf";
@@ -59,8 +69,24 @@ fn word<'a>(alloc: Global, id: &'a str, value: &'a str, help: &'a str) -> Arg<'a
     Arg::new(alloc, id).value_name(value).help(help)
 }
 
-fn with_journal_options<'a>(alloc: Global, command: Command<'a>) -> Result<Command<'a>, AllocError>
-    ensures app { IfOk result (λ r. app_of r ≡ with_journal_app (app_of command.entry)) }
+// A word that has to be there.
+fn needed<'a>(alloc: Global, id: &'a str, value: &'a str, help: &'a str) -> Arg<'a>
+    ensures rule { rule_of result ≡ needed_rule id.entry.now }
+    ensures local { result.global ≡ false }
+{
+    word(alloc, id, value, help).required(true)
+}
+
+// Words that stand by themselves, as many as there are.
+fn words<'a>(alloc: Global, id: &'a str, value: &'a str, help: &'a str) -> Arg<'a>
+    ensures rule { rule_of result ≡ words_rule id.entry.now }
+    ensures local { result.global ≡ false }
+{
+    word(alloc, id, value, help).action(ArgAction::Append)
+}
+
+fn with_place_options<'a>(alloc: Global, command: Command<'a>) -> Result<Command<'a>, AllocError>
+    ensures app { IfOk result (λ r. app_of r ≡ with_place_app (app_of command.entry)) }
     ensures local { IfOk result
         (λ r. (out-Command r).has_globals ≡ (out-Command command.entry).has_globals) }
 {
@@ -68,13 +94,21 @@ fn with_journal_options<'a>(alloc: Global, command: Command<'a>) -> Result<Comma
         alloc,
         "journal",
         "DIR",
-        "The folder of the journal, which is kept in its files part-a and part-b; run and serve make those that are missing",
+        "The directory of the journal, which is kept in its files part-a and part-b; run and serve make those that are missing",
     ))?;
-    let command = command.arg(flag(
+    command.arg(flag(
         alloc,
         "memory",
         "Keep the journal in memory: it is gone when the program ends",
-    ))?;
+    ))
+}
+
+fn with_journal_options<'a>(alloc: Global, command: Command<'a>) -> Result<Command<'a>, AllocError>
+    ensures app { IfOk result (λ r. app_of r ≡ with_journal_app (app_of command.entry)) }
+    ensures local { IfOk result
+        (λ r. (out-Command r).has_globals ≡ (out-Command command.entry).has_globals) }
+{
+    let command = with_place_options(alloc, command)?;
     let command = command.arg(flag(
         alloc,
         "any-owner",
@@ -99,7 +133,7 @@ fn with_site_options<'a>(alloc: Global, command: Command<'a>) -> Result<Command<
         "root",
         "DIR",
         ROOT,
-        "The folder of the agents, an absolute path; an agent is the file resource.d/PROVIDER/TYPE in it",
+        "The directory of the agents, an absolute path; an agent is the file resource.d/PROVIDER/TYPE in it",
     ))?;
     let command = command.arg(text_option(
         alloc,
@@ -107,12 +141,17 @@ fn with_site_options<'a>(alloc: Global, command: Command<'a>) -> Result<Command<
         "PROGRAM",
         "Start each agent as PROGRAM AGENT ACTION; left out, as AGENT ACTION",
     ))?;
-    command.arg(text_option_or(
+    let command = command.arg(text_option_or(
         alloc,
         "path",
         "PATH",
         PATH,
         "The PATH in the environment of the agents",
+    ))?;
+    command.arg(flag(
+        alloc,
+        "meta-variables",
+        "Give agents Pacemaker's OCF_RESKEY_CRM_meta_interval, _name and _timeout too, as Debian's agents want them",
     ))
 }
 
@@ -121,16 +160,22 @@ fn with_agent_options<'a>(alloc: Global, command: Command<'a>) -> Result<Command
     ensures local { IfOk result
         (λ r. (out-Command r).has_globals ≡ (out-Command command.entry).has_globals) }
 {
-    let command = command.arg(flag(
-        alloc,
-        "meta-variables",
-        "Give agents Pacemaker's OCF_RESKEY_CRM_meta_interval, _name and _timeout too, as Debian's agents want them",
-    ))?;
     let command = command.arg(text_option(
         alloc,
         "log",
         "FILE",
         "Append what agents write to FILE; -: to this program's standard error; left out, it is lost",
+    ))?;
+    let command = command.arg(text_option(
+        alloc,
+        "logs",
+        "DIR",
+        "Append what agents write to the file ID.log in DIR, which is opened anew for each action",
+    ))?;
+    let command = command.arg(flag(
+        alloc,
+        "events",
+        "Say each result on standard error, in the words of status",
     ))?;
     let command = command.arg(text_option_or(
         alloc,
@@ -204,6 +249,45 @@ fn with_log_options<'a>(alloc: Global, command: Command<'a>) -> Result<Command<'
     ))
 }
 
+fn with_call_options<'a>(alloc: Global, command: Command<'a>) -> Result<Command<'a>, AllocError>
+    ensures app { IfOk result (λ r. app_of r ≡ with_call_app (app_of command.entry)) }
+    ensures local { IfOk result
+        (λ r. (out-Command r).has_globals ≡ (out-Command command.entry).has_globals) }
+{
+    let command = command.arg(needed(
+        alloc,
+        "agent",
+        "PROVIDER:TYPE",
+        "The agent, as heartbeat:Dummy",
+    ))?;
+    let command = command.arg(needed(
+        alloc,
+        "action",
+        "ACTION",
+        "What it is to do, as start, monitor or meta-data",
+    ))?;
+    let command = command.arg(words(
+        alloc,
+        "parameters",
+        "NAME=VALUE",
+        "The parameters of the resource",
+    ))?;
+    let command = command.arg(text_option_or(
+        alloc,
+        "timeout",
+        "MS",
+        TIMEOUT,
+        "End it after so many milliseconds",
+    ))?;
+    command.arg(text_option_or(
+        alloc,
+        "id",
+        "ID",
+        ID,
+        "The id of the resource, as the agent is told it",
+    ))
+}
+
 fn bare<'a>(alloc: Global, name: &'a str, about: &'a str, more: &'a str) -> Command<'a>
     ensures app { app_of result ≡ new_app name.entry.now }
     ensures local { (out-Command result).has_globals ≡ false }
@@ -225,80 +309,101 @@ fn top<'a>(alloc: Global) -> Command<'a>
     .subcommand_required(true)
 }
 
-fn run<'a>(alloc: Global) -> Command<'a>
-    ensures app { app_of result ≡ new_app (codes "run") }
-    ensures local { (out-Command result).has_globals ≡ false }
+fn run<'a>(alloc: Global) -> Result<Command<'a>, AllocError>
+    ensures app { IfOk result (λ r. app_of r ≡ run_app) }
+    ensures local { IfOk result (λ r. (out-Command r).has_globals ≡ false) }
 {
-    bare(
+    let command = bare(
         alloc,
         "run",
         "Reads commands from standard input, a JSON object a line, and writes a reply line to each",
         texts::RUN,
-    )
+    );
+    with_options(alloc, command)
 }
 
-fn serve<'a>(alloc: Global) -> Command<'a>
-    ensures app { app_of result ≡ new_app (codes "serve") }
-    ensures local { (out-Command result).has_globals ≡ false }
+fn serve<'a>(alloc: Global) -> Result<Command<'a>, AllocError>
+    ensures app { IfOk result (λ r. app_of r ≡ serve_app) }
+    ensures local { IfOk result (λ r. (out-Command r).has_globals ≡ false) }
 {
-    bare(
+    let command = bare(
         alloc,
         "serve",
         "Answers commands as run does, and makes turns by itself, while no command is there",
         texts::SERVE,
-    )
+    );
+    with_options(alloc, command)
 }
 
-fn show<'a>(alloc: Global) -> Command<'a>
-    ensures app { app_of result ≡ new_app (codes "show") }
-    ensures local { (out-Command result).has_globals ≡ false }
+fn show<'a>(alloc: Global) -> Result<Command<'a>, AllocError>
+    ensures app { IfOk result (λ r. app_of r ≡ show_app) }
+    ensures local { IfOk result (λ r. (out-Command r).has_globals ≡ false) }
 {
-    bare(
+    let command = bare(
         alloc,
         "show",
         "Prints what a journal holds, as JSON lines: its resources, and each one's state and history",
         texts::SHOW,
-    )
+    );
+    with_place_options(alloc, command)
 }
 
-fn status<'a>(alloc: Global) -> Command<'a>
-    ensures app { app_of result ≡ new_app (codes "status") }
-    ensures local { (out-Command result).has_globals ≡ false }
+fn status<'a>(alloc: Global) -> Result<Command<'a>, AllocError>
+    ensures app { IfOk result (λ r. app_of r ≡ status_app) }
+    ensures local { IfOk result (λ r. (out-Command r).has_globals ≡ false) }
 {
-    bare(
+    let command = bare(
         alloc,
         "status",
         "Prints what a journal holds, as a table for a person",
         texts::STATUS,
-    )
+    );
+    let command = with_place_options(alloc, command)?;
+    with_status_options(alloc, command)
 }
 
-fn log<'a>(alloc: Global) -> Command<'a>
-    ensures app { app_of result ≡ new_app (codes "log") }
-    ensures local { (out-Command result).has_globals ≡ false }
+fn log<'a>(alloc: Global) -> Result<Command<'a>, AllocError>
+    ensures app { IfOk result (λ r. app_of r ≡ log_app) }
+    ensures local { IfOk result (λ r. (out-Command r).has_globals ≡ false) }
 {
-    bare(
+    let command = bare(
         alloc,
         "log",
         "Prints the records of a journal, oldest first, a line each",
         texts::LOG,
-    )
+    );
+    let command = with_place_options(alloc, command)?;
+    with_log_options(alloc, command)
+}
+
+fn once<'a>(alloc: Global) -> Result<Command<'a>, AllocError>
+    ensures app { IfOk result (λ r. app_of r ≡ once_app) }
+    ensures local { IfOk result (λ r. (out-Command r).has_globals ≡ false) }
+{
+    let command = bare(
+        alloc,
+        "once",
+        "Runs one action of an agent here and now, without a journal",
+        texts::ONCE,
+    );
+    let command = with_call_options(alloc, command)?;
+    with_site_options(alloc, command)
 }
 
 /// The whole command line.
 pub fn ocfexec<'a>(alloc: Global) -> Result<Command<'a>, AllocError>
     ensures { IfOk result (λ c. app_of c ≡ ocfexec_app) }
 {
-    let run = with_options(alloc, run(alloc))?;
-    let serve = with_options(alloc, serve(alloc))?;
-    let show = with_options(alloc, show(alloc))?;
+    let run = run(alloc)?;
+    let serve = serve(alloc)?;
+    let show = show(alloc)?;
+    let status = status(alloc)?;
+    let log = log(alloc)?;
+    let once = once(alloc)?;
     let with_run = top(alloc).subcommand(run)?;
     let with_serve = with_run.subcommand(serve)?;
-    let status = with_options(alloc, status(alloc))?;
-    let status = with_status_options(alloc, status)?;
     let with_show = with_serve.subcommand(show)?;
-    let log = with_options(alloc, log(alloc))?;
-    let log = with_log_options(alloc, log)?;
     let with_status = with_show.subcommand(status)?;
-    with_status.subcommand(log)
+    let with_log = with_status.subcommand(log)?;
+    with_log.subcommand(once)
 }

@@ -11,7 +11,7 @@ pub enum WordsFault {
     Help(clap::Error),
     /// They are not those of the command line: `clap`'s text, for the standard error.
     Usage(clap::Error),
-    /// They name both or none of `--journal` and `--memory`.
+    /// They name both of `--journal` and `--memory`, or none where agents are to be started.
     Choice,
     /// They name a text for `--tidy-at` that is no number up to a part's limit.
     TidyAt,
@@ -21,6 +21,8 @@ pub enum WordsFault {
     Orphans,
     /// They name a text for `--since` in which no moment was found.
     Since,
+    /// They name a text for `--timeout` that is no number of milliseconds that an action may take.
+    Timeout,
     /// There was no memory to read them.
     Memory,
 }

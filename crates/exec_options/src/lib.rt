@@ -3,11 +3,13 @@
 
 mod app;
 mod fault;
+mod once;
 mod options;
 mod texts;
 mod words;
 
 pub use fault::WordsFault;
+pub use once::OnceOptions;
 pub use options::{JournalPlace, Options, Subcommand};
 pub use texts::VERSION;
-pub use words::read_words;
+pub use words::{Wanted, read_words};

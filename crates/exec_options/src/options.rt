@@ -1,7 +1,7 @@
 //! What the words of the command line ask for.
 ghost use Rattle.std.specs.Prelude.{◌≡◌, ◌≢◌, IfSome, IfNone};
 ghost use Rattle.exec_options.specs.declared.options.Subcommand.{Subcommand};
-ghost use Rattle.exec_options.specs.Subcommands.{subcommand_word};
+ghost use Rattle.exec_options.specs.Subcommands.{is_look, subcommand_word};
 
 /// What the program does.
 #[derive(Clone, Copy, Debug, PartialEq, Eq)]
@@ -38,12 +38,19 @@ impl Subcommand {
             None
         }
     }
+
+    /// Whether it looks at a journal, which another program may hold, and starts no agent.
+    pub fn is_look(self) -> bool
+        ensures { result ≡ is_look self }
+    {
+        !matches!(self, Subcommand::Run | Subcommand::Serve)
+    }
 }
 
 /// Where the journal is kept.
 #[derive(Clone, Copy, Debug, PartialEq, Eq)]
 pub enum JournalPlace<'a> {
-    /// In the files of this folder.
+    /// In the files of this directory.
     Folder(&'a str),
     /// In memory: it ends with the program.
     Memory,
@@ -68,6 +75,10 @@ pub struct Options<'a> {
     pub meta_variables: bool,
     /// The file that what agents write is appended to, `-` for the standard error of the program, or none: then it is lost.
     pub log: Option<&'a str>,
+    /// The directory of the files that what agents write is appended to, one of each resource, or none.
+    pub logs: Option<&'a str>,
+    /// Whether each result is said on standard error.
+    pub events: bool,
     /// How long an opening waits at most for what an interrupted action left, in milliseconds: as long as that action's own
     /// timeout had still to run, and no longer than this, which is a day at most. What outlives the wait is then ended with
     /// its descendants, as the timeout would have ended it; 0: at once.

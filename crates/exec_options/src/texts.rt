@@ -43,30 +43,39 @@ Example:
   ocfexec serve --journal /var/lib/ocfexec";
 
 /// What stands behind the help of `show`.
-pub const SHOW: &str =
-    "Give just one of --journal and --memory. A journal that is in use can be shown too, and nothing is changed.
-The other options are those of run, and do nothing here.
+pub const SHOW: &str = "A journal that is in use can be shown too, and nothing is changed.
+Where no journal is named it is that of OCFEXEC_JOURNAL, and else /var/lib/ocfexec.
 
-Example:
-  ocfexec show --journal /var/lib/ocfexec";
+Examples:
+  ocfexec show
+  ocfexec show --journal /srv/journal";
 
 /// What stands behind the help of `status`.
 pub const STATUS: &str =
-    "Give just one of --journal and --memory. A journal that is in use can be shown too, and nothing is changed.
-The other options are those of run, and do nothing here. Results are in colour on a terminal alone.
+    "A journal that is in use can be shown too, and nothing is changed. Results are in colour on a terminal alone.
+Where no journal is named it is that of OCFEXEC_JOURNAL, and else /var/lib/ocfexec.
 STATE is what the last results tell: started, promoted, stopped, failed, unknown (what was cut off may be done or not) or never run.
 
 Examples:
-  ocfexec status --journal /var/lib/ocfexec
-  ocfexec status --journal /var/lib/ocfexec web
-  ocfexec status --journal /var/lib/ocfexec --exit-code > /dev/null || echo look at it";
+  ocfexec status
+  ocfexec status web
+  ocfexec status --journal /srv/journal --exit-code > /dev/null || echo look at it";
 
 /// What stands behind the help of `log`.
-pub const LOG: &str =
-    "Give just one of --journal and --memory. A journal that is in use can be shown too, and nothing is changed.
-The other options are those of run, and do nothing here.
+pub const LOG: &str = "A journal that is in use can be shown too, and nothing is changed.
+Where no journal is named it is that of OCFEXEC_JOURNAL, and else /var/lib/ocfexec.
 Registrations, commands, begins, results and openings are printed, of both parts of the journal, so also what has left the history.
 
 Examples:
-  ocfexec log --journal /var/lib/ocfexec web --since 2026-11-27
-  ocfexec log --journal /var/lib/ocfexec --salvage";
+  ocfexec log web --since 2026-11-27
+  ocfexec log --journal /srv/journal --salvage";
+
+/// What stands behind the help of `once`.
+pub const ONCE: &str =
+    "What the agent writes goes to the terminal. The status is the agent's own; 124 where it was ended past its timeout, 125 where it was
+not run, and 128 and the signal's number where one ended it. Nothing is recorded: give no agent that an executor runs.
+
+Examples:
+  ocfexec once heartbeat:Dummy meta-data
+  ocfexec once heartbeat:nginx validate-all configfile=/etc/nginx/nginx.conf
+  ocfexec once heartbeat:nginx start --meta-variables --timeout 40000";

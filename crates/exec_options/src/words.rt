@@ -1,19 +1,29 @@
 //! The options that the words give.
-ghost use Rattle.std.specs.Prelude.{◌≡◌, ℕ, [], true, map, string_bytes, codes, is_some, option_map, IfOk, IfErr, OnOk, IfSome, IfNone};
-ghost use Rattle.clap.specs.Words.{first_of, rows_of, found_of, fault_of};
+ghost use Rattle.std.specs.Prelude.{◌≡◌, ℕ, [], true, map, string_bytes, codes, option_map, unwrap_or, IfOk, IfErr, OnOk, IfSome, IfNone};
+ghost use Rattle.clap.specs.Words.{all_of, first_of, rows_of, found_of, fault_of};
 ghost use Rattle.exec_options.specs.App.{ocfexec_app};
 ghost use Rattle.ocf_types.specs.Limits.{part_limit};
-ghost use Rattle.exec_options.specs.Words.{folder_of, is_absolute, is_true_text, longest_wait, orphans_text, root_text, tidy_text};
-ghost use Rattle.exec_options.specs.Words.{IsChoice, IsNumberTo, IsReadFrom, IsSince, Gives};
-ghost use Rattle.exec_options.specs.Faults.{HasFlaw, IsFault, OrphansFlaw, RootFlaw, TidyAtFlaw};
+ghost use Rattle.exec_options.specs.Words.{folder_of, is_absolute, is_true_text, longest_wait, orphans_text, place_in, default_folder, root_text, tidy_text, timeout_text};
+ghost use Rattle.exec_options.specs.Words.{AsksFor, IsJournalWanted, IsNumberTo, IsOnceWanted, IsReadFrom, IsSince, IsTimeout};
+ghost use Rattle.exec_options.specs.Faults.{HasFlaw, HasOnceFlaw, HasPlacedFlaw, IsFault, OrphansFlaw, RootFlaw, TidyAtFlaw, TimeoutFlaw};
 
-use crate::app::{ORPHANS, PATH, ROOT, TIDY_AT, ocfexec};
+use crate::app::{ID, JOURNAL, ORPHANS, PATH, ROOT, TIDY_AT, TIMEOUT, ocfexec};
 use crate::fault::WordsFault;
+use crate::once::OnceOptions;
 use crate::options::{JournalPlace, Options, Subcommand};
 use clap::ArgMatches;
 use log_lines::moment_begun;
 use ocf_types::{ORPHANS_LIMIT, PART_LIMIT};
-use std::alloc::Global;
+use std::alloc::{AllocError, Global};
+
+/// What the words of the command line ask for.
+#[derive(Debug, Drop)]
+pub enum Wanted<'a> {
+    /// To do this with a journal.
+    Journal(Options<'a>),
+    /// To run an action once, without a journal.
+    Once(OnceOptions<'a>),
+}
 
 fn text_of<'a>(matches: &ArgMatches<'a>, id: &str) -> Option<&'a str>
     ensures { option_map (λ s. s.now) result ≡ first_of id.now (rows_of (found_of matches.now)) }
@@ -30,18 +40,35 @@ fn is_set(matches: &ArgMatches<'_>, id: &str) -> bool
     }
 }
 
-fn journal_place<'a>(matches: &ArgMatches<'a>) -> Option<JournalPlace<'a>>
-    ensures place { IfSome result
-        (λ p. folder_of p ≡ first_of (codes "journal") (rows_of (found_of matches.now))) }
-    ensures choice { IfSome result (λ _. IsChoice (rows_of (found_of matches.now))) }
-    ensures none { IfNone result
-        (is_true_text (first_of (codes "memory") (rows_of (found_of matches.now)))
-        ≡ is_some (first_of (codes "journal") (rows_of (found_of matches.now)))) }
+// The directory that is looked at where no journal is named; who is to start agents has to name one.
+fn default_folder<'a>(subcommand: Subcommand, named: Option<&'a str>) -> Option<&'a str>
+    ensures { option_map (λ s. s.now) result
+        ≡ default_folder subcommand (option_map (λ s. s.now) named.entry) }
+{
+    if subcommand.is_look() {
+        Some(named.unwrap_or(JOURNAL))
+    } else {
+        None
+    }
+}
+
+// Where the journal is, where the environment names this directory.
+fn journal_place<'a>(
+    subcommand: Subcommand,
+    named: Option<&'a str>,
+    matches: &ArgMatches<'a>,
+) -> Option<JournalPlace<'a>>
+    ensures { option_map folder_of result
+        ≡ place_in subcommand (option_map (λ s. s.now) named.entry) (rows_of (found_of matches.now)) }
 {
     match (text_of(matches, "journal"), is_set(matches, "memory")) {
         (Some(folder), false) => Some(JournalPlace::Folder(folder)),
         (None, true) => Some(JournalPlace::Memory),
-        _ => None,
+        (None, false) => match default_folder(subcommand, named) {
+            Some(folder) => Some(JournalPlace::Folder(folder)),
+            None => None,
+        },
+        (Some(_), true) => None,
     }
 }
 
@@ -123,6 +150,63 @@ fn since(alloc: Global, matches: &ArgMatches<'_>) -> Result<u64, WordsFault>
     }
 }
 
+// How long an action may take, in milliseconds.
+fn timeout(matches: &ArgMatches<'_>) -> Result<u32, WordsFault>
+    ensures number { IfOk result (IsTimeout (timeout_text (rows_of (found_of matches.now)))) }
+    ensures fault { IfErr result
+        (λ f. (f ≡ WordsFault.Timeout) × TimeoutFlaw (rows_of (found_of matches.now))) }
+{
+    match text_of(matches, "timeout")
+        .unwrap_or(TIMEOUT)
+        .parse::<u32>()
+    {
+        Ok(millis) if millis > 0 => Ok(millis),
+        _ => Err(WordsFault::Timeout),
+    }
+}
+
+// All texts that the words give for this.
+fn texts_of<'a, 'm>(matches: &'m ArgMatches<'a>, id: &str) -> Option<&'m [&'a str]>
+    ensures { option_map (λ texts. map (λ s. s.now) texts.now) result
+        ≡ all_of id.now (rows_of (found_of matches.now)) }
+{
+    matches.get_raw(id)
+}
+
+// The parameters that an action is run with.
+fn parameters<'a>(alloc: Global, matches: &ArgMatches<'a>) -> Result<Vec<&'a str>, AllocError>
+    ensures { IfOk result (λ texts. map (λ s. s.now) texts.items
+        ≡ unwrap_or (all_of (codes "parameters") (rows_of (found_of matches.now))) []) }
+{
+    match texts_of(matches, "parameters") {
+        Some(texts) => Vec::from_slice(alloc, texts),
+        None => Ok(Vec::new(alloc)),
+    }
+}
+
+// The options of an action that is run once.
+fn once_of<'a>(alloc: Global, matches: &ArgMatches<'a>) -> Result<Wanted<'a>, WordsFault>
+    ensures read { IfOk result (IsOnceWanted (rows_of (found_of matches.now))) }
+    ensures fault { IfErr result (HasOnceFlaw (rows_of (found_of matches.now))) }
+{
+    let timeout = timeout(matches)?;
+    let root = root(matches)?;
+    let Ok(parameters) = parameters(alloc, matches) else {
+        return Err(WordsFault::Memory);
+    };
+    Ok(Wanted::Once(OnceOptions {
+        agent: text_of(matches, "agent").unwrap_or(""),
+        action: text_of(matches, "action").unwrap_or(""),
+        parameters,
+        timeout,
+        id: text_of(matches, "id").unwrap_or(ID),
+        root,
+        via: text_of(matches, "via"),
+        path: text_of(matches, "path").unwrap_or(PATH),
+        meta_variables: is_set(matches, "meta-variables"),
+    }))
+}
+
 // The options that a subcommand's words give beside the place of its journal.
 fn options_of<'a>(
     alloc: Global,
@@ -130,11 +214,8 @@ fn options_of<'a>(
     journal: JournalPlace<'a>,
     matches: &ArgMatches<'a>,
 ) -> Result<Options<'a>, WordsFault>
-    requires place { folder_of journal
-        ≡ first_of (codes "journal") (rows_of (found_of matches.now)) }
-    requires choice { IsChoice (rows_of (found_of matches.now)) }
-    ensures read { IfOk result
-        (λ o. (o.subcommand ≡ subcommand) × IsReadFrom (rows_of (found_of matches.now)) o) }
+    ensures read { IfOk result (λ o. (o.subcommand ≡ subcommand) × (o.journal ≡ journal.entry)
+        × IsReadFrom (rows_of (found_of matches.now)) o) }
     ensures fault { IfErr result (HasFlaw (rows_of (found_of matches.now))) }
 {
     let tidy_at = tidy_at(matches)?;
@@ -151,6 +232,8 @@ fn options_of<'a>(
         path: text_of(matches, "path").unwrap_or(PATH),
         meta_variables: is_set(matches, "meta-variables"),
         log: text_of(matches, "log"),
+        logs: text_of(matches, "logs"),
+        events: is_set(matches, "events"),
         orphans,
         leave_orphans: is_set(matches, "leave-orphans"),
         resource: text_of(matches, "resource"),
@@ -161,11 +244,41 @@ fn options_of<'a>(
     })
 }
 
-/// The options that these words give, the program's name first. Each fault says why they give none.
-pub fn read_words<'a>(alloc: Global, words: &'a [String]) -> Result<Options<'a>, WordsFault>
-    ensures ok { IfOk result (Gives (map string_bytes words.now)) }
+// What a subcommand's words ask for that has a journal.
+fn journal_of<'a>(
+    alloc: Global,
+    subcommand: Subcommand,
+    named: Option<&'a str>,
+    matches: &ArgMatches<'a>,
+) -> Result<Wanted<'a>, WordsFault>
+    ensures read { IfOk result
+        (IsJournalWanted subcommand (option_map (λ s. s.now) named.entry)
+        (rows_of (found_of matches.now))) }
+    ensures fault { IfErr result
+        (HasPlacedFlaw subcommand (option_map (λ s. s.now) named.entry)
+        (rows_of (found_of matches.now))) }
+{
+    let Some(journal) = journal_place(subcommand, named, matches) else {
+        return Err(WordsFault::Choice);
+    };
+    match options_of(alloc, subcommand, journal, matches) {
+        Ok(options) => Ok(Wanted::Journal(options)),
+        Err(fault) => Err(fault),
+    }
+}
+
+/// What these words ask for, the program's name first, where the environment names this directory for a journal. Each fault says
+/// why they ask for nothing.
+pub fn read_words<'a>(
+    alloc: Global,
+    named: Option<&'a str>,
+    words: &'a [String],
+) -> Result<Wanted<'a>, WordsFault>
+    ensures ok { IfOk result
+        (AsksFor (option_map (λ s. s.now) named.entry) (map string_bytes words.now)) }
     ensures parsed { OnOk result (fault_of ocfexec_app (map string_bytes words.now) ≡ []) }
-    ensures fault { IfErr result (IsFault (map string_bytes words.now)) }
+    ensures fault { IfErr result
+        (IsFault (option_map (λ s. s.now) named.entry) (map string_bytes words.now)) }
 {
     let Ok(command) = ocfexec(alloc) else {
         return Err(WordsFault::Memory);
@@ -177,11 +290,11 @@ pub fn read_words<'a>(alloc: Global, words: &'a [String]) -> Result<Options<'a>,
     let Some((name, matches)) = matches.subcommand() else {
         return Err(WordsFault::Choice);
     };
+    if name == "once" {
+        return once_of(alloc, matches);
+    }
     let Some(subcommand) = Subcommand::of(name) else {
         return Err(WordsFault::Choice);
     };
-    let Some(journal) = journal_place(matches) else {
-        return Err(WordsFault::Choice);
-    };
-    options_of(alloc, subcommand, journal, matches)
+    journal_of(alloc, subcommand, named, matches)
 }

@@ -7,12 +7,42 @@ use exec_options::{JournalPlace, Options};
 use exec_output::Fault;
 use file_disk::{FileDisk, FileError, OpenFault, Owners, TellsError};
 use process_ends::System;
+use std::io::ErrorKind;
 use std::thread::sleep;
 use std::time::Duration;
 
 // What can be done where root refuses a journal for its owner or mode.
 const OWNER_ADVICE: &str =
     "Anyone who can write the journal decides what root starts. Make root its only writer, or give --any-owner.";
+
+// What can be done where the files of a journal are not opened for another cause that is often met; its name comes first.
+const MISSING_ADVICE: &str =
+    "Missing directory: make it, for its owner alone, or name another by --journal.";
+
+const PERMISSION_ADVICE: &str =
+    "No permission: the journal is its owner's alone; look at it as that user, or as root.";
+
+const IN_USE_ADVICE: &str =
+    "In use: one executor at a time holds a journal; show, status and log look at it meanwhile.";
+
+// What can be done about a fault that the system told so.
+fn advice_of_kind(kind: ErrorKind) -> Option<&'static str> {
+    match kind {
+        ErrorKind::NotFound => Some(MISSING_ADVICE),
+        ErrorKind::PermissionDenied => Some(PERMISSION_ADVICE),
+        _ => None,
+    }
+}
+
+// What can be done where the files of a journal are not opened.
+fn advice_of(why: &OpenFault) -> Option<&'static str> {
+    match why {
+        distrust if distrust.is_distrust() => Some(OWNER_ADVICE),
+        OpenFault::InUse | OpenFault::Locked(_) => Some(IN_USE_ADVICE),
+        OpenFault::Folder(error) | OpenFault::File(_, error) => advice_of_kind(error.kind()),
+        _ => None,
+    }
+}
 
 // Which owners and modes of the journal's files are accepted.
 fn owners_of(options: Options) -> Owners {
@@ -53,8 +83,8 @@ pub fn found<D: Drop>(
         Err(OpenFault::Memory) => Err(Fault::Memory),
         Err(why) => {
             report_cause(system, Fault::NotOpened, why.located(folder));
-            if why.is_distrust() {
-                explain(system, OWNER_ADVICE);
+            if let Some(advice) = advice_of(&why) {
+                explain(system, advice);
             }
             Err(Fault::NotOpened)
         }

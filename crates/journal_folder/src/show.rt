@@ -43,6 +43,17 @@ fn show_to<D: Disk + Drop, W: Write>(
     }
 }
 
+// How a look ends whose output may be that of a pipe that was closed: well then, since who asked has read enough. Where the status is to
+// tell whether a resource has failed, that is not known.
+fn enough(options: Options, unwritten: &FirstError, ended: Result<(), Fault>) -> Result<(), Fault>
+    ensures { IsRunEnd ended → IsRunEnd result }
+{
+    match ended {
+        Err(Fault::InputOrOutput) if unwritten.is_unread() && !options.exit_code => Ok(()),
+        _ => ended,
+    }
+}
+
 /// Shows the journal on this disk.
 pub fn show_on<D: Disk + TellsError + Drop>(
     system: &System<'_>,
@@ -55,6 +66,7 @@ pub fn show_on<D: Disk + TellsError + Drop>(
     let unwritten = FirstError::none();
     let mut output = unwritten.output(io::writer(rt));
     let (disk, ended) = show_to(system, options, disk, &mut output);
+    let ended = enough(options, &unwritten, ended);
     tell_shown(system, &unwritten, ended);
     told(system, options, &disk, ended)
 }
@@ -77,7 +89,7 @@ fn parts_in(system: &System<'_>, options: Options, folder: &str) -> Result<RamDi
         not_emptied(read)
     };
     let mut disk = found(system, folder, read)?;
-    let wants_one = matches!(options.subcommand, Subcommand::Status | Subcommand::Log);
+    let wants_one = !matches!(options.subcommand, Subcommand::Show);
     if wants_one && is_none(&mut disk) {
         return Err(Fault::NoJournal);
     }

@@ -1,25 +1,35 @@
 -- From the words to a run.
-use Rattle.std.specs.Prelude.{◌≡◌, ◌⊎◌, ℕ, ⊤, true, List, is_some, option_map, Result, Ok, Err}
+use Rattle.std.specs.Prelude.{◌≡◌, ◌⊎◌, ◌||◌, ℕ, ⊤, true, List, Option, is_some, option_map, Result, Ok, Err}
 use Rattle.ocf_env.specs.Places.{SiteView}
 use Rattle.exec_options.specs.Faults.{AsksForText, IsFault, IsMisused}
-use Rattle.exec_options.specs.Words.{Gives, folder_of}
+use Rattle.exec_options.specs.Words.{Gives, GivesOnce, folder_of}
 use Rattle.exec_options.specs.declared.fault.WordsFault.{WordsFault}
 use Rattle.exec_options.specs.declared.fault.WordsFault.TheVariants as words_fault
+use Rattle.exec_options.specs.declared.once.OnceOptions.{OnceOptions}
 use Rattle.exec_options.specs.declared.options.Options.{Options}
-use Rattle.exec_output.specs.Faults.{status_of}
+use Rattle.exec_output.specs.Faults.{IsRunEnd, status_of}
 use Rattle.exec_output.specs.declared.fault.Fault.{Fault}
 use Rattle.exec_output.specs.declared.fault.Fault.TheVariants as fault
 use Rattle.executor.specs.declared.opening.OpenError.{OpenError}
 use Rattle.executor.specs.declared.opening.OpenError.TheVariants as opening
+use Rattle.journal_folder.specs.Ends.{IsFolderEnd}
 
--- the exit status: 0, or that of the fault
-abbrev pub status_of_end : {T : Type 0} → Result T Fault → ℕ
-status_of_end (Ok done) = 0
+-- the exit status: the one that is asked for, or that of the fault
+abbrev pub status_of_end : Result ℕ Fault → ℕ
+status_of_end (Ok status) = status
 status_of_end (Err f) = status_of f
+
+-- a run or a look that ends well ends with status 0
+abbrev pub with_status : {T : Type 0} → Result T Fault → Result ℕ Fault
+with_status (Ok done) = Ok 0
+with_status (Err f) = Err f
 
 -- where these options say that agents are
 abbrev pub site_of : Options → SiteView
 site_of o = record { root = o.root.now; path = o.path.now; via = option_map (λ s. s.now) o.via; meta = o.meta_variables }
+
+abbrev pub once_site_of : OnceOptions → SiteView
+once_site_of o = record { root = o.root.now; path = o.path.now; via = option_map (λ s. s.now) o.via; meta = o.meta_variables }
 
 -- what an executor that was not opened ends the program with; fresh children are never of another journal
 abbrev pub opening_fault : OpenError → Fault
@@ -39,32 +49,45 @@ IsToldAs words_fault.TidyAt ended = ended ≡ Err fault.TidyAt
 IsToldAs words_fault.Root ended = ended ≡ Err fault.Root
 IsToldAs words_fault.Orphans ended = ended ≡ Err fault.Orphans
 IsToldAs words_fault.Since ended = ended ≡ Err fault.Usage
+IsToldAs words_fault.Timeout ended = ended ≡ Err fault.Usage
 IsToldAs words_fault.Memory ended = ended ≡ Err fault.Memory
 
--- the words ask to run or to show a journal
-abbrev pub AsksForJournal : List (List ℕ) → Type 0
-AsksForJournal words = (o : Options) × Gives words o
+-- the words ask to run or to show a journal, where the environment names this directory
+abbrev pub AsksForJournal : Option (List ℕ) → List (List ℕ) → Type 0
+AsksForJournal named words = (o : Options) × Gives named words o
 
--- the words ask for a journal in the files of a folder
-abbrev pub IsInFolder : List (List ℕ) → Type 0
-IsInFolder words = (o : Options) × Gives words o × (is_some (folder_of o.journal) ≡ true)
+-- the words ask for a journal in the files of a directory
+abbrev pub IsInFolder : Option (List ℕ) → List (List ℕ) → Type 0
+IsInFolder named words = (o : Options) × Gives named words o × (is_some (folder_of o.journal) ≡ true)
 
--- the words name a file for what agents write
-abbrev pub AsksForLog : List (List ℕ) → Type 0
-AsksForLog words = (o : Options) × Gives words o × (is_some o.log ≡ true)
+-- the words name a file or a directory for what agents write
+abbrev pub AsksForLog : Option (List ℕ) → List (List ℕ) → Type 0
+AsksForLog named words = (o : Options) × Gives named words o × ((is_some o.log || is_some o.logs) ≡ true)
 
--- why a program that is given these words ends so
-abbrev pub EndsFor : {T : Type 0} → List (List ℕ) → Result T Fault → Type 0
-EndsFor words (Ok done) = AsksForText words ⊎ AsksForJournal words
-EndsFor words (Err fault.Usage) = IsMisused words
-EndsFor words (Err fault.Choice) = IsFault words words_fault.Choice
-EndsFor words (Err fault.TidyAt) = IsFault words words_fault.TidyAt
-EndsFor words (Err fault.Root) = IsFault words words_fault.Root
-EndsFor words (Err fault.Orphans) = IsFault words words_fault.Orphans
-EndsFor words (Err fault.NotText) = ⊥
-EndsFor words (Err fault.Memory) = ⊤
-EndsFor words (Err fault.Log) = AsksForLog words
-EndsFor words (Err fault.NotOpened) = IsInFolder words
-EndsFor words (Err fault.NoJournal) = IsInFolder words
-EndsFor words (Err fault.InputOrOutput) = AsksForText words ⊎ AsksForJournal words
-EndsFor words (Err _) = AsksForJournal words
+-- how a run of a journal, or a look at one, ends that these options ask for: as on any disk, since the file for what agents write is not
+-- opened, or since the files of the journal are not, or hold none
+abbrev pub IsEndOf : {T : Type 0} → Options → Result T Fault → Type 0
+IsEndOf o ended =
+    IsRunEnd ended
+    ⊎ (((ended ≡ Err fault.Log) × ((is_some o.log || is_some o.logs) ≡ true)) ⊎ ((is_some (folder_of o.journal) ≡ true) × IsFolderEnd ended))
+
+-- why a program ends so whose words ask for a journal, or for nothing
+abbrev pub EndsFor : {T : Type 0} → Option (List ℕ) → List (List ℕ) → Result T Fault → Type 0
+EndsFor named words (Ok done) = AsksForText named words ⊎ AsksForJournal named words
+EndsFor named words (Err fault.Usage) = IsMisused named words
+EndsFor named words (Err fault.Choice) = IsFault named words words_fault.Choice
+EndsFor named words (Err fault.TidyAt) = IsFault named words words_fault.TidyAt
+EndsFor named words (Err fault.Root) = IsFault named words words_fault.Root
+EndsFor named words (Err fault.Orphans) = IsFault named words words_fault.Orphans
+EndsFor named words (Err fault.NotText) = ⊥
+EndsFor named words (Err fault.Memory) = ⊤
+EndsFor named words (Err fault.Log) = AsksForLog named words
+EndsFor named words (Err fault.NotOpened) = IsInFolder named words
+EndsFor named words (Err fault.NoJournal) = IsInFolder named words
+EndsFor named words (Err fault.InputOrOutput) = AsksForText named words ⊎ AsksForJournal named words
+EndsFor named words (Err _) = AsksForJournal named words
+
+-- why a program that is given these words ends so: an action that is run once ends with a status of its own
+abbrev pub StartEndsFor : Option (List ℕ) → List (List ℕ) → Result ℕ Fault → Type 0
+StartEndsFor named words ended =
+    ((o : OnceOptions) × GivesOnce words o) ⊎ ((r : Result (Unit {0}) Fault) × (ended ≡ with_status r) × EndsFor named words r)

@@ -1,8 +1,8 @@
 //! What the executor is given to start agents with.
 ghost use Rattle.std.specs.Prelude.{◌≡◌, IfOk};
-ghost use Rattle.ocfexec.specs.Starts.{site_of};
+ghost use Rattle.ocfexec.specs.Starts.{once_site_of, site_of};
 
-use exec_options::Options;
+use exec_options::{OnceOptions, Options};
 use ocf_env::{Site, Text};
 use ocf_types::RESOURCES_LIMIT;
 use std::alloc::{AllocError, Global};
@@ -19,6 +19,19 @@ fn text(alloc: Global, text: &str) -> Result<Text, AllocError>
 /// Where the options say that agents are. It fails only where memory is refused.
 pub fn site_of(alloc: Global, options: Options) -> Result<Site, AllocError>
     ensures { IfOk result (λ s. s ≡ site_of options.entry) }
+{
+    let root = text(alloc, options.root)?;
+    let path = text(alloc, options.path)?;
+    let via = match options.via {
+        Some(program) => Some(text(alloc, program)?),
+        None => None,
+    };
+    Ok(Site::new(root, path, via).with_meta(options.meta_variables))
+}
+
+/// The same of an action that is run once.
+pub fn site_of_once(alloc: Global, options: &OnceOptions) -> Result<Site, AllocError>
+    ensures { IfOk result (λ s. s ≡ once_site_of options.now) }
 {
     let root = text(alloc, options.root)?;
     let path = text(alloc, options.path)?;

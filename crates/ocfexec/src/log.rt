@@ -1,9 +1,9 @@
 //! Where agents write.
-ghost use Rattle.std.specs.Prelude.{◌≡◌, true, IfErr, is_some};
+ghost use Rattle.std.specs.Prelude.{◌≡◌, ◌||◌, true, IfErr, is_some};
 
-use child_keeper::{Log, System};
+use child_keeper::{Log, LogDirectory, System};
 use diagnostics::report_cause;
-use exec_options::{Options, Subcommand};
+use exec_options::Options;
 use exec_output::Fault;
 use file_disk::OWNER_ONLY;
 use std::fs::{self, OpenOptions};
@@ -21,30 +21,39 @@ fn is_named_pipe(rt: &HostRuntime, name: &str) -> bool {
     }
 }
 
+// The logs of this directory: each is opened where an action of its resource begins, and so it is no fault if that fails.
+fn logs_in(rt: &HostRuntime, name: &str) -> io::Result<Log> {
+    let path = String::from_str(rt.alloc(), name)?;
+    Ok(Log::to_directory(rt.alloc(), LogDirectory::new(*rt, path)))
+}
+
 // The log of this name: a file that is appended to, and made where nothing is there, or the standard error.
 fn opened(rt: &HostRuntime, name: &str) -> io::Result<Log> {
     if name == "-" {
-        return Log::to(&rt.stderr());
+        return Log::to_errors(rt.alloc(), &rt.stderr());
     }
     if is_named_pipe(rt, name) {
         return Err(io::Error::new(ErrorKind::InvalidInput, NO_FILE));
     }
     let mut options = OpenOptions::new();
     options.append(true).create(true).mode(OWNER_ONLY);
-    Log::to(&options.open(rt, name)?)
+    Log::to_file(rt.alloc(), &options.open(rt, name)?)
 }
 
-/// Where the options say that agents write; a show and a status start none. Why a file was not opened is told here.
+/// Where the options say that agents write: in the logs of a directory, if one is named, else in one log. Why a file was not opened is
+/// told here.
 pub fn log_of(system: &System<'_>, options: Options) -> Result<Log, Fault>
-    ensures { IfErr result (λ f. (f ≡ Fault.Log) × (is_some options.entry.log ≡ true)) }
+    ensures { IfErr result
+        (λ f. (f ≡ Fault.Log)
+        × ((is_some options.entry.log || is_some options.entry.logs) ≡ true)) }
 {
-    if matches!(options.subcommand, Subcommand::Show | Subcommand::Status) {
-        return Ok(Log::none());
-    }
-    let Some(name) = options.log else {
-        return Ok(Log::none());
+    let rt = system.host();
+    let (name, made) = match (options.logs, options.log) {
+        (Some(name), _) => (name, logs_in(rt, name)),
+        (None, Some(name)) => (name, opened(rt, name)),
+        (None, None) => return Ok(Log::none()),
     };
-    match opened(system.host(), name) {
+    match made {
         Ok(log) => Ok(log),
         Err(error) => {
             report_cause(system, Fault::Log, format_args!("{name}: {error}"));

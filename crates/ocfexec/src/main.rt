@@ -6,9 +6,11 @@ ghost use Rattle.std.specs.Process.{exit_status};
 ghost use Rattle.ocfexec.specs.Starts.{status_of_end};
 
 mod agents;
+mod errors;
 mod guarded;
 mod log;
 mod metadata;
+mod once;
 mod run;
 mod start;
 
@@ -41,11 +43,11 @@ fn tell(system: &System<'_>, fault: Fault) {
     }
 }
 
-fn exit_code(ended: Result<(), Fault>) -> ExitCode
+fn exit_code(ended: Result<u8, Fault>) -> ExitCode
     ensures { exit_status result ≡ status_of_end ended }
 {
     match ended {
-        Ok(()) => ExitCode::SUCCESS,
+        Ok(status) => ExitCode::from(status),
         Err(fault) => ExitCode::from(fault.status()),
     }
 }

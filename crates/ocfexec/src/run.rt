@@ -4,6 +4,7 @@ ghost use Rattle.exec_output.specs.Faults.{IsRunEnd};
 ghost use Rattle.ocfexec.specs.Starts.{opening_fault};
 
 use crate::agents::{BOOK_ROOM, site_of};
+use crate::errors::{Errors, events_of};
 use crate::guarded::{Guarded, served_paths};
 use crate::metadata::SiteMetadata;
 use child_keeper::{Log, Processes, System};
@@ -11,12 +12,14 @@ use diagnostics::{FirstError, tell_run, tell_shown};
 use disk_model::Disk;
 use exec_client::Teller;
 use exec_commands::{Left, NoticeForm};
+use exec_events::Eventful;
 use exec_journal::Journal;
 use exec_lines::{RunClock, moment_now, write_flushed};
 use exec_options::{JournalPlace, Options};
 use exec_orphans::{Orphans, await_orphans, leave_word};
 use exec_output::Fault;
 use exec_session::{LineRoom, Pace, RunContext, Way, run_lines};
+use exec_trace::Edge;
 use executor::{Executor, OpenError};
 use file_disk::{JournalPaths, TellsError};
 use journal_folder::{tell_device, told};
@@ -142,7 +145,7 @@ pub fn run_agents<'a, D: Disk + TellsError + Drop>(
     let alloc = rt.alloc();
     let (unread, unwritten) = (FirstError::none(), FirstError::none());
     let input = unread.input(rt.reader()).with_replies(libc::STDOUT_FILENO);
-    let Ok(mut reader) = BufReader::with_capacity(alloc, READ_SIZE, input) else {
+    let Ok(reader) = BufReader::with_capacity(alloc, READ_SIZE, input) else {
         return Err(Fault::Memory);
     };
     let Ok((children, own, site, room)) = prepared(system, options, log) else {
@@ -158,7 +161,6 @@ pub fn run_agents<'a, D: Disk + TellsError + Drop>(
             let metadata = SiteMetadata::new(system, site);
             let context = RunContext {
                 alloc,
-                clock: &clock,
                 metadata: &metadata,
                 way,
                 form,
@@ -167,8 +169,11 @@ pub fn run_agents<'a, D: Disk + TellsError + Drop>(
                 pace: Pace::new(),
             };
             let output = Guarded::new(*rt, options, unwritten.output(rt.stdout()));
-            let mut client = Teller::new(alloc, output, &executor);
-            let run = run_lines(&context, &mut reader, &mut client, executor, &report, room);
+            let teller = Teller::new(alloc, output, &executor);
+            let events = events_of(rt, options);
+            let client = Eventful::new(alloc, teller, Errors::new(system), events);
+            let edge = Edge::new(reader, client, &clock);
+            let run = run_lines(&context, edge, (executor, report), room);
             metadata.give_up();
             let ended = told(system, options, &run.disk, run.ended);
             let ended = ended_over(system, options, &paths, ended);

@@ -1,21 +1,25 @@
 //! From the words to a run.
-ghost use Rattle.std.specs.Prelude.{◌≡◌, map, string_bytes};
+ghost use Rattle.std.specs.Prelude.{◌≡◌, map, option_map, string_bytes};
 ghost use Rattle.exec_output.specs.Faults.{IsRunEnd};
 ghost use Rattle.journal_folder.specs.Ends.{IsFolderEnd};
-ghost use Rattle.ocfexec.specs.Starts.{EndsFor, IsToldAs};
+ghost use Rattle.ocfexec.specs.Starts.{IsEndOf, IsToldAs, StartEndsFor, with_status};
 
 use crate::log::log_of;
+use crate::once::once;
 use crate::run::run_agents;
 use child_keeper::{Log, System};
 use diagnostics::{FirstError, children_ignored, tell_ignored, tell_shown};
 use disk_model::Disk;
-use exec_options::{JournalPlace, Options, Subcommand, WordsFault, read_words};
+use exec_options::{JournalPlace, Options, Subcommand, Wanted, WordsFault, read_words};
 use exec_output::Fault;
 use exec_session::Way;
 use file_disk::{RamDisk, TellsError};
 use journal_folder::{found, not_emptied, open_files, show_files, show_on};
-use std::env;
+use std::env::{self, VarError};
 use std::io::{Eprint, ErrorKind};
+
+// The variable that names the directory of the journal where a look is given none.
+const JOURNAL: &str = "OCFEXEC_JOURNAL";
 
 // The words of the command line, the program's name first.
 fn words_of(rt: &HostRuntime) -> Result<Vec<String>, Fault> {
@@ -26,10 +30,36 @@ fn words_of(rt: &HostRuntime) -> Result<Vec<String>, Fault> {
     }
 }
 
-/// Does what the words of the command line ask for.
-pub fn start(system: &System<'_>) -> Result<(), Fault> {
+// The directory that the environment names for the journal; an empty text names none.
+fn named_journal(rt: &HostRuntime) -> Result<Option<String>, Fault> {
+    match env::var(rt, JOURNAL) {
+        Ok(folder) if folder.is_empty() => Ok(None),
+        Ok(folder) => Ok(Some(folder)),
+        Err(VarError::NotPresent) => Ok(None),
+        Err(VarError::NotUnicode) => Err(Fault::NotText),
+        Err(VarError::OutOfMemory) => Err(Fault::Memory),
+    }
+}
+
+/// Does what the words of the command line ask for; the exit status that it ends with.
+pub fn start(system: &System<'_>) -> Result<u8, Fault> {
     let words = words_of(system.host())?;
-    run(system, words.as_slice())
+    let named = named_journal(system.host())?;
+    let named = match &named {
+        Some(folder) => Some(folder.as_str()),
+        None => None,
+    };
+    run(system, named, words.as_slice())
+}
+
+// What ends well ends with status 0.
+fn with_status(ended: Result<(), Fault>) -> Result<u8, Fault>
+    ensures { result ≡ with_status ended }
+{
+    match ended {
+        Ok(()) => Ok(0),
+        Err(fault) => Err(fault),
+    }
 }
 
 // What words end with that give no options. A text that was asked for is printed, and so is that of a usage fault.
@@ -40,8 +70,12 @@ fn refuse(system: &System<'_>, fault: &WordsFault) -> Result<(), Fault>
         WordsFault::Help(text) => match text.print(system.host()) {
             Ok(()) => Ok(()),
             Err(error) => {
+                let unwritten = FirstError::of(error);
+                if unwritten.is_unread() {
+                    return Ok(());
+                }
                 let ended = Err(Fault::InputOrOutput);
-                tell_shown(system, &FirstError::of(error), ended);
+                tell_shown(system, &unwritten, ended);
                 ended
             }
         },
@@ -59,21 +93,33 @@ fn refuse(system: &System<'_>, fault: &WordsFault) -> Result<(), Fault>
             );
             Err(Fault::Usage)
         }
+        WordsFault::Timeout => {
+            let _ = system.eprintln("ocfexec: give --timeout milliseconds, from 1 to 4294967295");
+            Err(Fault::Usage)
+        }
         WordsFault::Memory => Err(Fault::Memory),
     }
 }
 
-// Does what these words ask for, the program's name first.
-#[tactic(auto, using(crate::proofs::StartLemmas::journal_ends, crate::proofs::StartLemmas::folder_ends, crate::proofs::StartLemmas::log_ends))]
-fn run(system: &System<'_>, words: &[String]) -> Result<(), Fault>
-    ensures { EndsFor (map string_bytes words.now) result }
+// Does what these words ask for, the program's name first, where the environment names this directory for a journal.
+#[tactic(auto, using(crate::proofs::StartLemmas::starts_journal, crate::proofs::StartLemmas::starts_once, crate::proofs::StartLemmas::starts_nothing))]
+fn run(system: &System<'_>, named: Option<&str>, words: &[String]) -> Result<u8, Fault>
+    ensures { StartEndsFor (option_map (λ s. s.now) named.entry) (map string_bytes words.now) result }
+{
+    match read_words(system.host().alloc(), named, words) {
+        Ok(Wanted::Journal(options)) => with_status(run_journal(system, options)),
+        Ok(Wanted::Once(options)) => Ok(once(system, &options)),
+        Err(fault) => with_status(refuse(system, &fault)),
+    }
+}
+
+// Does what these options ask for.
+#[tactic(auto, using(crate::proofs::StartLemmas::ends_on_disk, crate::proofs::StartLemmas::ends_in_folder, crate::proofs::StartLemmas::ends_without_log))]
+fn run_journal(system: &System<'_>, options: Options) -> Result<(), Fault>
+    ensures { IsEndOf options.entry result }
 {
     let rt = system.host();
-    let options = match read_words(rt.alloc(), words) {
-        Ok(options) => options,
-        Err(fault) => return refuse(system, &fault),
-    };
-    let starts_agents = matches!(options.subcommand, Subcommand::Run | Subcommand::Serve);
+    let starts_agents = !options.subcommand.is_look();
     if starts_agents && children_ignored(rt) {
         return Err(Fault::ChildrenIgnored);
     }

@@ -7,18 +7,20 @@ use Rattle.exec_options.proofs.app.with_agent_options.Goals as goal
 pub returns-clause-app : goal.returns-clause-app
 returns-clause-app c =
     let one = app-arg _ _ c.in_ok-command.command
-    (flag_rule (codes "meta-variables")) _ c.in_ok-command.ensures c.flag.ensures.local c.flag.ensures.rule refl in
+    (text_rule (codes "log")) _ c.in_ok-command.ensures c.text_option.ensures.local c.text_option.ensures.rule refl in
     let two = app-arg _ _ c.in_ok-command-2.command
-    (text_rule (codes "log")) _ c.in_ok-command-2.ensures c.text_option.ensures.local c.text_option.ensures.rule one in
+    (text_rule (codes "logs")) _ c.in_ok-command-2.ensures c.text_option-2.ensures.local c.text_option-2.ensures.rule one in
     let three = app-arg _ _ c.in_ok-command-3.command
-    (text_rule_or (codes "orphans")
-    (codes "20000")) _ c.in_ok-command-3.ensures c.text_option_or.ensures.local c.text_option_or.ensures.rule two in
-    IfOk-weaker c.arg-4.result _ _
-    (λ r h. app-arg _ _ r (flag_rule (codes "leave-orphans")) _ h c.flag-2.ensures.local c.flag-2.ensures.rule three) c.arg-4.ensures
+    (flag_rule (codes "events")) _ c.in_ok-command-3.ensures c.flag.ensures.local c.flag.ensures.rule two in
+    let four = app-arg _ _ c.in_ok-command-4.command
+    (text_rule_or (codes "orphans") (codes "20000")) _ c.in_ok-command-4.ensures c.text_option_or.ensures.local c.text_option_or.ensures.rule three in
+    IfOk-weaker c.arg-5.result _ _
+    (λ r h. app-arg _ _ r (flag_rule (codes "leave-orphans")) _ h c.flag-2.ensures.local c.flag-2.ensures.rule four) c.arg-5.ensures
 
 pub returns-clause-local : goal.returns-clause-local
 returns-clause-local c =
-    let one = local-arg _ _ c.in_ok-command.command _ c.in_ok-command.ensures c.flag.ensures.local refl in
-    let two = local-arg _ _ c.in_ok-command-2.command _ c.in_ok-command-2.ensures c.text_option.ensures.local one in
-    let three = local-arg _ _ c.in_ok-command-3.command _ c.in_ok-command-3.ensures c.text_option_or.ensures.local two in
-    IfOk-weaker c.arg-4.result _ _ (λ r h. local-arg _ _ r _ h c.flag-2.ensures.local three) c.arg-4.ensures
+    let one = local-arg _ _ c.in_ok-command.command _ c.in_ok-command.ensures c.text_option.ensures.local refl in
+    let two = local-arg _ _ c.in_ok-command-2.command _ c.in_ok-command-2.ensures c.text_option-2.ensures.local one in
+    let three = local-arg _ _ c.in_ok-command-3.command _ c.in_ok-command-3.ensures c.flag.ensures.local two in
+    let four = local-arg _ _ c.in_ok-command-4.command _ c.in_ok-command-4.ensures c.text_option_or.ensures.local three in
+    IfOk-weaker c.arg-5.result _ _ (λ r h. local-arg _ _ r _ h c.flag-2.ensures.local four) c.arg-5.ensures

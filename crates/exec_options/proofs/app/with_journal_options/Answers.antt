@@ -1,23 +1,19 @@
-use Rattle.std.proofs.Common.{refl, codes}
+use Rattle.std.proofs.Common.{codes}
 use Rattle.std.proofs.lemmas.Result.{IfOk-weaker}
-use Rattle.exec_options.specs.App.{flag_rule, text_rule, text_rule_or}
+use Rattle.exec_options.specs.App.{flag_rule, text_rule_or}
 use Rattle.exec_options.proofs.AppLemmas.{app-arg, local-arg}
 use Rattle.exec_options.proofs.app.with_journal_options.Goals as goal
 
 pub returns-clause-app : goal.returns-clause-app
 returns-clause-app c =
-    let one = app-arg _ _ c.in_ok-command.command
-    (text_rule (codes "journal")) _ c.in_ok-command.ensures c.text_option.ensures.local c.text_option.ensures.rule refl in
+    let one = c.in_ok-command.ensures.app in
     let two = app-arg _ _ c.in_ok-command-2.command
-    (flag_rule (codes "memory")) _ c.in_ok-command-2.ensures c.flag.ensures.local c.flag.ensures.rule one in
-    let three = app-arg _ _ c.in_ok-command-3.command
-    (flag_rule (codes "any-owner")) _ c.in_ok-command-3.ensures c.flag-2.ensures.local c.flag-2.ensures.rule two in
-    IfOk-weaker c.arg-4.result _ _
-    (λ r h. app-arg _ _ r (text_rule_or (codes "tidy-at") (codes "6291456")) _ h c.text_option_or.ensures.local c.text_option_or.ensures.rule three) c.arg-4.ensures
+    (flag_rule (codes "any-owner")) _ c.in_ok-command-2.ensures c.flag.ensures.local c.flag.ensures.rule one in
+    IfOk-weaker c.arg-2.result _ _
+    (λ r h. app-arg _ _ r (text_rule_or (codes "tidy-at") (codes "6291456")) _ h c.text_option_or.ensures.local c.text_option_or.ensures.rule two) c.arg-2.ensures
 
 pub returns-clause-local : goal.returns-clause-local
 returns-clause-local c =
-    let one = local-arg _ _ c.in_ok-command.command _ c.in_ok-command.ensures c.text_option.ensures.local refl in
+    let one = c.in_ok-command.ensures.local in
     let two = local-arg _ _ c.in_ok-command-2.command _ c.in_ok-command-2.ensures c.flag.ensures.local one in
-    let three = local-arg _ _ c.in_ok-command-3.command _ c.in_ok-command-3.ensures c.flag-2.ensures.local two in
-    IfOk-weaker c.arg-4.result _ _ (λ r h. local-arg _ _ r _ h c.text_option_or.ensures.local three) c.arg-4.ensures
+    IfOk-weaker c.arg-2.result _ _ (λ r h. local-arg _ _ r _ h c.text_option_or.ensures.local two) c.arg-2.ensures

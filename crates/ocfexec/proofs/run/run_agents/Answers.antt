@@ -3,4 +3,4 @@ use Rattle.ocfexec.proofs.run.run_agents.Goals as goal
 
 pub returns-in-Ok-open : goal.returns-in-Ok-open
 returns-in-Ok-open g c =
-    c.ended_over-ended.ensures (same_ends _ _ c.told-ended.ensures (run_ends _ _ _ _ _ _ _ _ _ c.run_lines-run.ensures.ends))
+    c.ended_over-ended.ensures (same_ends _ _ c.told-ended.ensures (run_ends _ _ _ _ _ _ _ _ _ _ c.run_lines-run.ensures.ends))

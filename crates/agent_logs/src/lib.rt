@@ -1,0 +1,10 @@
+//! Logs of what agents write: where they are, and the lines that stand around an agent's own words.
+#![tactic(auto)]
+
+mod directory;
+mod lines;
+mod log;
+
+pub use directory::LogDirectory;
+pub use lines::{Begun, Ended, LoggedEnd, Stamp, begun_line, ended_line};
+pub use log::{Log, Streams};

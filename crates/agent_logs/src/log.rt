@@ -1,0 +1,251 @@
+//! Where agents write.
+use crate::directory::LogDirectory;
+use crate::lines::{Begun, Ended, Stamp, begun_line, ended_line};
+use exec_lines::moment_now;
+use ocf_types::RscId;
+use std::alloc::Global;
+use std::cell::Cell;
+use std::fs::File;
+use std::io::{self, Eprint, Write};
+use std::os::fd::{AsFd, OwnedFd};
+use std::process::Stdio;
+use std::rt::Clock;
+use std::str;
+use std::time::Duration;
+
+// For how many seconds nothing more is said of a log that fails.
+const SILENCE: u64 = 60;
+
+// A place to which agents write.
+#[derive(Drop)]
+enum Place {
+    // The standard error of this program.
+    Errors(OwnedFd),
+    // A file for all resources.
+    File(File),
+    // A file for each resource.
+    Directory(LogDirectory),
+}
+
+// A log that is kept.
+#[derive(Drop)]
+struct Kept {
+    alloc: Global,
+    place: Place,
+    // When it was said last that the log fails, by the monotonic clock.
+    told: Cell<Option<Duration>>,
+}
+
+/// Where the standard output and error of agents go: what each writes is appended there, between a line of its begin and one of its
+/// end, or it goes nowhere. It is no pipe of this program's, so an agent's descendant that outlives the executor goes on writing.
+///
+/// A log that cannot be written stops no action: it is named on standard error, once in a minute at most.
+#[derive(Drop)]
+pub struct Log {
+    kept: Option<Kept>,
+}
+
+/// What an agent's standard output and error are.
+#[derive(Drop)]
+pub struct Streams {
+    pub output: Stdio,
+    pub errors: Stdio,
+}
+
+impl Streams {
+    // What is written is lost.
+    fn none() -> Streams {
+        Streams {
+            output: Stdio::null(),
+            errors: Stdio::null(),
+        }
+    }
+
+    // Both are this stream. It fails where this process may open no descriptor more.
+    fn of_stream(stream: &OwnedFd) -> io::Result<Streams> {
+        Ok(Streams {
+            output: Stdio::from(stream.try_clone()?),
+            errors: Stdio::from(stream.try_clone()?),
+        })
+    }
+
+    // Both are this file. It fails where this process may open no descriptor more.
+    fn of_file(file: &File) -> io::Result<Streams> {
+        Ok(Streams {
+            output: Stdio::from(file.try_clone()?),
+            errors: Stdio::from(file.try_clone()?),
+        })
+    }
+}
+
+// Writes a line to a file, all of it at once where the system takes it so.
+fn write_line(mut file: &File, line: &[u8]) -> io::Result<()> {
+    file.write_all(line)
+}
+
+impl Kept {
+    fn at(alloc: Global, place: Place) -> Kept {
+        Kept {
+            alloc,
+            place,
+            told: Cell::new(None),
+        }
+    }
+
+    // Whether it is to be said that the log fails, which then is said.
+    fn is_to_tell(&self, rt: &impl Clock) -> bool {
+        let Ok(now) = rt.monotonic() else {
+            return false;
+        };
+        let is_recent = match self.told.get() {
+            Some(told) => now.saturating_sub(told).as_secs() < SILENCE,
+            None => false,
+        };
+        if !is_recent {
+            self.told.set(Some(now));
+        }
+        !is_recent
+    }
+
+    // Says on standard error that the log fails, once in a minute at most.
+    fn tell<R: Clock + Eprint>(&self, rt: &R, id: &RscId, error: &io::Error) {
+        if !self.is_to_tell(rt) {
+            return;
+        }
+        let id = str::from_utf8(id.as_bytes()).unwrap_or_default();
+        let _ = match &self.place {
+            Place::Directory(directory) => {
+                rt.eprintln(format_args!("ocfexec: log {directory}/{id}.log: {error}"))
+            }
+            _ => rt.eprintln(format_args!("ocfexec: log of agents: {error}")),
+        };
+    }
+
+    // The stamp of a line that is written now: with the id where the log has the lines of all resources.
+    fn stamp<'a>(&self, rt: &impl Clock, id: &'a RscId) -> Stamp<'a> {
+        let id = match &self.place {
+            Place::Directory(_) => None,
+            _ => Some(id),
+        };
+        Stamp {
+            id,
+            at: moment_now(rt),
+        }
+    }
+
+    // Says a line on standard error, on which nothing waits.
+    fn say<R: Eprint>(&self, rt: &R, line: &[u8]) {
+        let _ = rt.eprint(str::from_utf8(line).unwrap_or_default());
+    }
+
+    // Writes a line to a file; a failure is told.
+    fn write<R: Clock + Eprint>(&self, rt: &R, id: &RscId, file: &File, line: &[u8]) {
+        if let Err(error) = write_line(file, line) {
+            self.tell(rt, id, &error);
+        }
+    }
+
+    // Opens the log of a resource, writes a line there, and gives the file.
+    fn open<R: Clock + Eprint>(
+        &self,
+        rt: &R,
+        directory: &LogDirectory,
+        id: &RscId,
+        line: &[u8],
+    ) -> Option<File> {
+        match directory.open(id) {
+            Ok(file) => {
+                self.write(rt, id, &file, line);
+                Some(file)
+            }
+            Err(error) => {
+                self.tell(rt, id, &error);
+                None
+            }
+        }
+    }
+
+    // Writes the line of a begin, and gives what the agent writes to.
+    fn begin<R: Clock + Eprint>(&self, rt: &R, id: &RscId, line: &[u8]) -> io::Result<Streams> {
+        match &self.place {
+            Place::Errors(stream) => {
+                self.say(rt, line);
+                Streams::of_stream(stream)
+            }
+            Place::File(file) => {
+                self.write(rt, id, file, line);
+                Streams::of_file(file)
+            }
+            Place::Directory(directory) => match self.open(rt, directory, id, line) {
+                Some(file) => Streams::of_file(&file),
+                None => Ok(Streams::none()),
+            },
+        }
+    }
+
+    // Writes the line of an end.
+    fn end<R: Clock + Eprint>(&self, rt: &R, id: &RscId, line: &[u8]) {
+        match &self.place {
+            Place::Errors(_) => self.say(rt, line),
+            Place::File(file) => self.write(rt, id, file, line),
+            Place::Directory(directory) => drop(self.open(rt, directory, id, line)),
+        }
+    }
+}
+
+impl Log {
+    /// They write nowhere.
+    pub fn none() -> Log {
+        Log { kept: None }
+    }
+
+    fn at(alloc: Global, place: Place) -> Log {
+        Log {
+            kept: Some(Kept::at(alloc, place)),
+        }
+    }
+
+    /// They write to this stream, which is the standard error of this program, by a descriptor of the log's own: one above the
+    /// standard streams, so what is meant for a stream that was closed does not land there. It fails where it is closed itself, or
+    /// no descriptor more is had.
+    pub fn to_errors(alloc: Global, stream: &impl AsFd) -> io::Result<Log> {
+        let stream = stream.as_fd().try_clone_to_owned()?;
+        Ok(Log::at(alloc, Place::Errors(stream)))
+    }
+
+    /// They write to this file, all of them, by a descriptor above the standard streams.
+    pub fn to_file(alloc: Global, file: &File) -> io::Result<Log> {
+        Ok(Log::at(alloc, Place::File(file.try_clone()?)))
+    }
+
+    /// Each writes to the log of its resource in this directory.
+    pub fn to_directory(alloc: Global, directory: LogDirectory) -> Log {
+        Log::at(alloc, Place::Directory(directory))
+    }
+
+    /// Writes the line of a run that begins, and gives what its agent writes to. A log of a resource that cannot be opened or written
+    /// is told, and stops nothing: the agent writes nowhere then. It fails only where this process may open no descriptor more, or
+    /// the line finds no memory.
+    pub fn begin<R: Clock + Eprint>(
+        &self,
+        rt: &R,
+        id: &RscId,
+        begun: &Begun<'_>,
+    ) -> io::Result<Streams> {
+        let Some(kept) = &self.kept else {
+            return Ok(Streams::none());
+        };
+        let line = begun_line(kept.alloc, &kept.stamp(rt, id), begun)?;
+        kept.begin(rt, id, line.as_slice())
+    }
+
+    /// Writes the line of a run that has ended. Where it finds no memory there is no line.
+    pub fn end<R: Clock + Eprint>(&self, rt: &R, id: &RscId, ended: Ended) {
+        let Some(kept) = &self.kept else {
+            return;
+        };
+        if let Ok(line) = ended_line(kept.alloc, &kept.stamp(rt, id), ended) {
+            kept.end(rt, id, line.as_slice());
+        }
+    }
+}

@@ -1,0 +1,152 @@
+//! A client that tells another one first, and then a person.
+ghost use Rattle.std.specs.Prelude.{◌≡◌, IfOk, OnOk};
+ghost use Rattle.std.specs.Io.KnownBytes.{Appends};
+ghost use Rattle.std.specs.List.{flat_map};
+ghost use Rattle.exec_events.specs.Events.{notices_in};
+ghost use Rattle.exec_events.specs.Failures.{event_of};
+
+use crate::failure::has_failed;
+use crate::lines::event_line;
+use child_model::Children;
+use disk_model::Disk;
+use exec_client::{Client, Told};
+use exec_commands::NoticeForm;
+use exec_lines::write_flushed;
+use exec_output::IoFault;
+use executor::Executor;
+use ocf_types::Notice;
+use std::alloc::{AllocError, Global};
+use std::io::Write;
+
+/// Which lines a person is given.
+#[derive(Clone, Copy, Debug, PartialEq, Eq)]
+pub enum Events {
+    /// None.
+    None,
+    /// One of each result.
+    Plain,
+    /// One of each result, with its priority in front, as the system's journal reads it. sd-daemon(3).
+    Marked,
+}
+
+/// A client that is told what another one is told, after that one; and where events are asked for, a person is given a line of each
+/// result. What is written for the person, and whether that fails, changes nothing of the run.
+#[derive(Drop)]
+pub struct Eventful<T, W> {
+    alloc: Global,
+    client: T,
+    errors: W,
+    events: Events,
+}
+
+impl<T, W: Write> Eventful<T, W> {
+    /// Over a client, with a writer for the person.
+    pub fn new(alloc: Global, client: T, errors: W, events: Events) -> Eventful<T, W>
+        ensures client { result.client ≡ client }
+    {
+        Eventful {
+            alloc,
+            client,
+            errors,
+            events,
+        }
+    }
+}
+
+// How lines are made.
+#[derive(Clone, Copy)]
+struct Making {
+    alloc: Global,
+    // Whether each has its mark.
+    marks: bool,
+}
+
+// The line of a result, by what the executor's state says of it.
+fn line_of<D: Disk + Drop, C: Children + Drop>(
+    making: &Making,
+    executor: &Executor<D, C>,
+    notice: &Notice,
+) -> Result<Vec<u8>, AllocError>
+    ensures line { IfOk result
+        (λ line. line.items ≡ event_of making.now.marks executor.now.state notice.now) }
+{
+    let failed = has_failed(executor, notice)?;
+    event_line(making.alloc, making.marks, failed, notice)
+}
+
+// Writes the line of a result, and flushes it.
+fn write_event<D: Disk + Drop, C: Children + Drop, W: Write>(
+    making: &Making,
+    errors: &mut W,
+    executor: &Executor<D, C>,
+    notice: &Notice,
+) -> Result<(), IoFault>
+    ensures written { OnOk result
+        (Appends (W.contents errors.old) (W.contents errors.new)
+        (event_of making.now.marks executor.now.state notice.now)) }
+{
+    let line = line_of(making, executor, notice)?;
+    write_flushed(errors, line.as_slice())?;
+    Ok(())
+}
+
+// Writes a line of each result.
+fn write_events<D: Disk + Drop, C: Children + Drop, W: Write>(
+    making: &Making,
+    errors: &mut W,
+    executor: &Executor<D, C>,
+    notices: &[Notice],
+) -> Result<(), IoFault>
+    ensures written { OnOk result
+        (Appends (W.contents errors.old) (W.contents errors.new)
+        (flat_map (event_of making.now.marks executor.now.state) notices.now)) }
+{
+    for notice in notices {
+        write_event(making, errors, executor, notice)?;
+    }
+    Ok(())
+}
+
+// The results that are told.
+fn notices_in<'a>(what: &Told<'a>) -> &'a [Notice]
+    ensures { result.now ≡ notices_in what.now }
+{
+    match what {
+        Told::Reply(_) | Told::Replies(_) => &[],
+        Told::Notices(turn) => turn.notices,
+        Told::Report(notices) => notices,
+    }
+}
+
+impl<D: Disk + Drop, C: Children + Drop, T: Client<D, C>, W: Write> Client<D, C>
+    for Eventful<T, W> {
+    ghost heard = { λ e. T.heard e.client };
+
+    ghost refuses = { T.refuses };
+
+    fn tell(
+        &mut self,
+        executor: &Executor<D, C>,
+        form: NoticeForm,
+        what: &Told,
+    ) -> Result<(), IoFault> {
+        let told = self.client.tell(executor, form, what);
+        let marks = match self.events {
+            Events::None => return told,
+            Events::Plain => false,
+            Events::Marked => true,
+        };
+        let making = Making {
+            alloc: self.alloc,
+            marks,
+        };
+        if told.is_ok() {
+            let _ = write_events(&making, &mut self.errors, executor, notices_in(what));
+        }
+        told
+    }
+
+    fn is_heard(&self) -> bool {
+        self.client.is_heard()
+    }
+}

@@ -1,0 +1,8 @@
+//! Lines for a person of each result, on standard error, by a client that tells another one first.
+#![tactic(auto)]
+
+mod eventful;
+mod failure;
+mod lines;
+
+pub use eventful::{Eventful, Events};

@@ -1,0 +1,143 @@
+//! The line of a result, for a person.
+ghost use Rattle.std.specs.Prelude.{◌≡◌, ◌-◌, ◌++◌, IfOk, IsTrue, OnErr, OnOk};
+ghost use Rattle.exec_output.specs.Meanings.{tone_of};
+ghost use Rattle.exec_events.specs.Events.{code_text, event_line, event_meaning, event_text, is_bad, is_unknown, mark_of, marked, time_text};
+
+use exec_output::{Tone, add_span, failure_meaning, meaning, tone_of};
+use growth::Grows;
+use log_lines::{add_bytes, add_number};
+use ocf_codes::{name, read_code};
+use ocf_types::{Action, Notice, Outcome, RunEnd};
+use std::alloc::{AllocError, Global};
+
+// Adds a text.
+fn add(line: &mut Vec<u8>, more: &str) -> Result<(), AllocError>
+    ensures added { OnOk result (line.new.items ≡ line.old.items ++ more.now) }
+    ensures memory { OnErr result (IsTrue ⟦<Global as Grows>⟧.refuses) }
+{
+    add_bytes(line, more.as_bytes())
+}
+
+// Whether it is a failure whatever was expected.
+fn is_bad(outcome: Outcome) -> bool
+    ensures { result ≡ is_bad (tone_of outcome) }
+{
+    match tone_of(outcome) {
+        Tone::Bad => true,
+        Tone::Good | Tone::Notable => false,
+    }
+}
+
+// Whether it is not known what became of the action.
+fn is_unknown(outcome: Outcome) -> bool
+    ensures { result ≡ is_unknown outcome }
+{
+    matches!(
+        outcome,
+        Outcome::Interrupted | Outcome::Dropped | Outcome::Run(RunEnd::Lost)
+    )
+}
+
+// What a line begins with for the system's journal. sd-daemon(3): the priorities err, warning and info.
+fn mark_of(failed: bool, outcome: Outcome) -> &'static str
+    ensures { result.now ≡ mark_of failed outcome }
+{
+    if is_unknown(outcome) {
+        "<4>"
+    } else if failed || is_bad(outcome) {
+        "<3>"
+    } else {
+        "<6>"
+    }
+}
+
+// What a result means, in the words of a status.
+fn event_meaning(action: Action, outcome: Outcome) -> &'static str
+    ensures { result.now ≡ event_meaning action outcome }
+{
+    if is_bad(outcome) {
+        failure_meaning(action, outcome)
+    } else {
+        meaning(action, outcome)
+    }
+}
+
+// The agent's exit code, with its name where it is not 0.
+fn add_code(line: &mut Vec<u8>, outcome: Outcome) -> Result<(), AllocError>
+    ensures added { OnOk result (line.new.items ≡ line.old.items ++ code_text outcome) }
+    ensures memory { OnErr result (IsTrue ⟦<Global as Grows>⟧.refuses) }
+{
+    let Outcome::Run(RunEnd::Done(code)) = outcome else {
+        return Ok(());
+    };
+    if code == 0 {
+        return add(line, " (0)");
+    }
+    add(line, " (")?;
+    add(line, name(read_code(code)))?;
+    add(line, ", ")?;
+    add_number(line, u64::from(code))?;
+    add(line, ")")
+}
+
+// How long an action ran whose end was seen.
+fn add_time(line: &mut Vec<u8>, outcome: Outcome, millis: u64) -> Result<(), AllocError>
+    ensures added { OnOk result (line.new.items ≡ line.old.items ++ time_text outcome millis) }
+    ensures memory { OnErr result (IsTrue ⟦<Global as Grows>⟧.refuses) }
+{
+    match outcome {
+        Outcome::Run(RunEnd::Done(_)) => add(line, " in ")?,
+        Outcome::Run(RunEnd::TimedOut | RunEnd::Signaled) => add(line, " after ")?,
+        _ => return Ok(()),
+    }
+    add_span(line, millis)
+}
+
+// Adds what is said of a result.
+fn add_event(line: &mut Vec<u8>, notice: &Notice) -> Result<(), AllocError>
+    ensures added { OnOk result (line.new.items ≡ line.old.items ++ event_text notice.now) }
+    ensures memory { OnErr result (IsTrue ⟦<Global as Grows>⟧.refuses) }
+{
+    let ended = notice.result;
+    add_bytes(line, notice.id.as_bytes())?;
+    add(line, ": ")?;
+    add(line, ended.action.word())?;
+    add(line, " ")?;
+    add(line, event_meaning(ended.action, ended.outcome))?;
+    add_code(line, ended.outcome)?;
+    let millis = ended.at.get().saturating_sub(ended.since.get());
+    add_time(line, ended.outcome, millis)
+}
+
+// Adds the mark, where lines are to have one.
+fn add_mark(
+    line: &mut Vec<u8>,
+    marks: bool,
+    failed: bool,
+    outcome: Outcome,
+) -> Result<(), AllocError>
+    ensures added { OnOk result (line.new.items ≡ line.old.items ++ marked marks failed outcome) }
+    ensures memory { OnErr result (IsTrue ⟦<Global as Grows>⟧.refuses) }
+{
+    if !marks {
+        return Ok(());
+    }
+    add(line, mark_of(failed, outcome))
+}
+
+/// The line of a result, with its mark or without.
+pub fn event_line(
+    alloc: Global,
+    marks: bool,
+    failed: bool,
+    notice: &Notice,
+) -> Result<Vec<u8>, AllocError>
+    ensures line { IfOk result (λ line. line.items ≡ event_line marks failed notice.now) }
+    ensures memory { OnErr result (IsTrue ⟦<Global as Grows>⟧.refuses) }
+{
+    let mut line = Vec::new(alloc);
+    add_mark(&mut line, marks, failed, notice.result.outcome)?;
+    add_event(&mut line, notice)?;
+    add(&mut line, "\n")?;
+    Ok(line)
+}

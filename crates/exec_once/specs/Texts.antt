@@ -1,0 +1,11 @@
+-- What the word of an action that is to be run once names.
+use Rattle.std.specs.Prelude.{◌≡◌, ℕ, List, codes}
+use Rattle.ocf_types.specs.Actions.{action_of, action_word}
+use Rattle.exec_once.specs.declared.call.What.{What}
+use Rattle.exec_once.specs.declared.call.What.TheVariants.{MetaData, Action}
+
+-- the word is that of what is to be done, and within this time
+abbrev pub IsWhat : List ℕ → ℕ → What → Type 0
+IsWhat word timeout MetaData = word ≡ codes "meta-data"
+IsWhat word timeout (Action running) =
+    (word ≡ action_word (action_of running.task)) × (running.timeout ≡ timeout) × (running.interval ≡ 0)

@@ -1,0 +1,50 @@
+//! What is to be run once, and how its agent is called.
+ghost use Rattle.std.specs.Prelude.{IfOk, OnErr, IsTrue};
+ghost use Rattle.exec_once.specs.Calls.{IsCallFor};
+
+use growth::Grows;
+use ocf_env::{Instance, Invocation, Site, launch, launch_meta};
+use ocf_types::{AgentType, Params, Provider, RscId, Running};
+use std::alloc::{AllocError, Allocator, Global};
+
+/// What an agent is to do.
+#[derive(Clone, Copy)]
+pub enum What {
+    /// To give its metadata. OCF Resource Agent API 1.1, meta-data.
+    MetaData,
+    /// An action.
+    Action(Running),
+}
+
+/// An action that is to be run once.
+#[derive(Drop)]
+pub struct OnceCall {
+    pub provider: Provider,
+    pub agent: AgentType,
+    pub id: RscId,
+    pub what: What,
+    pub params: Params,
+}
+
+/// How the agent of a site is called for it.
+pub fn invocation_of<S: Allocator>(
+    alloc: Global,
+    site: &Site<S>,
+    call: &OnceCall,
+) -> Result<Invocation, AllocError>
+    ensures call { IfOk result (IsCallFor site.now call.now) }
+    ensures memory { OnErr result (IsTrue ⟦<Global as Grows>⟧.refuses) }
+{
+    match call.what {
+        What::MetaData => launch_meta(alloc, site, &call.provider, &call.agent),
+        What::Action(running) => {
+            let instance = Instance {
+                id: &call.id,
+                provider: &call.provider,
+                agent: &call.agent,
+                params: &call.params,
+            };
+            Ok(launch(alloc, site, &instance, running)?.invocation)
+        }
+    }
+}

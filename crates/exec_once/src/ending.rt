@@ -1,0 +1,67 @@
+//! How an action ended that was run once.
+ghost use Rattle.std.specs.Prelude.{◌≡◌, ◌<◌, IfSome, IfNone, pos};
+ghost use Rattle.std.specs.Process.{child_status};
+ghost use Rattle.child_keeper.specs.Ends.{signal_of};
+ghost use Rattle.exec_once.specs.Ends.{IsEndNow, TellsStatus, once_status};
+
+use std::os::unix::process::ExitStatusExt;
+use std::process::{Child, ExitStatus, OpenProcess};
+
+/// How an action ended that was run once.
+#[derive(Clone, Copy, Debug, PartialEq, Eq)]
+pub enum OnceEnd {
+    /// Its agent exited with this code.
+    Exited(u8),
+    /// This signal ended its agent.
+    Signaled(u8),
+    /// It still ran as its timeout passed.
+    TimedOut,
+    /// The system did not tell how it ended.
+    Lost,
+    /// It was not started.
+    NotStarted,
+}
+
+impl OnceEnd {
+    /// The exit status that tells of it, as timeout(1) and a shell do.
+    pub fn status(self) -> u8
+        ensures { result ≡ once_status self }
+    {
+        match self {
+            OnceEnd::Exited(code) => code,
+            OnceEnd::Signaled(signal) => 128 + signal % 128,
+            OnceEnd::TimedOut => 124,
+            OnceEnd::Lost | OnceEnd::NotStarted => 125,
+        }
+    }
+}
+
+// The number of the signal that ended a child, 0 where the system names none.
+fn signal_of(status: ExitStatus) -> u8
+    ensures { pos result ≡ signal_of status }
+{
+    (status.signal().unwrap_or(0).cast_unsigned() % 256) as u8
+}
+
+// How a child ended, by the status that the system tells of it.
+fn end_of(status: ExitStatus) -> OnceEnd
+    ensures { TellsStatus status result }
+{
+    match status.code() {
+        Some(code) => OnceEnd::Exited((code.cast_unsigned() % 256) as u8),
+        None => OnceEnd::Signaled(signal_of(status)),
+    }
+}
+
+/// How a child has ended that has so many milliseconds left, or `None` where it is to be asked again.
+pub fn end_now<P: OpenProcess>(child: &mut Child<P>, left: u32) -> Option<OnceEnd>
+    ensures ended { IfSome result (IsEndNow (child_status child.new) left) }
+    ensures none { IfNone result (0 < left) }
+{
+    match child.try_wait() {
+        Ok(Some(status)) => Some(end_of(status)),
+        Ok(None) if left > 0 => None,
+        Ok(None) => Some(OnceEnd::TimedOut),
+        Err(_) => Some(OnceEnd::Lost),
+    }
+}

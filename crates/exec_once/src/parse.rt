@@ -1,0 +1,82 @@
+//! The words of an action that is to be run once.
+ghost use Rattle.std.specs.Prelude.{IfSome};
+ghost use Rattle.exec_once.specs.Texts.{IsWhat};
+
+use crate::call::What;
+use ocf_types::{
+    Action, AgentType, CallId, Check, Millis, Moment, ParamName, ParamValue, Params, Provider,
+    RunId, Running, Task, ValueError,
+};
+use std::alloc::Global;
+
+/// Why words name no action that can be run once.
+#[derive(Clone, Copy, Debug, PartialEq, Eq)]
+pub enum OnceFault {
+    /// A parameter is no `NAME=VALUE`, or there are too many.
+    Parameter,
+    /// There is no memory for the parameters.
+    Memory,
+}
+
+impl From<ValueError> for OnceFault {
+    fn from(error: ValueError) -> OnceFault {
+        match error {
+            ValueError::BadValue => OnceFault::Parameter,
+            ValueError::Memory => OnceFault::Memory,
+        }
+    }
+}
+
+/// The provider and the type of an agent that a text as `heartbeat:Dummy` names.
+pub fn read_agent(text: &str) -> Option<(Provider, AgentType)> {
+    let (provider, agent) = text.split_once(':')?;
+    match (
+        Provider::new(provider.as_bytes()),
+        AgentType::new(agent.as_bytes()),
+    ) {
+        (Ok(provider), Ok(agent)) => Some((provider, agent)),
+        _ => None,
+    }
+}
+
+/// What is to be done, by its word, within a time. The call and the run are the first ones, since nothing counts them.
+pub fn read_what(word: &str, timeout: u32) -> Option<What>
+    ensures { IfSome result (IsWhat word.now timeout) }
+{
+    if word == "meta-data" {
+        return Some(What::MetaData);
+    }
+    let task = Task::new(Action::named(word)?, Check::plain())?;
+    Some(What::Action(Running {
+        call: CallId::new(1)?,
+        run: RunId::new(1)?,
+        task,
+        timeout: Millis::new(timeout)?,
+        interval: 0,
+        since: Moment::cut(0),
+    }))
+}
+
+// A parameter as `NAME=VALUE`.
+fn read_parameter(alloc: Global, text: &str) -> Result<(ParamName, ParamValue), OnceFault> {
+    let Some((name, value)) = text.split_once('=') else {
+        return Err(OnceFault::Parameter);
+    };
+    let Ok(name) = ParamName::new(name.as_bytes()) else {
+        return Err(OnceFault::Parameter);
+    };
+    match ParamValue::new(alloc, value.as_bytes()) {
+        Ok(value) => Ok((name, value)),
+        Err(error) => Err(OnceFault::from(error)),
+    }
+}
+
+/// The parameters that texts name; a later one takes the place of an earlier one of its name.
+pub fn read_parameters(alloc: Global, texts: &[&str]) -> Result<Params, OnceFault> {
+    let mut params = Params::new(alloc);
+    for text in texts {
+        let (name, value) = read_parameter(alloc, text)?;
+        params.insert(name, value)?;
+    }
+    Ok(params)
+}

@@ -1,0 +1,100 @@
+#!/usr/bin/env python3
+# check: slow
+"""What an administrator wants to know at the first failure, by the program's own subcommands alone and within a minute each, with agents
+of Debian: why nginx did not start, which resource of forty is down, whether a start was interrupted, and what an agent does.
+Use: first_failure.py PROGRAM"""
+import json
+import os
+import shutil
+import signal
+import sys
+import time
+import unittest
+
+sys.path[0] += "/../lib"
+import helper  # noqa: E402
+
+ROOT = "/usr/lib/ocf"
+AGENTS = ROOT + "/resource.d/heartbeat"
+
+
+@unittest.skipUnless(os.path.exists(AGENTS + "/Dummy") and os.geteuid() == 0, "wants root and the package resource-agents")
+class FirstFailure(helper.Check):
+    def setUp(self):
+        super().setUp()
+        self.journal = self.place("journal")
+        os.mkdir(self.journal, 0o700)
+        self.began = time.monotonic()
+
+    def tearDown(self):
+        self.assertLess(time.monotonic() - self.began, 60)
+        super().tearDown()
+
+    def asked(self, *words):
+        """What the program says that looks at the journal of the environment, and its status."""
+        done = helper.run(*words, env={**os.environ, "OCFEXEC_JOURNAL": self.journal})
+        return done.returncode, done.stdout.decode(), done.stderr.decode()
+
+    def does(self, *lines):
+        done = helper.run("run", "--journal", self.journal, "--meta-variables", "--log", self.place("log"),
+                          told="".join(json.dumps(line) + "\n" for line in lines).encode())
+        self.assertEqual(done.returncode, 0, done.stderr)
+
+    def registered(self, name, kind, **params):
+        return {"op": "register", "id": name, "provider": "heartbeat", "type": kind, "params": params}
+
+    @unittest.skipUnless(shutil.which("nginx"), "wants nginx")
+    def test_why(self):
+        """Why nginx with a broken configuration did not start."""
+        broken = self.place("nginx.conf")
+        with open(broken, "w", encoding="ascii") as file:
+            file.write("events {}\nhttp { server { listen 127.0.0.1:1; lissten 2; } }\n")
+        self.does(self.registered("web", "nginx", configfile=broken), helper.action("web", "start"), {"op": "drain"})
+        code, out, _ = self.asked("status", "--exit-code")
+        self.assertEqual(code, 9, out)
+        self.assertIn("failed", out)
+        code, out, err = self.asked("once", "--meta-variables", "heartbeat:nginx", "validate-all", f"configfile={broken}")
+        self.assertNotEqual(code, 0)
+        self.assertIn("lissten", out + err)
+
+    def test_which(self):
+        """Which resource of forty is down."""
+        names = [f"r{at}" for at in range(40)]
+        self.does(*[self.registered(name, "Dummy", state=self.place(name)) for name in names],
+                  *[helper.action(name, "start") for name in names], {"op": "drain"})
+        self.assertEqual(self.asked("status", "--exit-code")[0], 0)
+        os.remove(self.place("r23"))
+        self.does(*[helper.action(name, "monitor") for name in names], {"op": "drain"})
+        code, out, _ = self.asked("status", "--json")
+        self.assertEqual(code, 0)
+        states = [json.loads(line) for line in out.splitlines()]
+        self.assertEqual([line["id"] for line in states if line.get("state", "started") != "started"], ["r23"])
+
+    def test_interrupted(self):
+        """Whether a start was interrupted, with what came after it."""
+        run = self.heard("run", "--journal", self.journal, "--root", self.here)
+        self.agent("Slow", "sleep 1\n")
+        run.tell({"op": "register", "id": "slow", "provider": "test", "type": "Slow"}, helper.action("slow", "start"), {"op": "drain"})
+        time.sleep(0.5)
+        os.kill(run.run.pid, signal.SIGKILL)
+        run.run.wait()
+        done = helper.run("run", "--journal", self.journal, "--root", self.here)
+        self.assertIn(b"interrupted", done.stdout)
+        code, out, _ = self.asked("log", "slow", "--since", time.strftime("%Y-%m-%d", time.gmtime(time.time() - 86400)))
+        self.assertEqual(code, 0)
+        self.assertIn("start", out)
+        code, out, _ = self.asked("status", "slow")
+        self.assertIn("interrupted", out)
+
+    def test_once(self):
+        """What an agent does that is run once."""
+        state = "state=" + self.place("dummy")
+        for action, code in (("monitor", 7), ("start", 0), ("monitor", 0), ("stop", 0), ("monitor", 7)):
+            self.assertEqual(self.asked("once", "--meta-variables", "heartbeat:Dummy", action, state)[0], code, action)
+        code, out, _ = self.asked("once", "heartbeat:Dummy", "meta-data")
+        self.assertEqual(code, 0)
+        self.assertIn("<resource-agent", out)
+
+
+if __name__ == "__main__":
+    helper.main()

@@ -1,0 +1,272 @@
+#!/usr/bin/env python3
+"""The logs of agents: with --logs DIR a file for each resource, opened anew for each action, and with --log one for all. Wanted: a line
+with the moment, the call, the run and the action before the agent's own words, and one with its end after them; a log that was renamed
+is left, and a new one made; one that cannot be opened or written is named once, and no action fails by it.
+Use: logs.py PROGRAM"""
+import datetime
+import os
+import re
+import shutil
+import stat
+import subprocess
+import sys
+import time
+import unittest
+
+sys.path[0] += "/../lib"
+import helper  # noqa: E402
+
+# An agent that says what it is asked for, and then does what the parameter `does` says, in the shell.
+SAYS = """echo "$1 of $OCF_RESOURCE_INSTANCE"
+echo "$1 fails: no such device" >&2
+eval "${OCF_RESKEY_does:-:}"
+"""
+MOMENT = r"(\d{4}-\d\d-\d\dT\d\d:\d\d:\d\d\.\d{3}Z) "
+OCF = "/usr/lib/ocf"
+
+
+def without_moments(text):
+    """Lines whose moment is MOMENT, and whose length of time is N."""
+    return re.sub(r"(\d+) ms", "N ms", re.sub(MOMENT, "MOMENT ", text))
+
+
+def is_tmpfs_possible():
+    return os.geteuid() == 0 and shutil.which("unshare") and subprocess.run(
+        ["unshare", "-m", "true"], capture_output=True, check=False).returncode == 0
+
+
+class WithLogs(helper.Check):
+    """A check with a directory for logs."""
+
+    def setUp(self):
+        super().setUp()
+        self.agent("Says", SAYS)
+        self.logs = self.place("logs")
+        os.mkdir(self.logs)
+
+    def read(self, name="web.log"):
+        with open(os.path.join(self.logs, name), encoding="utf-8") as log:
+            return log.read()
+
+    def ends_with(self, done, **wanted):
+        """The run was well, and the notice of its action is as wanted."""
+        self.assertEqual(done.returncode, 0, done.stderr)
+        found = [value for value in helper.replies(done.stdout) if helper.is_notice(value)]
+        self.assertEqual([{key: value[key] for key in wanted} for value in found], [wanted])
+
+
+class Logs(WithLogs):
+    def does(self, does, *words, name="web", timeout=20000):
+        """A run of one start of an agent that does this, with its log in a directory if no other words are given."""
+        words = words or ("--logs", self.logs)
+        return helper.run("run", "--memory", "--root", self.here, *words, told=helper.lines(
+            helper.register(name, "Says", does=does), helper.action(name, "start", timeout=timeout), {"op": "drain"}))
+
+    def test_begin_and_end(self):
+        """an agent's words stand between the lines of its begin and of its end"""
+        self.ends_with(self.does("exit 6"), code=6)
+        self.assertEqual(without_moments(self.read()),
+                         "MOMENT call 1 begins as run 1: start\nstart of web\nstart fails: no such device\n"
+                         "MOMENT run 1 ended in N ms: OCF_ERR_CONFIGURED (6)\n")
+
+    def test_moments(self):
+        """the moments of its lines are of now, in UTC, and the length of time is that of the action"""
+        before = datetime.datetime.now(datetime.timezone.utc)
+        self.ends_with(self.does("sleep 0.3"), code=0)
+        after = datetime.datetime.now(datetime.timezone.utc)
+        text = self.read()
+        began, ended = (datetime.datetime.fromisoformat(moment.replace("Z", "+00:00")) for moment in re.findall(MOMENT, text))
+        cut = datetime.timedelta(milliseconds=1)
+        self.assertLessEqual(before - cut, began)
+        self.assertLessEqual(began, ended)
+        self.assertLessEqual(ended, after + cut)
+        took = int(re.search(r"ended in (\d+) ms", text)[1])
+        self.assertGreaterEqual(took, 300)
+        self.assertLessEqual(took, (after - before).total_seconds() * 1000 + 1)
+
+    def test_mode(self):
+        """a new log is its owner's alone"""
+        self.does("true")
+        self.assertEqual(stat.S_IMODE(os.stat(os.path.join(self.logs, "web.log")).st_mode), 0o600)
+
+    def test_each_its_own(self):
+        """each resource has a log of its own, whatever its id"""
+        names = ["web", "db:0", ".hidden", "..x", "a.log", "-", "x" * 64]
+        for name in names:
+            self.ends_with(self.does("exit 0", name=name), code=0)
+        self.assertEqual(sorted(os.listdir(self.logs)), sorted(f"{name}.log" for name in names))
+        for name in names:
+            self.assertIn(f"start of {name}\n", self.read(f"{name}.log"))
+
+    def test_appended(self):
+        """a log that is there is appended to"""
+        self.does("exit 0")
+        first = self.read()
+        self.does("exit 1")
+        self.assertTrue(self.read().startswith(first))
+        self.assertIn("OCF_ERR_GENERIC (1)\n", self.read()[len(first):])
+
+    def test_timeout(self):
+        """an agent that ran past its timeout was killed"""
+        self.ends_with(self.does("exec sleep 20", timeout=300), outcome="timed-out")
+        self.assertRegex(self.read(), r"run 1 was killed after (3\d\d|[4-9]\d\d|\d{4,}) ms\n$")
+
+    def test_signal(self):
+        """a signal that ended an agent is named"""
+        self.ends_with(self.does("kill -9 $$"), outcome="signaled")
+        self.assertRegex(self.read(), r"run 1 was ended after \d+ ms by signal 9\n$")
+
+    def test_missing(self):
+        """an agent that is missing was not started"""
+        done = helper.run("run", "--memory", "--root", self.here, "--logs", self.logs, told=helper.lines(
+            helper.register("web", "None"), helper.action("web", "start"), {"op": "drain"}))
+        self.ends_with(done, outcome="not-started")
+        self.assertEqual(without_moments(self.read()), "MOMENT call 1 begins as run 1: start\n"
+                         "MOMENT run 1 was not started: the agent's file is missing\n")
+
+    def test_end_of_input(self):
+        """an agent that runs where the input ends was killed"""
+        run = self.heard("serve", "--memory", "--root", self.here, "--logs", self.logs)
+        run.tell(helper.register("web", "Says", does="exec sleep 60"), helper.action("web", "start"))
+        self.awaits_log("start fails: no such device\n")
+        self.assertEqual(run.ends(), 0)
+        self.assertRegex(self.read(), r"run 1 was killed after \d+ ms\n$")
+
+    def awaits_log(self, text, name="web.log", seconds=20):
+        until = time.monotonic() + seconds
+        while time.monotonic() < until:
+            if os.path.exists(os.path.join(self.logs, name)) and text in self.read(name):
+                return
+            time.sleep(0.02)
+        self.fail(f"{name} has not {text!r} after {seconds} s: {os.listdir(self.logs)}")
+
+    def test_rotated(self):
+        """a log that was renamed keeps the words of what runs, and a new one has the next action"""
+        run = self.heard("serve", "--memory", "--root", self.here, "--logs", self.logs)
+        go = self.place("go")
+        run.tell(helper.register("web", "Says", does=f"while [ ! -e {go} ]; do sleep 0.05; done; echo went on"),
+                 helper.action("web", "start"))
+        self.awaits_log("start fails")
+        os.rename(os.path.join(self.logs, "web.log"), os.path.join(self.logs, "web.log.1"))
+        with open(go, "w", encoding="ascii"):
+            pass
+        run.awaits(lambda value: helper.is_notice(value, action="start", code=0), 20)
+        run.tell(helper.action("web", "stop"))
+        run.awaits(lambda value: helper.is_notice(value, action="stop", code=0), 20)
+        self.assertEqual(run.ends(), 0)
+        self.assertTrue(self.read("web.log.1").endswith("went on\n"), self.read("web.log.1"))
+        self.assertEqual(without_moments(self.read()).split("\n")[:3], [
+            "MOMENT run 1 ended in N ms: OCF_SUCCESS (0)", "MOMENT call 2 begins as run 2: stop", "stop of web"])
+
+    def test_daemon(self):
+        """a daemon that keeps its log goes on writing there after it was renamed and the executor has ended"""
+        go, ready = self.place("go"), self.place("ready")
+        self.ends_with(self.does(f"(while [ ! -e {go} ]; do sleep 0.05; done; echo daemon: $?; : > {ready}) &"), code=0)
+        os.rename(os.path.join(self.logs, "web.log"), os.path.join(self.logs, "web.log.1"))
+        with open(go, "w", encoding="ascii"):
+            pass
+        until = time.monotonic() + 20
+        while not os.path.exists(ready) and time.monotonic() < until:
+            time.sleep(0.02)
+        self.assertTrue(self.read("web.log.1").endswith("daemon: 0\n"), self.read("web.log.1"))
+
+    def names(self, done, *wanted):
+        """Standard error is one line, which names the log."""
+        said = done.stderr.decode().splitlines()
+        self.assertEqual(len(said), 1, said)
+        for part in wanted:
+            self.assertIn(part, said[0])
+
+    def test_missing_directory(self):
+        """a directory that is missing is named once for two actions, and both are done"""
+        gone = self.place("gone")
+        done = helper.run("run", "--memory", "--root", self.here, "--logs", gone, told=helper.lines(
+            helper.register("web", "Says"), helper.action("web", "start"), helper.action("web", "stop"), {"op": "drain"}))
+        self.assertEqual([value["code"] for value in helper.replies(done.stdout) if helper.is_notice(value)], [0, 0])
+        self.names(done, f"{gone}/web.log: No such file or directory")
+
+    @unittest.skipUnless(os.geteuid() == 0 and shutil.which("setpriv"), "needs root and setpriv, to give up root")
+    def test_no_permission(self):
+        """a directory without permission is named, and the action is done"""
+        os.chmod(self.here, 0o755)
+        os.chmod(self.logs, 0o700)
+        done = subprocess.run(["setpriv", "--reuid=65534", "--regid=65534", "--clear-groups", helper.PROGRAM, "run", "--memory",
+                               "--root", self.here, "--logs", self.logs], capture_output=True, check=False, timeout=60,
+                              input=helper.lines(helper.register("web", "Says"), helper.action("web", "start"), {"op": "drain"}))
+        self.ends_with(done, code=0)
+        self.names(done, f"{self.logs}/web.log: Permission denied")
+
+    def test_no_file(self):
+        """a link and a named pipe in the place of a log are left alone, and the action is done"""
+        log, target = os.path.join(self.logs, "web.log"), self.place("target")
+        for make in (lambda: os.symlink(target, log), lambda: os.mkfifo(log), lambda: os.mkdir(log)):
+            make()
+            done = self.does("exit 0")
+            self.ends_with(done, code=0)
+            self.names(done, f"{log}: not a plain file")
+            self.assertFalse(os.path.exists(target))
+            if os.path.isdir(log):
+                os.rmdir(log)
+            else:
+                os.unlink(log)
+
+    @unittest.skipUnless(is_tmpfs_possible(), "needs root, to mount a small disk")
+    def test_full(self):
+        """a full disk is named, and the action is done"""
+        done = subprocess.run(
+            ["unshare", "-m", "sh", "-c", 'mount -t tmpfs -o size=4096 none "$1" && head -c 4096 /dev/zero > "$1/filled" && shift && exec "$@"',
+             "sh", self.logs, helper.PROGRAM, "run", "--memory", "--root", self.here, "--logs", self.logs],
+            capture_output=True, check=False, timeout=60,
+            input=helper.lines(helper.register("web", "Says"), helper.action("web", "start"), {"op": "drain"}))
+        self.ends_with(done, code=0)
+        self.names(done, "web.log: No space left on device")
+
+    def test_one_for_all(self):
+        """with --log the same lines have the id in front"""
+        log = self.place("log")
+        self.ends_with(self.does("exit 0", "--log", log), code=0)
+        with open(log, encoding="utf-8") as file:
+            self.assertEqual(without_moments(file.read()), "web: MOMENT call 1 begins as run 1: start\nstart of web\n"
+                             "start fails: no such device\nweb: MOMENT run 1 ended in N ms: OCF_SUCCESS (0)\n")
+
+    def test_standard_error(self):
+        """with --log - they stand on standard error"""
+        done = self.does("exit 0", "--log", "-")
+        self.ends_with(done, code=0)
+        self.assertEqual(without_moments(done.stderr.decode()), "web: MOMENT call 1 begins as run 1: start\nstart of web\n"
+                         "start fails: no such device\nweb: MOMENT run 1 ended in N ms: OCF_SUCCESS (0)\n")
+
+    def test_both(self):
+        """with --log and --logs the words are in the logs of the directory"""
+        log = self.place("log")
+        self.ends_with(self.does("exit 0", "--log", log, "--logs", self.logs), code=0)
+        self.assertIn("start of web\n", self.read())
+        self.assertFalse(os.path.exists(log))
+
+
+@unittest.skipUnless(os.path.exists(f"{OCF}/resource.d/heartbeat/Dummy"), "needs the package resource-agents")
+class OfDebian(WithLogs):
+    """The agents of Debian's package."""
+
+    def start(self, kind, **params):
+        return helper.run("run", "--memory", "--meta-variables", "--logs", self.logs, told=helper.lines(
+            helper.register("web", kind, "heartbeat", **params), helper.action("web", "start", timeout=60000), {"op": "drain"}))
+
+    def test_dummy(self):
+        """Debian's Dummy starts, and its log has the begin and the end"""
+        self.ends_with(self.start("Dummy", state=self.place("state")), code=0)
+        text = without_moments(self.read())
+        self.assertTrue(text.startswith("MOMENT call 1 begins as run 1: start\n"), text)
+        self.assertTrue(text.endswith("MOMENT run 1 ended in N ms: OCF_SUCCESS (0)\n"), text)
+
+    @unittest.skipUnless(os.path.exists("/usr/sbin/nginx"), "needs nginx")
+    def test_nginx(self):
+        """the log of an nginx with a broken configuration has its reason"""
+        with open(self.place("broken.conf"), "w", encoding="ascii") as file:
+            file.write("no_such_directive on;\n")
+        done = self.start("nginx", configfile=self.place("broken.conf"))
+        self.assertEqual(done.returncode, 0, done.stderr)
+        self.assertIn("ocf-exit-reason:", self.read())
+
+
+helper.main()
