@@ -1,12 +1,14 @@
 #!/usr/bin/env bash
 # Tries the wrong bodies that only a check of the built program refuses, mutants/tests/*.edit, and prints the fate of each. In a copy
 # of the repository it makes the edit and compiles the program, unproved: the check that the edit names has to fail with it, and to
-# pass with a program that is compiled so without an edit. That takes two to five minutes for each program on a quiet machine. With
-# PROGRAMS=DIR the programs are kept in DIR, and what is there is not compiled again. What is compiled so is several times slower than
-# what the gate builds, so on a busy machine two million rounds of it may take an hour.
+# pass with a program that is compiled so without an edit. That takes two minutes for each program on a quiet machine. With
+# PROGRAMS=DIR the programs are kept in DIR, and what is there is not compiled again. What is compiled so is not optimised, and several
+# times slower than what the gate builds, so on a busy machine two million rounds of it may take an hour. With FAST=1 the slow checks are
+# left out: what is refused then is what `make check FAST=1` refuses.
 # Use: mutants/try_tests.sh [NAME..]
 set -eu
 cd "$(dirname "$0")/.."
+. tests/lib/kit.sh
 copy=$(mktemp -d)
 trap 'rm -rf "$copy"' EXIT
 programs=$(realpath "${PROGRAMS:-$copy}")
@@ -14,7 +16,7 @@ programs=$(realpath "${PROGRAMS:-$copy}")
 # Copies the files as they stand in the work tree, but for what was built.
 copy_tree() {
     rm -rf "$copy/top"
-    mkdir "$copy/top" "$copy/top/tmp"
+    mkdir "$copy/top"
     tar --exclude=.git --exclude=out -cf - . | tar -xf - -C "$copy/top"
 }
 
@@ -37,22 +39,11 @@ with open(path, "w", encoding="utf-8") as file:
 MAKE_EDIT
 }
 
-# Compiles the program of the copy. `rt try` runs what it compiled, for ten seconds here, in a temporary directory, from which the
-# program is taken meanwhile. Use: compile PROGRAM
+# Compiles the program of the copy, as the kit's linker makes it for `rt try`. Use: compile PROGRAM
 compile() {
-    local tried running
-    (cd "$copy/top/crates/ocfexec" && echo '{"op":"watch","limit":10000}' |
-        TMPDIR=$copy/top/tmp rt try --steps 1 -- run --memory > "$copy/said" 2>&1) &
-    tried=$!
-    while kill -0 "$tried" 2> /dev/null && [ ! -e "$1" ]; do
-        running=$(pgrep -f "$copy/top/tmp/.*/program run --memory" | head -n 1)
-        if [ -n "$running" ]; then
-            cp "$(tr '\0' '\n' < "/proc/$running/cmdline" | grep "^$copy/top/tmp/.*/program$")" "$copy/program" && mv "$copy/program" "$1"
-        fi
-        sleep 0.2
-    done
-    wait "$tried" || true
-    [ -x "$1" ]
+    rm -f "$copy/linked"
+    (cd "$copy/top/crates/ocfexec" && "$copy/kit/bin/rt" try --steps 1 -- --help < /dev/null > "$copy/said" 2>&1) || true
+    [ -x "$copy/linked" ] && mv "$copy/linked" "$1"
 }
 
 # Copies the files, with an edit or with none. Use: copy_edited NAME
@@ -61,11 +52,12 @@ copy_edited() {
     [ "$1" = unedited ] || make_edit "mutants/tests/$1.edit" 2> "$copy/said"
 }
 
-# Has the program with an edit, or with none, in $programs. Use: built NAME
+# Has the program with an edit, or with none, as $programs/NAME/ocfexec. Use: built NAME
 built() {
-    [ ! -x "$programs/$1" ] || return 0
+    [ ! -x "$programs/$1/ocfexec" ] || return 0
     copy_edited "$1" || return 1
-    compile "$programs/$1"
+    mkdir -p "$programs/$1"
+    compile "$programs/$1/ocfexec"
 }
 
 # Whether the check that an edit names, by its script and its sentence, says this word with an edit, or with none. One that builds a
@@ -78,14 +70,21 @@ says() {
         copy_edited "$3" || return 1
         script=$copy/top/$script
     fi
-    ONLY=$sentence LIMIT=6000 timeout 6600 "$script" "$programs/$3" < /dev/null > "$copy/said" 2>&1 || true
+    ONLY=$sentence LIMIT=6000 timeout 6600 "$script" "$programs/$3/ocfexec" < /dev/null > "$copy/said" 2>&1 || true
     sed -n "s/^$1 *[0-9.]* s  [a-z_]*: //p" "$copy/said" | grep -c -x -F -e "$sentence" > /dev/null
+}
+
+# Whether the check that an edit names stands in a script that `make check FAST=1` leaves out. Use: is_slow EDIT
+is_slow() {
+    head -n 5 "$(sed -n 's/^refused by: \([^,]*\).*/\1/p' "$1")" | grep -c '^# check:.* slow' > /dev/null
 }
 
 # Says what became of an edit. Use: try NAME
 try() {
     local edit=mutants/tests/$1.edit
-    if ! built "$1"; then
+    if [ -n "${FAST:-}" ] && is_slow "$edit"; then
+        fate="NOT TRIED: its check is slow"
+    elif ! built "$1"; then
         fate="NOT TRIED: it was not compiled"
     elif ! says ok "$edit" unedited; then
         fate="NOT TRIED: its check does not pass without it"
@@ -98,6 +97,9 @@ try() {
     return 1
 }
 
+copy_kit "$copy/kit"
+check_nothing "$copy/kit"
+keep_plain_program "$copy/kit" "$copy/linked"
 if [ $# -eq 0 ]; then
     for edit in mutants/tests/*.edit; do set -- "$@" "$(basename "$edit" .edit)"; done
 fi

@@ -76,7 +76,7 @@ class Kept(helper.Check):
         with open(self.place("err"), encoding="utf-8") as file:
             return file.read()
 
-    def waits(self, what, holds, seconds=15):
+    def waits(self, what, holds, seconds=helper.PATIENCE):
         until = time.monotonic() + seconds
         while not holds():
             if time.monotonic() > until:
@@ -94,7 +94,7 @@ class Kept(helper.Check):
     def ended(self, client, number):
         """Sends a signal, which ends the client; its status."""
         os.kill(client.run.pid, number)
-        status = client.run.wait(15)
+        status = client.run.wait(helper.PATIENCE)
         client.reader.join()
         return status
 
@@ -256,7 +256,7 @@ class Kept(helper.Check):
                 while found[0] != wanted[0]:
                     found = told.recv(4096).decode().split("\n")
                 self.assertEqual(found[:len(wanted)], wanted)
-            self.assertEqual(client.run.wait(15), 0)
+            self.assertEqual(client.run.wait(helper.PATIENCE), 0)
 
     def test_damaged(self):
         """a damaged journal ends it with that status, and so does one word wrong"""

@@ -46,7 +46,8 @@ class Clock(helper.Check):
     def takes(self, run, word, began, least, most):
         # the end of a drain or a watch, of this word, so many milliseconds behind a moment
         at, end = run.awaits(lambda value: value.get("end") == word)
-        self.assertTrue(least <= (at - began) * 1000 <= most, f"{word} after {(at - began) * 1000:.0f} ms")
+        self.assertGreaterEqual((at - began) * 1000, least, f"milliseconds to the end {word}")
+        self.took_less(most / 1000, at - began, f"waiting for the end {word}")
 
     def ended(self, run, action):
         return [(value["outcome"], value["code"]) for value in run.told() if value["action"] == action]

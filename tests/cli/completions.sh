@@ -18,13 +18,20 @@ in_bash() {
     bash --norc -c '. "$1"; shift; complete -p ocfexec > /dev/null || exit 1
         COMP_WORDS=("$@"); COMP_CWORD=$(($# - 1)); _ocfexec; printf "%s\n" "${COMPREPLY[@]}"' bash "$here/bash" "$@" | sort | xargs
 }
-same "bash, subcommands" "--help --version log run serve show status" "$(in_bash ocfexec '')"
+same "bash, subcommands" "--help --version log once run serve show status" "$(in_bash ocfexec '')"
 same "bash, an option" "--journal" "$(in_bash ocfexec serve --jo)"
 same "bash, a flag" "--leave-orphans" "$(in_bash ocfexec serve --le)"
 same "bash, a flag of a journal" "--any-owner" "$(in_bash ocfexec serve --an)"
 same "bash, an option of status" "--json" "$(in_bash ocfexec status --js)"
 same "bash, an option of log" "--salvage" "$(in_bash ocfexec log --sa)"
-same "bash, a folder" "$here/lib $here/libexec" "$(in_bash ocfexec serve --journal "$here/li")"
+same "bash, a directory" "$here/lib $here/libexec" "$(in_bash ocfexec serve --journal "$here/li")"
+same "bash, directories have no space behind" 2 "$(grep -c 'compopt -o filenames' "$here/bash")"
+mkdir "$here/journal"
+printf '%s\n' '{"op":"register","id":"web","provider":"heartbeat","type":"Dummy"}' '{"op":"register","id":"db","provider":"heartbeat","type":"Dummy"}' \
+    | "$program" run --journal "$here/journal" > /dev/null
+mkdir "$here/bin" && ln -s "$program" "$here/bin/ocfexec"
+same "bash, ids of the journal that is named" "db web" "$(PATH=$here/bin:$PATH in_bash ocfexec status --journal "$here/journal" '')"
+same "bash, an id of the journal of the environment" "web" "$(PATH=$here/bin:$PATH OCFEXEC_JOURNAL=$here/journal in_bash ocfexec log w)"
 checked "bash"
 
 # What fish offers for a line. Use: in_fish LINE
@@ -35,7 +42,8 @@ if command -v fish > /dev/null; then
     same "fish, subcommands" "run serve show status" "$(in_fish 'ocfexec s' | tr ' ' '\n' | cat - <(in_fish 'ocfexec r' | tr ' ' '\n') | sort | xargs)"
     same "fish, an option" "--journal" "$(in_fish 'ocfexec serve --jo')"
     same "fish, an option of status" "--json" "$(in_fish 'ocfexec status --js')"
-    same "fish, a folder" "$here/lib/ $here/libexec/" "$(in_fish "ocfexec serve --journal $here/li")"
+    same "fish, an id" "web" "$(PATH=$here/bin:$PATH in_fish "ocfexec status --journal $here/journal w")"
+    same "fish, a directory" "$here/lib/ $here/libexec/" "$(in_fish "ocfexec serve --journal $here/li")"
     checked "fish"
 else
     missing fish

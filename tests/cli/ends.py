@@ -21,17 +21,14 @@ from helper import PROGRAM  # noqa: E402
 
 class Ends(helper.Check):
     def pid_in(self, path):
-        while not os.path.exists(path) or not os.path.getsize(path):
-            time.sleep(0.02)
-        with open(path, encoding="ascii") as file:
-            return int(file.read())
+        return self.numbers_in(path)[0]
 
     def ends_unheard(self, run):
         # its status and its first word, within a second after nobody reads any more
         run.stdout.close()
         began = time.monotonic()
-        self.assertEqual(run.wait(5), 7)
-        self.assertLess(time.monotonic() - began, 1.5)
+        self.assertEqual(run.wait(helper.PATIENCE), 7)
+        self.took_less(1.5, time.monotonic() - began, "an end after the last reader")
         self.assertEqual(run.stderr.read().decode(), "ocfexec: input or output\n")
         run.stderr.close()
         run.stdin.close()
@@ -110,7 +107,7 @@ class Ends(helper.Check):
             found += part
         os.waitpid(writer, 0)
         os.close(read_out)
-        self.assertEqual(run.wait(10), 0)
+        self.assertEqual(run.wait(helper.PATIENCE), 0)
         self.assertEqual(found.count(b"bad-name"), 2000)
 
     def test_run_not_blocking(self):
@@ -155,8 +152,8 @@ class Ends(helper.Check):
         time.sleep(0.5)
         lose(folder)
         began = time.monotonic()
-        self.assertEqual(run.run.wait(5), 5)
-        self.assertLess(time.monotonic() - began, 1.5)
+        self.assertEqual(run.run.wait(helper.PATIENCE), 5)
+        self.took_less(1.5, time.monotonic() - began, "an end after the journal is gone")
         run.reader.join()
         self.assertEqual(run.values()[1:], [{"end": "disk"}])
         with open(err, encoding="utf-8") as file:
@@ -188,7 +185,7 @@ class Ends(helper.Check):
         size = os.path.getsize(os.path.join(folder, "part-a"))
         resource.prlimit(run.pid, resource.RLIMIT_FSIZE, (size, size))
         self.assertEqual(json.loads(run.stdout.readline()), {"end": "disk"})
-        self.assertEqual(run.wait(5), 5)
+        self.assertEqual(run.wait(helper.PATIENCE), 5)
         self.assertEqual(run.stdout.read(), b"")
         run.stdin.close()
         run.stdout.close(), run.stderr.close()

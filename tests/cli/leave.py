@@ -27,17 +27,14 @@ class Leave(helper.Check):
 
     def hangs(self):
         # the agent that hangs has begun
-        for _ in range(500):
-            if os.path.exists(self.place("pids")):
-                return
-            time.sleep(0.02)
-        self.fail("no agent began")
+        self.eventually("the agent begins", lambda: os.path.exists(self.place("pids")))
 
     def leaves(self, run, began, least, most):
         # the reply comes in so many seconds, is the last line, and the run ends with 0 without the end of its input
         at, _ = run.awaits(lambda value: value == LEFT)
-        self.assertTrue(least <= at - began <= most, f"after {at - began:.2f} s")
-        self.assertEqual(run.run.wait(2), 0)
+        self.assertGreaterEqual(at - began, least, "seconds to the reply")
+        self.took_less(most, at - began, "waiting for the reply")
+        self.assertEqual(run.run.wait(helper.PATIENCE), 0)
         run.reader.join()
         self.assertEqual(run.values()[-1], LEFT)
 
@@ -103,8 +100,8 @@ class Leave(helper.Check):
         time.sleep(0.3)
         began = time.monotonic()
         run.stdout.close()
-        self.assertEqual(run.wait(5), 7)
-        self.assertLess(time.monotonic() - began, 1.5)
+        self.assertEqual(run.wait(helper.PATIENCE), 7)
+        self.took_less(1.5, time.monotonic() - began, "an end after the last reader")
         run.stdin.close()
 
 

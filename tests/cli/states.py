@@ -95,10 +95,7 @@ class States(helper.Check):
         self.ends(0, "start")
         run = self.heard("serve", "--journal", self.folder, "--root", self.here, "--orphans", "0")
         run.tell({"op": "params", "id": "r1", "params": {"code": "sleep"}}, helper.action("r1", "stop"), helper.action("r1", "start"))
-        until = time.monotonic() + 20
-        while not self.condition("r1")["running"]:
-            self.assertLess(time.monotonic(), until, "a stop that runs")
-            time.sleep(0.05)
+        self.eventually("a stop that runs", lambda: self.condition("r1")["running"])
         self.is_so("r1", "started")
         self.assertRegex(self.status().decode(), r"(?m)^r1 .*stop since \d+ (ms|s), 1 queued$")
         run.killed()

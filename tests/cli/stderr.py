@@ -79,10 +79,7 @@ class StandardError(helper.Check):
             before, ends = len(run.values()), len(run.told())
             run.tell(helper.action(name, "start"), {"op": "list"})
             run.awaits(lambda value: "resources" in value, after=before)
-            until = time.monotonic() + 10
-            while len(run.told()) == ends:
-                self.assertLess(time.monotonic(), until, "a notice")
-                time.sleep(0.005)
+            self.eventually("a notice", lambda: len(run.told()) > ends)
             self.assertEqual(run.told()[-1]["outcome"], "not-started")
 
     def test_refused(self):
@@ -154,7 +151,7 @@ class StandardError(helper.Check):
                 fill(self.writer)
                 run = self.opened(word, "--journal", folder)
                 run.tell({"op": "list"})
-                run.awaits(lambda value: "resources" in value, seconds=5)
+                run.awaits(lambda value: "resources" in value)
                 self.assertEqual(run.ends(5), 0)
 
     @unittest.skipUnless(shutil.which("cc"), "install a C compiler")
@@ -184,7 +181,8 @@ class StandardError(helper.Check):
             (["status", "--memory", "r9"], 2, "no resource of this id", ["Nothing was changed. "]),
             (["run", "--journal", self.damaged], 3, "damaged part A at 0: closed",
              ["no part is open, and something was written", "Nothing was changed. "]),
-            (["run", "--journal", self.place("none")], 5, "disk", [f"{self.place('none')}: No such file or directory (os error 2)"]),
+            (["run", "--journal", self.place("none")], 5, "disk", 
+             [f"{self.place('none')}: No such file or directory (os error 2)", "Missing directory: "]),
             (["run", "--memory", "--log", self.here], 7, "input or output", [f"{self.here}: Is a directory ", "Nothing was changed. "]),
         ]
 
@@ -233,7 +231,7 @@ class StandardError(helper.Check):
         run = subprocess.Popen([PROGRAM, "serve", "--memory"], stdin=subprocess.PIPE, stdout=subprocess.PIPE, stderr=self.writer,
                                env={**os.environ, **helper.journal_stream(self.writer)})
         run.stdout.close()
-        self.assertEqual(run.wait(5), 7)
+        self.assertEqual(run.wait(helper.PATIENCE), 7)
         run.stdin.close()
         wanted = ["nobody reads standard output any more", "Check what standard input and output are connected to. "]
         self.is_told((7, taken(self.reader)), 7, "input or output", wanted)

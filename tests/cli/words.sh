@@ -82,6 +82,12 @@ broken_output() {
     ended "$* | true" "$(cat "$here/status")" 7 "$(unwritten "Broken pipe (os error 32)" "$@" "")"
 }
 
+# The same of a look, whose reader has read enough. Use: left_output WORD..
+left_output() {
+    { sleep 0.2 && explained "$here/err" "$program" "$@" < /dev/null; echo "$?" > "$here/status"; } | true
+    ended "$* | true" "$(cat "$here/status")" 0 ""
+}
+
 # What is asked for
 ends 0 "" --help
 holds --help "Usage: ocfexec" "run " "show " --version Example: "ocfexec run --memory" "man ocfexec"
@@ -93,7 +99,11 @@ holds "run --help" "--journal <DIR>" --memory "--root <DIR>" "--via <PROGRAM>" "
     "[default: /usr/sbin:/usr/bin:/sbin:/bin]" --any-owner "--tidy-at <BYTES>" "[default: 6291456]" "--orphans <MS>" "[default: 20000]" --leave-orphans \
     "just one of --journal and --memory" Examples: "ocfexec run --memory"
 ends 0 "" show --help
-holds "show --help" Example: "ocfexec show --journal /var/lib/ocfexec" "run and serve make those that are missing"
+holds "show --help" Example: "ocfexec show --journal /srv/journal" "run and serve make those that are missing" OCFEXEC_JOURNAL
+same "show --help, options" "--help --journal --memory" "$(grep -o -e '^ *\(-., \)\?--[a-z-]*' "$here/out" | grep -o -e '--.*' | sort | xargs)"
+ends 0 "" status --help
+same "status --help, options" "--exit-code --help --journal --json --memory" \
+    "$(grep -o -e '^ *\(-., \)\?--[a-z-]*' "$here/out" | grep -o -e '--.*' | sort | xargs)"
 ends 0 "" show -h
 ends 0 "" help run
 ends 0 "" run --memory --help
@@ -111,8 +121,6 @@ for millis in 0 045 86400000; do
 done
 ends 0 "" show --memory
 wrote "show --memory" '{"ok":true,"resources":[]}'
-ends 0 "" show --memory --leave-orphans
-wrote "show --memory --leave-orphans" '{"ok":true,"resources":[]}'
 
 checked "texts that are asked for"
 
@@ -131,14 +139,36 @@ takes '{"meta":28}
 takes '{"end":"missing"}' --root /r --via echo --path /nowhere
 takes '{"end":"missing"}' --via=-x
 mkdir "$here/journal"
-ends 0 "" show --root=/r --journal "$here/journal" --path /p --via v
+ends 0 "" show --journal "$here/journal"
 wrote "show of a new journal" '{"ok":true,"resources":[]}'
 
 checked "the options of a run"
 
+# The journal that is looked at where no word names one
+export OCFEXEC_JOURNAL=$here/journal
+ends 0 "" show
+wrote "show of the journal of the environment" '{"ok":true,"resources":[]}'
+for look in status log; do ends 9 "ocfexec: no journal here yet" "$look"; done
+mkdir "$here/other"
+"$program" run --journal "$here/other" <<< '{"op":"register","id":"r1","provider":"p","type":"t"}' > "$here/out"
+ends 0 "" show --journal "$here/other"
+holds "show of the journal that is named" r1
+ends 0 "" show --memory
+wrote "show --memory, beside the environment" '{"ok":true,"resources":[]}'
+for word in run serve; do ends 2 "ocfexec: give one of --journal and --memory" "$word"; done
+OCFEXEC_JOURNAL=$here/none ends 5 "ocfexec: disk" show
+OCFEXEC_JOURNAL=$(printf '\377') ends 2 "ocfexec: words are not UTF-8" show
+unset OCFEXEC_JOURNAL
+if [ ! -e /var/lib/ocfexec ]; then
+    ends 5 "ocfexec: disk" show
+    OCFEXEC_JOURNAL='' ends 5 "ocfexec: disk" status
+fi
+
+checked "the journal that is looked at"
+
 # Words that are not those of the command line
 ends 2 "ocfexec: give one of --journal and --memory" run
-ends 2 "ocfexec: give one of --journal and --memory" show --root /r
+ends 2 "ocfexec: give one of --journal and --memory" show --memory --journal folder
 ends 2 "ocfexec: give one of --journal and --memory" run --memory --journal folder
 ends 2 "ocfexec: give one of --journal and --memory" run --tidy-at no
 for bytes in "" no 1k 1.5 8388609 18446744073709551616; do
@@ -156,6 +186,11 @@ ends 2 "ocfexec: words are not UTF-8" "$(printf '\377')"
 misused "Usage: .* <COMMAND>"
 misused "unrecognized subcommand 'fly'" fly
 misused "unexpected argument '--fast'" run --memory --fast
+misused "unexpected argument '--root'" show --memory --root /r
+misused "unexpected argument '--any-owner'" status --memory --any-owner
+misused "unexpected argument '--events'" log --memory --events
+misused "unexpected argument '--journal'" once p:t start --journal folder
+misused "required arguments" once p:t
 misused "Usage: ocfexec run" run --fast
 misused "^error: " --memory
 misused "^error: " run --memory more
@@ -184,9 +219,12 @@ full_output status --json --memory
 closed_output run --memory
 closed_output show --memory
 broken_output run --memory
-broken_output show --memory
-broken_output status --memory
-broken_output status --json --memory
+for look in --help "run --help" "show --memory" "status --memory" "status --json --memory" "log --journal $here/other" \
+    "show --journal $here/other" "status --journal $here/other"; do
+    # shellcheck disable=SC2086 # it is words
+    left_output $look
+done
+broken_output status --exit-code --journal "$here/other"
 "$program" run --memory < / > "$here/out" 2> "$here/err"
 ended "run --memory < /" $? 7 "$output_line"
 explained "$here/err" "$program" run --memory < / > "$here/out"

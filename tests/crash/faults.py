@@ -39,20 +39,12 @@ class Faults(helper.Check):
     def asleep(self, run):
         # the process of an agent whose start lasts
         run.tell(register("slow", "Sleeper", pid=self.place_of_pid("slow")), action("slow", "start", timeout=60000))
-        until = time.monotonic() + 10
-        while time.monotonic() < until:
-            if os.path.exists(self.place_of_pid("slow")):
-                with open(self.place_of_pid("slow"), encoding="ascii") as file:
-                    text = file.read()
-                if text.endswith("\n"):
-                    return int(text)
-            time.sleep(0.01)
-        self.fail("no agent began")
+        return self.numbers_in(self.place_of_pid("slow"))[0]
 
     def ends_by_fault(self, run, began):
         # the program ends by itself while its input is open, and says why
-        status = run.run.wait(5)
-        self.assertLess(time.monotonic() - began, 1, "seconds to the end")
+        status = run.run.wait(helper.PATIENCE)
+        self.took_less(1, time.monotonic() - began, "an end after a fault")
         run.reader.join()
         self.assertEqual(status, 5)
         self.assertEqual(run.values()[-1], LINE, "the last line")

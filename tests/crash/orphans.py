@@ -7,6 +7,8 @@ it lives on, is named, and in `serve` its number stands in the notice. An agent 
 waited for. A client that stops what was interrupted, probes it and starts it again, through many kills at random moments, never finds
 it up after a stop that succeeded, and never twice.
 Use: orphans.py PROGRAM, with ROUNDS and SEED in the environment"""
+import contextlib
+import glob
 import os
 import random
 import shutil
@@ -60,12 +62,11 @@ class Orphans(helper.Check):
         with open(self.err, encoding="utf-8") as err:
             return err.read()
 
-    def left(self, via="sh", timeout=10000):
-        """Leaves a journal whose executor was killed amid a start of three seconds, and gives the moment of the kill."""
+    def left(self, via="sh", timeout=10000, seconds=3):
+        """Leaves a journal whose executor was killed amid a start of so many seconds, and gives the moment of the kill."""
         running = self.opened(via=via)
-        running.tell(self.register(3), helper.action("r1", "start", timeout=timeout), {"op": "drain"})
-        while not os.path.exists(self.begun):
-            time.sleep(0.005)
+        running.tell(self.register(seconds), helper.action("r1", "start", timeout=timeout), {"op": "drain"})
+        self.eventually("the start is under way", lambda: os.path.exists(self.begun))
         running.killed()
         return time.monotonic()
 
@@ -102,16 +103,27 @@ class Orphans(helper.Check):
         self.assertEqual(third.ends(), 0)
         self.assertEqual(ended(third.values())[1:], [("stop", "done", 0), ("monitor", "done", 7)], "down after its stop")
 
+    def living(self):
+        """The processes that have the directory of what is up among their parameters."""
+        found = []
+        for path in glob.glob("/proc/[0-9]*/environ"):
+            with contextlib.suppress(OSError), open(path, "rb") as environ:
+                if f"OCF_RESKEY_up={self.up}".encode() in environ.read().split(b"\0"):
+                    found.append(path)
+        return found
+
     def within(self, since, least, most):
         took = time.monotonic() - since
-        self.assertTrue(least <= took < most, f"a report in time, not after {took:.3f} s")
+        self.assertGreaterEqual(took, least, "seconds to the report")
+        self.took_less(most, took, "waiting for the report")
 
     def named(self, milliseconds):
         # what lives on past the limit; a process that the agent has just forked looks as the agent does, and is named too
-        since = self.left()
+        since = self.left(seconds=10)
         second = self.opened("--leave-orphans", "--orphans", str(milliseconds))
         self.reported(second)
         self.within(since, milliseconds / 1000, milliseconds / 1000 + 1.5)
+        self.assertNotEqual(self.living(), [], "the old start lives on")
         self.assertEqual(second.ends(), 0)
         err = self.said()
         self.assertRegex(err, r"\A(ocfexec: pid \d+ of start of r1, which was interrupted, still lives\n)+\Z")
@@ -137,27 +149,27 @@ class Orphans(helper.Check):
 
     def test_ended_at_the_limit(self):
         """what is left past the limit is ended, with what it waits for"""
-        since = self.left()
+        since = self.left(seconds=30)
         second = self.opened("--orphans", "700")
         self.reported(second)
         self.within(since, 0.7, 2.2)
         second.tell(*does("stop"))
         self.assertEqual(second.ends(), 0)
         self.assertRegex(self.said(), r"\A(ocfexec: pid \d+ of start of r1, which was interrupted, is ended\n)+\Z")
-        time.sleep(2)
-        self.assertFalse(os.path.exists(self.log), "the old start never comes up")
+        self.assertEqual(self.living(), [], "nothing of the old start lives, so it never comes up")
+        self.assertFalse(os.path.exists(self.log), "the old start never came up")
 
     def test_ended_at_its_timeout(self):
         """what is left is ended when its own timeout comes, and a start stays down after the stop"""
-        since = self.left(timeout=1200)
+        since = self.left(timeout=1200, seconds=30)
         second = self.opened()
         self.reported(second)
         self.within(since, 0, 2.5)
         second.tell(*does("stop"), *does("monitor"))
         self.assertEqual(second.ends(), 0)
         self.assertEqual(ended(second.values())[1:], [("stop", "done", 0), ("monitor", "done", 7)])
-        time.sleep(2)
-        self.assertFalse(os.path.exists(self.log), "the old start never comes up")
+        self.assertEqual(self.living(), [], "nothing of the old start lives, so it never comes up")
+        self.assertFalse(os.path.exists(self.log), "the old start never came up")
 
     def starts(self, text, name):
         """Kills an executor amid a start by an agent with this text, which leaves its process's number in a file; gives that."""
@@ -165,12 +177,7 @@ class Orphans(helper.Check):
         running = self.opened(via="")
         file = self.place(name)
         running.tell(helper.register("r1", "Other", file=file), helper.action("r1", "start", timeout=1500), {"op": "drain"})
-        until = time.monotonic() + 10
-        while not (os.path.exists(file) and os.path.getsize(file)):
-            self.assertLess(time.monotonic(), until, "the start is under way")
-            time.sleep(0.005)
-        with open(file, encoding="ascii") as number:
-            pid = int(number.read())
+        pid = self.numbers_in(file)[0]
         running.killed()
         self.addCleanup(lambda: helper.is_alive(pid) and os.kill(pid, 9))
         return pid
@@ -195,12 +202,11 @@ class Orphans(helper.Check):
 
     def slow(self, way, signal_sent):
         # the agent that comes up after the stop where what it started is not ended
-        self.agent("Late", "case $1 in start) echo $$ > $OCF_RESKEY_file; sh -c 'sleep 2; : > $OCF_RESKEY_up/late'; : ;; esac\n")
+        self.agent("Late", "case $1 in start) echo $$ > $OCF_RESKEY_file; sh -c 'sleep 30; : > $OCF_RESKEY_up/late'; : ;; esac\n")
         running = self.opened(via="", way=way)
         file = self.place("pid")
         running.tell(helper.register("r1", "Late", file=file, up=self.up), helper.action("r1", "start", timeout=1000), {"op": "drain"})
-        while not os.path.exists(file):
-            time.sleep(0.005)
+        self.numbers_in(file)
         running.run.send_signal(signal_sent)
         running.run.wait()
         second = self.opened(via="", way=way)
@@ -208,8 +214,8 @@ class Orphans(helper.Check):
         second.tell(helper.action("r1", "stop"), {"op": "drain"})
         self.assertEqual(second.ends(), 0)
         self.assertIn(("stop", "done", 0), ended(second.values()))
-        time.sleep(2)
-        self.assertFalse(os.path.exists(os.path.join(self.up, "late")), "the service stays down")
+        self.assertEqual(self.living(), [], "nothing of the old start lives, so the service stays down")
+        self.assertFalse(os.path.exists(os.path.join(self.up, "late")), "the service stayed down")
 
     @helper.slow
     def test_slow_killed(self):

@@ -119,7 +119,7 @@ class Tidies(helper.Check):
         run.tell(*[large(name) for name in names[:5]])
         at, notice = run.awaits(lambda value: helper.is_notice(value, id="late"), 60)
         self.assertEqual(notice["outcome"], "timed-out")
-        self.assertLess(at - began, 2, "told in time")
+        self.took_less(2, at - began, "a timeout beside a tidy")
         self.assertGreater(os.path.getsize(os.path.join(journal, "part-a")), length + 40000, "past the first mark")
         until = time.monotonic() + 60
         while os.path.getsize(os.path.join(journal, "part-b")) < 2000000 and time.monotonic() < until:

@@ -7,9 +7,10 @@ import json
 import os
 import sys
 
-import wordlists
+sys.path[1:1] = [os.path.join(sys.path[0], "../lib")]
+import scenario_files  # noqa: E402
+import wordlists  # noqa: E402
 
-TOP = os.path.dirname(os.path.dirname(os.path.dirname(os.path.abspath(__file__))))
 # the longest input that is worth its time
 LONGEST = 4_096
 
@@ -21,23 +22,6 @@ def keep(folder, reader, text):
             file.write(text)
 
 
-def bytes_of(words):
-    """The bytes that words of hex spell; N*hex is that N times, and - is none."""
-    text = b""
-    for word in words:
-        times, found, digits = word.rpartition("*")
-        text += b"" if digits == "-" else bytes.fromhex(digits) * (int(times) if found else 1)
-        if len(text) > LONGEST:
-            break
-    return text
-
-
-def scenarios():
-    with open(os.path.join(TOP, "tests/scenarios/stdin"), encoding="utf-8") as file:
-        for text in file.read().split("\nscenario "):
-            yield [line.split(" ") for line in text.split("\n") if line and not line.startswith("#")]
-
-
 def keep_pair(folder, a, b):
     if len(a) + len(b) < LONGEST:
         keep(folder, "pair", len(a).to_bytes(2, "big") + a + b)
@@ -47,12 +31,12 @@ def write_scenario(folder, steps):
     parts, lines = {"A": b"", "B": b""}, []
     for word, *more in steps:
         if word == "part" and more:
-            parts[more[0]] = bytes_of(more[1:])
+            parts[more[0]] = scenario_files.bytes_of(more[1:])
             keep_pair(folder, parts["A"], parts["B"])
         elif word == "event":
-            keep(folder, "event", bytes_of(more))
+            keep(folder, "event", scenario_files.bytes_of(more))
         elif word == "state":
-            keep(folder, "state", b"\7" + bytes_of(more))
+            keep(folder, "state", b"\7" + scenario_files.bytes_of(more))
         elif word == "at":
             line = " ".join(more[1:]).encode()
             keep(folder, "command", line)
@@ -62,8 +46,9 @@ def write_scenario(folder, steps):
 
 def main():
     folder = sys.argv[1]
-    for steps in scenarios():
-        write_scenario(folder, steps)
+    for subject in scenario_files.subjects():
+        for steps in scenario_files.steps(subject):
+            write_scenario(folder, steps)
     for words in wordlists.WORDS:
         keep(folder, "words", "\n".join(words).encode())
     for op in wordlists.LINES:

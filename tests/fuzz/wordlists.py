@@ -4,6 +4,7 @@ WORDS = [
     ["serve", "--journal", "/var/lib/ocfexec"],
     ["show", "--journal", "."],
     ["status", "--journal", ".", "r1"],
+    ["once", "heartbeat:Dummy", "start", "state=/run/dummy", "a=b", "--timeout", "900"],
     ["run", "--memory", "--root", "/usr/lib/ocf", "--path", "/bin:/usr/bin", "--via", "/bin/sh"],
     ["serve", "--journal=/j", "--tidy-at", "4194304", "--log", "-", "--meta-variables", "--orphans", "30000"],
     ["run", "--journal", "/j", "--timed", "--tidy-at", "0"],

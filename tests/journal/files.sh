@@ -116,6 +116,7 @@ same "what is made" "half/executor half/part-a half/part-b" "$(echo half/*)"
 
 # What can't be opened
 refused nowhere 5 "ocfexec: disk" "nowhere: No such file or directory"
+same "a missing directory, advice" "Missing directory: make it, for its owner alone, or name another by --journal." "$(tail -n 1 "$here/err")"
 [ ! -e nowhere ] || differs "a folder that is not there" "none" "nowhere"
 : > file
 refused file 5 "ocfexec: disk" "file: Not a directory"
@@ -162,11 +163,13 @@ if [ "$(id -u)" -ne 0 ]; then
     journal unreadable
     chmod 200 unreadable/part-a
     refused unreadable 5 "ocfexec: disk" "unreadable/part-a: Permission denied"
+    same "no permission, advice" "No permission: the journal is its owner's alone; look at it as that user, or as root." "$(tail -n 1 "$here/err")"
 fi
 
 # One executor at a time
 hold made
 refused made 5 "ocfexec: disk" "made: in use by another executor"
+same "in use, advice" "In use: one executor at a time holds a journal; show, status and log look at it meanwhile." "$(tail -n 1 "$here/err")"
 ln made/part-a linked_a && mkdir other && mv linked_a other/part-a && : > other/part-b
 refused other 5 "ocfexec: disk" "other/part-a: in use by another executor"
 let_go "the executor that has the journal"
@@ -237,7 +240,8 @@ shown bare
 same "a folder without files" '0 {"ok":true,"resources":[]}' "$status $(cat out)"
 same "both folders" "$before" "$(inside fixed && inside bare)"
 chmod 755 fixed bare
-hidden "show of a folder that is not there" "nowhere: No such file or directory (os error 2)" show --journal nowhere
+hidden "show of a directory that is not there" "nowhere: No such file or directory (os error 2)
+Missing directory: make it, for its owner alone, or name another by --journal." show --journal nowhere
 
 # Root opens only a journal of which it is the only writer; any other user opens whatever it may
 if [ "$(id -u)" -eq 0 ]; then
@@ -377,7 +381,7 @@ took=$((($(date +%s%N) - began) / 1000000))
 memory=$(kib "$pid" VmHWM)
 let_go "opening a full part"
 echo "opening a part of $(stat -c %s much/part-a) bytes: $took milliseconds (under 500 wanted), $memory KiB (under 65536 wanted)"
-[ "$took" -lt 5000 ] || differs "opening a full part, milliseconds" "under 5000" "$took"
+took_less "opening a full part" 5000 "$took"
 [ "$memory" -lt 65536 ] || differs "opening a full part, KiB" "under 65536" "$memory"
 
 finish "files of a journal, their locks and their faults"

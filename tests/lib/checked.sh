@@ -29,16 +29,9 @@ compile_checked() {
     mkdir "$copy/top"
     copy_crate "$line" "tests/$name" "$copy/top"
     copy_kit "$copy/kit"
-    # a hint of names that a check will refuse is not wanted
-    ln -sf /bin/true "$copy/kit/bin/rattle"
+    check_nothing "$copy/kit"
     keep_module "$copy/kit" "$copy" -O2
-    replace_tool "$copy/kit" ld.lld << LINKER
-"\$tool" "\$@" || exit
-for word; do
-    [ "\$last" != -o ] || cp "\$word" "$copy/$name"
-    last=\$word
-done
-LINKER
+    keep_program "$copy/kit" "$copy/$name"
     (cd "$copy/top/crates/$name" && "$copy/kit/bin/rt" try --steps 1 -- "$@" < /dev/null > "$copy/said" 2>&1) || true
     if [ ! -x "$copy/$name" ] || [ ! -f "$copy/module.bc" ]; then
         cat "$copy/said" >&2

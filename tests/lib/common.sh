@@ -112,6 +112,19 @@ processor_time() {
     awk -v rate="$(getconf CLK_TCK)" '{ print int(($14 + $15) * 1000 / rate) }' "/proc/$1/stat"
 }
 
+# How many times longer than on a quiet machine things may take now, by the share of the last minute, or of the last ten seconds, in which
+# a process waited for a processor; 1 where the system does not tell it.
+slowness() {
+    sed -n 's/^some avg10=\([0-9.]*\) avg60=\([0-9.]*\) .*/\1 \2/p' /proc/pressure/cpu 2> /dev/null |
+        awk '{ most = $1 > $2 ? $1 : $2; slower = most < 99 ? int(100 / (100 - most)) : 100 } END { print slower ? slower : 1 }'
+}
+
+# What took so many milliseconds took less than so many; on a busy machine as many times more as it is slower than a quiet one.
+# Use: took_less WHAT MOST TOOK
+took_less() {
+    [ "$3" -lt "$2" ] || [ "$3" -lt $(($2 * $(slowness))) ] || differs "$1" "less than $2 milliseconds" "$3"
+}
+
 # The notices of a file in short: action, outcome, code and its name; and without the name. Use: notices FILE, outcomes FILE
 notices() {
     sed -n 's/^{"action":"\([a-z-]*\)".*"code":\([0-9]*\).*"name":"\([a-zA-Z_]*\)".*"outcome":"\([a-z-]*\)".*/\1 \4 \2 \3/p' "$1"

@@ -1,7 +1,9 @@
 """What the checks in Python share: the program, a folder for each check, its agents, the lines of commands, and runs that are asked
 and heard. A module is called as `tests/FOLDER/NAME.py PROGRAM`; each of its tests is a check, which is printed with its time. With ONLY
-in the environment, the one test of that sentence is tried. A test that fails says how it is played again, with the numbers that it asked
+in the environment, the one test of that sentence is tried; with `-k WORD` after the program those with this in their name or sentence,
+and with `-f` none after one that failed. A test that fails says how it is played again, with the numbers that it asked
 for; one by chance, which asked for SEED, leaves its folder, with what it was given, in tests/failed."""
+import argparse
 import contextlib
 import functools
 import json
@@ -16,12 +18,16 @@ import threading
 import time
 import unittest
 
+import schema
+
 PROGRAM = os.path.realpath(sys.argv[1]) if len(sys.argv) > 1 else ""
 PARTS = ("part-a", "part-b")
 TOP = os.path.dirname(os.path.dirname(os.path.dirname(os.path.abspath(__file__))))
 FAILED = os.path.join(TOP, "tests/failed")
-# how many of the last lines are told where another one did not come
-LAST = 10
+# how many of the last lines are told where another one did not come, and for how many seconds one is waited for
+LAST, PATIENCE = 10, 60
+# how many seconds a whole run may take, which is less than a script of checks may
+WHOLE = 280
 # how this module is called again, and the numbers that the test under way asked for
 CALL, numbers = [sys.argv[0], *([PROGRAM] if PROGRAM else [])], {}
 
@@ -56,9 +62,16 @@ def lines(*commands):
     return "".join(json.dumps(command) + "\n" for command in commands).encode()
 
 
+def value_of(line):
+    """The value of a line of the program, which the schema of its lines has."""
+    value = json.loads(line)
+    schema.hold(value)
+    return value
+
+
 def replies(out):
     """The values of whole lines; what stands behind the last newline is none."""
-    return [json.loads(line) for line in out.split(b"\n")[:-1]]
+    return [value_of(line) for line in out.split(b"\n")[:-1]]
 
 
 def is_notice(value, **wanted):
@@ -68,7 +81,7 @@ def is_notice(value, **wanted):
 
 def run(*words, told=b"", **how):
     """A whole run, which is told all its input at once."""
-    return subprocess.run([PROGRAM, *words], input=told, capture_output=True, **{"timeout": 120, **how})
+    return subprocess.run([PROGRAM, *words], input=told, capture_output=True, **{"timeout": WHOLE, **how})
 
 
 def journal_stream(err):
@@ -81,7 +94,7 @@ def explained(*words, told=b"", **how):
     """A whole run whose standard error goes to the system's journal, as far as the program knows: so a fault is explained there."""
     with tempfile.TemporaryFile() as err:
         done = subprocess.run([PROGRAM, *words], input=told, stdout=subprocess.PIPE, stderr=err,
-                              env={**os.environ, **journal_stream(err.fileno())}, **{"timeout": 120, **how})
+                              env={**os.environ, **journal_stream(err.fileno())}, **{"timeout": WHOLE, **how})
         err.seek(0)
         done.stderr = err.read()
     return done
@@ -149,6 +162,17 @@ def is_alive(pid):
         return False
 
 
+def slowness():
+    """How many times longer than on a quiet machine things may take now: by the share of the last minute, or of the last ten seconds, in
+    which a process waited for a processor; and where the system does not tell it, by how many run for each processor."""
+    try:
+        with open("/proc/pressure/cpu", encoding="ascii") as pressure:
+            shares = [float(word.partition("=")[2]) / 100 for word in pressure.readline().split()[1:3]]
+        return 1 / max(0.01, 1 - max(shares))
+    except OSError:
+        return max(1.0, os.getloadavg()[0] / len(os.sched_getaffinity(0)))
+
+
 def keep(folder, into):
     """Copies a folder into the place of an earlier one, but for what is no plain file."""
     shutil.rmtree(into, ignore_errors=True)
@@ -160,10 +184,13 @@ def keep(folder, into):
 
 
 class Heard:
-    """A program that runs, whose lines are kept with the moments at which they came; its standard error goes to a file."""
+    """A program that runs, whose lines are kept with the moments at which they came; its standard error goes to a file, which is none of
+    the check's where none is given."""
 
-    def __init__(self, *words, err=os.devnull, program=None, **how):
-        with open(err, "wb") as file:
+    def __init__(self, *words, err=None, program=None, **how):
+        with open(err, "wb") if err else tempfile.TemporaryFile() as file:
+            # (an open file of its own, since reading moves the place at which the program writes)
+            self.err = None if err else open(f"/proc/self/fd/{file.fileno()}", "rb")
             self.run = subprocess.Popen([program or PROGRAM, *words], stdin=subprocess.PIPE, stdout=subprocess.PIPE, stderr=file, **how)
         self.lines, self.came, self.is_over = [], threading.Condition(), False
         self.reader = threading.Thread(target=self.read, daemon=True)
@@ -182,26 +209,40 @@ class Heard:
         self.send(lines(*commands))
 
     def send(self, text):
-        self.run.stdin.write(text)
-        self.run.stdin.flush()
+        try:
+            self.run.stdin.write(text)
+            self.run.stdin.flush()
+        except BrokenPipeError:
+            self.reader.join(PATIENCE)
+            raise AssertionError(f"it takes no more lines\n{self.state()}") from None
+
+    def state(self):
+        """Whether it runs, its last lines, and what it wrote to its standard error."""
+        status = self.run.poll()
+        with self.came:
+            last = "".join(line for _, line in self.lines[-LAST:])
+            found = f"it {'runs' if status is None else f'ended with {status}'}; of {len(self.lines)} lines the last ones:\n{last}"
+        if self.err:
+            self.err.seek(0)
+            said = b"".join(self.err.readlines()[-LAST:]).decode(errors="replace")
+            found += f"its standard error ends with:\n{said}" if said else "its standard error is empty\n"
+        return found
 
     def values(self):
         """The values of all whole lines that have come."""
         with self.came:
-            return [json.loads(line) for _, line in self.lines if line.endswith("\n")]
+            return [value_of(line) for _, line in self.lines if line.endswith("\n")]
 
     def told(self):
         """The notices that have come."""
         return [value for value in self.values() if is_notice(value)]
 
-    def awaits(self, holds, seconds=10, after=0):
+    def awaits(self, holds, seconds=PATIENCE, after=0):
         """The moment and the value of the first line of which this holds, after so many; it fails where none comes in time."""
         found = self.hears(holds, seconds, after)
         if found[0] is None:
-            with self.came:
-                last = "".join(line for _, line in self.lines[-LAST:])
-                end = "before the end of its output" if self.is_over else f"within {seconds} s"
-                raise AssertionError(f"no such line came {end}; of {len(self.lines)} the last ones:\n{last}")
+            end = "before the end of its output" if self.is_over else f"within {seconds} s"
+            raise AssertionError(f"no such line came {end}; {self.state()}")
         return found
 
     def hears(self, holds, seconds=10, after=0):
@@ -210,17 +251,20 @@ class Heard:
         with self.came:
             while True:
                 while at < len(self.lines):
-                    value = json.loads(self.lines[at][1])
+                    value = value_of(self.lines[at][1])
                     if holds(value):
                         return self.lines[at][0], value
                     at += 1
                 if self.is_over or not self.came.wait(max(0, until - time.monotonic())):
                     return None, None
 
-    def ends(self, seconds=10):
-        """The exit status, behind the end of its input."""
+    def ends(self, seconds=PATIENCE):
+        """The exit status, after the end of its input."""
         self.run.stdin.close()
-        status = self.run.wait(seconds)
+        try:
+            status = self.run.wait(seconds)
+        except subprocess.TimeoutExpired:
+            raise AssertionError(f"it did not end within {seconds} s after the end of its input; {self.state()}") from None
         self.reader.join()
         return status
 
@@ -231,6 +275,8 @@ class Heard:
         with contextlib.suppress(BrokenPipeError):
             self.run.stdin.close()
         self.run.stdout.close()
+        if self.err:
+            self.err.close()
 
 
 class Check(unittest.TestCase):
@@ -310,6 +356,31 @@ class Check(unittest.TestCase):
     def holds(self, what, name):
         self.assertTrue(what, name)
 
+    def eventually(self, what, holds, seconds=PATIENCE):
+        """Waits until this gives what is true, and gives that; it fails where that takes longer than so many seconds."""
+        until = time.monotonic() + seconds
+        while not (found := holds()):
+            if time.monotonic() > until:
+                self.fail(f"{what}: not within {seconds} s")
+            time.sleep(0.005)
+        return found
+
+    def numbers_in(self, path):
+        """The numbers in a file that an agent writes, as soon as its last line is whole."""
+        def written():
+            if not os.path.exists(path):
+                return []
+            with open(path, encoding="ascii") as file:
+                text = file.read()
+            return [int(word) for word in text.split()] if text.endswith("\n") else []
+        return self.eventually(f"numbers in {os.path.basename(path)}", written)
+
+    def took_less(self, most, took, what):
+        """That something took less than so many seconds; on a busy machine as many times more as it is slower than a quiet one."""
+        if took >= most:
+            slower = slowness()
+            self.assertLess(took, most * slower, f"seconds of {what}, on a machine that is {slower:.1f} times slower than a quiet one")
+
 
 class Told(unittest.TestResult):
     """Prints each check with its time, and what it found wrong."""
@@ -348,20 +419,25 @@ class Told(unittest.TestResult):
         os._exit(128 + signal.SIGTERM)
 
 
-def chosen(tests, only):
-    """These tests, one by one; of a sentence that is given that test alone."""
+def chosen(tests, only, part):
+    """These tests, one by one; of a sentence that is given that test alone, and those with this part of a name or a sentence."""
     for test in tests:
         if isinstance(test, unittest.TestSuite):
-            yield from chosen(test, only)
-        elif only in ("", test.shortDescription()):
+            yield from chosen(test, only, part)
+        elif only in ("", test.shortDescription()) and part in f"{test.id()} {test.shortDescription()}":
             yield test
 
 
 def main(failfast=False):
     found = unittest.defaultTestLoader.loadTestsFromModule(sys.modules["__main__"])
-    suite = unittest.TestSuite(chosen(found, os.environ.get("ONLY", "")))
+    parser = argparse.ArgumentParser()
+    parser.add_argument("-k", default="", metavar="WORD", help="only tests with this in their name or sentence")
+    parser.add_argument("-f", action="store_true", help="no test after one that failed")
+    # (a module may take further words of its own)
+    words, _ = parser.parse_known_args(sys.argv[2:])
+    suite = unittest.TestSuite(chosen(found, os.environ.get("ONLY", ""), words.k))
     told = Told()
-    told.failfast = failfast
+    told.failfast = failfast or words.f
     if signal.getsignal(signal.SIGTERM) == signal.SIG_DFL:
         signal.signal(signal.SIGTERM, lambda *_: told.end())
     suite.run(told)

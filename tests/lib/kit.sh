@@ -22,6 +22,47 @@ replace_tool() {
     chmod +x "$1/toolchain/bin/$2"
 }
 
+# Has the copy's linker keep the program that it made, as FILE. `rt try` runs a program in a folder of its own, and takes it away.
+# Use: keep_program COPY FILE
+keep_program() {
+    replace_tool "$1" ld.lld << LINKER
+"\$tool" "\$@" || exit
+for word; do
+    [ "\$last" != -o ] || cp "\$word" "$2"
+    last=\$word
+done
+LINKER
+}
+
+# The same of a program that is compiled without AddressSanitizer, and runs with a shim before the C library as one of the gate's does.
+# Use: keep_plain_program COPY FILE
+keep_plain_program() {
+    replace_tool "$1" clang << 'CLANG'
+for word; do
+    shift
+    [ "$word" = -fsanitize=address ] || set -- "$@" "$word"
+done
+exec "$tool" "$@"
+CLANG
+    replace_tool "$1" ld.lld << LINKER
+for word; do
+    shift
+    # (an archive that is linked whole is AddressSanitizer's)
+    case \$word in --whole-archive) whole=yes ;; esac
+    [ "\$whole" = yes ] || set -- "\$@" "\$word"
+    case \$word in --no-whole-archive) whole=no ;; esac
+    [ "\$last" != -o ] || made=\$word
+    last=\$word
+done
+"\$tool" "\$@" && cp "\$made" "$2"
+LINKER
+}
+
+# Has the copy check nothing beside what it compiles: a hint of names that a check will refuse is not wanted. Use: check_nothing COPY
+check_nothing() {
+    ln -sf /bin/true "$1/bin/rattle"
+}
+
 # Has the copy's clang keep what the compiler hands to it: the whole program as FOLDER/module.bc, and the flags, a line each, as
 # FOLDER/flags. It optimises as a third word says, such as -O2, if there is one. Use: keep_module COPY FOLDER [LEVEL]
 keep_module() {

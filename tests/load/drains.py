@@ -26,7 +26,7 @@ class Drains(helper.Check):
         """what ten seconds of waiting take of the processor"""
         run = self.heard("run", "--memory", "--root", self.here)
         run.tell(helper.register("r1", "Sleeper"), helper.action("r1", "start", timeout=20000), {"op": "drain"})
-        _, end = run.awaits(lambda value: "end" in value, 30)
+        _, end = run.awaits(lambda value: "end" in value)
         spent = round(helper.processor_time(run.run.pid) * 1000)
         print(f"drains: ten seconds of waiting: {spent} milliseconds of the processor (under 200 wanted)", flush=True)
         self.assertEqual([(value["outcome"], value["code"]) for value in run.told()], [("done", 0)])

@@ -108,7 +108,7 @@ class RandomLines(helper.Check):
             resident.append(helper.kib(run.pid, "VmRSS"))
         greatest = helper.kib(run.pid, "VmHWM")
         run.stdin.close()
-        self.assertEqual(run.wait(10), 0)
+        self.assertEqual(run.wait(helper.PATIENCE), 0)
         replies.read()
         replies.file.close()
         print(f"random_lines: {count} lines, {sum(filled)} of them with bytes: {replies.count} replies, {replies.accepted} accepted; "

@@ -63,10 +63,9 @@ class Rounds(helper.Check):
             run = self.heard(word, "--memory")
             for names in (["a"], ["b", "c", "d"]):
                 run.tell(*[helper.register(name, "None") for name in names])
-                until = time.monotonic() + 5
-                while len(run.values()) < ord(names[-1]) - ord("a") + 1 and time.monotonic() < until:
-                    time.sleep(0.005)
-                self.assertEqual(run.values(), [{"ok": True}] * (ord(names[-1]) - ord("a") + 1), f"{word}: {names}")
+                count = ord(names[-1]) - ord("a") + 1
+                self.eventually(f"{word}: replies to {names}", lambda: len(run.values()) >= count, seconds=20)
+                self.assertEqual(run.values(), [{"ok": True}] * count, f"{word}: {names}")
             self.assertEqual(run.ends(), 0)
 
     def test_moment(self):

@@ -23,7 +23,7 @@ DOCUMENTS = ["README.md", "CONTRIBUTING.md", "mutants/README.md",
 MANUAL = "docs/ocfexec.8"
 # What is made of the definitions.
 STATEMENT = "docs/STATEMENT.antt.txt"
-SUBCOMMANDS = ["run", "serve", "show", "status", "log"]
+SUBCOMMANDS = ["run", "serve", "show", "status", "log", "once"]
 # What others name so, what only a gate or a check leaves, and what a document says is not there.
 OUTSIDE = {"--default-signal", "--keep-size", "--length", "--pdeathsig", "/srv/hour", "ArgGroup", "clap_complete", "clone3", "crates/ocfexec/out/gate", "crates/ocfexec/out/ocfexec",
            "fallocate", "flock", "get_ocf_metadata", "hidepid", "list_ocf_providers", "migrate_from", "migrate_to", "nohup",

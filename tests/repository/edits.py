@@ -81,6 +81,13 @@ def taken(path, crate):
             yield file, text
 
 
+def is_slow(text, sentence):
+    """Whether FAST=1 leaves out a script of this text, or its test of this sentence."""
+    marked = any(line.startswith("# check:") and "slow" in line.split() for line in text.splitlines()[:5])
+    before = text.partition(f'"{sentence}"')[0].rpartition("\n\n")[2]
+    return marked or "@helper.slow" in before
+
+
 class Edits(helper.Check):
     # What is wrong of an edit is told without all the others.
     longMessage = False
@@ -108,6 +115,13 @@ class Edits(helper.Check):
             named = REFUSED_BY.search(goals.read(path))
             self.assertTrue(named, f"{path.relative_to(TOP)}: it has no line 'refused by: SCRIPT, SENTENCE'")
             self.assertIn(f'"{named[2]}"', goals.read(TOP / named[1]), f"{path.relative_to(TOP)}: {named[1]} has no check of that sentence")
+
+    def test_fast(self):
+        """each edit that a test refuses is refused by a check of `make check FAST=1`, or says that it is not"""
+        for path in TOP.glob("mutants/tests/*.edit"):
+            script, sentence = REFUSED_BY.search(goals.read(path)).groups()
+            says = "\n# not by FAST=1" in goals.read(path)
+            self.assertEqual(is_slow(goals.read(TOP / script), sentence), says, f"{path.relative_to(TOP)}: {script}, {sentence}")
 
     def test_table(self):
         """the tables name edits that there are, with a star where they are tried for each commit"""

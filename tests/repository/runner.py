@@ -167,7 +167,8 @@ class Runner(helper.Check):
 
     def test_kept(self):
         """of a test by chance that fails, or takes too long, it is said how it is played again, and what it was given is kept"""
-        shutil.copy(os.path.join(helper.TOP, "tests/lib/helper.py"), self.place("tests/lib"))
+        for name in ("helper.py", "schema.py"):
+            shutil.copy(os.path.join(helper.TOP, "tests/lib", name), self.place("tests/lib"))
         with open(self.place("tests/crash/throws.py"), "w", encoding="ascii") as file:
             file.write(THROWS)
         os.chmod(self.place("tests/crash/throws.py"), 0o755)

@@ -16,7 +16,7 @@ SCRIPT, STATEMENT, READING = "docs/statement.py", "docs/STATEMENT.antt.txt", "do
 EXAMPLE = {"exec", "ocfexec", "register", "web"}
 KEY = re.compile(r"^(?:abbrev|unfoldable|record|data) ([^\s:({]+)", re.MULTILINE)
 # What the language has, and variables.
-BUILT_IN = {"Type", "Unit", "Why", *"ABDPTQ"}
+BUILT_IN = {"Type", "Unit", "Why"}
 # A change of each kind of text in it: a file, and what is there once, with what it becomes.
 CHANGES = [
     ("executor/src/laws.rt", "        → (zs : List Event) × FoundAs (after_all start zs) c\n        × Runs", "        → (zs : List Event) × FoundAs start c\n        × Runs"),
@@ -97,13 +97,13 @@ class Statement(helper.Check):
                              (1, "statement.py: booted in crates/exec_ledger/specs/Boots.antt is no definition\n"), new)
 
     def test_whole(self):
-        """each word in it that begins with a capital is defined in it, declared in Rust or a name of the library"""
+        """each word in it that begins with a capital is defined in it, declared in Rust, a name of the library or one letter for a type"""
         text = read(os.path.join(helper.TOP, STATEMENT))
         definitions, _, ends = text.partition("\n-- Types and constants from Rust")
         there = re.findall(r"^  (\w+) :|(\w+) \(there ", definitions, re.MULTILINE)
         known = BUILT_IN.union(KEY.findall(definitions), *there, re.findall(r"\w+", ends))
         named = definitions[re.search(KEY, definitions).start():]
-        self.assertEqual(sorted({word for word in words(named) if word[0].isupper()} - known), [])
+        self.assertEqual(sorted({word for word in words(named) if word[0].isupper() and len(word) > 1} - known), [])
 
     def test_reading(self):
         """each name in backticks in docs/STATEMENT.md is in it"""

@@ -52,7 +52,7 @@ class Pair(helper.Check):
     def stops(self, run):
         """Ends it by the command of the unit, which waits for its end."""
         stop = subprocess.Popen(self.service.words("Service.ExecStop"), env={**os.environ, "MAINPID": str(run.pid)})
-        self.assertEqual(run.wait(20), 0)
+        self.assertEqual(run.wait(helper.PATIENCE), 0)
         self.assertEqual(stop.wait(20), 0)
 
     def answered(self, run, count):

@@ -51,7 +51,7 @@ class Keeper(helper.Check):
         with open(self.place("calls"), encoding="ascii") as file:
             return [word for word in file.read().split() if word != "monitor"]
 
-    def says(self, wanted, seconds=15):
+    def says(self, wanted, seconds=helper.PATIENCE):
         until = time.monotonic() + seconds
         while self.manager.read("StatusText") != wanted:
             self.assertLess(time.monotonic(), until, f"{wanted}, not {self.manager.read('StatusText')}:\n{self.manager.read('log')}")

@@ -13,23 +13,33 @@ fn make_long(rt: &HostRuntime) -> io::Result<()> {
     File::create(rt, "long/part-b")?.set_len(PART_LIMIT + 1)
 }
 
-// Whether part B ends at the limit and no fault is known, whether a read of part A fails and is known, and whether part B has no
-// length then; and the counts.
-fn traces(disk: &mut FileDisk<HostRuntime>) -> ([bool; 5], [u64; 2]) {
-    let ends = disk.len(Part::B) == Ok(PART_LIMIT);
-    let clean = disk.first_error().is_none();
-    let fails = disk.read_at(Part::A, 0, &mut [0]).is_err();
-    let known = matches!(disk.first_error(), Some(met) if met.part == Part::A);
-    let closed = disk.len(Part::B).is_err();
-    let counts = [disk.clock(), disk.failures()];
-    ([ends, clean, fails, known, closed], counts)
-}
-
 #[test]
 fn a_file_ends_at_the_limit_and_a_fault_ends_all_calls(rt: HostRuntime) -> Result<(), Fail> {
     make_long(&rt)?;
     let mut disk = FileDisk::open(&rt, rt.alloc(), "long", Owners::Any)?;
-    assert!(rt; traces(&mut disk) == ([true; 5], [3, 2]));
+    assert!(rt;
+        disk.len(Part::B) == Ok(PART_LIMIT),
+        "part B does not end at the limit"
+    );
+    assert!(rt;
+        disk.first_error().is_none(),
+        "a fault before there was one"
+    );
+    assert!(rt;
+        disk.read_at(Part::A, 0, &mut [0]).is_err(),
+        "a byte after the end of part A was read"
+    );
+    let part = disk.first_error().map(|met| met.part);
+    assert!(rt;
+        part == Some(Part::A),
+        "the first fault is not that of part A"
+    );
+    assert!(rt;
+        disk.len(Part::B).is_err(),
+        "a call after the fault was answered"
+    );
+    assert_eq!(rt; disk.clock(), 3, "calls");
+    assert_eq!(rt; disk.failures(), 2, "faults");
     fs::remove_dir_all(&rt, "long")?;
     Ok(())
 }

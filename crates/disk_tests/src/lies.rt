@@ -8,36 +8,61 @@ use executor::OpenError;
 use ocf_types::Refusal;
 use std::alloc::Global;
 
-// Whether a disk that answers anything is told as failing just where it failed a call.
-fn is_told(alloc: Global, seed: u64) -> Option<bool> {
+// A registration on a disk that answers anything: whether a fault of the disk was reported, and how many the disk had.
+fn faults(alloc: Global, seed: u64) -> Option<(bool, u64)> {
     let (reached, disk) = register(alloc, WildDisk::new(seed), "r2")?;
-    let failed = reached == Reached::NotOpened(OpenError::Disk);
-    Some(failed == (disk.failures() > 0))
+    let reported = reached == Reached::NotOpened(OpenError::Disk);
+    Some((reported, disk.failures()))
 }
 
 #[test]
-fn a_disk_that_answers_anything_makes_no_call_hang(rt: HostRuntime) {
+fn a_fault_is_reported_exactly_where_a_disk_that_answers_anything_had_one(rt: HostRuntime) {
     for seed in 0..256 {
-        assert_eq!(rt; is_told(rt.alloc(), seed), Some(true));
+        let (reported, faults) = faults(rt.alloc(), seed).expect(&rt, "out of memory");
+        assert_eq!(rt; reported, faults > 0, "seed {seed}, {faults} faults");
     }
 }
 
-// Which ends were met on disks that lie: damage, a fault of the disk, and an acknowledgement.
-fn met(alloc: Global) -> Option<[bool; 3]> {
-    let mut met = [false; 3];
+// How registrations ended on disks that lie, of each way how many.
+#[derive(Drop)]
+struct Ends {
+    damaged: u32,
+    failed: u32,
+    acknowledged: u32,
+}
+
+impl Ends {
+    fn add(&mut self, reached: Reached) {
+        let count = match reached {
+            Reached::NotOpened(OpenError::Damaged(_)) => &mut self.damaged,
+            Reached::Refused(Refusal::Disk) => &mut self.failed,
+            Reached::Acknowledged => &mut self.acknowledged,
+            _ => return,
+        };
+        *count = count.saturating_add(1);
+    }
+}
+
+fn ends_met(alloc: Global) -> Option<Ends> {
+    let mut ends = Ends {
+        damaged: 0,
+        failed: 0,
+        acknowledged: 0,
+    };
     for seed in 0..512 {
         let disk = Liar::new(seed, FIRST.to_vec(alloc).ok()?);
-        match register(alloc, disk, "r2")?.0 {
-            Reached::NotOpened(OpenError::Damaged(_)) => met[0] = true,
-            Reached::Refused(Refusal::Disk) => met[1] = true,
-            Reached::Acknowledged => met[2] = true,
-            _ => {}
-        }
+        ends.add(register(alloc, disk, "r2")?.0);
     }
-    Some(met)
+    Some(ends)
 }
 
 #[test]
 fn a_disk_that_lies_makes_no_call_hang(rt: HostRuntime) {
-    assert_eq!(rt; met(rt.alloc()), Some([true; 3]));
+    let ends = ends_met(rt.alloc()).expect(&rt, "out of memory");
+    assert!(rt; ends.damaged > 0, "no opening found damage");
+    assert!(rt;
+        ends.failed > 0,
+        "no command was refused for a fault of the disk"
+    );
+    assert!(rt; ends.acknowledged > 0, "no command was acknowledged");
 }

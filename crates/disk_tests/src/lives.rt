@@ -85,10 +85,16 @@ fn answered(alloc: Global, stop: u64, fill: Fill) -> Option<usize> {
 
 #[test]
 fn a_second_machine_finds_what_a_first_one_acknowledged(rt: HostRuntime) {
-    for fill in [Fill::Synced, Fill::Written, Fill::Repeated(b"\x01")] {
+    let fills = [
+        ("what was synced", Fill::Synced),
+        ("what was written", Fill::Written),
+        ("bytes 01", Fill::Repeated(b"\x01")),
+    ];
+    for (left, fill) in fills {
         for stop in 1..=40 {
             let opened = answered(rt.alloc(), stop, fill);
-            assert_eq!(rt; opened, Some(if stop < 14 { 0 } else { 3 }));
+            let wanted = Some(if stop < 14 { 0 } else { 3 });
+            assert_eq!(rt; opened, wanted, "a crash in call {stop} that leaves {left}");
         }
     }
 }

@@ -24,21 +24,28 @@ fn failed(alloc: Global, call: u64) -> Option<(SlotRead, u64, u64)> {
 #[test]
 fn a_reading_in_which_a_device_call_fails_is_told(rt: HostRuntime) {
     for call in 1..=4 {
-        assert_eq!(rt; failed(rt.alloc(), call), Some((SlotRead::Disk, call, 1)));
+        let (found, calls, faults) = failed(rt.alloc(), call).expect(&rt, "out of memory");
+        assert!(rt;
+            found == SlotRead::Disk,
+            "a fault of call {call} is not reported"
+        );
+        assert_eq!(rt; calls, call, "calls, the last of which failed");
+        assert_eq!(rt; faults, 1, "faults, where call {call} failed");
     }
 }
 
-// Whether a disk that answers anything is read by at most four calls, and a fault is told.
-fn is_short(alloc: Global, seed: u64) -> Option<bool> {
+// A reading of a disk that answers anything: whether a fault was reported, how many there were, and how many calls.
+fn reading(alloc: Global, seed: u64) -> Option<(bool, u64, u64)> {
     let mut disk = WildDisk::new(seed);
     let (found, _) = read(alloc, &mut disk, Part::B, seed)?;
-    let told = (found == SlotRead::Disk) == (disk.failures() == 1);
-    Some(told && disk.clock() <= 4)
+    Some((found == SlotRead::Disk, disk.failures(), disk.clock()))
 }
 
 #[test]
 fn a_disk_that_answers_anything_is_read_by_four_calls(rt: HostRuntime) {
     for seed in 0..64 {
-        assert_eq!(rt; is_short(rt.alloc(), seed), Some(true));
+        let (reported, faults, calls) = reading(rt.alloc(), seed).expect(&rt, "out of memory");
+        assert_eq!(rt; reported, faults == 1, "seed {seed}, {faults} faults");
+        assert!(rt; calls <= 4, "seed {seed}: {calls} calls");
     }
 }

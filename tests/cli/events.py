@@ -1,0 +1,144 @@
+#!/usr/bin/env python3
+"""The lines of --events: one on standard error for each result, in the words of status, with a priority in front where that is the
+system's journal. What goes to standard output is the same with them and without.
+Use: events.py PROGRAM"""
+import os
+import re
+import subprocess
+import sys
+import tempfile
+
+sys.path[0] += "/../lib"
+import helper  # noqa: E402
+
+# An agent that ends with the code that a parameter names, or by a signal.
+ENDS = """case $OCF_RESKEY_code in kill) kill -9 $$ ;; sleep) exec sleep 20 ;; *) exit "$OCF_RESKEY_code" ;; esac
+"""
+# what is said of a start that ends so, and its priority
+STARTS = [
+    ("0", "web: start ok (0) in N ms", 6),
+    ("1", "web: start error (OCF_ERR_GENERIC, 1) in N ms", 3),
+    ("5", "web: start not installed (OCF_ERR_INSTALLED, 5) in N ms", 3),
+    ("6", "web: start not configured (OCF_ERR_CONFIGURED, 6) in N ms", 3),
+    ("77", "web: start a code of the agent's own (other, 77) in N ms", 3),
+    ("kill", "web: start failed: a signal ended the agent after N ms", 3),
+]
+
+
+def without_times(text):
+    return re.sub(r"\b\d+ (ms|s)\b", "N ms", text)
+
+
+class Events(helper.Check):
+    def setUp(self):
+        super().setUp()
+        self.agent("Ends", ENDS)
+
+    def commands(self, code, what="start", timeout=20000):
+        return helper.lines(helper.register("web", "Ends", code=code), helper.action("web", what, timeout=timeout), {"op": "drain"})
+
+    def events(self, told, *words, run=helper.run):
+        """The lines that are said of these commands, without what else is said on standard error."""
+        done = run("run", "--memory", "--root", self.here, "--events", *words, told=told)
+        self.assertEqual(done.returncode, 0, done.stderr)
+        return [line for line in without_times(done.stderr.decode()).splitlines() if not line.startswith("ocfexec: ")]
+
+    def test_starts(self):
+        """a line for each result, in the words of status"""
+        for code, wanted, _ in STARTS:
+            with self.subTest(code):
+                self.assertEqual(self.events(self.commands(code)), [wanted])
+
+    def test_priorities(self):
+        """with its priority where standard error is the system's journal"""
+        for code, wanted, priority in STARTS:
+            with self.subTest(code):
+                self.assertEqual(self.events(self.commands(code), run=helper.explained), [f"<{priority}>{wanted}"])
+
+    def test_timeout(self):
+        """an action that ran past its timeout"""
+        self.assertEqual(self.events(self.commands("sleep", timeout=200)),
+                         ["web: start failed: it ran past its timeout and was killed after N ms"])
+
+    def test_probe(self):
+        """a probe that finds it not running is no failure"""
+        self.assertEqual(self.events(self.commands("7", "monitor"), run=helper.explained),
+                         ["<6>web: monitor not running (OCF_NOT_RUNNING, 7) in N ms"])
+
+    def test_recurring(self):
+        """a recurring monitor that expects it to run, and finds that it does not, has failed"""
+        run = self.heard("serve", "--memory", "--root", self.here, "--events", err=self.place("err"),
+                         env={**os.environ, **self.stream()})
+        run.tell(helper.register("web", "Ends", code="7"), {"op": "recur", "id": "web", "interval": 1000})
+        run.awaits(lambda value: helper.is_notice(value, action="monitor", code=7), 20)
+        self.assertEqual(run.ends(), 0)
+        with open(self.place("err"), encoding="utf-8") as err:
+            first = without_times(err.read()).splitlines()[0]
+        self.assertEqual(first, "<3>web: monitor not running (OCF_NOT_RUNNING, 7) in N ms")
+
+    def stream(self):
+        """What names the file of standard error as the stream to the system's journal: it is made here, and emptied for the run."""
+        with open(self.place("err"), "wb") as err:
+            return helper.journal_stream(err.fileno())
+
+    def test_withdrawn(self):
+        """an action that was withdrawn has no code and no length of time"""
+        told = helper.lines(helper.register("web", "Ends", code="0"), helper.action("web", "start"),
+                            {"op": "withdraw", "id": "web", "call": 1}, {"op": "drain"})
+        self.assertEqual(self.events(told, run=helper.explained), ["<6>web: start cancelled: it was withdrawn before it began"])
+
+    def test_interrupted(self):
+        """what was interrupted is said at the next opening"""
+        journal = self.journal()
+        run = self.heard("serve", "--journal", journal, "--root", self.here)
+        run.tell(helper.register("web", "Ends", code="sleep"), helper.action("web", "start"), {"op": "info", "id": "web"})
+        run.awaits(lambda value: value.get("running"), 20)
+        run.killed()
+        done = helper.explained("run", "--journal", journal, "--orphans", "0", "--root", self.here, "--events")
+        self.assertEqual(done.returncode, 0, done.stderr)
+        said = [line for line in done.stderr.decode().splitlines() if "web: " in line and line.startswith("<")]
+        self.assertEqual(said, ["<4>web: start interrupted: the executor stopped while it ran; it may be done or not"])
+
+    def test_output(self):
+        """standard output is the same with them and without"""
+        for code, _, _ in STARTS:
+            with self.subTest(code):
+                told = self.commands(code)
+                words = ("run", "--memory", "--root", self.here)
+                self.assertEqual(helper.run(*words, "--events", told=told).stdout, helper.run(*words, told=told).stdout)
+
+    def test_none(self):
+        """without the option nothing is said of a result"""
+        done = helper.run("run", "--memory", "--root", self.here, told=self.commands("1"))
+        self.assertEqual(done.stderr, b"")
+
+    def test_closed(self):
+        """a standard error that is closed, full or not read ends no run"""
+        told = self.commands("1")
+        words = [helper.PROGRAM, "run", "--memory", "--root", self.here, "--events"]
+        wanted = helper.run(*words[1:], told=told).stdout
+        closed = subprocess.run(["sh", "-c", '"$@" 2>&-', "sh", *words], input=told, stdout=subprocess.PIPE, check=False, timeout=60)
+        self.assertEqual((closed.returncode, closed.stdout), (0, wanted))
+        with open("/dev/full", "wb") as full:
+            done = subprocess.run(words, input=told, stdout=subprocess.PIPE, stderr=full, check=False, timeout=60)
+        self.assertEqual((done.returncode, done.stdout), (0, wanted))
+        ours, theirs = os.pipe()
+        os.close(ours)
+        done = subprocess.run(words, input=told, stdout=subprocess.PIPE, stderr=theirs, check=False, timeout=60)
+        os.close(theirs)
+        self.assertEqual((done.returncode, done.stdout), (0, wanted))
+
+    def test_many(self):
+        """each of forty results has its line, in the order of the notices"""
+        told = b"".join(helper.lines(helper.register(f"r{n}", "Ends", code=str(n % 2)), helper.action(f"r{n}", "start"))
+                        for n in range(40)) + helper.lines({"op": "drain"})
+        with tempfile.TemporaryFile() as err:
+            done = subprocess.run([helper.PROGRAM, "run", "--memory", "--root", self.here, "--events"], input=told,
+                                  stdout=subprocess.PIPE, stderr=err, check=False, timeout=120)
+            err.seek(0)
+            said = [line.split(":")[0] for line in err.read().decode().splitlines()]
+        self.assertEqual(said, [value["id"] for value in helper.replies(done.stdout) if helper.is_notice(value)])
+        self.assertEqual(sorted(said), sorted(f"r{n}" for n in range(40)))
+
+
+helper.main()
