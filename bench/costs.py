@@ -4,7 +4,8 @@ processor seconds of each crate, by what they were for: its proof, its wrong bod
 The sum is what the system counted, so what was too short to be seen is a row of its own. The command's own output goes to standard error.
 
 With --into, the table takes the place of what stands in a file between the lines <!-- costs --> and <!-- end of costs -->, where the
-command ended well. With --pid, a gate that runs already is looked at until it ends; what it did before counts where its processes live.
+command ended well; there the crates below LEAST seconds are one row. With --pid, a gate that runs already is looked at until it ends;
+what it did before counts where its processes live.
 
 Use: costs.py [--into FILE] -- rt ci --anew
      costs.py [--into FILE] --pid PID"""
@@ -22,6 +23,7 @@ import time
 PAUSE = 0.5
 TICKS = os.sysconf("SC_CLK_TCK")
 KINDS = ["proof", "wrong bodies", "tests", "program"]
+LEAST = 250
 BEGIN, END = "<!-- costs -->", "<!-- end of costs -->"
 
 
@@ -132,13 +134,18 @@ def row(name, numbers):
     return f"| {name} | {' | '.join(numbers)} |"
 
 
-def table_of(costs, whole):
-    """The rows, the dearest crate first; the last two are what no crate is named for, and the sums in minutes."""
+def table_of(costs, whole, least):
+    """The rows, the dearest crate first; after them the crates below the least seconds, what no crate is named for, and the sums in
+    minutes."""
     number = lambda seconds: f"{seconds:.0f}" if seconds >= 0.5 else ""
     rows = [row("crate", [*KINDS, "all"]), "|---|" + "---:|" * (len(KINDS) + 1)]
     sums = {crate: sum(kinds.values()) for crate, kinds in costs.items() if crate}
-    for crate in sorted(sums, key=lambda name: (-sums[name], name)):
+    others = [crate for crate in sums if sums[crate] < least]
+    for crate in sorted(set(sums).difference(others), key=lambda name: (-sums[name], name)):
         rows.append(row(f"`{crate}`", [number(costs[crate][kind]) for kind in KINDS] + [number(sums[crate])]))
+    if others:
+        kinds = [number(sum(costs[crate][kind] for crate in others)) for kind in KINDS]
+        rows.append(row(f"{len(others)} others", kinds + [number(sum(sums[crate] for crate in others))]))
     rows.append(row("what names no crate", [""] * len(KINDS) + [number(whole - sum(sums.values()))]))
     minutes = [sum(costs[crate][kind] for crate in sums) / 60 for kind in KINDS] + [whole / 60]
     rows.append(row("all, in minutes", [f"{each:.1f}" for each in minutes]))
@@ -149,11 +156,11 @@ def kit():
     return subprocess.run(["rt", "version"], capture_output=True, text=True).stdout.split(" ")[0].strip()
 
 
-def said(what, took, whole, costs):
+def said(what, took, whole, costs, least=0):
     """What stands above the table, and the table."""
     cores = len(os.sched_getaffinity(0))
     lead = f"`{what}` took {took / 60:.0f} minutes and {whole / 60:.0f} processor minutes on {cores} cores on {datetime.date.today()}"
-    return "\n".join([f"{lead}, with the kit `{kit()}`. In processor seconds:", "", *table_of(costs, whole)])
+    return "\n".join([f"{lead}, with the kit `{kit()}`. In processor seconds:", "", *table_of(costs, whole, least)])
 
 
 def put_into(path, text):
@@ -178,10 +185,10 @@ def main():
     what, lived = called(words.pid) if words.pid else (" ".join(words.command), 0)
     began = time.monotonic() - lived
     sampler, status, whole = followed(words.pid) if words.pid else watched(words.command)
-    text = said(what, time.monotonic() - began, whole, sampler.costs())
-    print(text)
+    found = what, time.monotonic() - began, whole, sampler.costs()
+    print(said(*found))
     if words.into and not status:
-        put_into(words.into, text)
+        put_into(words.into, said(*found, LEAST))
     return status
 
 

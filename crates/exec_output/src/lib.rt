@@ -19,7 +19,9 @@ mod told_lines;
 
 pub use fault::Fault;
 pub use look::Look;
+pub use meanings::{Tone, failure_meaning, meaning, tone_of};
 pub use send::{IoFault, send_notice, send_notices, send_replies, send_reply};
 pub use shown::show;
+pub use spans::add_span;
 pub use statuses::status;
 pub use told_lines::status_json;
