@@ -2,10 +2,14 @@
 use Rattle.std.proofs.Common.{inl, inr, ⊎_elim, ◌⊎◌, ◌||◌, ℕ, List, Result, Ok, Err, Option, ap, subst, sym, ◌≡◌, is_some, true}
 use Rattle.disk_model.specs.View.{View}
 use Rattle.child_model.specs.Children.{ChildrenView}
+use Rattle.executor.specs.declared.opening.OpenError.{OpenError}
+use Rattle.executor.specs.declared.opening.OpenError.TheVariants as opening
 use Rattle.executor.specs.declared.report.Report.{Report}
 use Rattle.exec_options.specs.Faults.{IsFault}
-use Rattle.exec_options.specs.Words.{Gives, GivesOnce, folder_of}
+use Rattle.exec_options.specs.Words.{AsksFor, Gives, GivesOnce, folder_of}
 use Rattle.exec_options.specs.declared.once.OnceOptions.{OnceOptions}
+use Rattle.exec_options.specs.declared.words.Wanted.{Wanted}
+use Rattle.exec_options.specs.declared.words.Wanted.TheVariants as wanted
 use Rattle.exec_options.specs.declared.fault.WordsFault.{WordsFault}
 use Rattle.exec_options.specs.declared.fault.WordsFault.TheVariants as words_fault
 use Rattle.exec_options.specs.declared.options.Options.{Options}
@@ -18,7 +22,7 @@ use Rattle.exec_session.specs.Rules.{Rules}
 use Rattle.exec_session.specs.Spots.{Position, position, spot}
 use Rattle.exec_session.specs.Ends.{Ended, EndsAs}
 use Rattle.journal_folder.specs.Ends.{IsFolderEnd}
-use Rattle.ocfexec.specs.Starts.{EndsFor, IsEndOf, IsToldAs, StartEndsFor, with_status}
+use Rattle.ocfexec.specs.Starts.{EndsFor, IsEndOf, IsToldAs, StartEndsFor, opening_fault, with_status}
 
 -- a run does not end by its words
 ends : {D N T : Type 0} (look : D → View) (source : Source) (rules : Rules) (report : Report N)
@@ -56,6 +60,18 @@ unheard_ends T f is = subst (λ x. IsRunEnd {T = T} (Err x)) (sym is) tt
 
 pub same_ends : {T : Type 0} (r s : Result T Fault) → r ≡ s → IsRunEnd s → IsRunEnd r
 same_ends r s same ends = subst IsRunEnd (sym same) ends
+
+-- neither does one whose opening failed
+opening_end : (T : Type 0) (why : OpenError) → IsRunEnd {T = T} (Err (opening_fault why))
+opening_end T opening.Disk = tt
+opening_end T (opening.Damaged damage) = tt
+opening_end T opening.Memory = tt
+opening_end T opening.Foreign = tt
+opening_end T opening.Full = tt
+
+pub opening_ends : {T : Type 0} (why : OpenError) (f : Fault) (r : Result T Fault) → f ≡ opening_fault why → r ≡ Err f → IsRunEnd r
+opening_ends {T} why f r is same =
+    subst IsRunEnd (sym same) (subst (λ (x : Fault). IsRunEnd {T = T} (Err x)) (sym is) (opening_end T why))
 
 -- words that give no options
 pub refused_ends : {T : Type 0} (named : Option (List ℕ)) (words : List (List ℕ)) (f : WordsFault) (r : Result T Fault) → IsFault named words f → IsToldAs f r
@@ -119,6 +135,18 @@ starts_once home words o ended gives = inl (o, gives)
 pub starts_nothing : (home : Option (List ℕ)) (words : List (List ℕ)) (f : WordsFault) (r : Result (Unit {0}) Fault) (ended : Result ℕ Fault)
     → IsFault home words f → IsToldAs f r → ended ≡ with_status r → StartEndsFor home words ended
 starts_nothing home words f r ended is told same = inr (r, same, refused_ends home words f r is told)
+
+-- the same where it is known what the words ask for
+pub starts_asked_journal : (home : Option (List ℕ)) (words : List (List ℕ)) (w : Wanted) (o : Options) (r : Result (Unit {0}) Fault)
+    (ended : Result ℕ Fault) → AsksFor home words w → w ≡ wanted.Journal o → IsEndOf o r → ended ≡ with_status r
+    → StartEndsFor home words ended
+starts_asked_journal home words w o r ended asks is =
+    starts_journal home words o r ended (subst (λ (x : Wanted). AsksFor home words x) is asks)
+
+pub starts_asked_once : (home : Option (List ℕ)) (words : List (List ℕ)) (w : Wanted) (o : OnceOptions) (ended : Result ℕ Fault)
+    → AsksFor home words w → w ≡ wanted.Once o → StartEndsFor home words ended
+starts_asked_once home words w o ended asks is =
+    starts_once home words o ended (subst (λ (x : Wanted). AsksFor home words x) is asks)
 
 -- how a run of a journal, or a look at one, ends: on its disk, in its directory, or since its log is not opened
 pub ends_on_disk : {T : Type 0} (o : Options) (r : Result T Fault) → IsRunEnd r → IsEndOf o r
