@@ -1,11 +1,12 @@
 // Runs and a show over disks, readers and writers that fail.
-use crate::runs::{DRAIN, ended, ended_in, writes};
+use crate::runs::{DRAIN, ended, ended_in, run_over};
 use child_model::Poll;
 use disk_model::MemDisk;
 use exec_lines::{Output, Patient};
 use exec_output::{Fault, show};
 use std::alloc::Global;
 use std::io::{self, BufReader, ErrorKind, Read, Write};
+use std::str::from_utf8;
 
 // A registration, a question, a tidy, a line that is refused in reading, drains and metadata.
 const LINES: &[u8] =
@@ -13,8 +14,8 @@ const LINES: &[u8] =
     {\"op\":\"drain\"}\n{\"op\":\"watch\",\"limit\":9}\n{\"op\":\"meta\",\"provider\":\"p\",\"type\":\"t\"}\n\
     {\"op\":\"register\",\"id\":\"r1\",\"provider\":\"pacemaker\",\"type\":\"Dummy\"}\n";
 
-const REPLIES_WHEN_CLOSED: &[u8] =
-    b"{\"error\":\"disk\",\"number\":16}\n{\"error\":\"closed\",\"number\":17}\n{\"end\":\"closed\"}\n\
+const REPLIES_WHEN_CLOSED: &str =
+    "{\"error\":\"disk\",\"number\":16}\n{\"error\":\"closed\",\"number\":17}\n{\"end\":\"closed\"}\n\
     {\"error\":\"closed\",\"number\":17}\n{\"end\":\"closed\"}\n{\"end\":\"closed\"}\n{\"end\":\"missing\"}\n\
     {\"error\":\"closed\",\"number\":17}\n";
 
@@ -35,23 +36,18 @@ fn after_a_disk_fault_every_line_is_closed(rt: HostRuntime) {
     let alloc = rt.alloc();
     // the fourth call is the second sync of the record
     for call in 1..=4 {
-        let ended = writes(
-            alloc,
-            failing_disk(alloc, call),
-            &[],
-            LINES,
-            REPLIES_WHEN_CLOSED,
-        );
-        assert_eq!(rt; ended, Some(Err(Fault::Disk)));
+        let run = run_over(alloc, failing_disk(alloc, call), &[], LINES).expect(&rt, "no run");
+        assert_eq!(rt; run.text(), REPLIES_WHEN_CLOSED, "a fault of call {call}");
+        assert_eq!(rt; run.ended, Err(Fault::Disk), "a fault of call {call}");
     }
-    let ended = writes(
-        alloc,
-        failing_disk(alloc, 5),
-        &[],
-        REGISTER,
-        b"{\"ok\":true}\n",
-    );
-    assert_eq!(rt; ended, Some(Ok(())));
+}
+
+#[test]
+fn a_record_takes_no_fifth_call_that_could_fail(rt: HostRuntime) {
+    let alloc = rt.alloc();
+    let run = run_over(alloc, failing_disk(alloc, 5), &[], REGISTER).expect(&rt, "no run");
+    assert_eq!(rt; run.text(), "{\"ok\":true}\n");
+    assert_eq!(rt; run.ended, Ok(()));
 }
 
 // Two registrations that arrive together, and a question.
@@ -59,18 +55,22 @@ const TOGETHER: &[u8] =
     b"{\"op\":\"register\",\"id\":\"r1\",\"provider\":\"p\",\"type\":\"t\"}\n{\"op\":\"register\",\"id\":\"r2\",\"provider\":\"p\",\"type\":\"t\"}\n\
     {\"op\":\"list\"}\n";
 
+const BOTH_DONE: &str =
+    "{\"ok\":true}\n{\"ok\":true}\n{\"ok\":true,\"resources\":[\"r1\",\"r2\"]}\n";
+
 #[test]
 fn commands_that_arrive_together_are_one_record(rt: HostRuntime) {
     let alloc = rt.alloc();
     let refused =
-        b"{\"error\":\"disk\",\"number\":16}\n{\"error\":\"disk\",\"number\":16}\n{\"error\":\"closed\",\"number\":17}\n";
+        "{\"error\":\"disk\",\"number\":16}\n{\"error\":\"disk\",\"number\":16}\n{\"error\":\"closed\",\"number\":17}\n";
     for call in 1..=4 {
-        let ended = writes(alloc, failing_disk(alloc, call), &[], TOGETHER, refused);
-        assert_eq!(rt; ended, Some(Err(Fault::Disk)));
+        let run = run_over(alloc, failing_disk(alloc, call), &[], TOGETHER).expect(&rt, "no run");
+        assert_eq!(rt; run.text(), refused, "a fault of call {call}");
+        assert_eq!(rt; run.ended, Err(Fault::Disk), "a fault of call {call}");
     }
-    let done = b"{\"ok\":true}\n{\"ok\":true}\n{\"ok\":true,\"resources\":[\"r1\",\"r2\"]}\n";
-    let ended = writes(alloc, failing_disk(alloc, 5), &[], TOGETHER, done);
-    assert_eq!(rt; ended, Some(Ok(())));
+    let run = run_over(alloc, failing_disk(alloc, 5), &[], TOGETHER).expect(&rt, "no run");
+    assert_eq!(rt; run.text(), BOTH_DONE, "a fault after the record");
+    assert_eq!(rt; run.ended, Ok(()), "a fault after the record");
 }
 
 #[test]
@@ -80,7 +80,7 @@ fn a_show_on_a_disk_that_fails_writes_nothing(rt: HostRuntime) {
     let mut written = Vec::new(rt.alloc());
     let (_disk, ended) = show(rt.alloc(), disk, &mut written);
     assert_eq!(rt; ended, Err(Fault::Disk));
-    assert!(rt; written.is_empty());
+    assert!(rt; written.is_empty(), "{} bytes were written", written.len());
 }
 
 // Gives these bytes, each read after one that was interrupted or would have to wait, and then fails.
@@ -161,10 +161,7 @@ fn writes_that_take_little_are_made_again(rt: HostRuntime) {
     };
     let ended = ended(alloc, MemDisk::new(alloc), &[], TOGETHER, &mut writer);
     assert_eq!(rt; ended, Some(Ok(())));
-    assert_eq!(rt;
-        writer.taken.as_slice(),
-        b"{\"ok\":true}\n{\"ok\":true}\n{\"ok\":true,\"resources\":[\"r1\",\"r2\"]}\n".as_slice()
-    );
+    assert_eq!(rt; from_utf8(writer.taken.as_slice()), Ok(BOTH_DONE));
 }
 
 // How a run ends whose output takes so many bytes of two replies of 27 bytes each.
@@ -186,25 +183,24 @@ fn a_reply_that_is_not_written_ends_the_run(rt: HostRuntime) {
     for taken in [0, 1, 26, 27, 40, 53] {
         assert_eq!(rt;
             two_replies(rt.alloc(), taken),
-            Some(Err(Fault::InputOrOutput))
+            Some(Err(Fault::InputOrOutput)),
+            "an output that takes {taken} bytes"
         );
     }
 }
 
 #[test]
 fn a_notice_that_is_not_written_ends_the_run(rt: HostRuntime) {
+    let (alloc, polls) = (rt.alloc(), [Poll::Signaled(9)]);
+    // the output ends after both acceptances, in the notice of the start
+    let ended = ended_in(alloc, MemDisk::new(alloc), &polls, DRAIN, &mut [0; 80]);
+    assert_eq!(rt; ended, Some(Err(Fault::InputOrOutput)));
+}
+
+#[test]
+fn a_reply_that_is_not_written_ends_the_run_also_after_a_disk_fault(rt: HostRuntime) {
     let alloc = rt.alloc();
-    let ends = [
-        // behind both acceptances, in the notice of the start
-        ended_in(
-            alloc,
-            MemDisk::new(alloc),
-            &[Poll::Signaled(9)],
-            DRAIN,
-            &mut [0; 80],
-        ),
-        // behind the reply that the disk failed
-        ended_in(alloc, failing_disk(alloc, 1), &[], LINES, &mut [0; 40]),
-    ];
-    assert_eq!(rt; ends, [Some(Err(Fault::InputOrOutput)); 2]);
+    // the output ends after the reply that the disk failed
+    let ended = ended_in(alloc, failing_disk(alloc, 1), &[], LINES, &mut [0; 40]);
+    assert_eq!(rt; ended, Some(Err(Fault::InputOrOutput)));
 }

@@ -13,6 +13,7 @@ use std::alloc::Global;
 use std::collections::VecDeque;
 use std::io;
 use std::rt::Clock;
+use std::str::from_utf8;
 use std::time::Duration;
 use trial_parts::{NoMetadata, nowhere};
 
@@ -86,17 +87,35 @@ fn ended_in_way<R: Input + Drop, W: Output>(
     }
 }
 
-/// How a run over these lines ends, if it writes just what is wanted.
-pub fn writes(
+/// How a run ended, and what it wrote.
+#[derive(Drop)]
+pub struct Answered {
+    pub ended: Result<(), Fault>,
+    written: Vec<u8>,
+}
+
+impl Answered {
+    /// What it wrote, as text.
+    pub fn text(&self) -> &str {
+        from_utf8(self.written.as_slice()).unwrap_or("no text")
+    }
+}
+
+fn run_in_way(
     alloc: Global,
+    way: Way,
     disk: MemDisk,
     polls: &[Poll],
     lines: &[u8],
-    wanted: &[u8],
-) -> Option<Result<(), Fault>> {
-    let mut writer = Vec::new(alloc);
-    let ended = ended(alloc, disk, polls, lines, &mut writer)?;
-    (writer.as_slice() == wanted).then(|| ended)
+) -> Option<Answered> {
+    let mut written = Vec::new(alloc);
+    let ended = ended_in_way(alloc, way, disk, polls, lines, &mut written)?;
+    Some(Answered { ended, written })
+}
+
+/// A run over these lines.
+pub fn run_over(alloc: Global, disk: MemDisk, polls: &[Poll], lines: &[u8]) -> Option<Answered> {
+    run_in_way(alloc, Way::Run, disk, polls, lines)
 }
 
 /// How a run over these lines ends whose output takes no more bytes than this room has.
@@ -116,10 +135,10 @@ pub const DRAIN: &[u8] =
     b"{\"op\":\"register\",\"id\":\"r1\",\"provider\":\"p\",\"type\":\"t\"}\n{\"op\":\"exec\",\"id\":\"r1\",\"action\":\"start\"}\n\
     {\"op\":\"drain\"}\n";
 
-const RUNS_ON: &[u8] =
-    b"{\"ok\":true}\n{\"call\":1,\"key\":\"r1_start_0\",\"ok\":true}\n{\"end\":\"turns\"}\n";
+const RUNS_ON: &str =
+    "{\"ok\":true}\n{\"call\":1,\"key\":\"r1_start_0\",\"ok\":true}\n{\"end\":\"turns\"}\n";
 
-const NOT_RUNNING: &[u8] = b"{\"ok\":true}\n{\"call\":1,\"key\":\"r1_start_0\",\"ok\":true}\n\
+const NOT_RUNNING: &str = "{\"ok\":true}\n{\"call\":1,\"key\":\"r1_start_0\",\"ok\":true}\n\
     {\"action\":\"start\",\"call\":1,\"code\":7,\"id\":\"r1\",\"interval\":0,\"name\":\"OCF_NOT_RUNNING\",\"outcome\":\"done\",\"run\":1}\n\
     {\"end\":\"idle\"}\n";
 
@@ -130,17 +149,15 @@ fn a_drain_makes_as_many_turns_as_it_may(rt: HostRuntime) {
         ([].as_slice(), RUNS_ON),
         (&[Poll::Running, Poll::Exited(7)], NOT_RUNNING),
     ] {
-        let ended = writes(alloc, MemDisk::new(alloc), polls, DRAIN, wanted);
-        assert_eq!(rt; ended, Some(Ok(())));
+        let run = run_over(alloc, MemDisk::new(alloc), polls, DRAIN).expect(&rt, "no run");
+        assert_eq!(rt; run.text(), wanted);
+        assert_eq!(rt; run.ended, Ok(()), "the end of a drain");
     }
 }
 
-// What a run that serves writes over these lines, all of which are there at once.
-fn served(alloc: Global, polls: &[Poll], lines: &[u8], wanted: &[u8]) -> bool {
-    let mut writer = Vec::new(alloc);
-    let disk = MemDisk::new(alloc);
-    let ended = ended_in_way(alloc, Way::Serve, disk, polls, lines, &mut writer);
-    ended == Some(Ok(())) && writer.as_slice() == wanted
+// A run that serves over these lines, all of which are there at once.
+fn served(alloc: Global, polls: &[Poll], lines: &[u8]) -> Option<Answered> {
+    run_in_way(alloc, Way::Serve, MemDisk::new(alloc), polls, lines)
 }
 
 #[test]
@@ -150,11 +167,13 @@ fn a_run_that_serves_answers_as_a_run_does(rt: HostRuntime) {
         ([].as_slice(), RUNS_ON),
         (&[Poll::Running, Poll::Exited(7)], NOT_RUNNING),
     ] {
-        assert!(rt; served(alloc, polls, DRAIN, wanted));
+        let run = served(alloc, polls, DRAIN).expect(&rt, "no run");
+        assert_eq!(rt; run.text(), wanted);
+        assert_eq!(rt; run.ended, Ok(()), "the end of a drain");
     }
 }
 
-// A start, then lines that are passed over up to twice 64 in all, and a question: the second turn before it tells how the start
+// A start, then lines that are passed over up to twice 64 in all, and a question: the second turn before it reports how the start
 // ended.
 const BEHIND_A_TURN: &[u8] =
     b"{\"op\":\"register\",\"id\":\"r1\",\"provider\":\"p\",\"type\":\"t\"}\n{\"op\":\"exec\",\"id\":\"r1\",\"action\":\"start\"}\n\
@@ -163,11 +182,13 @@ const BEHIND_A_TURN: &[u8] =
     \n\n\n\n\n\n\n\n\n\n\n\n\n\n\n\n\n\n\n\n\n\n\n\n\n\n\n\n\n\n\n\n\n\n\n\n\n\n\n\n\n\n\
     {\"op\":\"list\"}\n";
 
-const TOLD_BETWEEN: &[u8] = b"{\"ok\":true}\n{\"call\":1,\"key\":\"r1_start_0\",\"ok\":true}\n\
+const REPORTED_BETWEEN: &str = "{\"ok\":true}\n{\"call\":1,\"key\":\"r1_start_0\",\"ok\":true}\n\
     {\"action\":\"start\",\"call\":1,\"code\":7,\"id\":\"r1\",\"interval\":0,\"name\":\"OCF_NOT_RUNNING\",\"outcome\":\"done\",\"run\":1}\n\
     {\"ok\":true,\"resources\":[\"r1\"]}\n";
 
 #[test]
 fn a_run_that_serves_makes_turns_between_lines(rt: HostRuntime) {
-    assert!(rt; served(rt.alloc(), &[Poll::Exited(7)], BEHIND_A_TURN, TOLD_BETWEEN));
+    let run = served(rt.alloc(), &[Poll::Exited(7)], BEHIND_A_TURN).expect(&rt, "no run");
+    assert_eq!(rt; run.text(), REPORTED_BETWEEN);
+    assert_eq!(rt; run.ended, Ok(()));
 }
