@@ -53,7 +53,7 @@ class FirstFailure(helper.Check):
         code, out, _ = self.asked("status", "--exit-code")
         self.assertEqual(code, 9, out)
         self.assertIn("failed", out)
-        code, out, err = self.asked("once", "--meta-variables", "heartbeat:nginx", "validate-all", f"configfile={broken}")
+        code, out, err = self.asked("once", "--meta-variables", "heartbeat:nginx", "start", f"configfile={broken}")
         self.assertNotEqual(code, 0)
         self.assertIn("lissten", out + err)
 

@@ -51,7 +51,7 @@ class Once(helper.Check):
         self.assertEqual(self.once("--timeout", "300", "test:Waits", "start", f"pid={self.place('pid')}"), (124, "", ""))
         self.assertLess(time.monotonic() - began, 10)
         with open(self.place("pid"), encoding="ascii") as file:
-            self.assertFalse(os.path.exists(f"/proc/{file.read().strip()}"))
+            self.assertFalse(helper.is_alive(file.read().strip()))
 
     def test_not_run(self):
         """It is 125 where nothing was run, with a line that says why."""

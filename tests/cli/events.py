@@ -34,8 +34,8 @@ class Events(helper.Check):
         super().setUp()
         self.agent("Ends", ENDS)
 
-    def commands(self, code, what="start", timeout=20000):
-        return helper.lines(helper.register("web", "Ends", code=code), helper.action("web", what, timeout=timeout), {"op": "drain"})
+    def commands(self, code, what="start", **more):
+        return helper.lines(helper.register("web", "Ends", code=code), helper.action("web", what, **more), {"op": "drain"})
 
     def events(self, told, *words, run=helper.run):
         """The lines that are said of these commands, without what else is said on standard error."""
@@ -62,7 +62,7 @@ class Events(helper.Check):
 
     def test_probe(self):
         """a probe that finds it not running is no failure"""
-        self.assertEqual(self.events(self.commands("7", "monitor"), run=helper.explained),
+        self.assertEqual(self.events(self.commands("7", "monitor", expect=7), run=helper.explained),
                          ["<6>web: monitor not running (OCF_NOT_RUNNING, 7) in N ms"])
 
     def test_recurring(self):
@@ -82,17 +82,20 @@ class Events(helper.Check):
             return helper.journal_stream(err.fileno())
 
     def test_withdrawn(self):
-        """an action that was withdrawn has no code and no length of time"""
+        """an action that was withdrawn has no notice, and so no line"""
         told = helper.lines(helper.register("web", "Ends", code="0"), helper.action("web", "start"),
                             {"op": "withdraw", "id": "web", "call": 1}, {"op": "drain"})
-        self.assertEqual(self.events(told, run=helper.explained), ["<6>web: start cancelled: it was withdrawn before it began"])
+        self.assertEqual(self.events(told, run=helper.explained), [])
 
     def test_interrupted(self):
         """what was interrupted is said at the next opening"""
         journal = self.journal()
         run = self.heard("serve", "--journal", journal, "--root", self.here)
-        run.tell(helper.register("web", "Ends", code="sleep"), helper.action("web", "start"), {"op": "info", "id": "web"})
-        run.awaits(lambda value: value.get("running"), 20)
+        run.tell(helper.register("web", "Ends", code="sleep"), helper.action("web", "start"))
+        for _ in range(600):
+            run.tell({"op": "info", "id": "web"})
+            if run.hears(lambda value: value.get("running"), 0.1)[1]:
+                break
         run.killed()
         done = helper.explained("run", "--journal", journal, "--orphans", "0", "--root", self.here, "--events")
         self.assertEqual(done.returncode, 0, done.stderr)

@@ -99,7 +99,7 @@ holds "run --help" "--journal <DIR>" --memory "--root <DIR>" "--via <PROGRAM>" "
     "[default: /usr/sbin:/usr/bin:/sbin:/bin]" --any-owner "--tidy-at <BYTES>" "[default: 6291456]" "--orphans <MS>" "[default: 20000]" --leave-orphans \
     "just one of --journal and --memory" Examples: "ocfexec run --memory"
 ends 0 "" show --help
-holds "show --help" Example: "ocfexec show --journal /srv/journal" "run and serve make those that are missing" OCFEXEC_JOURNAL
+holds "show --help" Examples: "ocfexec show --journal /srv/journal" "run and serve make those that are missing" OCFEXEC_JOURNAL
 same "show --help, options" "--help --journal --memory" "$(grep -o -e '^ *\(-., \)\?--[a-z-]*' "$here/out" | grep -o -e '--.*' | sort | xargs)"
 ends 0 "" status --help
 same "status --help, options" "--exit-code --help --journal --json --memory" \
