@@ -2,11 +2,13 @@
 # check: slow
 """Runs the program with less and less room for its memory (RLIMIT_AS), from what it needs down to where it does not start. Wanted: it
 ends well, or by want of memory, which a person is told: status 4 before the first line is read, 7 behind it; no stream is told to
-have failed, and it is never a crash. What was answered is the front of what is answered with enough memory, but for commands that were refused
+have failed. It is a crash only where the stack itself cannot grow, for which a program has no answer: that comes before the first line
+is read, in a range of 128 KiB at most. What was answered is the front of what is answered with enough memory, but for commands that were refused
 with `memory`, and stands at the next opening.
 Use: memory.py PROGRAM"""
 import resource
 import shutil
+import signal
 import sys
 
 sys.path[0] += "/../lib"
@@ -60,6 +62,10 @@ class Memory(helper.Check):
     def judge(self, room, full):
         # how a run in this room ended: its status, and whether a command was refused
         status, out, err = self.fresh(room)
+        if status == -signal.SIGSEGV:
+            self.assertEqual(out, "", f"nothing is answered before the stack has grown, in {room} bytes")
+            self.stackless.append(room)
+            return status, False
         self.is_told(status, err, f"in {room} bytes")
         self.assertTrue(status != 4 or out == "", "nothing answered with status 4")
         for reply, of_full in zip(out.split("\n")[:RESOURCES], full):
@@ -70,10 +76,11 @@ class Memory(helper.Check):
         """less and less memory"""
         status, full, _ = self.fresh(resource.RLIM_INFINITY)
         self.assertEqual(status, 0, "a run with enough memory")
-        stride = max(STEP, (self.enough - self.floor) // 300 // STEP * STEP)
+        stride, self.stackless = max(STEP, (self.enough - self.floor) // 300 // STEP * STEP), []
         seen = {self.judge(room, full.split("\n")) for room in range(self.floor, self.enough + STEP, stride)}
         print("memory: ended as", sorted(seen), flush=True)
         self.assertIn((4, False), seen, "an opening without memory")
+        self.assertLessEqual(max(self.stackless, default=0) - min(self.stackless, default=0), 128 << 10, "where the stack cannot grow")
         self.assertTrue(any(status == 7 or refused for status, refused in seen), "a run that found no memory")
 
     def test_stands(self):
