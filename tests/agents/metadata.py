@@ -11,6 +11,7 @@ import time
 
 sys.path[0] += "/../lib"
 import helper  # noqa: E402
+import schema  # noqa: E402
 from helper import PROGRAM, action  # noqa: E402
 
 # An agent that gives its metadata after n seconds, n being in the file `takes`; the file `pids` has its number and its child's.
@@ -25,6 +26,9 @@ LIST = {"op": "list"}
 
 def meta(kind, **more):
     return {"op": "meta", "provider": "test", "type": kind, **more}
+
+
+schema.metadata.add("of")
 
 
 class Metadata(helper.Check):
