@@ -206,7 +206,7 @@ stubborn() {
 # What an agent inherits, of a program that has a descriptor more, ignores SIGPIPE, blocks nothing and has a umask of 027.
 inherited() {
     cat > "$agents/Shows" <<'AGENT'
-descriptors=$(for n in /proc/$$/fd/*; do echo "${n##*/} $(readlink "$n")"; done | grep -v 'pipe:\|/Shows$')
+descriptors=$(for n in /proc/$$/fd/*; do echo "${n##*/} $(readlink "$n")"; done | grep -v 'pipe:\|/Shows$\| $')
 {
     echo "$descriptors"
     pwd
