@@ -170,8 +170,7 @@ pub fn run_agents<'a, D: Disk + TellsError + Drop>(
             };
             let output = Guarded::new(*rt, options, unwritten.output(rt.stdout()));
             let teller = Teller::new(alloc, output, &executor);
-            let events = events_of(rt, options);
-            let client = Eventful::new(alloc, teller, Errors::new(system), events);
+            let client = Eventful::new(alloc, teller, Errors::new(system), events_of(rt, options));
             let edge = Edge::new(reader, client, &clock);
             let run = run_lines(&context, edge, (executor, report), room);
             metadata.give_up();
