@@ -1,10 +1,9 @@
 -- What a line is answered, as the relations say it.
-use Rattle.std.proofs.Common.{◌≡◌, ◌+◌, ◌↔◌, ◌⊎◌, ℕ, Bool, true, false, List, [], ◌∷◌, Option, Result, Ok, Err, OnErr, OnOk, inl, inr, refl, sym, ap, subst, true≢false, ◌∙◌}
+use Rattle.std.proofs.Common.{◌≡◌, ◌+◌, ◌↔◌, ◌⊎◌, ℕ, Bool, true, false, [], ◌∷◌, Result, Ok, Err, OnErr, OnOk, inl, inr, refl, sym, ap, subst, true≢false, ◌∙◌}
 use Rattle.ocf_types.specs.Kinds.{Reply, Request}
 use Rattle.ocf_types.specs.declared.refusal.Refusal.{Refusal}
 use Rattle.ocf_types.specs.declared.refusal.Refusal.TheVariants as refusal
 use Rattle.ocf_types.specs.declared.reply.ReplyOf.TheVariants.{Refused}
-use Rattle.ocf_types.specs.declared.reply.TidyEnd.{TidyEnd}
 use Rattle.disk_model.specs.View.{View}
 use Rattle.executor.specs.Commands.{Serves}
 use Rattle.executor.specs.Sights.{Sight}
@@ -15,7 +14,7 @@ use Rattle.exec_commands.specs.declared.reply.LineReply.TheVariants as answer
 use Rattle.exec_client.specs.Said.{Answered}
 use Rattle.exec_trace.specs.Edges.{EdgeView}
 use Rattle.exec_trace.specs.declared.event.IoEvent.TheVariants.{Shown}
-use Rattle.exec_session.specs.Answers.{DrainTold, DrainsFor, IsClosedReply, IsOpenReply, IsReply, Source}
+use Rattle.exec_session.specs.Answers.{DrainTold, DrainsFor, IsClosedReply, IsOpenReply, Source}
 use Rattle.exec_session.specs.Breaks.{AnswerBreaks}
 use Rattle.exec_session.specs.Broken.{DrainBreaks, DrainBreaksFor, ReplyBreaks}
 use Rattle.exec_session.specs.Drains.{Drains}

@@ -1,5 +1,5 @@
 -- How a run ends, or breaks off.
-use Rattle.std.proofs.Common.{◌≡◌, true, List, [], ◌∷◌, Result, Ok, Err, IsErr, OnErr, OnOk, inl, inr, refl, subst}
+use Rattle.std.proofs.Common.{◌≡◌, [], ◌∷◌, Result, Ok, Err, IsErr, OnErr, OnOk, inl, inr, refl, subst}
 use Rattle.ocf_types.specs.declared.reply.TurnEnd.TheVariants.{Disk}
 use Rattle.disk_model.specs.View.{View}
 use Rattle.exec_commands.specs.declared.line.Line.TheVariants as line

@@ -31,7 +31,8 @@ use Rattle.exec_session.specs.Drains.{Drains, GoesOn, MakesTurn, Rests, at_start
 use Rattle.exec_session.specs.Leaving.{WindsDown, at_first, further as more_winding}
 use Rattle.exec_session.specs.Rules.{Rules, MakesRoom, is_tidy_due}
 use Rattle.exec_session.specs.Progress.{Answers}
-use Rattle.exec_session.specs.Runs.{GoesByCalls, Lines, MakesOwnTurn, NewsSo, Reaches, answers, here, looks, news, no_news, passes, reads, row, turn as one_turn, waits}
+use Rattle.exec_session.specs.Looks.{Lines}
+use Rattle.exec_session.specs.Runs.{GoesByCalls, MakesOwnTurn, NewsSo, OwnTurn, Reaches, answers, here, looks, news, no_news, passes, reads, row, turn as one_turn, waits}
 use Rattle.exec_session.specs.Spots.{Pauses, Position, Spot, Tells, behind}
 use Rattle.exec_session.specs.Together.{AnswersTogether}
 use Rattle.exec_session.specs.declared.drain.Terms.{Terms}
@@ -101,16 +102,16 @@ module _ {D : Type 0} (look : D → View) where
       (subst (λ (x : Sight D). StandsBehind look p.executor x more) (sym tells.executor) stands)
 
   -- a pause
-  pauses_go : (heard : Bool) (p q : Spot D) → Pauses heard p q → Goes p q
-  pauses_go heard p q (micros, le, same) = unmoved p q (ap (λ (s : Spot D). s.executor) same) (ap (λ (s : Spot D). s.heard) same)
+  pauses_go : (since now : ℕ) (heard : Bool) (p q : Spot D) → Pauses since now heard p q → Goes p q
+  pauses_go since now heard p q (micros, le, same) = unmoved p q (ap (λ (s : Spot D). s.executor) same) (ap (λ (s : Spot D). s.heard) same)
 
-  rests_same : (p q : Spot D) (after : ℕ) → Rests p q after → q.executor ≡ p.executor
-  rests_same p q after (m, (micros, le, same), shown) =
+  rests_same : (start now : ℕ) (p q : Spot D) (after : ℕ) → Rests start now p q after → q.executor ≡ p.executor
+  rests_same start now p q after (m, (micros, le, same), shown) =
       ap (λ (s : Spot D). s.executor) shown ∙ ap (λ (s : Spot D). s.executor) same
 
-  rests_go : (p q : Spot D) (after : ℕ) → Rests p q after → Goes p q
-  rests_go p q after (m, paused, shown) =
-      both_go p m q (pauses_go true p m paused)
+  rests_go : (start now : ℕ) (p q : Spot D) (after : ℕ) → Rests start now p q after → Goes p q
+  rests_go start now p q after (m, paused, shown) =
+      both_go p m q (pauses_go start now true p m paused)
       (unmoved m q (ap (λ (s : Spot D). s.executor) shown) (ap (λ (s : Spot D). s.heard) shown))
 
   module _ (rules : Rules) where
@@ -181,8 +182,8 @@ module _ {D : Type 0} (look : D → View) where
     turns_go t start p _ _ _ is_open (further n before after m told q end gone_on made rests on) =
         let so_far = turns_go t start p n before m is_open gone_on in
         let idle = not (any_busy told.executor.state) in (
-          both_go p m q so_far.0 (both_go m told q (turn_goes before m told end so_far.1 made) (rests_go told q after rests)),
-          ap (λ (x : Sight D). x.is_open) (rests_same told q after rests)
+          both_go p m q so_far.0 (both_go m told q (turn_goes before m told end so_far.1 made) (rests_go start before told q after rests)),
+          ap (λ (x : Sight D). x.is_open) (rests_same start before told q after rests)
               ∙ still_open t (n + 1) after end idle told.executor.is_open (closes look rules before m told end made) on,
         )
 
@@ -192,7 +193,7 @@ module _ {D : Type 0} (look : D → View) where
         let so_far = turns_go t start p drains.turns drains.now drains.last is_open drains.gone_on in
         both_go p drains.last q so_far.0
         (both_go drains.last drains.told q (turn_goes drains.now drains.last drains.told drains.turn_end so_far.1 drains.made)
-        (rests_go drains.told q drains.after drains.rests))
+        (rests_go start drains.now drains.told q drains.after drains.rests))
 
     -- what an open executor answers to a line, and the reply behind it
     open_goes : (source : Source) (p s q : Spot D) (found : Result Line Refusal) (reply : LineReply)
@@ -238,38 +239,38 @@ module _ {D : Type 0} (look : D → View) where
     news_go before end p q (news is tells) = plain_go rules.form p q (answer.Drain (Turn end)) (refl, tt) tells
     news_go before end p q (no_news none same) = stays p q same
 
-    own_turn_goes : (before : TurnEnd) (p q : Spot D) (end : TurnEnd) → p.executor.is_open ≡ true
-        → MakesOwnTurn look rules before p q end → Goes p q
-    own_turn_goes before p q end is_open own =
-        both_go p own.noticed q (both_go p (behind p (Shown own.now)) own.noticed (unmoved p (behind p (Shown own.now)) refl refl)
-        (turn_goes own.now (behind p (Shown own.now)) own.noticed end is_open own.made))
+    own_turn_goes : (before : TurnEnd) (now : ℕ) (p q : Spot D) (end : TurnEnd) → p.executor.is_open ≡ true
+        → MakesOwnTurn look rules before now p q end → Goes p q
+    own_turn_goes before now p q end is_open own =
+        both_go p own.noticed q (both_go p (behind p (Shown now)) own.noticed (unmoved p (behind p (Shown now)) refl refl)
+        (turn_goes now (behind p (Shown now)) own.noticed end is_open own.made))
         (news_go before end own.noticed q own.told)
 
     -- line after line, and turns between them
-    pub lines_go : (source : Source) (p : Position D) (own : TurnEnd) (n : ℕ) (lines : Lines) (q : Position D)
+    pub lines_go : (source : Source) (p : Position D) (own : OwnTurn) (n : ℕ) (lines : Lines) (q : Position D)
         → Reaches look source rules p own n lines q → Goes p.at q.at
     lines_go source p _ _ _ _ here = here_still p.at
     lines_go source p _ _ _ _ (looks own n lines m event reaches is) =
         both_go p.at m.at _ (lines_go source p own n lines m reaches) (unmoved m.at (behind m.at event) refl refl)
     lines_go source p _ _ _ _ (waits own n lines m event reaches goes_on rests is) =
         both_go p.at m.at _ (lines_go source p own n lines m reaches) (unmoved m.at (behind m.at event) refl refl)
-    lines_go source p _ _ _ _ (reads own n commands m left found reaches goes_on read) =
+    lines_go source p _ _ _ _ (reads own n commands m left found reaches goes_on may read) =
         both_go p.at m.at _ (lines_go source p own n _ m reaches) (unmoved m.at _ refl refl)
     lines_go source p _ _ _ _ (passes own n m left reaches goes_on may passed) = lines_go source p own n [] m reaches
     lines_go source p _ _ _ _ (answers own n found m q reaches goes_on may given) =
         both_go p.at m.at q (lines_go source p own n (found ∷ []) m reaches) (line_goes source m.at q found given)
     lines_go source p _ _ _ _ (row own n first others lines m q reaches is_open may together) =
         both_go p.at m.at q (lines_go source p own n _ m reaches) (together_goes (first ∷ others) m.at q is_open together)
-    lines_go source p _ _ _ _ (one_turn own n lines m q end reaches serves rests is_open made) =
-        both_go p.at m.at q (lines_go source p own n lines m reaches) (own_turn_goes own m.at q end is_open made)
+    lines_go source p _ _ _ _ (one_turn own n lines m q end now since reaches may made quiet) =
+        both_go p.at m.at q (lines_go source p own n lines m reaches) (own_turn_goes own.end now m.at q end may.is_open made)
 
     -- turns that begin nothing
     pub winds_go : (p : Spot D) (q : Spot D) → WindsDown look rules p q → Goes p q
     winds_go p _ at_first = here_still p
-    winds_go p _ (more_winding m told q winds one is_open paused) =
+    winds_go p _ (more_winding now m told q winds one is_open paused) =
         both_go p m q (winds_go p m winds)
         (both_go m told q
         (told_go m told (noticed told.executor) one.heard.tells.hears.told
         (finish_told look one.heard.now m.executor (with_empty_book m.executor) told.executor one.heard.end refl one.is_open
         one.heard.takes))
-        (pauses_go true told q paused))
+        (pauses_go 0 now true told q paused))

@@ -1,5 +1,5 @@
 -- A drain that goes on.
-use Rattle.std.proofs.Common.{◌≡◌, ◌≤◌, ◌+◌, ◌↔◌, ℕ, Bool, true, false, not, List, [], ◌∷◌, ◌++◌, length, Option, None, Some, refl, sym, ap, subst, ◌∙◌, arith, length-append}
+use Rattle.std.proofs.Common.{◌≡◌, ◌≤◌, ◌+◌, ◌↔◌, ℕ, Bool, true, false, not, [], ◌∷◌, ◌++◌, length, Option, None, Some, refl, sym, ap, subst, ◌∙◌, arith, inl, inr, length-append}
 use Rattle.ocf_types.specs.Boot.{any_busy}
 use Rattle.ocf_types.specs.declared.reply.TurnEnd.{TurnEnd}
 use Rattle.ocf_types.specs.declared.reply.TurnEnd.TheVariants as turn_end
@@ -8,13 +8,13 @@ use Rattle.executor.specs.Sights.{Sight}
 use Rattle.exec_commands.specs.declared.ends.DrainEnd.{DrainEnd}
 use Rattle.exec_trace.specs.Edges.{rest_events}
 use Rattle.exec_trace.specs.Events.{last_shown}
-use Rattle.exec_trace.specs.declared.event.IoEvent.{IoEvent}
 use Rattle.exec_trace.specs.declared.event.IoEvent.TheVariants.{Asked, Shown}
-use Rattle.exec_session.specs.Drains.{Drains, GoesOn, MakesTurn, Rests, end_at, end_behind, further}
+use Rattle.exec_session.specs.Drains.{MakesTurn, Rests, end_at, end_behind}
+use Rattle.exec_session.specs.Pausing.{IsShort}
 use Rattle.exec_session.specs.Rules.{Rules}
-use Rattle.exec_session.specs.Spots.{Keeps, MayBreakOff, Pauses, Position, Spot, behind, noted}
+use Rattle.exec_session.specs.Spots.{MayBreakOff, Pauses, Position, Spot, noted}
 use Rattle.exec_session.specs.declared.drain.Terms.{Terms}
-use Rattle.exec_session.proofs.EventLemmas.{longer, pause_lasts, shown_last, unasked, was_noted}
+use Rattle.exec_session.proofs.EventLemmas.{longer, shown_last, unasked}
 
 -- it does so behind a turn that is done
 done : (t : Terms) (turns now : ℕ) (end : TurnEnd) (idle : Bool) → end_behind t turns now end idle ≡ None → end ≡ turn_end.Done
@@ -47,39 +47,59 @@ pub told_end : (t : Terms) (turns now : ℕ) (end : TurnEnd) (idle asked : Bool)
     → told ≡ end_behind t turns now end asked → asked ≡ idle → told ≡ given → end_behind t turns now end idle ≡ given
 told_end t turns now end idle asked told given is was same = ap (λ b. end_behind t turns now end b) (sym was) ∙ sym is ∙ same
 
+-- a pause that is short since a moment is so since an earlier one
+pub short_since : (before since now micros : ℕ) → before ≤ since → IsShort since now micros → IsShort before now micros
+short_since before since now micros le (inl short) = inl short
+short_since before since now micros le (inr (long, part)) = inr (long, omega (arith, le, part))
+
 module _ {D : Type 0} where
+  pub earlier : (before since now : ℕ) (heard : Bool) (p q : Spot D) → before ≤ since → Pauses since now heard p q
+      → Pauses before now heard p q
+  earlier before since now heard p q le (micros, short, is) = (micros, short_since before since now micros le short, is)
+
+  pub at_moment : (since now now' : ℕ) (heard : Bool) (p q : Spot D) → now ≡ now' → Pauses since now heard p q → Pauses since now' heard p q
+  at_moment since now now' heard p q same paused = subst (λ (n : ℕ). Pauses since n heard p q) same paused
+
   -- a pause, somebody hears still, and a reading
-  pub rests : (told : Spot D) (mid q : Position D) (heard : Bool) (after : ℕ) → heard ≡ true → Pauses heard told mid.at → q ≡ noted mid (Shown after)
-      → Rests told q.at after
-  rests told mid q heard after hears paused is =
-      (mid.at, subst (λ (b : Bool). Pauses b told mid.at) hears paused, ap (λ (P : Position D). P.at) is)
+  pub rests : (start since now : ℕ) (told : Spot D) (mid q : Position D) (heard : Bool) (after : ℕ) → start ≤ since → heard ≡ true
+      → Pauses since now heard told mid.at → q ≡ noted mid (Shown after) → Rests start now told q.at after
+  rests start since now told mid q heard after le hears paused is = (
+    mid.at,
+    earlier start since now true told mid.at le (subst (λ (b : Bool). Pauses since now b told mid.at) hears paused),
+    ap (λ (P : Position D). P.at) is,
+  )
 
-  pub paused_executor : (heard : Bool) (p q : Spot D) → Pauses heard p q → q.executor ≡ p.executor
-  paused_executor heard p q (micros, short, is) = ap (λ (s : Spot D). s.executor) is
+  pub paused_executor : (since now : ℕ) (heard : Bool) (p q : Spot D) → Pauses since now heard p q → q.executor ≡ p.executor
+  paused_executor since now heard p q (micros, short, is) = ap (λ (s : Spot D). s.executor) is
 
-  pub rests_executor : (told q : Spot D) (after : ℕ) → Rests told q after → q.executor ≡ told.executor
-  rests_executor told q after (m, paused, is) = ap (λ (s : Spot D). s.executor) is ∙ paused_executor true told m paused
+  pub rests_executor : (start now : ℕ) (told q : Spot D) (after : ℕ) → Rests start now told q after → q.executor ≡ told.executor
+  rests_executor start now told q after (m, paused, is) =
+      ap (λ (s : Spot D). s.executor) is ∙ paused_executor start now true told m paused
 
-  pub rests_shown : (told q : Spot D) (after : ℕ) → Rests told q after → last_shown q.events ≡ Some after
-  rests_shown told q after (m, paused, is) = ap (λ (s : Spot D). last_shown s.events) is ∙ shown_last m.events after
+  pub rests_shown : (start now : ℕ) (told q : Spot D) (after : ℕ) → Rests start now told q after → last_shown q.events ≡ Some after
+  rests_shown start now told q after (m, paused, is) = ap (λ (s : Spot D). last_shown s.events) is ∙ shown_last m.events after
 
   -- a pause asks something at least
-  pub paused_longer : (heard : Bool) (p q : Spot D) → Pauses heard p q → length p.events + 1 ≤ length q.events
-  paused_longer heard p q (micros, short, is) =
+  pub paused_longer : (since now : ℕ) (heard : Bool) (p q : Spot D) → Pauses since now heard p q → length p.events + 1 ≤ length q.events
+  paused_longer since now heard p q (micros, short, is) =
       subst (λ (s : Spot D). length p.events + 1 ≤ length s.events) (sym is)
       (let one = longer p.events (rest_events micros) in omega (arith, one, length-append (p.events ++ rest_events micros) (Asked heard ∷ [])))
 
   -- where nobody hears any more, that is the last event
-  pub unheard_cause : (heard : Bool) (p q : Spot D) → heard ≡ false → Pauses heard p q → MayBreakOff q.events
-  unheard_cause heard p q gone (micros, short, is) =
+  pub unheard_cause : (since now : ℕ) (heard : Bool) (p q : Spot D) → heard ≡ false → Pauses since now heard p q → MayBreakOff q.events
+  unheard_cause since now heard p q gone (micros, short, is) =
       unasked (p.events ++ rest_events micros) q.events
       (ap (λ (s : Spot D). s.events) is ∙ ap (λ (b : Bool). (p.events ++ rest_events micros) ++ Asked b ∷ []) gone)
 
-  pub unheard_pause : (heard : Bool) (p q : Spot D) → heard ≡ false → Pauses heard p q → Pauses false p q
-  unheard_pause heard p q gone paused = subst (λ (b : Bool). Pauses b p q) gone paused
+  pub unheard_pause : (before since now : ℕ) (heard : Bool) (p q : Spot D) → before ≤ since → heard ≡ false → Pauses since now heard p q
+      → Pauses before now false p q
+  unheard_pause before since now heard p q le gone paused =
+      earlier before since now false p q le (subst (λ (b : Bool). Pauses since now b p q) gone paused)
 
-  pub heard_pause : (heard : Bool) (p q : Spot D) → heard ≡ true → Pauses heard p q → Pauses true p q
-  heard_pause heard p q hears paused = subst (λ (b : Bool). Pauses b p q) hears paused
+  pub heard_pause : (before since now : ℕ) (heard : Bool) (p q : Spot D) → before ≤ since → heard ≡ true → Pauses since now heard p q
+      → Pauses before now true p q
+  heard_pause before since now heard p q le hears paused =
+      earlier before since now true p q le (subst (λ (b : Bool). Pauses since now b p q) hears paused)
 
   -- what was told of its end is that of the executor behind the turn
   pub told_end_at : (t : Terms) (turns now : ℕ) (end : TurnEnd) (told q : Spot D) (asked : Bool) (given found : Option DrainEnd)

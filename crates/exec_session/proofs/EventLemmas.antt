@@ -1,15 +1,16 @@
 -- What was asked grows, and what stays meanwhile.
-use Rattle.std.proofs.Common.{◌≡◌, ◌≤◌, ◌+◌, ℕ, Bool, true, false, List, [], ◌∷◌, ◌++◌, length, Option, Some, None, Result, Ok, Err, OnErr, OnOk, IfOk, inl, refl, sym, ap, subst, ◌∙◌, arith, length-append}
+use Rattle.std.proofs.Common.{◌≡◌, ◌≤◌, ℕ, Bool, true, false, List, [], ◌∷◌, ◌++◌, length, Some, Result, Ok, Err, OnErr, OnOk, inl, refl, sym, ap, subst, ◌∙◌, arith, append_assoc, length-append}
+use Rattle.std.proofs.lemmas.List.{append-nil}
 use Rattle.std.specs.Prelude.{is_ok}
 use Rattle.exec_commands.specs.declared.notice.NoticeForm.{NoticeForm}
 use Rattle.exec_client.specs.Heard.{Hears, HearsPart}
 use Rattle.exec_client.specs.Said.{Said}
 use Rattle.executor.specs.Sights.{Sight}
 use Rattle.exec_trace.specs.Edges.{EdgeView, rest_events}
-use Rattle.exec_trace.specs.Events.{EndsInFailure, later_of, last_shown}
+use Rattle.exec_trace.specs.Events.{later_of, last_shown}
 use Rattle.exec_trace.specs.declared.event.IoEvent.{IoEvent}
 use Rattle.exec_trace.specs.declared.event.IoEvent.TheVariants.{Asked, Looked, Peeked, Read, Rested, Sent, Shown}
-use Rattle.exec_session.specs.Spots.{Keeps, Lasts, MayBreakOff, Pauses, Position, Spot, Tells, TellsPart, at_of, behind, noted, paused, spot}
+use Rattle.exec_session.specs.Spots.{Keeps, Lasts, MayBreakOff, Pauses, Position, Spot, Tells, TellsPart, at_of, noted, paused, spot}
 
 -- a reading is the last one
 pub shown_last : (es : List IoEvent) (now : ℕ) → last_shown (es ++ Shown now ∷ []) ≡ Some now
@@ -35,13 +36,22 @@ unasked es es' is = inl (record { before = es; last = Asked false; is_last = is;
 module _ {D : Type 0} where
   -- only the executor was changed
   pub moved_keeps : (x y : Sight D) (e : EdgeView D) (p : Position D) → at_of x e ≡ p → Keeps p (at_of y e)
-  moved_keeps x y e p is = subst (λ (P : Position D). Keeps P (at_of y e)) is (record { opened = refl; longer = omega arith }, refl)
+  moved_keeps x y e p is =
+      subst (λ (P : Position D). Keeps P (at_of y e)) is
+      (record { opened = refl; later = []; grows = sym (append-nil e.events) }, refl)
 
   pub here_keeps : (p : Position D) → Keeps p p
-  here_keeps p = (record { opened = refl; longer = omega arith }, refl)
+  here_keeps p = (record { opened = refl; later = []; grows = sym (append-nil p.at.events) }, refl)
 
   pub both_last : (p m q : Spot D) → Lasts p m → Lasts m q → Lasts p q
-  both_last p m q one two = record { opened = two.opened ∙ one.opened; longer = omega (arith, one.longer, two.longer) }
+  both_last p m q one two = record {
+    opened = two.opened ∙ one.opened;
+    later = one.later ++ two.later;
+    grows = two.grows ∙ ap (λ (es : List IoEvent). es ++ two.later) one.grows ∙ append_assoc p.events one.later two.later;
+  }
+
+  pub last_longer : (p q : Spot D) → Lasts p q → length p.events ≤ length q.events
+  last_longer p q lasts = omega (arith, ap length lasts.grows, length-append p.events lasts.later)
 
   pub both_keep : (p m q : Position D) → Keeps p m → Keeps m q → Keeps p q
   both_keep p m q one two = (both_last p.at m.at q.at one.0 two.0, two.1 ∙ one.1)
@@ -51,35 +61,27 @@ module _ {D : Type 0} where
 
   -- something was asked
   pub noted_keeps : (p : Position D) (event : IoEvent) → Keeps p (noted p event)
-  noted_keeps p event = (record { opened = refl; longer = longer p.at.events (event ∷ []) }, refl)
+  noted_keeps p event = (record { opened = refl; later = event ∷ []; grows = refl }, refl)
 
   pub was_noted : (p q : Position D) (event : IoEvent) → q ≡ noted p event → Keeps p q
   was_noted p q event is = same_keeps p q (noted p event) is (noted_keeps p event)
 
-  pub pause_lasts : (heard : Bool) (p q : Spot D) → Pauses heard p q → Lasts p q
-  pause_lasts heard p q (micros, short, is) =
+  pub pause_lasts : (since now : ℕ) (heard : Bool) (p q : Spot D) → Pauses since now heard p q → Lasts p q
+  pause_lasts since now heard p q (micros, short, is) =
       subst (λ (r : Spot D). Lasts p r) (sym is) (record {
         opened = refl;
-        longer =
-            let one = longer p.events (rest_events micros) in
-            let two = longer (p.events ++ rest_events micros) (Asked heard ∷ []) in
-            omega (arith, one, two);
+        later = rest_events micros ++ Asked heard ∷ [];
+        grows = append_assoc p.events (rest_events micros) (Asked heard ∷ []);
       })
 
-  pub pause_keeps : (heard : Bool) (p q : Position D) → q.left ≡ p.left → Pauses heard p.at q.at → Keeps p q
-  pause_keeps heard p q left paused = (pause_lasts heard p.at q.at paused, left)
+  pub pause_keeps : (since now : ℕ) (heard : Bool) (p q : Position D) → q.left ≡ p.left → Pauses since now heard p.at q.at → Keeps p q
+  pause_keeps since now heard p q left paused = (pause_lasts since now heard p.at q.at paused, left)
 
   pub told_lasts : (form : NoticeForm) (p q : Spot D) (said : List Said) → Tells form p q said → Lasts p q
-  told_lasts form p q said tells = record {
-    opened = tells.hears.told.0;
-    longer = subst (λ (es : List IoEvent). length p.events ≤ length es) (sym tells.events) (longer p.events (Sent true ∷ []));
-  }
+  told_lasts form p q said tells = record { opened = tells.hears.told.0; later = Sent true ∷ []; grows = tells.events }
 
   pub part_lasts : (form : NoticeForm) (p q : Spot D) (said : List Said) → TellsPart form p q said → Lasts p q
-  part_lasts form p q said tells = record {
-    opened = tells.hears.told.0;
-    longer = subst (λ (es : List IoEvent). length p.events ≤ length es) (sym tells.events) (longer p.events (Sent false ∷ []));
-  }
+  part_lasts form p q said tells = record { opened = tells.hears.told.0; later = Sent false ∷ []; grows = tells.events }
 
   -- what a client is told by an edge, from where the executor is seen so
   module _ (form : NoticeForm) (said : List Said) (x : Sight D) (e e' : EdgeView D) where
@@ -106,13 +108,7 @@ module _ {D : Type 0} where
     pub send_keeps : (r : Bool) (p : Position D) (y : Sight D) → at_of y e ≡ p → e'.heard.opened ≡ e.heard.opened → e'.left ≡ e.left
         → e'.events ≡ e.events ++ Sent r ∷ [] → Keeps p (at_of x e')
     send_keeps r p y is told left events =
-        subst (λ (P : Position D). Keeps P (at_of x e')) is (
-          record {
-            opened = told;
-            longer = subst (λ (es : List IoEvent). length e.events ≤ length es) (sym events) (longer e.events (Sent r ∷ []));
-          },
-          left,
-        )
+        subst (λ (P : Position D). Keeps P (at_of x e')) is (record { opened = told; later = Sent r ∷ []; grows = events }, left)
 
 -- what holds of a value, or of an error
 pub ok_map : {T E : Type 0} (r : Result T E) (A B : Type 0) → (A → B) → OnOk r A → OnOk r B

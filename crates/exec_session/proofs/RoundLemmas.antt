@@ -1,28 +1,32 @@
 -- A round of a run that serves: the lines that are there, a turn, and a wait.
-use Rattle.std.proofs.Common.{◌≡◌, ◌≢◌, ℕ, ◌+◌, ◌≤◌, zero, suc, Bool, true, false, List, [], ◌∷◌, ◌++◌, length, map, Option, Some, None, MatchOption, Result, Ok, Err, IsErr}
+use Rattle.std.proofs.Common.{◌≡◌, ◌≢◌, ℕ, ◌+◌, ◌*◌, ◌≤◌, ◌<◌, Bool, true, false, List, [], ◌∷◌, ◌++◌, length, map, Option, Some, None, MatchOption, Result, Ok, Err, IsErr}
 use Rattle.std.proofs.Common.{refl, sym, ap, subst, ◌∙◌, inl, inr, arith}
 use Rattle.std.proofs.lemmas.List.{append-nil}
-use Rattle.std.specs.Prelude.{nat_lt, if◌then◌else◌}
+use Rattle.std.specs.Prelude.{nat_lt, not, if◌then◌else◌}
 use Rattle.ocf_types.specs.Kinds.{Command}
 use Rattle.ocf_types.specs.declared.reply.TurnEnd.{TurnEnd}
 use Rattle.ocf_types.specs.declared.reply.TurnEnd.TheVariants.{Done}
 use Rattle.disk_model.specs.View.{View}
 use Rattle.executor.specs.Sights.{Sight}
-use Rattle.exec_commands.specs.declared.line.Line.TheVariants as line
 use Rattle.exec_output.specs.declared.send.IoFault.{IoFault}
-use Rattle.exec_trace.specs.Edges.{rest_events}
 use Rattle.exec_trace.specs.declared.event.IoEvent.{IoEvent}
 use Rattle.exec_trace.specs.declared.event.IoEvent.TheVariants.{Looked, Rested}
 use Rattle.exec_session.specs.Answers.{Source}
 use Rattle.exec_session.specs.Breaks.{BreaksOff, OwnTurnBreaks, in_line, in_own_turn}
 use Rattle.exec_session.specs.Gathered.{waiting}
 use Rattle.exec_session.specs.Held.{AnswersHeld, asks, held_lines}
-use Rattle.exec_session.specs.Limits.{longest_pause}
+use Rattle.exec_session.specs.Pausing.{IsQuietSince, IsUntilDue, MayPause}
+use Rattle.exec_state.specs.Store.{all_pairs}
+use Rattle.exec_trace.specs.Events.{last_shown}
+use Rattle.ocf_types.specs.Boot.{any_busy}
+use Rattle.recurring.specs.Monitors.{IsFirstMoment}
+use Rattle.child_model.specs.declared.answer.Entry.{Entry}
 use Rattle.exec_session.specs.Pending.{IsClear}
 use Rattle.exec_session.specs.Rules.{Rules}
-use Rattle.exec_session.specs.Runs.{IsWait, Lines, MakesOwnTurn, MakesTurns, MayGoOn, MayRest, MayTake, Reaches, ReachesFault, ReachesLeave, answers, of_command, turn}
+use Rattle.exec_session.specs.Looks.{HasLooked, Lines, misses_in, reads_in}
+use Rattle.exec_session.specs.Runs.{IsWait, MakesOwnTurn, MakesTurns, MayGoOn, MayRest, MayTurn, OwnTurn, Reaches, ReachesFault, ReachesLeave, answers, of_command, turn, turned}
 use Rattle.exec_session.specs.Spots.{Lasts, MayBreakOff, Position, Spot, behind, noted, paused, position, spot}
-use Rattle.exec_session.specs.Waiting.{Comes, ComesOrEnds, GoesRound, HasCome, HasComeRound, IsReadTo, IsRound, LooksOnce, MayBegin, MayTakeBehind, MayWait, Midway, Waits, midway, more, still}
+use Rattle.exec_session.specs.Waiting.{Comes, ComesOrEnds, GoesRound, HasCome, HasComeRound, IsReadTo, IsRound, IsSince, LooksOnce, MayBegin, MayTakeBehind, MayWait, Midway, Waits, WaitsForThere, midway, more, still}
 use Rattle.exec_session.specs.declared.context.Way.{Way}
 use Rattle.exec_session.specs.declared.context.Way.TheVariants.{Run, Serve}
 use Rattle.exec_session.specs.declared.held.Held.{Held}
@@ -30,8 +34,8 @@ use Rattle.exec_session.specs.declared.held.Held.TheVariants as held
 use Rattle.exec_session.specs.declared.lines.Taken.{Taken}
 use Rattle.exec_session.specs.declared.lines.Taken.TheVariants as taken
 use Rattle.exec_session.specs.declared.pending.Pending.{Pending}
-use Rattle.exec_session.proofs.LastLemmas.{lasts_both, lasts_event, lasts_noted, lasts_same}
-use Rattle.exec_session.proofs.WaitLemmas.{begins, come_more, first_come, go_open, looked, none_waits, waited}
+use Rattle.exec_session.proofs.LastLemmas.{lasts_both, lasts_event, lasts_misses, lasts_noted, lasts_reads, lasts_same, looked_later}
+use Rattle.exec_session.proofs.WaitLemmas.{begins, come_more, first_come, go_open, looked, none_there, none_waits, waited}
 
 pub at_none : {A : Type 0} (o : Option A) (P : Type 0) (Q : A → Type 0) → o ≡ None → MatchOption o P Q → P
 at_none None P Q is m = m
@@ -61,50 +65,86 @@ run_round Run is most = tt
 run_round Serve is most = absurd cc
 
 -- a round may begin
-pub run_begins : {D : Type 0} (way : Way) (x : Sight D) (pending : Pending) → way ≡ Run → MayWait way x pending → MayBegin way x pending
-run_begins way x pending run waits = record { waits = waits; serves = λ serve. absurd cc }
+pub run_begins : {D : Type 0} (way : Way) (q : Spot D) (pending : Pending) → way ≡ Run → MayWait way q.executor pending
+    → WaitsForThere pending q.events → MayBegin way q pending
+run_begins way q pending run waits there = record { waits = waits; there = there; serves = λ serve. absurd cc }
 
-pub serve_begins : {D : Type 0} (way : Way) (x : Sight D) (pending : Pending) → way ≡ Serve → x.is_open ≡ true
-    → waiting pending.gathered ≡ [] → MayBegin way x pending
-serve_begins way x pending serve is_open none =
-    record { waits = none_waits way x pending none (λ run. absurd cc); serves = λ _. (is_open, none) }
+pub serve_begins : {D : Type 0} (way : Way) (q : Spot D) (pending : Pending) → way ≡ Serve → q.executor.is_open ≡ true
+    → waiting pending.gathered ≡ [] → MayBegin way q pending
+serve_begins way q pending serve is_open none = record {
+  waits = none_waits way q.executor pending none (λ run. absurd cc);
+  there = none_there pending q.events none;
+  serves = λ _. (is_open, none);
+}
 
 -- where a run is, by its parts
 pub position_is : {D : Type 0} (q : Position D) (s : Spot D) (left : Option (List ℕ)) → q.at ≡ s → q.left ≡ left → q ≡ position s left
 position_is {D} q s left same same' =
     ap (λ (t : Spot D). position t q.left) same ∙ ap (λ (l : Option (List ℕ)). position s l) same'
 
--- waits, one behind the other
-module _ {D : Type 0} where
-  pub waits_more : (p m q : Position D) (event : IoEvent) → Waits p m → IsWait m.at.executor event → q ≡ noted m event → Waits p q
-  waits_more p m q event waits is same = subst (λ (w : Position D). Waits p w) (sym same) (more m event waits is)
+-- no longer than may be waited
+pub pause_less : {D : Type 0} (since now : ℕ) (x : Sight D) (es : List IoEvent) (less micros : ℕ) → less ≤ micros
+    → MayPause since now x es micros → MayPause since now x es less
+pause_less since now x es less micros le (inl (inl short)) = inl (inl (omega (arith, le, short)))
+pause_less since now x es less micros le (inl (inr (long, part))) = inl (inr (omega (arith, le, long), omega (arith, le, part)))
+pause_less since now x es less micros le (inr until) = inr (record {
+  idle = until.idle;
+  moment = until.moment;
+  shown = until.shown;
+  brief = omega (arith, le, until.brief);
+  before = λ k d lt. omega (arith, le, until.before k d lt);
+})
 
-  pub waits_last : (p q : Position D) → Waits p q → Lasts p.at q.at
+-- what is idle is not busy
+pub not_busy : (b : Bool) → true ≡ not b → b ≡ false
+not_busy true is = absurd cc
+not_busy false is = refl
+
+-- until the first monitor is due, or as long as may be where there is none
+pub due_some : {D : Type 0} (x : Sight D) (es : List IoEvent) (now due micros : ℕ) → any_busy x.state ≡ false → last_shown es ≡ Some now
+    → micros ≤ 1000 * 1000 → 1000 * now + micros ≤ 1000 * due → IsFirstMoment (all_pairs x.monitors) (Some due) → IsUntilDue x es micros
+due_some x es now due micros idle shown brief until (call, at, least) =
+    record { idle = idle; moment = now; shown = shown; brief = brief; before = λ k d lt. omega (arith, until, least k d lt) }
+
+pub due_none : {D : Type 0} (x : Sight D) (es : List IoEvent) (now micros : ℕ) → any_busy x.state ≡ false → last_shown es ≡ Some now
+    → micros ≤ 1000 * 1000 → IsFirstMoment (all_pairs x.monitors) None → IsUntilDue x es micros
+due_none x es now micros idle shown brief none =
+    record { idle = idle; moment = now; shown = shown; brief = brief; before = λ k d lt. omega (arith, ap length none, lt) }
+
+-- waits, one behind the other
+module _ {D : Type 0} (since now : ℕ) where
+  abbrev Waited : Position D → Position D → Type 0
+  Waited p q = Waits since now p q
+
+  pub waits_more : (p m q : Position D) (event : IoEvent) → Waited p m → IsWait since now m.at event → q ≡ noted m event → Waited p q
+  waits_more p m q event waits is same = subst (λ (w : Position D). Waited p w) (sym same) (more m event waits is)
+
+  pub waits_last : (p q : Position D) → Waited p q → Lasts p.at q.at
   waits_last p _ still = lasts_same p.at p.at refl
   waits_last p _ (more m event waits is) =
       lasts_both p.at m.at (behind m.at event) (waits_last p m waits) (lasts_event m.at (behind m.at event) event refl)
 
-  pub waits_executor : (p q : Position D) → Waits p q → q.at.executor ≡ p.at.executor
+  pub waits_executor : (p q : Position D) → Waited p q → q.at.executor ≡ p.at.executor
   waits_executor p _ still = refl
   waits_executor p _ (more m event waits is) = waits_executor p m waits
 
-  pub waits_once : (p q : Position D) (event : IoEvent) → IsWait p.at.executor event → q ≡ noted p event → Waits p q
+  pub waits_once : (p q : Position D) (event : IoEvent) → IsWait since now p.at event → q ≡ noted p event → Waited p q
   waits_once p q event is same = waits_more p p q event still is same
 
-  pub waits_none : (p q : Position D) → q ≡ p → Waits p q
-  waits_none p q same = subst (λ (w : Position D). Waits p w) (sym same) still
+  pub waits_none : (p q : Position D) → q ≡ p → Waited p q
+  waits_none p q same = subst (λ (w : Position D). Waited p w) (sym same) still
 
-  pub waits_rest : (p m q : Position D) (micros : ℕ) → micros ≤ longest_pause → Waits p m
-      → q ≡ position (paused m.at micros) m.left → Waits p q
-  waits_rest p m q micros short waits same = by (nat_lt 0 micros) refl
+  pub waits_rest : (p m q : Position D) (micros : ℕ) → MayPause since now m.at.executor m.at.events micros → Waited p m
+      → q ≡ position (paused m.at micros) m.left → Waited p q
+  waits_rest p m q micros may waits same = by (nat_lt 0 micros) refl
     where
       at : Bool → Position D
       at b = position (spot m.at.executor m.at.heard (m.at.events ++ (if b then Rested micros ∷ [] else []))) m.left
 
-      by : (b : Bool) → nat_lt 0 micros ≡ b → Waits p q
-      by true is = waits_more p m q (Rested micros) waits short (same ∙ ap at is)
+      by : (b : Bool) → nat_lt 0 micros ≡ b → Waited p q
+      by true is = waits_more p m q (Rested micros) waits may (same ∙ ap at is)
       by false is =
-          subst (λ (w : Position D). Waits p w)
+          subst (λ (w : Position D). Waited p w)
           (sym (same ∙ ap at is
           ∙ ap (λ (es : List IoEvent). position (spot m.at.executor m.at.heard es) m.left) (append-nil m.at.events))) waits
 
@@ -120,7 +160,7 @@ pub lasts_looked : {D : Type 0} (p q : Position D) → LooksOnce p q → Lasts p
 lasts_looked p q (inl same) = lasts_same p.at q.at (ap (λ (w : Position _). w.at) same)
 lasts_looked p q (inr (ready, same)) = lasts_noted p q (Looked 0 ready) same
 
-module _ {D : Type 0} (look : D → View) (source : Source) (rules : Rules) (p : Position D) (own : TurnEnd) where
+module _ {D : Type 0} (look : D → View) (source : Source) (rules : Rules) (p : Position D) (own : OwnTurn) where
   abbrev At : ℕ → Lines → Position D → Type 0
   At n lines q = Reaches look source rules p own n lines q
 
@@ -130,15 +170,15 @@ module _ {D : Type 0} (look : D → View) (source : Source) (rules : Rules) (p :
 
   -- a look that may have been made
   pub looked_once : (most : ℕ) (commands : List Command) (held : Option Held) (kept : List ℕ) (place place' : Position D)
-      → LooksOnce place place' → Come most place commands held kept → Come most place' commands held kept
-  looked_once most commands held kept place place' (inl same) come =
+      → rules.way ≡ Serve → LooksOnce place place' → Come most place commands held kept → Come most place' commands held kept
+  looked_once most commands held kept place place' way (inl same) come =
       subst (λ (w : Position D). Come most w commands held kept) (sym same) come
-  looked_once most commands held kept place place' (inr (ready, same)) come =
-      looked look source rules p own most commands held kept place place' (Looked 0 ready) refl same come
+  looked_once most commands held kept place place' way (inr (ready, same)) come =
+      looked look source rules p own most commands held kept place place' (Looked 0 ready) (turns_serve rules.way way, refl) same come
 
   -- a wait
   pub waits_come : (most : ℕ) (commands : List Command) (held : Option Held) (kept : List ℕ) (place : Position D) (place' : Position D)
-      → commands ≡ [] → MayRest (held_lines held) → Waits place place' → Come most place commands held kept
+      → commands ≡ [] → MayRest (held_lines held) → Waits own.since own.now place place' → Come most place commands held kept
       → Come most place' commands held kept
   waits_come most commands held kept place _ none rests still come = come
   waits_come most commands held kept place _ none rests (more m event waits is) come =
@@ -211,57 +251,75 @@ module _ {D : Type 0} (look : D → View) (source : Source) (rules : Rules) (p :
     cause = cause;
   }
 
-  -- a turn of its own
-  turned : rules.way ≡ Serve → (most : ℕ) (commands : List Command) (held : Option Held) (kept : List ℕ) (place place' : Position D)
-      (end : TurnEnd) → commands ≡ [] → MayRest (held_lines held) → (come : Come most place commands held kept)
-      → MakesOwnTurn look rules own place.at place'.at end
-      → Reaches look source rules p end 0 (held_lines held) (position place'.at come.left)
-  turned way most commands held kept place place' end none rests come made =
-      turn own come.count (held_lines held) (position place.at come.left) place'.at end
-      (none_but_held come.count commands held (position place.at come.left) none come.reached) (turns_serve rules.way way) rests
-      (open_serves rules.way place.at.executor way come.goes_on) made
+  -- a turn of its own may be made
+  abbrev pub Turning : Option Held → Position D → Type 0
+  Turning held place = MayRest (held_lines held) × HasLooked own.reads own.misses (own.lines ++ held_lines held) place.at.events
+
+  may_turn : rules.way ≡ Serve → (most : ℕ) (commands : List Command) (held : Option Held) (kept : List ℕ) (place : Position D)
+      → Turning held place → Come most place commands held kept → MayTurn rules.way own (held_lines held) place.at
+  may_turn way most commands held kept place (rests, looked) come = record {
+    serves = turns_serve rules.way way;
+    rests = rests;
+    is_open = open_serves rules.way place.at.executor way come.goes_on;
+    looked = looked;
+  }
+
+  -- so this turn, since which nothing has ended or begun
+  abbrev pub Turned : Option Held → Position D → Position D → ℕ → ℕ → TurnEnd → Type 0
+  Turned held place place' now since end =
+      Turning held place × MakesOwnTurn look rules own.end now place.at place'.at end
+      × IsQuietSince place'.at.executor.children.book now own.since since
+
+  one_turned : rules.way ≡ Serve → (most : ℕ) (commands : List Command) (held : Option Held) (kept : List ℕ) (place place' : Position D)
+      (now since : ℕ) (end : TurnEnd) → commands ≡ [] → (come : Come most place commands held kept)
+      → Turned held place place' now since end
+      → Reaches look source rules p (turned now since end (held_lines held) place'.at) 0 (held_lines held) (position place'.at come.left)
+  one_turned way most commands held kept place place' now since end none come (may, made, quiet) =
+      turn own come.count (held_lines held) (position place.at come.left) place'.at end now since
+      (none_but_held come.count commands held (position place.at come.left) none come.reached)
+      (may_turn way most commands held kept place may come) made quiet
 
   -- which leaves the executor open, or closes it, or breaks off
   pub turn_made : rules.way ≡ Serve → (most : ℕ) (commands : List Command) (held : Option Held) (kept : List ℕ) (place place' : Position D)
-      (end : TurnEnd) → commands ≡ [] → MayRest (held_lines held) → place'.left ≡ place.left → Come most place commands held kept
-      → MakesOwnTurn look rules own place.at place'.at end → place'.at.executor.is_open ≡ true
-      → HasCome look source rules p end 0 (record { place = place'; commands = commands; held = held; kept = kept })
-  turn_made way most commands held kept place place' end none rests same come made is_open = record {
+      (now since : ℕ) (end : TurnEnd) → commands ≡ [] → place'.left ≡ place.left → Come most place commands held kept
+      → Turned held place place' now since end → place'.at.executor.is_open ≡ true
+      → HasCome look source rules p (turned now since end (held_lines held) place'.at) 0
+      (record { place = place'; commands = commands; held = held; kept = kept })
+  turn_made way most commands held kept place place' now since end none same come made is_open = record {
     count = 0;
     few = omega (arith, ap length none);
     left = come.left;
     mid = subst (λ (l : Option (List ℕ)). IsReadTo held come.left kept l) (sym same) come.mid;
     reached =
-        subst (λ (cs : List Command). Reaches look source rules p end 0 (map of_command cs ++ held_lines held)
-        (position place'.at come.left)) (sym none)
-        (turned way most commands held kept place place' end none rests come made);
+        subst (λ (cs : List Command). Reaches look source rules p (turned now since end (held_lines held) place'.at) 0
+        (map of_command cs ++ held_lines held) (position place'.at come.left)) (sym none)
+        (one_turned way most commands held kept place place' now since end none come made);
     goes_on = go_open rules.way place'.at.executor is_open;
   }
 
   pub turn_closes : rules.way ≡ Serve → (most : ℕ) (commands : List Command) (held : Option Held) (kept : List ℕ) (place place' : Position D)
-      (end : TurnEnd) → commands ≡ [] → MayRest (held_lines held) → Come most place commands held kept
-      → MakesOwnTurn look rules own place.at place'.at end → place'.at.executor.is_open ≡ false
-      → ReachesFault look source rules p place'.at
-  turn_closes way most commands held kept place place' end none rests come made closed = record {
+      (now since : ℕ) (end : TurnEnd) → commands ≡ [] → Come most place commands held kept → Turned held place place' now since end
+      → place'.at.executor.is_open ≡ false → ReachesFault look source rules p place'.at
+  turn_closes way most commands held kept place place' now since end none come made closed = record {
     serves = turns_serve rules.way way;
-    own = end;
+    own = turned now since end (held_lines held) place'.at;
     count = 0;
     lines = held_lines held;
     left = come.left;
-    reached = turned way most commands held kept place place' end none rests come made;
+    reached = one_turned way most commands held kept place place' now since end none come made;
     is_closed = closed;
   }
 
   pub turn_breaks : rules.way ≡ Serve → (most : ℕ) (commands : List Command) (held : Option Held) (kept : List ℕ) (place : Position D)
-      (s : Spot D) → commands ≡ [] → MayRest (held_lines held) → Come most place commands held kept
-      → OwnTurnBreaks look rules own place.at s → MayBreakOff s.events → BreaksOff look source rules p s
-  turn_breaks way most commands held kept place s none rests come broke cause = record {
+      (s : Spot D) → commands ≡ [] → Turning held place → Come most place commands held kept
+      → OwnTurnBreaks look rules own.end place.at s → MayBreakOff s.events → BreaksOff look source rules p s
+  turn_breaks way most commands held kept place s none may come broke cause = record {
     own = own;
     count = come.count;
     lines = held_lines held;
     last = position place.at come.left;
     reached = none_but_held come.count commands held (position place.at come.left) none come.reached;
-    breaks = in_own_turn (turns_serve rules.way way) rests (open_serves rules.way place.at.executor way come.goes_on) broke;
+    breaks = in_own_turn (may_turn way most commands held kept place may come) broke;
     cause = cause;
   }
 
@@ -274,46 +332,126 @@ module _ {D : Type 0} (look : D → View) (source : Source) (rules : Rules) (p :
   ends_more n m commands held kept place taken.Closed le come = come
   ends_more n m commands held kept place taken.Leaves le come = come
 
-  -- a round that ends the run, or breaks off
-  pub round_ends : (most : ℕ) (s : Midway D) (step : Taken) → step ≢ taken.More → ComesOrEnds look source rules p own most s step
-      → GoesRound look source rules p own s (Ok step)
-  round_ends most s taken.More ends come = absurd (ends refl)
-  round_ends most s taken.End ends come = come
-  round_ends most s taken.Closed ends come = come
-  round_ends most s taken.Leaves ends come = come
-
-  pub round_err : (s : Midway D) (r : Result Taken IoFault) → IsErr r → BreaksOff look source rules p s.place.at
-      → GoesRound look source rules p own s r
-  round_err s (Ok x) bad breaks = let none : ⊥ = cc in absurd none
-  round_err s (Err e) bad breaks = breaks
-
-  -- a round of a run that serves begins behind a turn
-  pub round_begins : rules.way ≡ Serve → (s : Midway D) → HasComeRound look source rules p own s
-      → HasCome look source rules p own 0 s
-  round_begins way s (most, is, come) =
-      subst (λ (n : ℕ). HasCome look source rules p own n s) (zero_round rules.way way most is) come
-
-  pub round_again : rules.way ≡ Serve → (s : Midway D) → HasCome look source rules p own 0 s → HasComeRound look source rules p own s
-  round_again way s come = (0, any_round rules.way, come)
+  -- a round that ends the run
+  pub round_ends : (quiet : ℕ) (end : TurnEnd) (most : ℕ) (s : Midway D) (step : Taken) → step ≢ taken.More
+      → ComesOrEnds look source rules p own most s step → GoesRound look source rules p quiet end s (Ok step)
+  round_ends quiet end most s taken.More ends come = absurd (ends refl)
+  round_ends quiet end most s taken.End ends come = come
+  round_ends quiet end most s taken.Closed ends come = come
+  round_ends quiet end most s taken.Leaves ends come = come
 
   -- a round of a run by lines alone
-  pub round_read : rules.way ≡ Run → (most : ℕ) (s : Midway D) (r : Result Taken IoFault) → Comes look source rules p own most s r
-      → GoesRound look source rules p own s r
-  round_read way most s (Ok taken.More) come = (most, run_round rules.way way most, come)
-  round_read way most s (Ok taken.End) come = come
-  round_read way most s (Ok taken.Closed) come = come
-  round_read way most s (Ok taken.Leaves) come = come
-  round_read way most s (Err e) breaks = breaks
+  pub round_read : rules.way ≡ Run → (quiet : ℕ) (end : TurnEnd) (most : ℕ) (s : Midway D) (r : Result Taken IoFault)
+      → IsSince own quiet end (held_lines s.held) s.place.at → Comes look source rules p own most s r
+      → GoesRound look source rules p quiet end s r
+  round_read way quiet end most s (Ok taken.More) since come =
+      record { most = most; own = own; round = run_round rules.way way most; since = since; come = come }
+  round_read way quiet end most s (Ok taken.End) since come = come
+  round_read way quiet end most s (Ok taken.Closed) since come = come
+  round_read way quiet end most s (Ok taken.Leaves) since come = come
+  round_read way quiet end most s (Err e) since breaks = breaks
+
+-- a line is held, or a look found nothing
+pub looked_held : (held : Option Held) (reads misses : ℕ) (es : List IoEvent) → (held ≡ None → misses < misses_in es)
+    → HasLooked reads misses (held_lines held) es
+looked_held None reads misses es missed = inl (missed refl)
+looked_held (Some h) reads misses es missed = tt
+
+-- a line is held, or as many reads were made as are made between two turns
+pub looked_read : (held : Option Held) (reads misses : ℕ) (es : List IoEvent) → reads + 64 ≤ reads_in es
+    → HasLooked reads misses (held_lines held) es
+looked_read None reads misses es read = inr read
+looked_read (Some h) reads misses es read = tt
+
+-- a line was held
+pub looked_some : (held held' : Option Held) (h : Held) (reads misses : ℕ) (es : List IoEvent) → held ≡ Some h
+    → HasLooked reads misses (held_lines held ++ held_lines held') es
+looked_some held held' h reads misses es is =
+    subst (λ (o : Option Held). HasLooked reads misses (held_lines o ++ held_lines held') es) (sym is) tt
+
+-- none was held before
+pub looked_none : (held held' : Option Held) (reads misses : ℕ) (es : List IoEvent) → held ≡ None
+    → HasLooked reads misses (held_lines held') es → HasLooked reads misses (held_lines held ++ held_lines held') es
+looked_none held held' reads misses es is looked =
+    subst (λ (o : Option Held). HasLooked reads misses (held_lines o ++ held_lines held') es) (sym is) looked
+
+-- a turn of this end is the last one still
+pub since_later : {D : Type 0} (own : OwnTurn) (quiet : ℕ) (end : TurnEnd) (lines lines' : Lines) (q q' : Spot D) → lines' ≡ lines
+    → Lasts q q' → IsSince own quiet end lines q → IsSince own quiet end lines' q'
+since_later own quiet end lines lines' q q' same lasts since = record {
+  quiet = since.quiet;
+  ended = since.ended;
+  unanswered = since.unanswered ∙ sym same;
+  reads = omega (arith, since.reads, lasts_reads q q' lasts);
+  misses = omega (arith, since.misses, lasts_misses q q' lasts);
+}
+
+-- what was looked for in a round was since the turn before it
+pub looked_since : {D : Type 0} (own : OwnTurn) (quiet : ℕ) (end : TurnEnd) (before lines : Lines) (q q' : Spot D)
+    → IsSince own quiet end before q → HasLooked (reads_in q.events) (misses_in q.events) (before ++ lines) q'.events
+    → HasLooked own.reads own.misses (own.lines ++ lines) q'.events
+looked_since own quiet end before lines q q' since looked =
+    subst (λ (ls : Lines). HasLooked own.reads own.misses (ls ++ lines) q'.events) (sym since.unanswered)
+    (looked_later (before ++ lines) (reads_in q.events) (misses_in q.events) own.reads own.misses q'.events q'.events since.reads
+    since.misses (omega arith) (omega arith) looked)
+
+-- nothing has ended or begun since a moment that is not before that of the turn
+pub quiet_later : (own : OwnTurn) (book : List Entry) (now quiet since : ℕ) → own.since ≤ quiet → IsQuietSince book now quiet since
+    → IsQuietSince book now own.since since
+quiet_later own book now quiet since le (inl began) = inl began
+quiet_later own book now quiet since le (inr (runs, later)) = inr (runs, omega (arith, le, later))
+
+-- a round that breaks off
+pub round_err : {D : Type 0} (look : D → View) (source : Source) (rules : Rules) (p : Position D) (quiet : ℕ) (end : TurnEnd) (s : Midway D)
+    (r : Result Taken IoFault) → IsErr r → BreaksOff look source rules p s.place.at → GoesRound look source rules p quiet end s r
+round_err look source rules p quiet end s (Ok x) bad breaks = let none : ⊥ = cc in absurd none
+round_err look source rules p quiet end s (Err e) bad breaks = breaks
+
+-- a round of a run that serves begins behind a turn
+pub round_begins : {D : Type 0} (look : D → View) (source : Source) (rules : Rules) (p : Position D) (quiet : ℕ) (end : TurnEnd)
+    (s : Midway D) → rules.way ≡ Serve → (come : HasComeRound look source rules p quiet end s) → HasCome look source rules p come.own 0 s
+round_begins look source rules p quiet end s way come =
+    subst (λ (n : ℕ). HasCome look source rules p come.own n s) (zero_round rules.way way come.most come.round) come.come
+
+-- the next one begins behind one that ended so
+pub round_again : {D : Type 0} (look : D → View) (source : Source) (rules : Rules) (p : Position D) (now quiet : ℕ) (end : TurnEnd)
+    (q : Spot D) (s : Midway D) → Lasts q s.place.at → HasCome look source rules p (turned now quiet end (held_lines s.held) q) 0 s
+    → HasComeRound look source rules p quiet end s
+round_again look source rules p now quiet end q s lasts come = record {
+  most = 0;
+  own = turned now quiet end (held_lines s.held) q;
+  round = any_round rules.way;
+  since = record {
+    quiet = omega arith;
+    ended = refl;
+    unanswered = refl;
+    reads = lasts_reads q s.place.at lasts;
+    misses = lasts_misses q s.place.at lasts;
+  };
+  come = come;
+}
 
 -- nothing is done yet
-pub first_round : {D : Type 0} (look : D → View) (source : Source) (rules : Rules) (p : Position D) (pending : Pending) (own : TurnEnd)
-    → IsClear pending → own ≡ Done → p.at.executor.is_open ≡ true
-    → MayBegin rules.way p.at.executor pending × HasComeRound look source rules p own (midway p pending)
-first_round look source rules p pending own clear none is_open = (
+pub first_round : {D : Type 0} (look : D → View) (source : Source) (rules : Rules) (p : Position D) (pending : Pending) (quiet : ℕ)
+    (end : TurnEnd) → IsClear pending → end ≡ Done → p.at.executor.is_open ≡ true
+    → MayBegin rules.way p.at pending × HasComeRound look source rules p quiet end (midway p pending)
+first_round look source rules p pending quiet end clear none is_open = (
   record {
     waits = none_waits rules.way p.at.executor pending clear.none (λ _. clear.free);
+    there = none_there pending p.at.events clear.none;
     serves = λ _. (is_open, clear.none);
   },
-  subst (λ (end : TurnEnd). HasComeRound look source rules p end (midway p pending)) (sym none)
-      (0, any_round rules.way, first_come look source rules p pending clear (go_open rules.way p.at.executor is_open)),
+  record {
+    most = 0;
+    own = turned 0 0 Done [] p.at;
+    round = any_round rules.way;
+    since = record {
+      quiet = omega arith;
+      ended = sym none;
+      unanswered = sym (ap (λ (h : Option Held). held_lines h) clear.free);
+      reads = omega arith;
+      misses = omega arith;
+    };
+    come = first_come look source rules p pending clear (go_open rules.way p.at.executor is_open);
+  },
 )

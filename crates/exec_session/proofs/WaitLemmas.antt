@@ -1,12 +1,11 @@
 -- A run between two lines, step by step.
-use Rattle.std.proofs.Common.{◌≡◌, ◌≢◌, ◌⊎◌, ℕ, ◌+◌, ◌≤◌, Bool, true, false, true≢false, List, [], ◌∷◌, ◌++◌, length, map, Option, Some, None, Result, Ok, Err, IfOk, IsErr}
+use Rattle.std.proofs.Common.{◌≡◌, ◌≢◌, ℕ, ◌+◌, ◌≤◌, Bool, true, false, List, [], ◌∷◌, ◌++◌, length, map, Option, Some, None, Result, Ok, Err, IfOk, IsErr}
 use Rattle.std.proofs.Common.{refl, sym, ap, subst, ◌∙◌, inl, inr, arith, length-append, take_all}
 use Rattle.std.proofs.lemmas.List.{append-nil, map-append}
 use Rattle.std.proofs.lemmas.List.Elements.{All-nil}
 use Rattle.std.proofs.KnownBytes.{Consumes-nil}
 use Rattle.ocf_types.specs.Kinds.{Command}
 use Rattle.ocf_types.specs.Limits.{num_max}
-use Rattle.ocf_types.specs.declared.reply.TurnEnd.{TurnEnd}
 use Rattle.ocf_types.specs.declared.reply.TurnEnd.TheVariants.{Done}
 use Rattle.disk_model.specs.View.{View}
 use Rattle.executor.specs.Sights.{Sight}
@@ -15,20 +14,21 @@ use Rattle.exec_lines.specs.Pieces.{IsMidLine}
 use Rattle.exec_output.specs.declared.send.IoFault.{IoFault}
 use Rattle.exec_trace.specs.Events.{is_failure}
 use Rattle.exec_trace.specs.declared.event.IoEvent.{IoEvent}
-use Rattle.exec_trace.specs.declared.event.IoEvent.TheVariants.{Read}
+use Rattle.exec_trace.specs.declared.event.IoEvent.TheVariants.{Looked, Peeked, Read}
 use Rattle.exec_session.specs.Answers.{Source}
 use Rattle.exec_session.specs.Breaks.{BreaksOff, at_once, in_event, in_line, in_row}
 use Rattle.exec_session.specs.Broken.{RowBreaks}
 use Rattle.exec_session.specs.Gathered.{waiting}
-use Rattle.exec_session.specs.Held.{AnswersHeld, asks, held_lines}
+use Rattle.exec_session.specs.Held.{asks, held_lines}
 use Rattle.exec_session.specs.Pending.{IsClear}
 use Rattle.exec_session.specs.Progress.{ReadsInput}
 use Rattle.exec_session.specs.Rules.{Rules}
-use Rattle.exec_session.specs.Runs.{IsLook, IsWait, Lines, MakesTurns, MayGoOn, MayRest, MayTake, Reaches, ReachesFault, of_command}
+use Rattle.exec_session.specs.Looks.{IsThere, Lines, MayRead}
+use Rattle.exec_session.specs.Runs.{IsLook, IsWait, MakesTurns, MayGoOn, MayRest, MayTake, OwnTurn, Reaches, ReachesFault, of_command, turned}
 use Rattle.exec_session.specs.Runs.{answers, here, looks, passes, reads, row, waits}
-use Rattle.exec_session.specs.Spots.{MayBreakOff, Position, Spot, behind, position}
+use Rattle.exec_session.specs.Spots.{MayBreakOff, Position, Spot, behind, noted, position}
 use Rattle.exec_session.specs.Together.{AnswersAll}
-use Rattle.exec_session.specs.Waiting.{Comes, ComesOrEnds, HasCome, HasFound, IsFound, IsReadTo, IsTaken, MayTakeBehind, MayWait, Midway, TakesFound, found_lines, midway}
+use Rattle.exec_session.specs.Waiting.{Comes, ComesOrEnds, HasCome, HasFound, IsFound, IsReadTo, IsTaken, MayTakeBehind, MayWait, Midway, TakesFound, WaitsForThere, found_lines, midway}
 use Rattle.exec_session.specs.declared.context.Way.{Way}
 use Rattle.exec_session.specs.declared.context.Way.TheVariants.{Run, Serve}
 use Rattle.exec_session.specs.declared.held.Held.{Held}
@@ -66,6 +66,37 @@ pub none_waits : {D : Type 0} (way : Way) (x : Sight D) (pending : Pending) → 
 none_waits way x pending none free =
     record { few = omega (arith, ap length none); while_open = λ _. none; free = free }
 
+-- then nothing has to be there
+pub none_there : (pending : Pending) (events : List IoEvent) → waiting pending.gathered ≡ [] → WaitsForThere pending events
+none_there pending events none some = absurd (some none)
+
+-- it was asked whether something is there, and it was
+pub peeked_there : {D : Type 0} (p q : Position D) (has_line : Bool) → q ≡ noted p (Peeked has_line) → has_line ≡ true → IsThere q.at.events
+peeked_there p q has_line same is =
+    record { before = p.at.events; last = Peeked has_line; is_last = ap (λ (w : Position _). w.at.events) same; there = is }
+
+pub looked_there : {D : Type 0} (p q : Position D) (millis : ℕ) (ready : Bool) → q ≡ noted p (Looked millis ready) → ready ≡ true
+    → IsThere q.at.events
+looked_there p q millis ready same is =
+    record { before = p.at.events; last = Looked millis ready; is_last = ap (λ (w : Position _). w.at.events) same; there = is }
+
+-- what holds of any value
+pub ok_always : {A E : Type 0} (P : A → Type 0) (r : Result A E) → ((x : A) → P x) → IfOk r P
+ok_always P (Ok x) always = always x
+ok_always P (Err e) always = tt
+
+-- a read may be made while these commands wait
+pub may_read : (commands : List Command) (events : List IoEvent) → (commands ≢ [] → IsThere events)
+    → MayRead (map of_command commands) events
+may_read [] events there = tt
+may_read (first ∷ others) events there = there (λ none. cc)
+
+pub may_read_free : (commands : List Command) (held : Option Held) (events : List IoEvent) → held ≡ None
+    → (commands ≢ [] → IsThere events) → MayRead (map of_command commands ++ held_lines held) events
+may_read_free commands held events free there =
+    subst (λ (h : Option Held). MayRead (map of_command commands ++ held_lines h) events) (sym free)
+    (subst (λ (ls : Lines). MayRead ls events) (sym (append-nil (map of_command commands))) (may_read commands events there))
+
 -- while some wait the executor is open
 pub open_while : {D : Type 0} (way : Way) (x : Sight D) (pending : Pending) → MayWait way x pending → waiting pending.gathered ≢ []
     → x.is_open ≡ true
@@ -76,7 +107,7 @@ open_while way x pending may some = by x.is_open refl
     by false closed = absurd (some (may.while_open closed))
 
 -- an error of a step is that of a run that broke off
-pub comes_err : {D : Type 0} (look : D → View) (source : Source) (rules : Rules) (p : Position D) (own : TurnEnd) (most : ℕ) (s : Midway D)
+pub comes_err : {D : Type 0} (look : D → View) (source : Source) (rules : Rules) (p : Position D) (own : OwnTurn) (most : ℕ) (s : Midway D)
     (r : Result Taken IoFault) → IsErr r → BreaksOff look source rules p s.place.at → Comes look source rules p own most s r
 comes_err look source rules p own most s (Ok x) bad breaks = let none : ⊥ = cc in absurd none
 comes_err look source rules p own most s (Err e) bad breaks = breaks
@@ -101,7 +132,7 @@ begins_free : (held : Option Held) (left now : Option (List ℕ)) (kept : List �
 begins_free held left now kept free same none =
     subst (λ (h : Option Held). IsReadTo h left kept now) (sym free) (begins left now kept same none)
 
-module _ {D : Type 0} (look : D → View) (source : Source) (rules : Rules) (p : Position D) (own : TurnEnd) where
+module _ {D : Type 0} (look : D → View) (source : Source) (rules : Rules) (p : Position D) (own : OwnTurn) where
   abbrev At : ℕ → Lines → Position D → Type 0
   At n lines q = Reaches look source rules p own n lines q
 
@@ -126,7 +157,8 @@ module _ {D : Type 0} (look : D → View) (source : Source) (rules : Rules) (p :
 
   -- a look, and a wait
   pub looked : (most : ℕ) (commands : List Command) (held : Option Held) (kept : List ℕ) (place place' : Position D) (event : IoEvent)
-      → IsLook event → place' ≡ position (behind place.at event) place.left → Come most place commands held kept
+      → IsLook rules.way (map of_command commands ++ held_lines held) place.at.events event
+      → place' ≡ position (behind place.at event) place.left → Come most place commands held kept
       → Come most place' commands held kept
   looked most commands held kept place place' event is same come =
       subst (λ (w : Position D). Come most w commands held kept) (sym same) (record {
@@ -140,7 +172,7 @@ module _ {D : Type 0} (look : D → View) (source : Source) (rules : Rules) (p :
       })
 
   pub waited : (most : ℕ) (commands : List Command) (held : Option Held) (kept : List ℕ) (place place' : Position D) (event : IoEvent)
-      → commands ≡ [] → MayRest (held_lines held) → IsWait place.at.executor event → place' ≡ position (behind place.at event) place.left
+      → commands ≡ [] → MayRest (held_lines held) → IsWait own.since own.now place.at event → place' ≡ position (behind place.at event) place.left
       → Come most place commands held kept → Come most place' commands held kept
   waited most commands held kept place place' event none rests is same come =
       subst (λ (w : Position D). Come most w commands held kept) (sym same) (record {
@@ -182,24 +214,25 @@ module _ {D : Type 0} (look : D → View) (source : Source) (rules : Rules) (p :
 
   -- a part of the next line was read
   pub read_part : (most : ℕ) (commands : List Command) (held : Option Held) (kept kept' : List ℕ) (place place' : Position D)
-      → held ≡ None → place'.at ≡ behind place.at (Read true) → (come : Come most place commands held kept)
-      → IsMidLine come.left kept' place'.left → Come most place' commands held kept'
-  read_part most commands held kept kept' place place' free same come mid = record {
+      → held ≡ None → (commands ≢ [] → IsThere place.at.events) → place'.at ≡ behind place.at (Read true)
+      → (come : Come most place commands held kept) → IsMidLine come.left kept' place'.left → Come most place' commands held kept'
+  read_part most commands held kept kept' place place' free there same come mid = record {
     count = come.count;
     few = come.few;
     left = come.left;
     mid = subst (λ (h : Option Held). IsReadTo h come.left kept' place'.left) (sym free) mid;
     reached =
         subst (λ (s : Spot D). At come.count (map of_command commands ++ held_lines held) (position s come.left)) (sym same)
-        (looks own come.count (map of_command commands ++ held_lines held) (position place.at come.left) (Read true) come.reached refl);
+        (looks own come.count (map of_command commands ++ held_lines held) (position place.at come.left) (Read true) come.reached
+        (refl, may_read_free commands held place.at.events free there));
     goes_on = subst (λ (s : Spot D). MayGoOn rules.way s.executor) (sym same) come.goes_on;
   }
 
   -- what stands next was read
   pub found_next : (most : ℕ) (commands : List Command) (held : Option Held) (kept : List ℕ) (place place' : Position D) (what : Found)
-      → held ≡ None → place'.at ≡ behind place.at (Read true) → (come : Come most place commands held kept)
-      → ReadsInput rules.way come.left place'.left what → Finds most commands what place'
-  found_next most commands held kept place place' what free same come input = by what input
+      → held ≡ None → (commands ≢ [] → IsThere place.at.events) → place'.at ≡ behind place.at (Read true)
+      → (come : Come most place commands held kept) → ReadsInput rules.way come.left place'.left what → Finds most commands what place'
+  found_next most commands held kept place place' what free there same come input = by what input
     where
       before : At come.count (map of_command commands ++ []) (position place.at come.left)
       before =
@@ -212,7 +245,8 @@ module _ {D : Type 0} (look : D → View) (source : Source) (rules : Rules) (p :
       looked_at : At come.count (map of_command commands ++ []) (position place'.at come.left)
       looked_at =
           subst (λ (s : Spot D). At come.count (map of_command commands ++ []) (position s come.left)) (sym same)
-          (looks own come.count (map of_command commands ++ []) (position place.at come.left) (Read true) before refl)
+          (looks own come.count (map of_command commands ++ []) (position place.at come.left) (Read true) before
+          (refl, may_read_free commands None place.at.events refl there))
 
       by : (f : Found) → ReadsInput rules.way come.left place'.left f → Finds most commands f place'
       by (found.Line line) input = record {
@@ -224,7 +258,7 @@ module _ {D : Type 0} (look : D → View) (source : Source) (rules : Rules) (p :
             subst (λ (s : Spot D). At come.count (map of_command commands ++ line ∷ []) (position s place'.left)) (sym same)
             (reads own come.count commands (position place.at come.left) place'.left line
             (subst (λ (ls : Lines). At come.count ls (position place.at come.left)) (append-nil (map of_command commands)) before)
-            come.goes_on input);
+            come.goes_on (may_read commands place.at.events there) input);
         goes_on = goes_on;
       }
       by found.Empty input = record {
@@ -245,7 +279,8 @@ module _ {D : Type 0} (look : D → View) (source : Source) (rules : Rules) (p :
       }
 
   -- then there was a look
-  pub found_looked : (most : ℕ) (commands : List Command) (what : Found) (q q' : Position D) (event : IoEvent) → IsLook event
+  pub found_looked : (most : ℕ) (commands : List Command) (what : Found) (q q' : Position D) (event : IoEvent)
+      → IsLook rules.way (map of_command commands ++ found_lines what) q.at.events event
       → q' ≡ position (behind q.at event) q.left → Finds most commands what q → Finds most commands what q'
   found_looked most commands what q q' event is same finds =
       subst (λ (w : Position D). Finds most commands what w) (sym same) (record {
@@ -514,15 +549,15 @@ module _ {D : Type 0} (look : D → View) (source : Source) (rules : Rules) (p :
 
 -- nothing is done yet
 pub first_come : {D : Type 0} (look : D → View) (source : Source) (rules : Rules) (p : Position D) (pending : Pending) → IsClear pending
-    → MayGoOn rules.way p.at.executor → HasCome look source rules p Done 0 (midway p pending)
+    → MayGoOn rules.way p.at.executor → HasCome look source rules p (turned 0 0 Done [] p.at) 0 (midway p pending)
 first_come look source rules p pending clear goes_on = record {
   count = 0;
   few = omega (arith, ap length clear.none);
   left = p.left;
   mid = begins_free pending.held p.left p.left (line_bytes pending.buffer) clear.free refl clear.buffer;
   reached =
-      subst (λ (cs : List Command). Reaches look source rules p Done 0 (map of_command cs ++ held_lines pending.held) p)
+      subst (λ (cs : List Command). Reaches look source rules p (turned 0 0 Done [] p.at) 0 (map of_command cs ++ held_lines pending.held) p)
       (sym clear.none)
-      (subst (λ (h : Option Held). Reaches look source rules p Done 0 (held_lines h) p) (sym clear.free) here);
+      (subst (λ (h : Option Held). Reaches look source rules p (turned 0 0 Done [] p.at) 0 (held_lines h) p) (sym clear.free) here);
   goes_on = goes_on;
 }

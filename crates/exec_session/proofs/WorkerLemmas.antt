@@ -1,14 +1,13 @@
 -- What a worker does, as its relations say it: from what its executor and its edge were to what they are.
-use Rattle.std.proofs.Common.{◌≡◌, ◌≤◌, ℕ, Bool, true, false, List, [], ◌∷◌, ◌++◌, ◌==◌, length, Option, Some, map, Result, Ok, Err, OnErr, OnOk, refl, sym, ap, subst, true≢false, ◌∙◌}
-use Rattle.ocf_types.specs.Kinds.{Command, Reply, Request}
-use Rattle.ocf_types.specs.declared.reply.TidyEnd.{TidyEnd}
+use Rattle.std.proofs.Common.{◌≡◌, ℕ, Bool, true, false, List, [], ◌∷◌, ◌==◌, length, Some, map, Result, OnErr, OnOk, refl, sym, ap, subst, true≢false, ◌∙◌}
+use Rattle.ocf_types.specs.Kinds.{Command, Reply}
 use Rattle.ocf_types.specs.declared.reply.TurnEnd.{TurnEnd}
 use Rattle.ocf_types.specs.declared.reply.TurnEnd.TheVariants.{Disk}
 use Rattle.disk_model.specs.View.{View}
 use Rattle.executor.specs.Sights.{Sight}
 use Rattle.executor.specs.TurnCalls.{FinishesTurn, TakesTurn, with_empty_book}
-use Rattle.exec_client.specs.MayTell.{AllStand, StandsBehind}
-use Rattle.exec_client.specs.Said.{Answered, Said, answered}
+use Rattle.exec_client.specs.MayTell.{AllStand}
+use Rattle.exec_client.specs.Said.{answered}
 use Rattle.exec_client.specs.Tells.{noticed}
 use Rattle.exec_trace.specs.Edges.{EdgeView, noting, rested}
 use Rattle.exec_trace.specs.Events.{last_shown}
@@ -16,9 +15,9 @@ use Rattle.exec_trace.specs.declared.event.IoEvent.{IoEvent}
 use Rattle.exec_trace.specs.declared.event.IoEvent.TheVariants.{Asked, Shown}
 use Rattle.exec_session.specs.Drains.{TurnHeard}
 use Rattle.exec_session.specs.Leaving.{FinishHeard}
-use Rattle.exec_session.specs.Limits.{longest_pause}
+use Rattle.exec_session.specs.Pausing.{IsShort}
 use Rattle.exec_session.specs.Rules.{MakesRoom, Rules}
-use Rattle.exec_session.specs.Spots.{Pauses, Position, Spot, Telling, Tells, TellsPart, at_of, behind, moved, noted, spot}
+use Rattle.exec_session.specs.Spots.{Pauses, Position, Spot, Telling, Tells, TellsPart, at_of, moved, noted, spot}
 use Rattle.exec_session.specs.Together.{AnswersAll, ServesTogether, TogetherHeard}
 use Rattle.exec_session.specs.Broken.{RowBreaks}
 
@@ -37,10 +36,11 @@ module _ {D : Type 0} where
   open_noted x e p m event is is_noted is_open = ap (λ (P : Position D). P.at.executor.is_open) (is ∙ is_noted) ∙ is_open
 
   -- a pause, and the question whether the client hears
-  pub pauses : (heard : Bool) (micros : ℕ) (x : Sight D) (e one two : EdgeView D) (p : Position D) → at_of x e ≡ p
-      → micros ≤ longest_pause → one ≡ rested e micros → two ≡ noting one (Asked heard) → Pauses heard p.at (at_of x two).at
-  pauses heard micros x e one two p is short rests asks =
-      whole (λ (P : Position D). Pauses heard P.at (at_of x two).at) x e p is (
+  pub pauses : (since now : ℕ) (heard : Bool) (micros : ℕ) (x : Sight D) (e one two : EdgeView D) (p : Position D) → at_of x e ≡ p
+      → IsShort since now micros → one ≡ rested e micros → two ≡ noting one (Asked heard)
+      → Pauses since now heard p.at (at_of x two).at
+  pauses since now heard micros x e one two p is short rests asks =
+      whole (λ (P : Position D). Pauses since now heard P.at (at_of x two).at) x e p is (
         micros,
         short,
         ap (λ (f : EdgeView D). (at_of x f).at) (asks ∙ ap (λ (f : EdgeView D). noting f (Asked heard)) rests),

@@ -19,7 +19,8 @@ use Rattle.exec_session.specs.Leaving.{LeaveBreaks}
 use Rattle.exec_session.specs.Progress.{AnswersSo}
 use Rattle.exec_session.specs.Reports.{ReportBreaks, TellsReport, ended}
 use Rattle.exec_session.specs.Rules.{Rules}
-use Rattle.exec_session.specs.Runs.{Finishes, Lines, MakesTurns, MayGoOn, MayRest, NewsSo, Reaches, of_command}
+use Rattle.exec_session.specs.Looks.{Lines}
+use Rattle.exec_session.specs.Runs.{Finishes, MakesTurns, MayGoOn, MayTurn, NewsSo, OwnTurn, Reaches, of_command}
 use Rattle.exec_session.specs.Spots.{MayBreakOff, Position, Spot, TellsPart, behind}
 
 -- A run broke off in an own turn, of whose notices the client heard a front, or of the line that says how it ended.
@@ -38,7 +39,7 @@ AnswerBreaks look source rules found p q =
 -- Behind a place that a run has come to, with these lines unanswered, it did one thing more at most, of which the client heard a front: it
 -- asked something that failed, or answered the next line, or a drain's turns up to one of them, or a row of commands, or it made a
 -- turn, or told that a disk fault ends it, or made an orderly end.
-pub data BreaksIn {D : Type 0} (look : D → View) (source : Source) (rules : Rules) (own : TurnEnd) (lines : Lines)
+pub data BreaksIn {D : Type 0} (look : D → View) (source : Source) (rules : Rules) (own : OwnTurn) (lines : Lines)
     (m : Position D) (q : Spot D) : Type 0 where
   at_once : q ≡ m.at → BreaksIn look source rules own lines m q
   in_event : (event : IoEvent) → is_failure event ≡ true → q ≡ behind m.at event → BreaksIn look source rules own lines m q
@@ -46,7 +47,7 @@ pub data BreaksIn {D : Type 0} (look : D → View) (source : Source) (rules : Ru
       → AnswerBreaks look source rules found m.at q → BreaksIn look source rules own lines m q
   in_row : (commands : List Command) (others : Lines) → lines ≡ map of_command commands ++ others → m.at.executor.is_open ≡ true
       → RowBreaks look rules commands m.at q → BreaksIn look source rules own lines m q
-  in_own_turn : MakesTurns rules.way → MayRest lines → m.at.executor.is_open ≡ true → OwnTurnBreaks look rules own m.at q
+  in_own_turn : MayTurn rules.way own lines m.at → OwnTurnBreaks look rules own.end m.at q
       → BreaksIn look source rules own lines m q
   in_fault : MakesTurns rules.way → m.at.executor.is_open ≡ false → TellsPart rules.form m.at q (ended Disk ∷ [])
       → BreaksIn look source rules own lines m q
@@ -56,7 +57,7 @@ pub data BreaksIn {D : Type 0} (look : D → View) (source : Source) (rules : Ru
 -- Line after line was answered as said, up to a place behind which the run broke off: what was asked last failed, or as much was asked
 -- as its loops go round.
 pub record BreaksOff {D : Type 0} (look : D → View) (source : Source) (rules : Rules) (p : Position D) (q : Spot D) : Type 0 where
-  pub own : TurnEnd
+  pub own : OwnTurn
   pub count : ℕ
   pub lines : Lines
   pub last : Position D

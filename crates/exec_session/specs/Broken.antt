@@ -1,5 +1,5 @@
 -- Where a run breaks off in an answer: what it asked failed in a drain, or in telling replies.
-use Rattle.std.specs.Prelude.{◌≡◌, ℕ, ◌+◌, Bool, true, false, List, [], ◌∷◌, Result, Ok, Err}
+use Rattle.std.specs.Prelude.{ℕ, ◌+◌, Bool, true, false, List, [], ◌∷◌, Result, Ok}
 use Rattle.ocf_types.specs.Kinds.{Command}
 use Rattle.ocf_types.specs.declared.refusal.Refusal.{Refusal}
 use Rattle.ocf_types.specs.declared.reply.TurnEnd.{TurnEnd}
@@ -19,7 +19,7 @@ pub data DrainBreaks {D : Type 0} (look : D → View) (rules : Rules) (t : Terms
   in_turn : (turns now : ℕ) (m : Spot D) (end : TurnEnd) → GoesOn look rules t start p turns now m
       → TurnHeard (TellsPart rules.form) look rules now m q end → DrainBreaks look rules t start p q
   unheard : (turns now : ℕ) (m told : Spot D) (end : TurnEnd) → GoesOn look rules t start p turns now m
-      → MakesTurn look rules now m told end → Pauses false told q → DrainBreaks look rules t start p q
+      → MakesTurn look rules now m told end → Pauses start now false told q → DrainBreaks look rules t start p q
   spent : (turns now : ℕ) → GoesOn look rules t start p turns now q → DrainBreaks look rules t start p q
 
 -- so one that was to take so many milliseconds at most, from the moment that the clock showed

@@ -1,5 +1,5 @@
 -- What a drain does, turn by turn.
-use Rattle.std.specs.Prelude.{◌≡◌, ℕ, ◌+◌, Bool, true, false, not, ◌&&◌, nat_le, List, Option, Some, None, if◌then◌else◌}
+use Rattle.std.specs.Prelude.{◌≡◌, ℕ, ◌+◌, Bool, true, false, not, ◌&&◌, nat_le, Option, Some, None, if◌then◌else◌}
 use Rattle.ocf_types.specs.Boot.{any_busy}
 use Rattle.ocf_types.specs.declared.reply.TurnEnd.{TurnEnd}
 use Rattle.ocf_types.specs.declared.reply.TurnEnd.TheVariants.{Disk, Done}
@@ -30,9 +30,10 @@ pub record TurnHeard {D : Type 0} (tells_so : Telling D) (look : D → View) (ru
 abbrev pub MakesTurn : {D : Type 0} → (D → View) → Rules → ℕ → Spot D → Spot D → TurnEnd → Type 0
 MakesTurn look rules now p q end = TurnHeard (Tells rules.form) look rules now p q end
 
--- Between two turns: a short pause, then the client hears still, and then the clock shows this moment.
-abbrev pub Rests : {D : Type 0} → Spot D → Spot D → ℕ → Type 0
-Rests {D} p q after = (m : Spot D) × Pauses true p m × (q ≡ behind m (Shown after))
+-- After a turn at the second moment, in a drain that began at the first: a short pause, then the client hears still, and then the clock
+-- shows the third.
+abbrev pub Rests : {D : Type 0} → ℕ → ℕ → Spot D → Spot D → ℕ → Type 0
+Rests {D} start now p q after = (m : Spot D) × Pauses start now true p m × (q ≡ behind m (Shown after))
 
 -- how a drain ends behind its turn of this number, which ended so and left the executor idle or not, at the moment that
 -- the clock shows then; none where it goes on
@@ -52,7 +53,7 @@ pub data GoesOn {D : Type 0} (look : D → View) (rules : Rules) (t : Terms) (st
     (p : Spot D) : ℕ → ℕ → Spot D → Type 0 where
   at_start : GoesOn look rules t start p 0 start p
   further : (turns now after : ℕ) (m told q : Spot D) (end : TurnEnd)
-      → GoesOn look rules t start p turns now m → MakesTurn look rules now m told end → Rests told q after
+      → GoesOn look rules t start p turns now m → MakesTurn look rules now m told end → Rests start now told q after
       → end_at t (turns + 1) after end told.executor ≡ None
       → GoesOn look rules t start p (turns + 1) after q
 
@@ -67,5 +68,5 @@ pub record Drains {D : Type 0} (look : D → View) (rules : Rules) (t : Terms) (
   pub turn_end : TurnEnd
   pub gone_on : GoesOn look rules t start p turns now last
   pub made : MakesTurn look rules now last told turn_end
-  pub rests : Rests told q after
+  pub rests : Rests start now told q after
   pub ended : end_at t (turns + 1) after turn_end told.executor ≡ Some end

@@ -1,5 +1,5 @@
 -- How a whole run ends.
-use Rattle.std.specs.Prelude.{◌≡◌, ℕ, List, Option, true, false, Result, Ok, Err}
+use Rattle.std.specs.Prelude.{◌≡◌, true, false, Result, Ok, Err}
 use Rattle.disk_model.specs.View.{View}
 use Rattle.child_model.specs.Children.{ChildrenView, given_up}
 use Rattle.executor.specs.Sights.{Sight}

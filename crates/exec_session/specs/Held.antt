@@ -1,5 +1,5 @@
 -- A line that a run holds which serves: it asks for metadata, or for the end of the run.
-use Rattle.std.specs.Prelude.{◌≡◌, ⊤, List, [], ◌∷◌, Option, Some, None, Bool, true, false, Result, Ok, Err}
+use Rattle.std.specs.Prelude.{◌≡◌, ⊤, [], ◌∷◌, Option, Some, None, Bool, true, false, Result, Ok, Err}
 use Rattle.ocf_types.specs.declared.refusal.Refusal.{Refusal}
 use Rattle.disk_model.specs.View.{View}
 use Rattle.exec_commands.specs.declared.line.Line.{Line}
@@ -8,7 +8,7 @@ use Rattle.exec_output.specs.declared.send.IoFault.{IoFault}
 use Rattle.exec_session.specs.Answers.{Source}
 use Rattle.exec_session.specs.Progress.{Answers, AnswersSo}
 use Rattle.exec_session.specs.Rules.{Rules}
-use Rattle.exec_session.specs.Runs.{Lines}
+use Rattle.exec_session.specs.Looks.{Lines}
 use Rattle.exec_session.specs.Spots.{MayBreakOff, Spot, TellsPart}
 use Rattle.exec_session.specs.declared.context.Way.{Way}
 use Rattle.exec_session.specs.declared.context.Way.TheVariants.{Run}

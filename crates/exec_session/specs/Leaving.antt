@@ -30,8 +30,8 @@ pub record WindsOne {D : Type 0} (tells_so : Telling D) (look : D → View) (p q
 -- Turns were made that begin nothing, each while an action ran, and each followed by a short pause: from one spot to another.
 pub data WindsDown {D : Type 0} (look : D → View) (rules : Rules) (p : Spot D) : Spot D → Type 0 where
   at_first : WindsDown look rules p p
-  further : (m told q : Spot D) → WindsDown look rules p m → WindsOne (Tells rules.form) look m told
-      → told.executor.is_open ≡ true → Pauses true told q → WindsDown look rules p q
+  further : (now : ℕ) (m told q : Spot D) → WindsDown look rules p m → WindsOne (Tells rules.form) look m told
+      → told.executor.is_open ≡ true → Pauses 0 now true told q → WindsDown look rules p q
 
 -- An orderly end, from the spot at which it was asked for, of whose last line the client is told so: the reply once nothing runs, or the
 -- line of the disk fault that closed the executor in the turn before.
@@ -49,7 +49,7 @@ LeavesFrom look rules p q = LeavesSo (Tells rules.form) look rules p q
 -- made as many turns as its loop goes round.
 pub data LeaveBreaks {D : Type 0} (look : D → View) (rules : Rules) (p q : Spot D) : Type 0 where
   in_turn : (m : Spot D) → WindsDown look rules p m → WindsOne (TellsPart rules.form) look m q → LeaveBreaks look rules p q
-  unheard : (m told : Spot D) → WindsDown look rules p m → WindsOne (Tells rules.form) look m told → Pauses false told q
+  unheard : (now : ℕ) (m told : Spot D) → WindsDown look rules p m → WindsOne (Tells rules.form) look m told → Pauses 0 now false told q
       → LeaveBreaks look rules p q
   in_line : LeavesSo (TellsPart rules.form) look rules p q → LeaveBreaks look rules p q
   spent : WindsDown look rules p q → LeaveBreaks look rules p q

@@ -7,6 +7,8 @@ pub mod Gathered
 pub mod Held
 pub mod Leaving
 pub mod Limits
+pub mod Looks
+pub mod Pausing
 pub mod Pending
 pub mod Reports
 pub mod Rules

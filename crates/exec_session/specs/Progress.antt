@@ -1,5 +1,5 @@
 -- How a run goes on, line by line of the input.
-use Rattle.std.specs.Prelude.{◌≡◌, ◌≢◌, ℕ, ◌<◌, ⊤, List, [], ◌∷◌, ◌++◌, length, Option, Some, None, Result}
+use Rattle.std.specs.Prelude.{◌≡◌, ◌≢◌, ℕ, ◌<◌, ⊤, List, [], ◌∷◌, length, Option, Some, None, Result}
 use Rattle.std.specs.Io.KnownBytes.{IsAtEnd}
 use Rattle.ocf_types.specs.declared.refusal.Refusal.{Refusal}
 use Rattle.disk_model.specs.View.{View}

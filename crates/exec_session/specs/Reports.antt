@@ -1,5 +1,5 @@
 -- What is told of an opening's report, and of how a turn ended.
-use Rattle.std.specs.Prelude.{◌≡◌, ◌⊎◌, List, [], ◌∷◌, map}
+use Rattle.std.specs.Prelude.{◌≡◌, ◌⊎◌, map}
 use Rattle.executor.specs.Reports.{report_of}
 use Rattle.executor.specs.Sights.{Sight}
 use Rattle.executor.specs.declared.report.Report.{Report}

@@ -1,9 +1,8 @@
 -- Whole runs.
-use Rattle.std.specs.Prelude.{◌≡◌, ◌≢◌, ◌⊎◌, ℕ, ◌+◌, ◌*◌, ◌<◌, ◌≤◌, ⊤, List, [], ◌∷◌, ◌++◌, length, map, true, false, Option, Result, Ok}
+use Rattle.std.specs.Prelude.{◌≡◌, ◌≢◌, ◌⊎◌, ℕ, ◌+◌, ◌*◌, ◌<◌, ⊤, List, [], ◌∷◌, ◌++◌, length, map, true, false, Option, Result, Ok}
 use Rattle.std.specs.Io.KnownBytes.{IsAtEnd}
 use Rattle.disk_model.specs.View.{View}
 use Rattle.executor.specs.Sights.{Sight}
-use Rattle.ocf_types.specs.Boot.{any_busy}
 use Rattle.ocf_types.specs.Kinds.{Command}
 use Rattle.ocf_types.specs.declared.command.RequestOf.TheVariants as asked
 use Rattle.ocf_types.specs.declared.refusal.Refusal.{Refusal}
@@ -18,14 +17,16 @@ use Rattle.exec_commands.specs.declared.line.Line.{Line}
 use Rattle.exec_commands.specs.declared.line.Line.TheVariants as line
 use Rattle.exec_session.specs.Answers.{Source}
 use Rattle.exec_trace.specs.declared.event.IoEvent.{IoEvent}
-use Rattle.exec_trace.specs.declared.event.IoEvent.TheVariants.{Asked, Looked, Peeked, Read, Rested, Sent, Shown}
+use Rattle.exec_trace.specs.declared.event.IoEvent.TheVariants.{Asked, Looked, Peeked, Read, Rested, Shown}
 use Rattle.exec_session.specs.Drains.{MakesTurn}
 use Rattle.exec_session.specs.Leaving.{LeavesFrom}
-use Rattle.exec_session.specs.Limits.{lines_a_turn, longest_pause, longest_wait}
+use Rattle.exec_session.specs.Limits.{lines_a_turn}
+use Rattle.exec_session.specs.Pausing.{IsQuietSince, MayPause}
+use Rattle.exec_session.specs.Looks.{FollowsRead, HasLooked, Lines, MayRead, misses_in, reads_in}
 use Rattle.exec_session.specs.Reports.{ended}
 use Rattle.exec_session.specs.Rules.{Rules}
 use Rattle.exec_session.specs.Progress.{Answers, PassesLine, ReadsLine}
-use Rattle.exec_session.specs.Spots.{Position, Spot, Telling, Tells, behind, position, spot}
+use Rattle.exec_session.specs.Spots.{Position, Spot, Telling, Tells, behind, position}
 use Rattle.exec_session.specs.Together.{AnswersTogether}
 
 -- a client of the executor that was just opened, and is open, who was told nothing yet
@@ -57,17 +58,13 @@ pub data NewsSo {D : Type 0} (tells_so : Telling D) (before end : TurnEnd) (p q 
   news : IsNews before end → tells_so p q (ended end ∷ []) → NewsSo tells_so before end p q
   no_news : (IsNews before end → ⊥) → q ≡ p → NewsSo tells_so before end p q
 
--- A turn that a run makes by itself behind one that ended so, at the moment that the clock shows as it begins: the client hears its
+-- A turn that a run makes by itself behind one that ended so, at this moment, which the clock shows as it begins: the client hears its
 -- notices, and how it ended where that is news.
-pub record MakesOwnTurn {D : Type 0} (look : D → View) (rules : Rules) (before : TurnEnd) (p q : Spot D) (end : TurnEnd) : Type 0 where
-  pub now : ℕ
+pub record MakesOwnTurn {D : Type 0} (look : D → View) (rules : Rules) (before : TurnEnd) (now : ℕ) (p q : Spot D) (end : TurnEnd)
+    : Type 0 where
   pub noticed : Spot D
   pub made : MakesTurn look rules now (behind p (Shown now)) noticed end
   pub told : NewsSo (Tells rules.form) before end noticed q
-
--- lines that were read, each as this or refused, and are not answered yet
-abbrev pub Lines : Type 0
-Lines = List (Result Line Refusal)
 
 -- a line that is a command
 abbrev pub of_command : Command → Result Line Refusal
@@ -77,22 +74,22 @@ of_command command = Ok (line.Request (asked.Command command))
 abbrev pub read_to : {D : Type 0} → Position D → Option (List ℕ) → Position D
 read_to p left = position (behind p.at (Read true)) left
 
--- What is asked while a run goes on to its next line: whether something is there, without a wait, and a read of a part of a line or
--- of none.
-abbrev pub IsLook : IoEvent → Type 0
-IsLook (Looked millis ready) = millis ≡ 0
-IsLook (Peeked has_line) = ⊤
-IsLook (Read done) = done ≡ true
-IsLook _ = ⊥
+-- What is asked, after these events and with these lines unanswered, while a run goes on to its next line: in one that serves, whether
+-- something is there, without a wait; after a read, whether a further line is; and a read of a part of a line or of none.
+abbrev pub IsLook : Way → Lines → List IoEvent → IoEvent → Type 0
+IsLook way lines events (Looked millis ready) = MakesTurns way × (millis ≡ 0)
+IsLook way lines events (Peeked has_line) = FollowsRead events
+IsLook way lines events (Read done) = (done ≡ true) × MayRead lines events
+IsLook way lines events _ = ⊥
 
--- What is asked while a run waits: for input, for a second at most and while anything is queued or runs no longer than a pause between
--- two turns; for such a pause; for a moment; and whether anybody hears what is told.
-abbrev pub IsWait : {D : Type 0} → Sight D → IoEvent → Type 0
-IsWait x (Looked millis ready) = (millis ≤ longest_wait) × (any_busy x.state ≡ true → millis * 1000 ≤ longest_pause)
-IsWait x (Rested micros) = micros ≤ longest_pause
-IsWait x (Shown moment) = ⊤
-IsWait x (Asked heard) = heard ≡ true
-IsWait x _ = ⊥
+-- What is asked while a run waits after a turn at the second moment, where nothing has ended or begun since the first: for input, a short
+-- time or until the first monitor is due, and a second at most; for such a pause; for a moment; and whether anybody hears what is told.
+abbrev pub IsWait : {D : Type 0} → ℕ → ℕ → Spot D → IoEvent → Type 0
+IsWait since now p (Looked millis ready) = MayPause since now p.executor p.events (millis * 1000)
+IsWait since now p (Rested micros) = MayPause since now p.executor p.events micros
+IsWait since now p (Shown moment) = ⊤
+IsWait since now p (Asked heard) = heard ≡ true
+IsWait since now p _ = ⊥
 
 -- With these lines a run may wait, and may make a turn: each line that was read is answered, but one that asks an agent for metadata.
 abbrev pub MayRest : Lines → Type 0
@@ -100,39 +97,70 @@ MayRest [] = ⊤
 MayRest (Ok (line.Meta provider agent limit) ∷ []) = ⊤
 MayRest _ = ⊥
 
+-- The last turn that a run made by itself: its moment, since when nothing has ended or begun, how it ended, which line was unanswered
+-- meanwhile, if any, and how many reads and how many looks that found nothing were made up to its end.
+pub record OwnTurn : Type 0 where
+  pub now : ℕ
+  pub since : ℕ
+  pub end : TurnEnd
+  pub lines : Lines
+  pub reads : ℕ
+  pub misses : ℕ
+
+-- one that ended so with these lines unanswered, here
+abbrev pub turned : {D : Type 0} → ℕ → ℕ → TurnEnd → Lines → Spot D → OwnTurn
+turned now since end lines p = record {
+  now = now;
+  since = since;
+  end = end;
+  lines = lines;
+  reads = reads_in p.events;
+  misses = misses_in p.events;
+}
+
+-- After this turn, with these lines unanswered, a run makes a further one here: it serves, its executor is open, each line that was read
+-- is answered, but one that asks an agent for metadata, and it has looked for lines since, where none was unanswered in either turn.
+pub record MayTurn {D : Type 0} (way : Way) (own : OwnTurn) (lines : Lines) (p : Spot D) : Type 0 where
+  pub serves : MakesTurns way
+  pub rests : MayRest lines
+  pub is_open : p.executor.is_open ≡ true
+  pub looked : HasLooked own.reads own.misses (own.lines ++ lines) p.events
+
 -- From a place a run has come to another: it read line after line, in their order, none of them left out, and has not answered
 -- these yet; it answered the others in that order, commands that were read one behind the other in a row; a run that serves made turns
--- between them. Each reading of the clock that an answer or a turn goes by stands behind the read of the last line before it. Only a run
--- that answers lines alone goes on once its executor is closed. The end is that of the last turn that it made by itself, the number
--- how many lines it answered or passed over since then.
+-- between them, after each of which it looked for lines before the next one. No command waits for a line that is not there. Each reading
+-- of the clock that an answer or a turn goes by stands behind the read of the last line before it. Only a run that answers lines alone
+-- goes on once its executor is closed. The turn is the last one that it made by itself, the number how many lines it answered or passed
+-- over since then.
 pub data Reaches {D : Type 0} (look : D → View) (source : Source) (rules : Rules) (p : Position D)
-    : TurnEnd → ℕ → Lines → Position D → Type 0 where
-  here : Reaches look source rules p Done 0 [] p
-  looks : (own : TurnEnd) (n : ℕ) (lines : Lines) (m : Position D) (event : IoEvent) → Reaches look source rules p own n lines m
-      → IsLook event → Reaches look source rules p own n lines (position (behind m.at event) m.left)
-  waits : (own : TurnEnd) (n : ℕ) (lines : Lines) (m : Position D) (event : IoEvent) → Reaches look source rules p own n lines m
-      → MayGoOn rules.way m.at.executor → MayRest lines → IsWait m.at.executor event → Reaches look source rules p own n lines (position (behind m.at event) m.left)
-  reads : (own : TurnEnd) (n : ℕ) (commands : List Command) (m : Position D) (left : Option (List ℕ)) (found : Result Line Refusal)
+    : OwnTurn → ℕ → Lines → Position D → Type 0 where
+  here : Reaches look source rules p (turned 0 0 Done [] p.at) 0 [] p
+  looks : (own : OwnTurn) (n : ℕ) (lines : Lines) (m : Position D) (event : IoEvent) → Reaches look source rules p own n lines m
+      → IsLook rules.way lines m.at.events event → Reaches look source rules p own n lines (position (behind m.at event) m.left)
+  waits : (own : OwnTurn) (n : ℕ) (lines : Lines) (m : Position D) (event : IoEvent) → Reaches look source rules p own n lines m
+      → MayGoOn rules.way m.at.executor → MayRest lines → IsWait own.since own.now m.at event → Reaches look source rules p own n lines (position (behind m.at event) m.left)
+  reads : (own : OwnTurn) (n : ℕ) (commands : List Command) (m : Position D) (left : Option (List ℕ)) (found : Result Line Refusal)
       → Reaches look source rules p own n (map of_command commands) m → MayGoOn rules.way m.at.executor
-      → ReadsLine rules.way m.left left found
+      → MayRead (map of_command commands) m.at.events → ReadsLine rules.way m.left left found
       → Reaches look source rules p own n (map of_command commands ++ found ∷ []) (read_to m left)
-  passes : (own : TurnEnd) (n : ℕ) (m : Position D) (left : Option (List ℕ)) → Reaches look source rules p own n [] m
+  passes : (own : OwnTurn) (n : ℕ) (m : Position D) (left : Option (List ℕ)) → Reaches look source rules p own n [] m
       → MayGoOn rules.way m.at.executor → MayTake rules.way n → PassesLine m.left left
       → Reaches look source rules p own (n + 1) [] (position m.at left)
-  answers : (own : TurnEnd) (n : ℕ) (found : Result Line Refusal) (m : Position D) (q : Spot D)
+  answers : (own : OwnTurn) (n : ℕ) (found : Result Line Refusal) (m : Position D) (q : Spot D)
       → Reaches look source rules p own n (found ∷ []) m → MayGoOn rules.way m.at.executor → MayTake rules.way n
       → Answers look source rules found m.at q → Reaches look source rules p own (n + 1) [] (position q m.left)
-  row : (own : TurnEnd) (n : ℕ) (first : Command) (others : List Command) (lines : Lines) (m : Position D) (q : Spot D)
+  row : (own : OwnTurn) (n : ℕ) (first : Command) (others : List Command) (lines : Lines) (m : Position D) (q : Spot D)
       → Reaches look source rules p own n (map of_command (first ∷ others) ++ lines) m → m.at.executor.is_open ≡ true
       → MayTake rules.way (n + length others) → AnswersTogether look rules (first ∷ others) m.at q
       → Reaches look source rules p own (n + length others + 1) lines (position q m.left)
-  turn : (own : TurnEnd) (n : ℕ) (lines : Lines) (m : Position D) (q : Spot D) (end : TurnEnd)
-      → Reaches look source rules p own n lines m → MakesTurns rules.way → MayRest lines → m.at.executor.is_open ≡ true
-      → MakesOwnTurn look rules own m.at q end → Reaches look source rules p end 0 lines (position q m.left)
+  turn : (own : OwnTurn) (n : ℕ) (lines : Lines) (m : Position D) (q : Spot D) (end : TurnEnd) (now since : ℕ)
+      → Reaches look source rules p own n lines m → MayTurn rules.way own lines m.at → MakesOwnTurn look rules own.end now m.at q end
+      → IsQuietSince q.executor.children.book now own.since since
+      → Reaches look source rules p (turned now since end lines q) 0 lines (position q m.left)
 
 -- so up to the end of the input
 pub record ReachesEnd {D : Type 0} (look : D → View) (source : Source) (rules : Rules) (p : Position D) (q : Spot D) : Type 0 where
-  pub own : TurnEnd
+  pub own : OwnTurn
   pub count : ℕ
   pub left : Option (List ℕ)
   pub reached : Reaches look source rules p own count [] (position q left)
@@ -142,7 +170,7 @@ pub record ReachesEnd {D : Type 0} (look : D → View) (source : Source) (rules 
 -- so up to where a disk fault has closed the executor of a run that serves
 pub record ReachesFault {D : Type 0} (look : D → View) (source : Source) (rules : Rules) (p : Position D) (q : Spot D) : Type 0 where
   pub serves : MakesTurns rules.way
-  pub own : TurnEnd
+  pub own : OwnTurn
   pub count : ℕ
   pub lines : Lines
   pub left : Option (List ℕ)
@@ -152,7 +180,7 @@ pub record ReachesFault {D : Type 0} (look : D → View) (source : Source) (rule
 -- so up to where a line has asked a run that serves to end, which is not answered yet
 pub record ReachesLeave {D : Type 0} (look : D → View) (source : Source) (rules : Rules) (p : Position D) (q : Spot D) : Type 0 where
   pub serves : MakesTurns rules.way
-  pub own : TurnEnd
+  pub own : OwnTurn
   pub count : ℕ
   pub left : Option (List ℕ)
   pub reached : Reaches look source rules p own count (Ok line.Leave ∷ []) (position q left)

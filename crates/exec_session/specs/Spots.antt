@@ -9,7 +9,7 @@ use Rattle.exec_trace.specs.Edges.{EdgeView, rest_events}
 use Rattle.exec_trace.specs.Events.{EndsInFailure}
 use Rattle.exec_trace.specs.declared.event.IoEvent.{IoEvent}
 use Rattle.exec_trace.specs.declared.event.IoEvent.TheVariants.{Asked, Sent}
-use Rattle.exec_session.specs.Limits.{longest_pause}
+use Rattle.exec_session.specs.Pausing.{IsShort}
 
 -- where an answer stands: its executor, what the client has heard, and all that was asked of reader, client and clock
 pub record Spot (D : Type 0) : Type 0 where
@@ -52,10 +52,11 @@ pub record TellsPart {D : Type 0} (form : NoticeForm) (p q : Spot D) (said : Lis
 abbrev pub MayBreakOff : List IoEvent → Type 0
 MayBreakOff events = EndsInFailure events ⊎ (num_max ≤ length events)
 
--- What stays while a run goes on: the executor as it was opened, of which is told; and what was asked stays asked.
+-- What stays while a run goes on: the executor as it was opened, of which is told; and what was asked, which more follows.
 pub record Lasts {D : Type 0} (p q : Spot D) : Type 0 where
   pub opened : q.heard.opened ≡ p.heard.opened
-  pub longer : length p.events ≤ length q.events
+  pub later : List IoEvent
+  pub grows : q.events ≡ p.events ++ later
 
 -- the same where nothing is read
 abbrev pub Keeps : {D : Type 0} → Position D → Position D → Type 0
@@ -73,9 +74,10 @@ paused p micros = spot p.executor p.heard (p.events ++ rest_events micros)
 abbrev pub noted : {D : Type 0} → Position D → IoEvent → Position D
 noted p event = position (behind p.at event) p.left
 
--- A short pause, and then the client was asked whether it hears still, and answered so.
-abbrev pub Pauses : {D : Type 0} → Bool → Spot D → Spot D → Type 0
-Pauses heard p q = (micros : ℕ) × (micros ≤ longest_pause) × (q ≡ behind (paused p micros) (Asked heard))
+-- A short pause after a turn at the second moment, where nothing has ended or begun since the first, and then the client was asked whether
+-- it hears still, and answered so.
+abbrev pub Pauses : {D : Type 0} → ℕ → ℕ → Bool → Spot D → Spot D → Type 0
+Pauses since now heard p q = (micros : ℕ) × IsShort since now micros × (q ≡ behind (paused p micros) (Asked heard))
 
 -- where a run is with this executor, by its edge
 abbrev pub at_of : {D : Type 0} → Sight D → EdgeView D → Position D

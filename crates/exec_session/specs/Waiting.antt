@@ -1,5 +1,5 @@
 -- A run between two lines, some of which may wait to be answered.
-use Rattle.std.specs.Prelude.{◌≡◌, ◌⊎◌, ⊤, ℕ, ◌+◌, ◌<◌, ◌≤◌, Bool, true, false, List, [], ◌∷◌, ◌++◌, length, map, Option, Some, None, Result, Ok, Err}
+use Rattle.std.specs.Prelude.{◌≡◌, ◌≢◌, ◌⊎◌, ⊤, ℕ, ◌+◌, ◌<◌, ◌≤◌, Bool, true, false, List, [], ◌∷◌, ◌++◌, length, map, Option, Some, None, Result, Ok, Err}
 use Rattle.std.specs.Io.KnownBytes.{IsAtEnd}
 use Rattle.ocf_types.specs.Kinds.{Command}
 use Rattle.ocf_types.specs.declared.reply.TurnEnd.{TurnEnd}
@@ -17,7 +17,8 @@ use Rattle.exec_session.specs.Held.{held_lines}
 use Rattle.exec_session.specs.Limits.{most_together}
 use Rattle.exec_session.specs.Progress.{Answers, PassesLine}
 use Rattle.exec_session.specs.Rules.{Rules}
-use Rattle.exec_session.specs.Runs.{IsWait, Lines, MakesTurns, MayGoOn, MayTake, Reaches, ReachesEnd, ReachesFault, ReachesLeave, of_command}
+use Rattle.exec_session.specs.Looks.{IsThere, Lines, misses_in, reads_in}
+use Rattle.exec_session.specs.Runs.{IsWait, MakesTurns, MayGoOn, MayTake, OwnTurn, Reaches, ReachesEnd, ReachesFault, ReachesLeave, of_command}
 use Rattle.exec_session.specs.Spots.{MayBreakOff, Position, Spot, behind, position}
 use Rattle.exec_session.specs.declared.context.Way.{Way}
 use Rattle.exec_session.specs.declared.context.Way.TheVariants.{Run, Serve}
@@ -59,7 +60,7 @@ IsReadTo (Some held) left kept now = (now ≡ left) × (kept ≡ [])
 -- A run has come from a place so far: the commands that wait and the line that is held were read and are not answered, its last own
 -- turn ended so, and of at most so many lines since then the others were answered.
 pub record HasCome {D : Type 0} (look : D → View) (source : Source) (rules : Rules)
-    (p : Position D) (own : TurnEnd) (most : ℕ) (s : Midway D) : Type 0 where
+    (p : Position D) (own : OwnTurn) (most : ℕ) (s : Midway D) : Type 0 where
   pub count : ℕ
   pub few : count + length s.commands ≤ most
   pub left : Option (List ℕ)
@@ -72,10 +73,11 @@ pub record HasCome {D : Type 0} (look : D → View) (source : Source) (rules : R
 abbrev pub LooksOnce : {D : Type 0} → Position D → Position D → Type 0
 LooksOnce p q = (q ≡ p) ⊎ ((ready : Bool) × (q ≡ position (behind p.at (Looked 0 ready)) p.left))
 
--- A run waited: one thing was asked behind the other.
-pub data Waits {D : Type 0} (p : Position D) : Position D → Type 0 where
-  still : Waits p p
-  more : (m : Position D) (event : IoEvent) → Waits p m → IsWait m.at.executor event → Waits p (position (behind m.at event) m.left)
+-- A run waited after a turn at the second moment, where nothing has ended or begun since the first: one thing was asked behind the other.
+pub data Waits {D : Type 0} (since now : ℕ) (p : Position D) : Position D → Type 0 where
+  still : Waits since now p p
+  more : (m : Position D) (event : IoEvent) → Waits since now p m → IsWait since now m.at event
+      → Waits since now p (position (behind m.at event) m.left)
 
 -- the line in what was read, which is not answered yet
 abbrev pub found_lines : Found → Lines
@@ -90,7 +92,7 @@ IsFound found.End left now = IsAtEnd left
 
 -- A run has come so far that these commands wait, and has read what stands next, which is not answered.
 pub record HasFound {D : Type 0} (look : D → View) (source : Source) (rules : Rules)
-    (p : Position D) (own : TurnEnd) (most : ℕ) (commands : List Command) (found : Found) (q : Position D) : Type 0 where
+    (p : Position D) (own : OwnTurn) (most : ℕ) (commands : List Command) (found : Found) (q : Position D) : Type 0 where
   pub count : ℕ
   pub few : count + length commands ≤ most
   pub left : Option (List ℕ)
@@ -107,14 +109,14 @@ TakesFound look source rules (found.Line line) p q (Err fault) = AnswerBreaks lo
 TakesFound look source rules _ p q (Err fault) = ⊥
 
 -- it has come so far, or to the end of the input, or to a disk fault, or to the line that asks it to end
-abbrev pub ComesOrEnds : {D : Type 0} → (D → View) → Source → Rules → Position D → TurnEnd → ℕ → Midway D → Taken → Type 0
+abbrev pub ComesOrEnds : {D : Type 0} → (D → View) → Source → Rules → Position D → OwnTurn → ℕ → Midway D → Taken → Type 0
 ComesOrEnds look source rules p own most s More = HasCome look source rules p own most s
 ComesOrEnds look source rules p own most s End = ReachesEnd look source rules p s.place.at
 ComesOrEnds look source rules p own most s Closed = ReachesFault look source rules p s.place.at
 ComesOrEnds look source rules p own most s Leaves = ReachesLeave look source rules p s.place.at
 
 -- or it broke off
-abbrev pub Comes : {D : Type 0} → (D → View) → Source → Rules → Position D → TurnEnd → ℕ → Midway D → Result Taken IoFault → Type 0
+abbrev pub Comes : {D : Type 0} → (D → View) → Source → Rules → Position D → OwnTurn → ℕ → Midway D → Result Taken IoFault → Type 0
 Comes look source rules p own most s (Ok taken) = ComesOrEnds look source rules p own most s taken
 Comes look source rules p own most s (Err fault) = BreaksOff look source rules p s.place.at
 
@@ -125,27 +127,46 @@ IsTaken way x has_ended End = (has_ended ≡ true) × MayGoOn way x
 IsTaken way x has_ended Closed = MakesTurns way × (x.is_open ≡ false)
 IsTaken way x has_ended Leaves = ⊥
 
+-- Where commands wait the next line is there.
+abbrev pub WaitsForThere : Pending → List IoEvent → Type 0
+WaitsForThere pending events = waiting pending.gathered ≢ [] → IsThere events
+
 -- With what was read a round may begin: it may stay unanswered, and in a run that serves no command waits, and its executor is open.
-pub record MayBegin {D : Type 0} (way : Way) (x : Sight D) (pending : Pending) : Type 0 where
-  pub waits : MayWait way x pending
-  pub serves : way ≡ Serve → (x.is_open ≡ true) × (waiting pending.gathered ≡ [])
+pub record MayBegin {D : Type 0} (way : Way) (p : Spot D) (pending : Pending) : Type 0 where
+  pub waits : MayWait way p.executor pending
+  pub there : WaitsForThere pending p.events
+  pub serves : way ≡ Serve → (p.executor.is_open ≡ true) × (waiting pending.gathered ≡ [])
 
 -- A round of a run that serves begins behind a turn, with no line behind that; one of a run by lines alone anywhere.
 abbrev pub IsRound : Way → ℕ → Type 0
 IsRound Run most = ⊤
 IsRound Serve most = most ≡ 0
 
--- a run has come to the begin of a round
-abbrev pub HasComeRound : {D : Type 0} → (D → View) → Source → Rules → Position D → TurnEnd → Midway D → Type 0
-HasComeRound look source rules p own s = (most : ℕ) × IsRound rules.way most × HasCome look source rules p own most s
+-- Since this turn, which ended so with these lines unanswered: nothing had ended or begun since that moment, and here not fewer reads and
+-- looks were made than then.
+pub record IsSince {D : Type 0} (own : OwnTurn) (since : ℕ) (end : TurnEnd) (lines : Lines) (p : Spot D) : Type 0 where
+  pub quiet : own.since ≤ since
+  pub ended : own.end ≡ end
+  pub unanswered : own.lines ≡ lines
+  pub reads : own.reads ≤ reads_in p.events
+  pub misses : own.misses ≤ misses_in p.events
+
+-- a run whose last own turn ended so has come to the begin of a round
+pub record HasComeRound {D : Type 0} (look : D → View) (source : Source) (rules : Rules) (p : Position D) (quiet : ℕ) (end : TurnEnd)
+    (s : Midway D) : Type 0 where
+  pub most : ℕ
+  pub own : OwnTurn
+  pub round : IsRound rules.way most
+  pub since : IsSince own quiet end (held_lines s.held) s.place.at
+  pub come : HasCome look source rules p own most s
 
 -- a round leads to the begin of the next one, or the run ends by it, or broke off
-abbrev pub GoesRound : {D : Type 0} → (D → View) → Source → Rules → Position D → TurnEnd → Midway D → Result Taken IoFault → Type 0
-GoesRound look source rules p own s (Ok More) = HasComeRound look source rules p own s
-GoesRound look source rules p own s (Ok End) = ReachesEnd look source rules p s.place.at
-GoesRound look source rules p own s (Ok Closed) = ReachesFault look source rules p s.place.at
-GoesRound look source rules p own s (Ok Leaves) = ReachesLeave look source rules p s.place.at
-GoesRound look source rules p own s (Err fault) = BreaksOff look source rules p s.place.at
+abbrev pub GoesRound : {D : Type 0} → (D → View) → Source → Rules → Position D → ℕ → TurnEnd → Midway D → Result Taken IoFault → Type 0
+GoesRound look source rules p quiet own s (Ok More) = HasComeRound look source rules p quiet own s
+GoesRound look source rules p quiet own s (Ok End) = ReachesEnd look source rules p s.place.at
+GoesRound look source rules p quiet own s (Ok Closed) = ReachesFault look source rules p s.place.at
+GoesRound look source rules p quiet own s (Ok Leaves) = ReachesLeave look source rules p s.place.at
+GoesRound look source rules p quiet own s (Err fault) = BreaksOff look source rules p s.place.at
 
 -- a run may take a line behind at most so many since its last turn
 abbrev pub MayTakeBehind : Way → ℕ → Type 0

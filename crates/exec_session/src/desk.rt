@@ -1,16 +1,17 @@
 //! Where lines are answered, one by one or together.
-ghost use Rattle.std.specs.Prelude.{◌≡◌, ℕ, ◌+◌, ◌<◌, [], true, length, IfErr, IsTrue, None};
-ghost use Rattle.ocf_types.specs.declared.reply.TurnEnd.{TurnEnd};
+ghost use Rattle.std.specs.Prelude.{◌≡◌, ◌≢◌, ℕ, ◌+◌, ◌<◌, [], true, length, IfErr, IfOk, IsTrue, None};
 ghost use Rattle.exec_output.specs.declared.send.IoFault.TheVariants.{Memory};
 ghost use Rattle.exec_session.specs.Gathered.{waiting};
 ghost use Rattle.exec_session.specs.Held.{MayTakeAtOnce};
 ghost use Rattle.exec_session.specs.Limits.{most_together};
+ghost use Rattle.exec_session.specs.Looks.{IsThere, reads_in};
 ghost use Rattle.exec_session.specs.Pending.{IsBetween};
 ghost use Rattle.exec_session.specs.Rules.{rules_of};
-ghost use Rattle.exec_session.specs.Runs.{of_command};
+ghost use Rattle.exec_session.specs.Runs.{MayGoOn, OwnTurn, of_command};
 ghost use Rattle.exec_session.specs.Spots.{Keeps, Lasts, Position};
-ghost use Rattle.exec_session.specs.Waiting.{Comes, HasCome, HasFound, IsTaken, MayTakeBehind, MayWait, TakesFound, midway};
+ghost use Rattle.exec_session.specs.Waiting.{Comes, HasCome, HasFound, IsTaken, MayTakeBehind, MayWait, TakesFound, WaitsForThere, midway};
 ghost use Rattle.exec_session.specs.declared.lines.Found.TheVariants as found;
+ghost use Rattle.exec_session.specs.declared.lines.Taken.TheVariants.{More};
 
 use crate::context::{RunContext, Way};
 use crate::held::held_in;
@@ -84,6 +85,33 @@ impl<'a, R: Input, D: Disk + Drop, C: Children + Drop, T: Client<D, C>, K: Clock
         }
     }
 
+    /// Answers the commands that wait, since no line that follows them is there. A part of a line that was read, and a line that is held,
+    /// stay.
+    pub fn answer_rest<M: Metadata>(
+        &mut self,
+        context: &RunContext<'_, M>,
+    ) -> Result<Taken, IoFault>
+        requires open { waiting self.old.pending.gathered ≢ []
+            → self.old.worker.at.executor.is_open ≡ true }
+        ensures none { waiting self.new.pending.gathered ≡ [] }
+        ensures held { self.new.pending.held ≡ self.old.pending.held }
+        ensures buffer { self.new.pending.buffer ≡ self.old.pending.buffer }
+        ensures goes_on { IfOk result
+            (λ taken. taken ≡ More → MayGoOn context.now.way self.new.worker.at.executor) }
+        ensures lasts { Lasts self.old.worker.at self.new.worker.at }
+        ensures takes { (p : Position D) (own : OwnTurn) (most : ℕ)
+            → MayTakeBehind context.now.way most
+            → HasCome D.view (M.gives context.now.metadata.now) (rules_of context.now) p own (most + 1)
+            (midway self.old.worker self.old.pending)
+            → Comes D.view (M.gives context.now.metadata.now) (rules_of context.now) p own (most + 1)
+            (midway self.new.worker self.new.pending) result }
+        ensures memory { IfErr result (λ f. f ≡ Memory → IsTrue T.refuses) }
+    {
+        self.worker
+            .answer_gathered(context, &mut self.pending.gathered)?;
+        Ok(self.next_step(context, false))
+    }
+
     // Has a command wait behind the others, and answers all of them unless the next line is there already.
     fn take_command<M: Metadata>(
         &mut self,
@@ -94,10 +122,12 @@ impl<'a, R: Input, D: Disk + Drop, C: Children + Drop, T: Client<D, C>, K: Clock
         requires open { self.old.worker.at.executor.is_open ≡ true }
         requires few { length (waiting self.old.pending.gathered) < most_together }
         requires between { IsBetween self.old.pending }
+        requires peeked { has_next ≡ true → IsThere self.old.worker.at.events }
         ensures waits { MayWait context.now.way self.new.worker.at.executor self.new.pending }
+        ensures there { WaitsForThere self.new.pending self.new.worker.at.events }
         ensures between { IsBetween self.new.pending }
         ensures lasts { Lasts self.old.worker.at self.new.worker.at }
-        ensures takes { (p : Position D) (own : TurnEnd) (most : ℕ)
+        ensures takes { (p : Position D) (own : OwnTurn) (most : ℕ)
             → MayTakeBehind context.now.way most
             → HasFound D.view (M.gives context.now.metadata.now) (rules_of context.now) p own most
             (waiting self.old.pending.gathered) (found.Line (of_command command)) self.old.worker
@@ -109,9 +139,7 @@ impl<'a, R: Input, D: Disk + Drop, C: Children + Drop, T: Client<D, C>, K: Clock
         if has_next && !self.pending.gathered.is_full() {
             return Ok(Taken::More);
         }
-        self.worker
-            .answer_gathered(context, &mut self.pending.gathered)?;
-        Ok(self.next_step(context, false))
+        self.answer_rest(context)
     }
 
     // Answers the commands that wait, and then what stands next in the input, unless the run ends before that.
@@ -124,9 +152,10 @@ impl<'a, R: Input, D: Disk + Drop, C: Children + Drop, T: Client<D, C>, K: Clock
         requires waits { MayWait context.now.way self.old.worker.at.executor self.old.pending }
         requires between { IsBetween self.old.pending }
         ensures waits { MayWait context.now.way self.new.worker.at.executor self.new.pending }
+        ensures none { waiting self.new.pending.gathered ≡ [] }
         ensures between { IsBetween self.new.pending }
         ensures lasts { Lasts self.old.worker.at self.new.worker.at }
-        ensures takes { (p : Position D) (own : TurnEnd) (most : ℕ)
+        ensures takes { (p : Position D) (own : OwnTurn) (most : ℕ)
             → MayTakeBehind context.now.way most
             → HasFound D.view (M.gives context.now.metadata.now) (rules_of context.now) p own most
             (waiting self.old.pending.gathered) found self.old.worker
@@ -155,10 +184,12 @@ impl<'a, R: Input, D: Disk + Drop, C: Children + Drop, T: Client<D, C>, K: Clock
         requires at_once { MayTakeAtOnce context.now.way found }
         requires waits { MayWait context.now.way self.old.worker.at.executor self.old.pending }
         requires between { IsBetween self.old.pending }
+        requires peeked { has_next ≡ true → IsThere self.old.worker.at.events }
         ensures waits { MayWait context.now.way self.new.worker.at.executor self.new.pending }
+        ensures there { WaitsForThere self.new.pending self.new.worker.at.events }
         ensures between { IsBetween self.new.pending }
         ensures lasts { Lasts self.old.worker.at self.new.worker.at }
-        ensures takes { (p : Position D) (own : TurnEnd) (most : ℕ)
+        ensures takes { (p : Position D) (own : OwnTurn) (most : ℕ)
             → MayTakeBehind context.now.way most
             → HasFound D.view (M.gives context.now.metadata.now) (rules_of context.now) p own most
             (waiting self.old.pending.gathered) found self.old.worker
@@ -174,14 +205,18 @@ impl<'a, R: Input, D: Disk + Drop, C: Children + Drop, T: Client<D, C>, K: Clock
         }
     }
 
-    /// Goes on with the line in the buffer by one read, and takes it once it is whole, or holds it.
+    /// Goes on with the line in the buffer by one read, and takes it once it is whole, or holds it. Where it goes on, no command waits for
+    /// the rest of it.
     pub fn take_read<M: Metadata>(&mut self, context: &RunContext<'_, M>) -> Result<Taken, IoFault>
         requires free { self.old.pending.held ≡ None }
         requires waits { MayWait context.now.way self.old.worker.at.executor self.old.pending }
+        requires there { WaitsForThere self.old.pending self.old.worker.at.events }
         ensures waits { MayWait context.now.way self.new.worker.at.executor self.new.pending }
+        ensures there { IfOk result (λ taken. taken ≡ More
+            → WaitsForThere self.new.pending self.new.worker.at.events) }
         ensures lasts { Lasts self.old.worker.at self.new.worker.at }
-        ensures longer { length self.old.worker.at.events < length self.new.worker.at.events }
-        ensures takes { (p : Position D) (own : TurnEnd) (most : ℕ)
+        ensures reads { reads_in self.old.worker.at.events < reads_in self.new.worker.at.events }
+        ensures takes { (p : Position D) (own : OwnTurn) (most : ℕ)
             → MayTakeBehind context.now.way most
             → HasCome D.view (M.gives context.now.metadata.now) (rules_of context.now) p own most
             (midway self.old.worker self.old.pending)
@@ -190,14 +225,14 @@ impl<'a, R: Input, D: Disk + Drop, C: Children + Drop, T: Client<D, C>, K: Clock
         ensures memory { IfErr result (λ f. f ≡ Memory → IsTrue T.refuses) }
     {
         let Some(next) = self.worker.read(&mut self.pending.buffer)? else {
-            return Ok(Taken::More);
+            return self.answer_rest(context);
         };
         let found = found_in(context.way, context.alloc, &self.pending.buffer, next);
         self.pending.buffer.clear();
         let other = match held_in(context.way, found) {
             Ok(held) => {
                 self.pending.held = Some(held);
-                return Ok(Taken::More);
+                return self.answer_rest(context);
             }
             Err(other) => other,
         };

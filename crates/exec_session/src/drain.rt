@@ -78,9 +78,9 @@ impl<'a, R: Input, D: Disk + Drop, C: Children + Drop, T: Client<D, C>, K: Clock
         ensures memory { IfErr result (λ f. f ≡ Memory → IsTrue T.refuses) }
     {
         let mut now = start;
-        let mut pause = Pause::new();
+        let mut pause = Pause::new(start);
         for turns in 0..NUM_MAX {
-            pause.before_turn(self.clock());
+            pause.before_turn(self.clock(), now);
             let end = self.make_turn(context, now)?;
             if !self.pauses(&mut pause) {
                 return Err(IoFault::InputOrOutput);

@@ -1,10 +1,10 @@
 //! Laws of runs, each the contract of a function that does nothing.
 ghost use Rattle.std.specs.Prelude.{◌≡◌, ℕ, true};
-ghost use Rattle.ocf_types.specs.declared.reply.TurnEnd.{TurnEnd};
 ghost use Rattle.exec_session.specs.Drains.{GoesOn};
 ghost use Rattle.exec_session.specs.Leaving.{WindsDown};
 ghost use Rattle.exec_session.specs.Rules.{Rules};
-ghost use Rattle.exec_session.specs.Runs.{GoesByCalls, Lines, Reaches};
+ghost use Rattle.exec_session.specs.Looks.{Lines};
+ghost use Rattle.exec_session.specs.Runs.{GoesByCalls, OwnTurn, Reaches};
 ghost use Rattle.exec_session.specs.Spots.{Position, Spot};
 ghost use Rattle.exec_session.specs.declared.drain.Terms.{Terms};
 
@@ -15,7 +15,7 @@ use disk_model::Disk;
 /// and all replies and notices that were told stand behind what these recorded: so the law of whole lives speaks of each run,
 /// stopped behind any of its replies.
 pub fn lines_are_calls<D: Disk, M: Metadata>(metadata: &M)
-    ensures { (rules : Rules) (own : TurnEnd) (n : ℕ) (lines : Lines) (p q : Position D)
+    ensures { (rules : Rules) (own : OwnTurn) (n : ℕ) (lines : Lines) (p q : Position D)
         → Reaches D.view (M.gives metadata.now) rules p own n lines q
         → GoesByCalls D.view p.at q.at }
 {}

@@ -43,7 +43,7 @@ impl<'a, R: Input, D: Disk + Drop, C: Children + Drop, T: Client<D, C>, K: Clock
     }
 
     // Makes a turn now that begins nothing, and tells its notices.
-    fn finish_turn<M>(&mut self, context: &RunContext<M>) -> Result<(), IoFault>
+    fn finish_turn<M>(&mut self, context: &RunContext<M>, pause: &mut Pause) -> Result<(), IoFault>
         requires open { self.old.at.executor.is_open ≡ true }
         ensures keeps { Keeps self.old self.new }
         ensures made { OnOk result
@@ -54,6 +54,7 @@ impl<'a, R: Input, D: Disk + Drop, C: Children + Drop, T: Client<D, C>, K: Clock
         ensures memory { IfErr result (λ f. f ≡ Memory → IsTrue T.refuses) }
     {
         let now = self.now();
+        pause.before_turn(self.edge.clock(), now);
         self.executor.clear_book();
         self.executor.finish(now);
         let turn = TurnNotices::of_executor(&self.executor);
@@ -80,13 +81,12 @@ impl<'a, R: Input, D: Disk + Drop, C: Children + Drop, T: Client<D, C>, K: Clock
         ensures cause { OnErr result (MayBreakOff self.new.at.events) }
         ensures memory { IfErr result (λ f. f ≡ Memory → IsTrue T.refuses) }
     {
-        let mut pause = Pause::new();
+        let mut pause = Pause::new(0);
         for _turns in 0..NUM_MAX {
             if !self.runs_any() {
                 return self.tell_reply(context, &LineReply::Left);
             }
-            pause.before_turn(self.clock());
-            self.finish_turn(context)?;
+            self.finish_turn(context, &mut pause)?;
             if !self.is_open() {
                 return self.tell_end(context, TurnEnd::Disk);
             }

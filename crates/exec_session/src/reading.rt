@@ -4,6 +4,8 @@ ghost use Rattle.exec_client.specs.MayTell.{AllStand};
 ghost use Rattle.exec_lines.specs.Buffer.{line_bytes};
 ghost use Rattle.exec_lines.specs.Pieces.{IsMidLine, IsNext};
 ghost use Rattle.exec_output.specs.declared.send.IoFault.TheVariants.{InputOrOutput};
+ghost use Rattle.exec_state.specs.Store.{all_pairs};
+ghost use Rattle.recurring.specs.Monitors.{IsFirstMoment};
 ghost use Rattle.exec_session.specs.Runs.{IsNew};
 ghost use Rattle.exec_session.specs.Spots.{at_of, behind, noted, paused, position};
 ghost use Rattle.exec_trace.specs.declared.event.IoEvent.TheVariants.{Asked, Looked, Peeked, Read};
@@ -87,7 +89,9 @@ impl<'a, R: Input, D: Disk + Drop, C: Children + Drop, T: Client<D, C>, K: Clock
     }
 
     /// When the first monitor is due, in milliseconds since 1970.
-    pub fn first_due(&self) -> Option<u64> {
+    pub fn first_due(&self) -> Option<u64>
+        ensures first { IsFirstMoment (all_pairs self.now.at.executor.monitors) result }
+    {
         self.executor.first_due()
     }
 }

@@ -1,11 +1,12 @@
 //! Serving: the lines that are there are answered, in rounds.
-ghost use Rattle.std.specs.Prelude.{◌≡◌, ℕ, [], true, IfErr, IfOk, IsTrue, None};
-ghost use Rattle.ocf_types.specs.declared.reply.TurnEnd.{TurnEnd};
+ghost use Rattle.std.specs.Prelude.{◌≡◌, ◌<◌, ◌++◌, [], true, false, IfErr, IfOk, IsTrue, None};
 ghost use Rattle.exec_output.specs.declared.send.IoFault.TheVariants.{Memory};
 ghost use Rattle.exec_session.specs.Gathered.{waiting};
+ghost use Rattle.exec_session.specs.Held.{held_lines};
 ghost use Rattle.exec_session.specs.Limits.{lines_a_turn};
+ghost use Rattle.exec_session.specs.Looks.{HasLooked, IsThere, misses_in, reads_in};
 ghost use Rattle.exec_session.specs.Rules.{rules_of};
-ghost use Rattle.exec_session.specs.Runs.{MayGoOn};
+ghost use Rattle.exec_session.specs.Runs.{MayGoOn, OwnTurn};
 ghost use Rattle.exec_session.specs.Spots.{Lasts, Position};
 ghost use Rattle.exec_session.specs.Waiting.{Comes, HasCome, LooksOnce, MayWait, midway};
 ghost use Rattle.exec_session.specs.declared.lines.Taken.TheVariants.{More};
@@ -32,9 +33,15 @@ fn may_read<R: Input, D: Disk + Drop, C: Children + Drop, T: Client<D, C>, K: Cl
     held: &Option<Held>,
 ) -> bool
     ensures free { IsTrue result → held.now ≡ None }
+    ensures there { IsTrue result → IsThere worker.new.at.events }
+    ensures missed { result ≡ false → held.now ≡ None
+        → misses_in worker.old.at.events < misses_in worker.new.at.events }
     ensures looks { LooksOnce worker.old worker.new }
 {
-    held.is_none() && worker.look(0)
+    match held {
+        Some(_) => false,
+        None => worker.look(0),
+    }
 }
 
 impl<'a, R: Input, D: Disk + Drop, C: Children + Drop, T: Client<D, C>, K: Clock> Desk<
@@ -50,8 +57,11 @@ impl<'a, R: Input, D: Disk + Drop, C: Children + Drop, T: Client<D, C>, K: Clock
         requires way { context.now.way ≡ Way.Serve }
         requires waits { MayWait context.now.way self.old.worker.at.executor self.old.pending }
         ensures waits { MayWait context.now.way self.new.worker.at.executor self.new.pending }
+        ensures looked { IfOk result (λ taken. taken ≡ More
+            → HasLooked (reads_in self.old.worker.at.events) (misses_in self.old.worker.at.events)
+            (held_lines self.new.pending.held) self.new.worker.at.events) }
         ensures lasts { Lasts self.old.worker.at self.new.worker.at }
-        ensures takes { (p : Position D) (own : TurnEnd)
+        ensures takes { (p : Position D) (own : OwnTurn)
             → HasCome D.view (M.gives context.now.metadata.now) (rules_of context.now) p own 0
             (midway self.old.worker self.old.pending)
             → Comes D.view (M.gives context.now.metadata.now) (rules_of context.now) p own lines_a_turn
@@ -75,10 +85,13 @@ impl<'a, R: Input, D: Disk + Drop, C: Children + Drop, T: Client<D, C>, K: Clock
         requires way { context.now.way ≡ Way.Serve }
         requires waits { MayWait context.now.way self.old.worker.at.executor self.old.pending }
         ensures none { IfOk result (λ taken. taken ≡ More → waiting self.new.pending.gathered ≡ []) }
+        ensures looked { IfOk result (λ taken. taken ≡ More
+            → HasLooked (reads_in self.old.worker.at.events) (misses_in self.old.worker.at.events)
+            (held_lines self.new.pending.held) self.new.worker.at.events) }
         ensures goes_on { IfOk result
             (λ taken. taken ≡ More → MayGoOn context.now.way self.new.worker.at.executor) }
         ensures lasts { Lasts self.old.worker.at self.new.worker.at }
-        ensures takes { (p : Position D) (own : TurnEnd)
+        ensures takes { (p : Position D) (own : OwnTurn)
             → HasCome D.view (M.gives context.now.metadata.now) (rules_of context.now) p own 0
             (midway self.old.worker self.old.pending)
             → Comes D.view (M.gives context.now.metadata.now) (rules_of context.now) p own lines_a_turn
@@ -89,9 +102,7 @@ impl<'a, R: Input, D: Disk + Drop, C: Children + Drop, T: Client<D, C>, K: Clock
         if waited != Taken::More {
             return Ok(waited);
         }
-        self.worker
-            .answer_gathered(context, &mut self.pending.gathered)?;
-        Ok(self.next_step(context, false))
+        self.answer_rest(context)
     }
 
     /// Answers the line that is held, where its agent has answered; where none is held, the lines that are there, unless the run
@@ -104,10 +115,14 @@ impl<'a, R: Input, D: Disk + Drop, C: Children + Drop, T: Client<D, C>, K: Clock
         requires open { self.old.worker.at.executor.is_open ≡ true }
         requires none { waiting self.old.pending.gathered ≡ [] }
         ensures none { IfOk result (λ taken. taken ≡ More → waiting self.new.pending.gathered ≡ []) }
+        ensures looked { IfOk result (λ taken. taken ≡ More
+            → HasLooked (reads_in self.old.worker.at.events) (misses_in self.old.worker.at.events)
+            (held_lines self.old.pending.held ++ held_lines self.new.pending.held)
+            self.new.worker.at.events) }
         ensures goes_on { IfOk result
             (λ taken. taken ≡ More → MayGoOn context.now.way self.new.worker.at.executor) }
         ensures lasts { Lasts self.old.worker.at self.new.worker.at }
-        ensures takes { (p : Position D) (own : TurnEnd)
+        ensures takes { (p : Position D) (own : OwnTurn)
             → HasCome D.view (M.gives context.now.metadata.now) (rules_of context.now) p own 0
             (midway self.old.worker self.old.pending)
             → Comes D.view (M.gives context.now.metadata.now) (rules_of context.now) p own lines_a_turn

@@ -98,15 +98,16 @@ fn make_own_turn<
     requires open { worker.old.at.executor.is_open ≡ true }
     ensures keeps { Keeps worker.old worker.new }
     ensures longer { length worker.old.at.events < length worker.new.at.events }
+    ensures since { pause.new.since ≡ pause.old.since }
     ensures made { IfOk result (λ end. MakesOwnTurn D.view (rules_of context.now) before
-        worker.old.at worker.new.at end) }
+        pause.new.moment worker.old.at worker.new.at end) }
     ensures breaks { OnErr result (OwnTurnBreaks D.view (rules_of context.now) before
         worker.old.at worker.new.at) }
     ensures cause { OnErr result (MayBreakOff worker.new.at.events) }
     ensures memory { IfErr result (λ f. f ≡ Memory → IsTrue T.refuses) }
 {
-    pause.before_turn(worker.clock());
     let now = worker.now();
+    pause.before_turn(worker.clock(), now);
     let end = worker.make_turn(context, now)?;
     tell_news(worker, context, before, end)?;
     Ok(end)
@@ -124,17 +125,18 @@ impl<'a, R: Input, D: Disk + Drop, C: Children + Drop, T: Client<D, C>, K: Clock
     // line.
     fn serve_round<M: Metadata>(&mut self, context: &RunContext<'_, M>) -> Result<Taken, IoFault>
         requires way { context.now.way ≡ Way.Serve }
-        requires begins { MayBegin context.now.way self.old.desk.worker.at.executor
-            self.old.desk.pending }
-        ensures begins { IfOk result (λ taken. taken ≡ More → MayBegin context.now.way
-            self.new.desk.worker.at.executor self.new.desk.pending) }
+        requires begins { MayBegin context.now.way self.old.desk.worker.at self.old.desk.pending }
+        ensures begins { IfOk result (λ taken. taken ≡ More
+            → MayBegin context.now.way self.new.desk.worker.at self.new.desk.pending) }
         ensures lasts { Lasts self.old.desk.worker.at self.new.desk.worker.at }
         ensures longer { IfOk result (λ taken. taken ≡ More
             → length self.old.desk.worker.at.events < length self.new.desk.worker.at.events) }
         ensures goes { (p : Position D)
-            → HasComeRound D.view (M.gives context.now.metadata.now) (rules_of context.now) p self.old.own
+            → HasComeRound D.view (M.gives context.now.metadata.now) (rules_of context.now) p
+            self.old.pause.since self.old.own
             (midway self.old.desk.worker self.old.desk.pending)
-            → GoesRound D.view (M.gives context.now.metadata.now) (rules_of context.now) p self.new.own
+            → GoesRound D.view (M.gives context.now.metadata.now) (rules_of context.now) p
+            self.new.pause.since self.new.own
             (midway self.new.desk.worker self.new.desk.pending) result }
         ensures memory { IfErr result (λ f. f ≡ Memory → IsTrue T.refuses) }
     {
@@ -160,17 +162,18 @@ impl<'a, R: Input, D: Disk + Drop, C: Children + Drop, T: Client<D, C>, K: Clock
 
     // One round: of a run by lines alone a read, and the answer to the line that it completes.
     fn round<M: Metadata>(&mut self, context: &RunContext<'_, M>) -> Result<Taken, IoFault>
-        requires begins { MayBegin context.now.way self.old.desk.worker.at.executor
-            self.old.desk.pending }
-        ensures begins { IfOk result (λ taken. taken ≡ More → MayBegin context.now.way
-            self.new.desk.worker.at.executor self.new.desk.pending) }
+        requires begins { MayBegin context.now.way self.old.desk.worker.at self.old.desk.pending }
+        ensures begins { IfOk result (λ taken. taken ≡ More
+            → MayBegin context.now.way self.new.desk.worker.at self.new.desk.pending) }
         ensures lasts { Lasts self.old.desk.worker.at self.new.desk.worker.at }
         ensures longer { IfOk result (λ taken. taken ≡ More
             → length self.old.desk.worker.at.events < length self.new.desk.worker.at.events) }
         ensures goes { (p : Position D)
-            → HasComeRound D.view (M.gives context.now.metadata.now) (rules_of context.now) p self.old.own
+            → HasComeRound D.view (M.gives context.now.metadata.now) (rules_of context.now) p
+            self.old.pause.since self.old.own
             (midway self.old.desk.worker self.old.desk.pending)
-            → GoesRound D.view (M.gives context.now.metadata.now) (rules_of context.now) p self.new.own
+            → GoesRound D.view (M.gives context.now.metadata.now) (rules_of context.now) p
+            self.new.pause.since self.new.own
             (midway self.new.desk.worker self.new.desk.pending) result }
         ensures memory { IfErr result (λ f. f ≡ Memory → IsTrue T.refuses) }
     {
@@ -189,7 +192,8 @@ impl<'a, R: Input, D: Disk + Drop, C: Children + Drop, T: Client<D, C>, K: Clock
     T,
     K,
 > {
-    // Nothing was read, and no turn was made.
+    // Nothing was read, and no turn was made. What is moved here is no part of the stack of a run.
+    #[inline(never)]
     fn new(
         edge: Edge<'a, R, D, C, T, K>,
         executor: Executor<D, C>,
@@ -199,13 +203,14 @@ impl<'a, R: Input, D: Disk + Drop, C: Children + Drop, T: Client<D, C>, K: Clock
         ensures place { result.desk.worker ≡ at_of executor edge.entry }
         ensures clear { IsClear result.desk.pending }
         ensures none { result.own ≡ Done }
+        ensures since { result.pause.since ≡ 0 }
     {
         Session {
             desk: Desk {
                 worker: Worker::new(edge, executor),
                 pending: room.into_pending(),
             },
-            pause: Pause::new(),
+            pause: Pause::new(0),
             own: TurnEnd::Done,
         }
     }
@@ -284,6 +289,7 @@ impl<'a, R: Input, D: Disk + Drop, C: Children + Drop, T: Client<D, C>, K: Clock
 /// next turn. Where the disk failed the end of the input is a fault, and a run that serves ends at once by it, with the line of a
 /// turn that ended so; input or output that fails is another, and so is a reply that finds no memory. In any case all children are
 /// given up then, and the executor closed. The room for lines is handed in, so that none is refused between the opening and its report.
+#[inline(never)]
 pub fn run_lines<
     'a,
     R: Input,

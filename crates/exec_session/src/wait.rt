@@ -1,7 +1,6 @@
 //! The wait behind a turn of a run that serves.
-ghost use Rattle.std.specs.Prelude.{◌≡◌, ◌≤◌, ◌*◌, true};
-ghost use Rattle.ocf_types.specs.Boot.{any_busy};
-ghost use Rattle.exec_session.specs.Limits.{longest_pause, longest_wait};
+ghost use Rattle.std.specs.Prelude.{◌≡◌, ◌≤◌, ◌*◌};
+ghost use Rattle.exec_session.specs.Pausing.{IsQuietSince, MayPause};
 ghost use Rattle.exec_session.specs.Spots.{Position, noted};
 ghost use Rattle.exec_session.specs.Waiting.{Waits};
 ghost use Rattle.exec_trace.specs.declared.event.IoEvent.TheVariants.{Asked};
@@ -24,8 +23,12 @@ fn wait_micros<R: Input, D: Disk + Drop, C: Children + Drop, T: Client<D, C>, K:
     worker: &mut Worker<'_, R, D, C, T, K>,
     pause: &mut Pause,
 ) -> u64
-    ensures waits { Waits worker.old worker.new }
-    ensures busy { any_busy worker.old.at.executor.state ≡ true → result ≤ longest_pause }
+    ensures moment { pause.new.moment ≡ pause.old.moment }
+    ensures quiet { IsQuietSince worker.old.at.executor.children.book pause.old.moment pause.old.since
+        pause.new.since }
+    ensures waits { Waits pause.new.since pause.new.moment worker.old worker.new }
+    ensures may { MayPause pause.new.since pause.new.moment worker.new.at.executor
+        worker.new.at.events result }
 {
     let micros = pause.behind_turn(worker.clock(), &worker.executor);
     if micros == 0 || !worker.idle() {
@@ -41,7 +44,6 @@ fn wait_micros<R: Input, D: Disk + Drop, C: Children + Drop, T: Client<D, C>, K:
 
 // For so many microseconds may be waited: for how many milliseconds input is waited for.
 fn look_millis(micros: u64) -> u32
-    ensures most { result ≤ longest_wait }
     ensures part { result * 1000 ≤ micros }
 {
     (micros / 1_000).min(u64::from(LONGEST_IDLE)) as u32
@@ -53,7 +55,10 @@ fn wait_for_line<R: Input, D: Disk + Drop, C: Children + Drop, T: Client<D, C>, 
     worker: &mut Worker<'_, R, D, C, T, K>,
     pause: &mut Pause,
 )
-    ensures waits { Waits worker.old worker.new }
+    ensures moment { pause.new.moment ≡ pause.old.moment }
+    ensures quiet { IsQuietSince worker.old.at.executor.children.book pause.old.moment pause.old.since
+        pause.new.since }
+    ensures waits { Waits pause.new.since pause.new.moment worker.old worker.new }
 {
     let micros = wait_micros(worker, pause);
     if micros < 1_000 {
@@ -70,7 +75,11 @@ pub fn wait<R: Input, D: Disk + Drop, C: Children + Drop, T: Client<D, C>, K: Cl
     pause: &mut Pause,
     holds: bool,
 ) -> bool
-    ensures waits { (m : Position D) × Waits worker.old m × (worker.new ≡ noted m (Asked result)) }
+    ensures moment { pause.new.moment ≡ pause.old.moment }
+    ensures quiet { IsQuietSince worker.old.at.executor.children.book pause.old.moment pause.old.since
+        pause.new.since }
+    ensures waits { (m : Position D) × Waits pause.new.since pause.new.moment worker.old m
+        × (worker.new ≡ noted m (Asked result)) }
 {
     pause.holds(holds);
     if holds {

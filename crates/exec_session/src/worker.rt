@@ -1,10 +1,11 @@
 //! What a run works with: its executor, and the reader, the client and the clock.
-ghost use Rattle.std.specs.Prelude.{◌≡◌, not, IfErr, IsTrue, OnErr, OnOk};
+ghost use Rattle.std.specs.Prelude.{◌≡◌, ◌≤◌, not, IfErr, IsTrue, OnErr, OnOk};
 ghost use Rattle.ocf_types.specs.Boot.{any_busy};
 ghost use Rattle.ocf_types.specs.Numbers.{IsMoment};
 ghost use Rattle.exec_client.specs.MayTell.{MaySay, StandsBehind};
 ghost use Rattle.exec_client.specs.Said.{said_in};
 ghost use Rattle.exec_output.specs.declared.send.IoFault.TheVariants.{Memory};
+ghost use Rattle.exec_session.specs.Pausing.{IsQuietSince};
 ghost use Rattle.exec_session.specs.Spots.{Keeps, MayBreakOff, Pauses, Tells, TellsPart, noted};
 ghost use Rattle.exec_trace.specs.declared.event.IoEvent.TheVariants.{Shown};
 
@@ -78,7 +79,11 @@ impl<'a, R: Input, D: Disk + Drop, C: Children + Drop, T: Client<D, C>, K: Clock
     /// Pauses behind a turn. Whether the client hears still.
     pub fn pauses(&mut self, pause: &mut Pause) -> bool
         ensures left { self.new.left ≡ self.old.left }
-        ensures paused { Pauses result self.old.at self.new.at }
+        ensures moment { pause.new.moment ≡ pause.old.moment }
+        ensures grows { pause.old.since ≤ pause.new.since }
+        ensures quiet { IsQuietSince self.old.at.executor.children.book pause.old.moment pause.old.since
+            pause.new.since }
+        ensures paused { Pauses pause.new.since pause.new.moment result self.old.at self.new.at }
     {
         let micros = pause.behind_turn(self.edge.clock(), &self.executor);
         self.edge.rest(micros);

@@ -1,4 +1,4 @@
-use Rattle.std.proofs.Common.{[], true≢false, refl, sym, ◌∙◌}
+use Rattle.std.proofs.Common.{[], refl, sym}
 use Rattle.exec_client.specs.Behind.{nothing}
 use Rattle.exec_client.proofs.Growing.{none_stands}
 use Rattle.exec_session.proofs.TellLemmas.{one_more, request_says, request_stands}

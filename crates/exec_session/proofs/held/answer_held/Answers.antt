@@ -1,6 +1,4 @@
-use Rattle.std.proofs.Common.{true, false, Ok, refl, subst, sym}
-use Rattle.exec_client.specs.Said.{Answered}
-use Rattle.exec_commands.specs.declared.reply.LineReply.TheVariants as answer
+use Rattle.std.proofs.Common.{true, Ok, subst, sym}
 use Rattle.exec_session.specs.Held.{AnswersHeld, asks}
 use Rattle.exec_session.specs.Progress.{AnswersSo}
 use Rattle.exec_session.specs.Rules.{rules_of}

@@ -1,11 +1,12 @@
-use Rattle.std.proofs.Common.{◌≡◌, Some, ap, subst, sym, ◌∙◌}
+use Rattle.std.proofs.Common.{ℕ, ap, subst, sym, ◌∙◌}
 use Rattle.exec_lines.proofs.PieceLemmas.{on_err}
 use Rattle.exec_trace.specs.Events.{last_shown}
 use Rattle.exec_trace.specs.declared.event.IoEvent.TheVariants.{Shown}
 use Rattle.exec_session.specs.Breaks.{in_end, in_notices}
 use Rattle.exec_session.specs.Drains.{MakesTurn, TurnHeard}
 use Rattle.exec_session.specs.Rules.{rules_of}
-use Rattle.exec_session.specs.Spots.{Position, Spot, TellsPart}
+use Rattle.exec_session.specs.Runs.{MakesOwnTurn}
+use Rattle.exec_session.specs.Spots.{Position, TellsPart}
 use Rattle.exec_session.proofs.EventLemmas.{both_keep, shown_last, was_noted}
 use Rattle.exec_session.proofs.LastLemmas.{lasts_both, longer_event, longer_then}
 use Rattle.exec_session.proofs.session.make_own_turn.Goals as goal
@@ -16,14 +17,15 @@ make_turn-requires-clause-shown g c =
     ∙ shown_last c.args.worker.now.at.events c.now-now.result
 
 pub returns-clause-made : goal.returns-clause-made
-returns-clause-made g c = record {
-  now = c.now-now.result;
-  noticed = c.make_turn.new.self.at;
-  made =
-      subst (λ (w : Position _). MakesTurn g.D.Disk.view (rules_of c.args.context.now) c.now-now.result w.at c.make_turn.new.self.at
-      c.in_ok-end.end) c.now-now.ensures.noted c.in_ok-end.ensures.made;
-  told = c.in_ok-tell_news.ensures.told;
-}
+returns-clause-made g c =
+    subst (λ (n : ℕ). MakesOwnTurn g.D.Disk.view (rules_of c.args.context.now) c.args.before n c.args.worker.now.at
+    c.tell_news.new.worker.at c.in_ok-end.end) (sym c.before_turn.ensures.moment) (record {
+      noticed = c.make_turn.new.self.at;
+      made =
+          subst (λ (w : Position _). MakesTurn g.D.Disk.view (rules_of c.args.context.now) c.now-now.result w.at c.make_turn.new.self.at
+          c.in_ok-end.end) c.now-now.ensures.noted c.in_ok-end.ensures.made;
+      told = c.in_ok-tell_news.ensures.told;
+    })
 
 pub returns-clause-keeps : goal.returns-clause-keeps
 returns-clause-keeps g c =

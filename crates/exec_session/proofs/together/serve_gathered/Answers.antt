@@ -1,4 +1,4 @@
-use Rattle.std.proofs.Common.{length, true≢false, refl, sym, ◌∙◌, [], map}
+use Rattle.std.proofs.Common.{length, refl, []}
 use Rattle.exec_client.specs.Behind.{nothing}
 use Rattle.exec_client.proofs.Growing.{none_stands}
 use Rattle.exec_session.specs.Gathered.{replied, waiting}

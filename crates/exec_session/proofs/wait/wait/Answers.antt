@@ -1,17 +1,14 @@
-use Rattle.std.proofs.Common.{refl}
+use Rattle.std.proofs.Common.{inl, refl}
 use Rattle.exec_session.specs.Spots.{paused, position}
 use Rattle.exec_session.specs.Waiting.{still}
 use Rattle.exec_session.proofs.RoundLemmas.{position_is, waits_rest}
 use Rattle.exec_session.proofs.wait.wait.Goals as goal
 
-pub returns-then-holds : goal.returns-then-holds
-returns-then-holds g c =
+pub returns-then-holds-clause-waits : goal.returns-then-holds-clause-waits
+returns-then-holds-clause-waits g c =
     let old = c.args.worker.now in
-    let (micros, le, same) = c.pauses.ensures.paused in
-    let m = position (paused old.at micros) old.left in record {
-      waits = (
-        m,
-        waits_rest old old m micros le still refl,
-        position_is c.pauses.new.self _ old.left same c.pauses.ensures.left,
-      );
-    }
+    let since = c.pauses.new.pause.since in
+    let moment = c.pauses.new.pause.moment in
+    let (micros, short, same) = c.pauses.ensures.paused in
+    let m = position (paused old.at micros) old.left in
+    (m, waits_rest since moment old old m micros (inl short) still refl, position_is c.pauses.new.self _ old.left same c.pauses.ensures.left)

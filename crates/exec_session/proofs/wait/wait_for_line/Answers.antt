@@ -1,21 +1,20 @@
-use Rattle.std.proofs.Common.{ap, arith, sym, ◌∙◌}
-use Rattle.ocf_types.specs.Boot.{any_busy}
-use Rattle.executor.specs.Sights.{Sight}
+use Rattle.std.proofs.Common.{arith}
 use Rattle.exec_trace.specs.declared.event.IoEvent.TheVariants.{Looked}
-use Rattle.exec_session.proofs.RoundLemmas.{waits_executor, waits_more}
+use Rattle.exec_session.proofs.RoundLemmas.{pause_less, waits_more, waits_rest}
 use Rattle.exec_session.proofs.wait.wait_for_line.Goals as goal
 
-pub returns-else-micros-lt1000 : goal.returns-else-micros-lt1000
-returns-else-micros-lt1000 g c =
-    let old = c.args.worker.now in
+pub returns-then-micros-lt1000-clause-waits : goal.returns-then-micros-lt1000-clause-waits
+returns-then-micros-lt1000-clause-waits g c =
     let it = c.wait_micros-micros.new.worker in
-    let waits = c.wait_micros-micros.ensures.waits in
-    let same = waits_executor old it waits in record {
-      waits =
-          waits_more old it c.look.new.self (Looked c.look_millis.result c.look.result) waits (
-            c.look_millis.ensures.most,
-            λ busy.
-                let short = c.wait_micros-micros.ensures.busy (sym (ap (λ (x : Sight _). any_busy x.state) same) ∙ busy) in
-                omega (arith, short, c.look_millis.ensures.part),
-          ) c.look.ensures.noted;
-    }
+    waits_rest c.wait_micros-micros.new.pause.since c.wait_micros-micros.new.pause.moment c.args.worker.now it c.rest.new.self
+    c.wait_micros-micros.result c.wait_micros-micros.ensures.may c.wait_micros-micros.ensures.waits c.rest.ensures.noted
+
+pub returns-else-micros-lt1000-clause-waits : goal.returns-else-micros-lt1000-clause-waits
+returns-else-micros-lt1000-clause-waits g c =
+    let it = c.wait_micros-micros.new.worker in
+    let since = c.wait_micros-micros.new.pause.since in
+    let moment = c.wait_micros-micros.new.pause.moment in
+    waits_more since moment c.args.worker.now it c.look.new.self (Looked c.look_millis.result c.look.result)
+    c.wait_micros-micros.ensures.waits
+    (pause_less since moment it.at.executor it.at.events _ c.wait_micros-micros.result (omega (arith, c.look_millis.ensures.part))
+    c.wait_micros-micros.ensures.may) c.look.ensures.noted

@@ -1,4 +1,4 @@
-use Rattle.std.proofs.Common.{Bool, Ok, Some, None, refl, subst, sym, arith}
+use Rattle.std.proofs.Common.{Bool, Ok, None, subst, sym, arith}
 use Rattle.executor.specs.Sights.{Sight}
 use Rattle.exec_lines.specs.Buffer.{line_bytes}
 use Rattle.exec_output.specs.declared.send.IoFault.TheVariants.{InputOrOutput}
@@ -6,7 +6,8 @@ use Rattle.exec_session.specs.Gathered.{waiting}
 use Rattle.exec_session.specs.Held.{AnswersHeld}
 use Rattle.exec_session.specs.Rules.{rules_of}
 use Rattle.exec_session.specs.Runs.{MayGoOn}
-use Rattle.exec_session.proofs.RoundLemmas.{held_answered, held_breaks, held_still}
+use Rattle.exec_session.specs.Looks.{misses_in, reads_in}
+use Rattle.exec_session.proofs.RoundLemmas.{held_answered, held_breaks, held_still, looked_some}
 use Rattle.exec_session.proofs.WaitLemmas.{come_more, comes_err, go_open, may_serve}
 use Rattle.exec_session.proofs.desk.Desk.answer_round.Goals as goal
 
@@ -40,6 +41,18 @@ returns-else-answered-clause-takes g c = λ p own come.
     (held_still look source rules p own 0 commands it.pending.held kept it.worker new
     (subst (λ (b : Bool). AnswersHeld look source rules c.in-Some.line it.worker.at new.at (Ok b)) c.if-answered.false
     c.in_ok-answered.ensures.answers) c.in_ok-answered.ensures.keeps.1 come)
+
+pub returns-then-answered-clause-looked : goal.returns-then-answered-clause-looked
+returns-then-answered-clause-looked g c = λ _.
+    let it = c.args.self.now in
+    looked_some it.pending.held None c.in-Some.line (reads_in it.worker.at.events) (misses_in it.worker.at.events)
+    c.answer_held.new.worker.at.events c.in-Some.is
+
+pub returns-else-answered-clause-looked : goal.returns-else-answered-clause-looked
+returns-else-answered-clause-looked g c = λ _.
+    let it = c.args.self.now in
+    looked_some it.pending.held it.pending.held c.in-Some.line (reads_in it.worker.at.events) (misses_in it.worker.at.events)
+    c.answer_held.new.worker.at.events c.in-Some.is
 
 pub returns-in_err-answered-clause-takes : goal.returns-in_err-answered-clause-takes
 returns-in_err-answered-clause-takes g c = λ p own come.

@@ -1,8 +1,8 @@
-use Rattle.std.proofs.Common.{◌+◌, arith}
+use Rattle.std.proofs.Common.{ap, ◌∙◌}
 use Rattle.exec_lines.specs.Buffer.{line_bytes}
 use Rattle.exec_session.specs.Gathered.{waiting}
 use Rattle.exec_session.specs.Rules.{rules_of}
-use Rattle.exec_session.proofs.WaitLemmas.{come_answered, come_row_breaks, comes_err, one_waits}
+use Rattle.exec_session.proofs.WaitLemmas.{none_there, none_waits, one_waits}
 use Rattle.exec_session.proofs.desk.Desk.take_command.Goals as goal
 
 pub returns-then-not-is_full-clause-takes : goal.returns-then-not-is_full-clause-takes
@@ -12,31 +12,26 @@ returns-then-not-is_full-clause-takes g c = λ p own most may finds.
     (waiting old.pending.gathered) (waiting c.push.new.self) old.pending.held (line_bytes old.pending.buffer) c.args.command old.worker
     c.requires.between.free c.requires.between.buffer c.push.ensures finds
 
-pub returns-in_err-answer_gathered-clause-takes : goal.returns-in_err-answer_gathered-clause-takes
-returns-in_err-answer_gathered-clause-takes g c = λ p own most may finds.
-    let look = g.D.Disk.view in
-    let source = g.M.Metadata.gives c.args.context.now.metadata.now in
-    let rules = rules_of c.args.context.now in
-    let old = c.args.self.now in
-    let held = old.pending.held in
-    let kept = line_bytes old.pending.buffer in
-    let come = one_waits look source rules p own most (waiting old.pending.gathered) (waiting c.push.new.self) held kept c.args.command
-    old.worker c.requires.between.free c.requires.between.buffer c.push.ensures finds in
-    comes_err _ _ _ _ own _ _ c.from_residual.result c.from_residual.ensures.0
-    (come_row_breaks look source rules p own (most + 1) (waiting c.push.new.self) held kept old.worker c.answer_gathered.new.self.at
-    (λ _. c.requires.open) come c.in_err-answer_gathered.ensures.breaks c.in_err-answer_gathered.ensures.cause)
-
 pub returns-clause-takes : goal.returns-clause-takes
 returns-clause-takes g c = λ p own most may finds.
-    let look = g.D.Disk.view in
-    let source = g.M.Metadata.gives c.args.context.now.metadata.now in
-    let rules = rules_of c.args.context.now in
     let old = c.args.self.now in
-    let held = old.pending.held in
-    let kept = line_bytes old.pending.buffer in
-    let new = c.answer_gathered.new in
-    let come = one_waits look source rules p own most (waiting old.pending.gathered) (waiting c.push.new.self) held kept c.args.command
-    old.worker c.requires.between.free c.requires.between.buffer c.push.ensures finds in
-    come_answered look source rules p own (most + 1) (λ n few. may n (omega (arith, few))) (waiting c.push.new.self) (waiting new.gathered)
-    held kept old.worker new.self c.next_step.result (λ _. c.requires.open) c.in_ok-answer_gathered.ensures.none
-    c.in_ok-answer_gathered.ensures.keeps.1 come c.in_ok-answer_gathered.ensures.answers c.next_step.ensures
+    c.answer_rest.ensures.takes p own most may
+    (one_waits g.D.Disk.view (g.M.Metadata.gives c.args.context.now.metadata.now) (rules_of c.args.context.now) p own most
+    (waiting old.pending.gathered) (waiting c.push.new.self) old.pending.held (line_bytes old.pending.buffer) c.args.command old.worker
+    c.requires.between.free c.requires.between.buffer c.push.ensures finds)
+
+pub returns-clause-waits : goal.returns-clause-waits
+returns-clause-waits g c =
+    let new = c.answer_rest.new.self in
+    none_waits c.args.context.now.way new.worker.at.executor new.pending c.answer_rest.ensures.none
+    (λ _. c.answer_rest.ensures.held ∙ c.requires.between.free)
+
+pub returns-clause-there : goal.returns-clause-there
+returns-clause-there g c =
+    let new = c.answer_rest.new.self in none_there new.pending new.worker.at.events c.answer_rest.ensures.none
+
+pub returns-clause-between : goal.returns-clause-between
+returns-clause-between g c = record {
+  buffer = ap (λ b. line_bytes b) c.answer_rest.ensures.buffer ∙ c.requires.between.buffer;
+  free = c.answer_rest.ensures.held ∙ c.requires.between.free;
+}

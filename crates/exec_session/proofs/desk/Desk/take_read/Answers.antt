@@ -1,12 +1,12 @@
-use Rattle.std.proofs.Common.{◌+◌, Some, false, arith, ap, refl, subst, sym}
+use Rattle.std.proofs.Common.{◌+◌, Some, true, false, arith, ap, refl, subst, sym}
 use Rattle.exec_lines.specs.Buffer.{line_bytes}
 use Rattle.exec_trace.specs.declared.event.IoEvent.TheVariants.{Peeked, Read}
 use Rattle.exec_session.specs.Gathered.{waiting}
 use Rattle.exec_session.specs.Rules.{rules_of}
-use Rattle.exec_session.specs.Spots.{Position}
+use Rattle.exec_session.specs.Spots.{Spot}
 use Rattle.exec_session.specs.Waiting.{HasFound}
 use Rattle.exec_session.specs.declared.lines.Found.{Found}
-use Rattle.exec_session.proofs.LastLemmas.{lasts_both, lasts_event, lasts_noted, longer_event, longer_then}
+use Rattle.exec_session.proofs.LastLemmas.{lasts_both, lasts_noted, one_read, read_then}
 use Rattle.exec_session.proofs.RoundLemmas.{at_none, at_some}
 use Rattle.exec_session.proofs.WaitLemmas.{come_more, comes_err, event_breaks, found_held, found_looked, found_next, mid_before, read_part}
 use Rattle.exec_session.proofs.desk.Desk.take_read.Goals as goal
@@ -23,9 +23,10 @@ returns-in_default-clause-takes g c = λ p own most may come.
     let kept' = line_bytes c.read.new.buffer in
     let place' = c.read.new.self in
     let mid = mid_before held c.requires.free come.left kept old.worker.left come.mid in
-    come_more look source rules p own most (most + 1) commands held kept' place' (omega arith)
-    (read_part look source rules p own most commands held kept kept' old.worker place' c.requires.free c.in_ok-next.ensures.noted come
-    (at_none c.in_ok-next.field-0 _ _ c.in_default.is (c.in_ok-next.ensures.gathers come.left mid)))
+    c.answer_rest.ensures.takes p own most may (come_more look source rules p own most (most + 1) commands held kept' place' (omega arith)
+    (read_part look source rules p own most commands held kept kept' old.worker place' c.requires.free c.requires.there
+    c.in_ok-next.ensures.noted come
+    (at_none c.in_ok-next.field-0 _ _ c.in_default.is (c.in_ok-next.ensures.gathers come.left mid))))
 
 pub returns-in-Ok-clause-takes : goal.returns-in-Ok-clause-takes
 returns-in-Ok-clause-takes g c = λ p own most may come.
@@ -40,10 +41,11 @@ returns-in-Ok-clause-takes g c = λ p own most may come.
     let mid = mid_before held c.requires.free come.left kept old.worker.left come.mid in
     let next = at_some c.in_ok-next.field-0 c.in-Some.next _ _ c.in-Some.is (c.in_ok-next.ensures.gathers come.left mid) in
     let found = c.found_in-found.result in
-    found_held look source rules p own most commands (Some c.in-Ok.held) (line_bytes c.clear.new.self) c.in-Ok.held found place'
+    c.answer_rest-in-Ok.ensures.takes p own most may
+    (found_held look source rules p own most commands (Some c.in-Ok.held) (line_bytes c.clear.new.self) c.in-Ok.held found place'
     c.in-Ok.ensures.held refl c.clear.ensures
-    (found_next look source rules p own most commands held kept old.worker place' found c.requires.free c.in_ok-next.ensures.noted come
-    (c.found_in-found.ensures.found come.left place'.left next))
+    (found_next look source rules p own most commands held kept old.worker place' found c.requires.free c.requires.there
+    c.in_ok-next.ensures.noted come (c.found_in-found.ensures.found come.left place'.left next)))
 
 pub returns-clause-takes : goal.returns-clause-takes
 returns-clause-takes g c = λ p own most may come.
@@ -58,10 +60,10 @@ returns-clause-takes g c = λ p own most may come.
     let mid = mid_before held c.requires.free come.left kept old.worker.left come.mid in
     let next = at_some c.in_ok-next.field-0 c.in-Some.next _ _ c.in-Some.is (c.in_ok-next.ensures.gathers come.left mid) in
     let finds = found_next look source rules p own most commands held kept old.worker place' c.found_in-found.result c.requires.free
-    c.in_ok-next.ensures.noted come (c.found_in-found.ensures.found come.left place'.left next) in
+    c.requires.there c.in_ok-next.ensures.noted come (c.found_in-found.ensures.found come.left place'.left next) in
     c.take_found.ensures.takes p own most may
-    (found_looked look source rules p own most commands c.in-Err.other place' c.has_line-has_next.new.self (Peeked c.has_line-has_next.result) tt
-    c.has_line-has_next.ensures.noted
+    (found_looked look source rules p own most commands c.in-Err.other place' c.has_line-has_next.new.self (Peeked c.has_line-has_next.result)
+    (old.worker.at.events, ap (λ (s : Spot _). s.events) c.in_ok-next.ensures.noted) c.has_line-has_next.ensures.noted
     (subst (λ (f : Found). HasFound look source rules p own most commands f place') (sym c.in-Err.ensures.same) finds))
 
 pub returns-in_err-next-clause-takes : goal.returns-in_err-next-clause-takes
@@ -71,3 +73,28 @@ returns-in_err-next-clause-takes g c = λ p own most may come.
     (event_breaks g.D.Disk.view (g.M.Metadata.gives c.args.context.now.metadata.now) (rules_of c.args.context.now) p own most
     (waiting old.pending.gathered) old.pending.held (line_bytes old.pending.buffer) old.worker c.read.new.self.at (Read false) refl
     c.in_err-next.ensures.noted come)
+
+pub returns-in_err-next-clause-reads : goal.returns-in_err-next-clause-reads
+returns-in_err-next-clause-reads g c = one_read c.args.self.now.worker.at c.read.new.self.at false c.in_err-next.ensures.noted
+
+pub returns-in_default-clause-reads : goal.returns-in_default-clause-reads
+returns-in_default-clause-reads g c =
+    let old = c.args.self.now.worker.at in
+    read_then old c.read.new.self.at c.answer_rest.new.self.worker.at (one_read old c.read.new.self.at true c.in_ok-next.ensures.noted)
+    c.answer_rest.ensures.lasts
+
+pub returns-in-Ok-clause-reads : goal.returns-in-Ok-clause-reads
+returns-in-Ok-clause-reads g c =
+    let old = c.args.self.now.worker.at in
+    read_then old c.read.new.self.at c.answer_rest-in-Ok.new.self.worker.at
+    (one_read old c.read.new.self.at true c.in_ok-next.ensures.noted) c.answer_rest-in-Ok.ensures.lasts
+
+pub returns-clause-reads : goal.returns-clause-reads
+returns-clause-reads g c =
+    let old = c.args.self.now.worker.at in
+    let read = c.read.new.self in
+    let looked = c.has_line-has_next.new.self in
+    let new = c.take_found.new.self.worker.at in
+    read_then old read.at new (one_read old read.at true c.in_ok-next.ensures.noted)
+    (lasts_both read.at looked.at new (lasts_noted read looked (Peeked c.has_line-has_next.result) c.has_line-has_next.ensures.noted)
+    c.take_found.ensures.lasts)

@@ -1,11 +1,12 @@
-use Rattle.std.proofs.Common.{◌≡◌, ◌+◌, arith, refl, rules, subst, sym, ◌∙◌}
+use Rattle.std.proofs.Common.{◌≡◌, ◌+◌, arith, refl, rules, subst}
 use Rattle.exec_lines.specs.Buffer.{line_bytes}
 use Rattle.exec_session.specs.Gathered.{waiting}
 use Rattle.exec_session.specs.Rules.{rules_of}
 use Rattle.exec_session.specs.Waiting.{ComesOrEnds, midway}
 use Rattle.exec_session.specs.declared.lines.Taken.TheVariants.{More}
-use Rattle.exec_session.proofs.LastLemmas.{lasts_both, lasts_same}
-use Rattle.exec_session.proofs.RoundLemmas.{ends_more, lasts_looked, looked_once, wait_looked}
+use Rattle.exec_session.specs.Looks.{misses_in, reads_in}
+use Rattle.exec_session.proofs.LastLemmas.{lasts_both, lasts_misses, lasts_reads, lasts_same}
+use Rattle.exec_session.proofs.RoundLemmas.{ends_more, lasts_looked, looked_held, looked_once, looked_read, wait_looked}
 use Rattle.exec_session.proofs.WaitLemmas.{come_more, comes_err, may_serve}
 use Rattle.exec_session.proofs.desk.Desk.take_waiting.Goals as goal
 
@@ -14,6 +15,7 @@ loop-reads-init g c = record {
   way = c.requires.way;
   waits = c.requires.waits;
   lasts = lasts_same c.args.self.now.worker.at c.args.self.now.worker.at refl;
+  reads = omega arith;
   come = λ p own come. come;
 }
 
@@ -21,9 +23,27 @@ pub returns-then-not-may_read-clause-takes : goal.returns-then-not-may_read-clau
 returns-then-not-may_read-clause-takes g c = λ p own come.
     let it = c.loop-reads.self in
     looked_once _ _ _ p own 64 (waiting it.pending.gathered) it.pending.held (line_bytes it.pending.buffer) it.worker
-    c.may_read.new.worker c.may_read.ensures.looks
+    c.may_read.new.worker c.loop-reads.invariant.way c.may_read.ensures.looks
     (come_more _ _ _ p own c.loop-reads._reads 64 (waiting it.pending.gathered) it.pending.held (line_bytes it.pending.buffer) it.worker
     (omega (arith, c.loop-reads-test.true)) (c.loop-reads.invariant.come p own come))
+
+pub returns-then-not-may_read-clause-looked : goal.returns-then-not-may_read-clause-looked
+returns-then-not-may_read-clause-looked g c = λ _.
+    let old = c.args.self.now in
+    let it = c.loop-reads.self in
+    looked_held it.pending.held (reads_in old.worker.at.events) (misses_in old.worker.at.events) c.may_read.new.worker.at.events
+    (λ free. omega (
+      arith,
+      lasts_misses old.worker.at it.worker.at c.loop-reads.invariant.lasts,
+      c.may_read.ensures.missed c.if-not-may_read.true free,
+    ))
+
+pub returns-clause-looked : goal.returns-clause-looked
+returns-clause-looked g c = λ _.
+    let old = c.args.self.now in
+    let it = c.loop-reads.self in
+    looked_read it.pending.held (reads_in old.worker.at.events) (misses_in old.worker.at.events) it.worker.at.events
+    (omega (arith, c.loop-reads.invariant.reads, c.loop-reads.auto))
 
 pub returns-then-not-may_read-clause-waits : goal.returns-then-not-may_read-clause-waits
 returns-then-not-may_read-clause-waits g c =
@@ -37,7 +57,8 @@ returns-then-not-may_read-clause-lasts g c =
 
 pub take_read-requires : goal.take_read-requires
 take_read-requires g c = record {
-  free = c.may_read.ensures.free (search (rules, c.if-not-may_read.ensures));
+  free = c.may_read.ensures.free (search rules);
+  there = λ _. c.may_read.ensures.there (search rules);
   waits =
       wait_looked c.args.context.now.way c.loop-reads.self.worker c.may_read.new.worker c.loop-reads.self.pending
       c.may_read.ensures.looks c.loop-reads.invariant.waits;
@@ -54,7 +75,7 @@ returns-then-ne-clause-takes g c = λ p own come.
     (c.in_ok-taken.ensures.takes p own n
     (may_serve c.args.context.now.way n c.loop-reads.invariant.way (omega (arith, c.loop-reads-test.true)))
     (looked_once _ _ _ p own n (waiting it.pending.gathered) it.pending.held (line_bytes it.pending.buffer) it.worker
-    c.may_read.new.worker c.may_read.ensures.looks (c.loop-reads.invariant.come p own come)))
+    c.may_read.new.worker c.loop-reads.invariant.way c.may_read.ensures.looks (c.loop-reads.invariant.come p own come)))
 
 pub returns-then-ne-clause-lasts : goal.returns-then-ne-clause-lasts
 returns-then-ne-clause-lasts g c =
@@ -75,13 +96,20 @@ loop-reads-preserved g c =
           lasts_both c.args.self.now.worker.at it.worker.at new.worker.at c.loop-reads.invariant.lasts
           (lasts_both it.worker.at c.may_read.new.worker.at new.worker.at
           (lasts_looked it.worker c.may_read.new.worker c.may_read.ensures.looks) c.in_ok-taken.ensures.lasts);
+      reads =
+          omega (
+            arith,
+            c.loop-reads.invariant.reads,
+            lasts_reads it.worker.at c.may_read.new.worker.at (lasts_looked it.worker c.may_read.new.worker c.may_read.ensures.looks),
+            c.in_ok-taken.ensures.reads,
+          );
       come = λ p own come.
           subst (ComesOrEnds g.D.Disk.view (g.M.Metadata.gives c.args.context.now.metadata.now) (rules_of c.args.context.now) p own (n + 1)
           (midway new.worker new.pending)) more
           (c.in_ok-taken.ensures.takes p own n
           (may_serve c.args.context.now.way n c.loop-reads.invariant.way (omega (arith, c.loop-reads-test.true)))
           (looked_once _ _ _ p own n (waiting it.pending.gathered) it.pending.held (line_bytes it.pending.buffer) it.worker
-          c.may_read.new.worker c.may_read.ensures.looks (c.loop-reads.invariant.come p own come)));
+          c.may_read.new.worker c.loop-reads.invariant.way c.may_read.ensures.looks (c.loop-reads.invariant.come p own come)));
     }
 
 pub returns-clause-takes : goal.returns-clause-takes
@@ -97,7 +125,7 @@ returns-in_err-taken-clause-takes g c = λ p own come.
     comes_err _ _ _ _ own _ _ c.from_residual.result c.from_residual.ensures.0 (c.in_err-taken.ensures.takes p own n
     (may_serve c.args.context.now.way n c.loop-reads.invariant.way (omega (arith, c.loop-reads-test.true)))
     (looked_once _ _ _ p own n (waiting it.pending.gathered) it.pending.held (line_bytes it.pending.buffer) it.worker
-    c.may_read.new.worker c.may_read.ensures.looks (c.loop-reads.invariant.come p own come)))
+    c.may_read.new.worker c.loop-reads.invariant.way c.may_read.ensures.looks (c.loop-reads.invariant.come p own come)))
 
 pub returns-in_err-taken-clause-lasts : goal.returns-in_err-taken-clause-lasts
 returns-in_err-taken-clause-lasts g c =

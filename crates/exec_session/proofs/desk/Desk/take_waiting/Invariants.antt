@@ -1,5 +1,6 @@
-use Rattle.std.proofs.Common.{◌≡◌}
-use Rattle.ocf_types.specs.declared.reply.TurnEnd.{TurnEnd}
+use Rattle.std.proofs.Common.{◌≡◌, ◌≤◌, ◌+◌}
+use Rattle.exec_session.specs.Looks.{reads_in}
+use Rattle.exec_session.specs.Runs.{OwnTurn}
 use Rattle.exec_session.specs.Rules.{rules_of}
 use Rattle.exec_session.specs.Spots.{Lasts, Position}
 use Rattle.exec_session.specs.Waiting.{HasCome, MayWait, midway}
@@ -11,7 +12,8 @@ invariant-loop-reads g l = record {
   way : l.context.way ≡ Serve;
   waits : MayWait l.context.way l.self.worker.at.executor l.self.pending;
   lasts : Lasts l.fn.self.worker.at l.self.worker.at;
-  come : (p : Position g.row.D.Denot) (own : TurnEnd)
+  reads : reads_in l.fn.self.worker.at.events + l._reads ≤ reads_in l.self.worker.at.events;
+  come : (p : Position g.row.D.Denot) (own : OwnTurn)
       → HasCome g.D.Disk.view (g.M.Metadata.gives l.context.metadata.now) (rules_of l.context) p own 0
       (midway l.fn.self.worker l.fn.self.pending)
       → HasCome g.D.Disk.view (g.M.Metadata.gives l.context.metadata.now) (rules_of l.context) p own l._reads

@@ -1,9 +1,8 @@
-use Rattle.std.proofs.Common.{◌≡◌, ◌≤◌, ℕ, Ok, inl, refl, subst, sym, arith, length}
-use Rattle.ocf_types.specs.declared.reply.TurnEnd.{TurnEnd}
+use Rattle.std.proofs.Common.{Ok, inl, refl, subst, arith}
 use Rattle.exec_lines.specs.Buffer.{line_bytes}
 use Rattle.exec_session.specs.Gathered.{waiting}
 use Rattle.exec_session.specs.Rules.{rules_of}
-use Rattle.exec_session.specs.Waiting.{GoesRound, HasComeRound, midway}
+use Rattle.exec_session.specs.Waiting.{GoesRound, midway}
 use Rattle.exec_session.specs.declared.lines.Taken.{Taken}
 use Rattle.exec_session.proofs.BreakLemmas.{ends_err, fault_told, left_so}
 use Rattle.exec_session.proofs.LastLemmas.{lasts_both, lasts_same}
@@ -15,7 +14,7 @@ pub loop-rounds-init : goal.loop-rounds-init
 loop-rounds-init g c =
     let old = c.args.self.now in
     let (begins, come) = first_round g.D.Disk.view (g.M.Metadata.gives c.args.context.now.metadata.now) (rules_of c.args.context.now)
-    old.desk.worker old.desk.pending old.own c.requires.clear c.requires.none c.requires.«open» in record {
+    old.desk.worker old.desk.pending old.pause.since old.own c.requires.clear c.requires.none c.requires.«open» in record {
       begins = begins;
       lasts = lasts_same old.desk.worker.at old.desk.worker.at refl;
       many = omega arith;
@@ -26,7 +25,7 @@ pub returns-in-End-clause-ends : goal.returns-in-End-clause-ends
 returns-in-End-clause-ends g c =
     let new = c.round.new.self in
     inl (subst (λ (t : Taken). GoesRound g.D.Disk.view (g.M.Metadata.gives c.args.context.now.metadata.now) (rules_of c.args.context.now)
-    c.args.self.now.desk.worker new.own (midway new.desk.worker new.desk.pending) (Ok t)) c.in-End.is
+    c.args.self.now.desk.worker new.pause.since new.own (midway new.desk.worker new.desk.pending) (Ok t)) c.in-End.is
     (c.in_ok-round.ensures.goes c.args.self.now.desk.worker c.loop-rounds.invariant.come))
 
 pub returns-in-Closed-clause-ends : goal.returns-in-Closed-clause-ends
@@ -37,7 +36,7 @@ returns-in-Closed-clause-ends g c =
     let p = c.args.self.now.desk.worker in
     let new = c.round.new.self in
     fault_told look source rules p c.tell_end.new.self new.desk.worker.at c.tell_end.result
-    (subst (λ (t : Taken). GoesRound look source rules p new.own (midway new.desk.worker new.desk.pending) (Ok t)) c.in-Closed.is
+    (subst (λ (t : Taken). GoesRound look source rules p new.pause.since new.own (midway new.desk.worker new.desk.pending) (Ok t)) c.in-Closed.is
     (c.in_ok-round.ensures.goes p c.loop-rounds.invariant.come))
     c.tell_end.ensures.told c.tell_end.ensures.breaks c.tell_end.ensures.cause
 
@@ -53,7 +52,7 @@ pub leave-requires : goal.leave-requires
 leave-requires g c =
     let new = c.round.new.self in
     let leaves = subst (λ (t : Taken). GoesRound g.D.Disk.view (g.M.Metadata.gives c.args.context.now.metadata.now)
-    (rules_of c.args.context.now) c.args.self.now.desk.worker new.own (midway new.desk.worker new.desk.pending) (Ok t)) c.in-Leaves.is
+    (rules_of c.args.context.now) c.args.self.now.desk.worker new.pause.since new.own (midway new.desk.worker new.desk.pending) (Ok t)) c.in-Leaves.is
     (c.in_ok-round.ensures.goes c.args.self.now.desk.worker c.loop-rounds.invariant.come) in
     record { «open» = leaves.is_open }
 
@@ -65,7 +64,7 @@ returns-in-Leaves-clause-ends g c =
     let p = c.args.self.now.desk.worker in
     let new = c.round.new.self in
     left_so look source rules p c.leave.new.self new.desk.worker.at c.leave.result
-    (subst (λ (t : Taken). GoesRound look source rules p new.own (midway new.desk.worker new.desk.pending) (Ok t)) c.in-Leaves.is
+    (subst (λ (t : Taken). GoesRound look source rules p new.pause.since new.own (midway new.desk.worker new.desk.pending) (Ok t)) c.in-Leaves.is
     (c.in_ok-round.ensures.goes p c.loop-rounds.invariant.come))
     c.leave.ensures.leaves c.leave.ensures.breaks c.leave.ensures.cause
 
@@ -94,7 +93,7 @@ loop-rounds-preserved g c =
       many = omega (arith, longer, c.loop-rounds.invariant.many);
       come =
           subst (λ (t : Taken). GoesRound g.D.Disk.view (g.M.Metadata.gives c.args.context.now.metadata.now) (rules_of c.args.context.now)
-          c.args.self.now.desk.worker new.own (midway new.desk.worker new.desk.pending) (Ok t)) c.in-More.is
+          c.args.self.now.desk.worker new.pause.since new.own (midway new.desk.worker new.desk.pending) (Ok t)) c.in-More.is
           (c.in_ok-round.ensures.goes c.args.self.now.desk.worker c.loop-rounds.invariant.come);
     }
 
@@ -111,7 +110,7 @@ returns-in_err-round-clause-lasts g c =
 pub returns-clause-ends : goal.returns-clause-ends
 returns-clause-ends g c =
     let it = c.loop-rounds.self in
-    let (most, is, come) = c.loop-rounds.invariant.come in
+    let come = c.loop-rounds.invariant.come in
     bound_breaks g.D.Disk.view (g.M.Metadata.gives c.args.context.now.metadata.now) (rules_of c.args.context.now)
-    c.args.self.now.desk.worker it.own most (waiting it.desk.pending.gathered) it.desk.pending.held
-    (line_bytes it.desk.pending.buffer) it.desk.worker (omega (arith, c.loop-rounds.auto, c.loop-rounds.invariant.many)) come
+    c.args.self.now.desk.worker come.own come.most (waiting it.desk.pending.gathered) it.desk.pending.held
+    (line_bytes it.desk.pending.buffer) it.desk.worker (omega (arith, c.loop-rounds.auto, c.loop-rounds.invariant.many)) come.come

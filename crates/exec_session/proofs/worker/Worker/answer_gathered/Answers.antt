@@ -1,12 +1,12 @@
-use Rattle.std.proofs.Common.{◌≡◌, ◌≢◌, [], ◌∷◌, List, map, OnErr, OnOk, ap, refl, sym, subst, ◌∙◌}
+use Rattle.std.proofs.Common.{[], List, map, refl, sym, subst, ◌∙◌}
 use Rattle.std.specs.Prelude.{is_ok}
 use Rattle.std.specs.List.{AllByRecursion}
 use Rattle.ocf_types.specs.Kinds.{Reply}
 use Rattle.exec_client.specs.MayTell.{MayAnswer, StandsBehind}
-use Rattle.exec_client.specs.Said.{Said, answered}
+use Rattle.exec_client.specs.Said.{answered}
 use Rattle.exec_client.proofs.Growing.{both_stand, may_tell}
-use Rattle.exec_session.specs.Gathered.{replied, waiting}
-use Rattle.exec_session.specs.Spots.{Position, Tells, TellsPart, spot}
+use Rattle.exec_session.specs.Gathered.{waiting}
+use Rattle.exec_session.specs.Spots.{Tells, TellsPart, spot}
 use Rattle.exec_session.proofs.EventLemmas.{both_keep, err_map, ok_map, here_keeps, send_cause, send_keeps, sends, sends_part, was_noted}
 use Rattle.exec_session.proofs.TellLemmas.{after_told}
 use Rattle.exec_session.proofs.WorkerLemmas.{all_answered, open_noted, row_broken, some_waits, together_heard}

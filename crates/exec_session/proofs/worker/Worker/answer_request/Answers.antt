@@ -1,8 +1,8 @@
-use Rattle.std.proofs.Common.{[], ◌∷◌, OnErr, OnOk, refl, sym, subst}
+use Rattle.std.proofs.Common.{[], ◌∷◌}
 use Rattle.std.specs.Prelude.{is_ok}
 use Rattle.exec_client.specs.Said.{answered}
 use Rattle.exec_client.proofs.Growing.{both_stand, may_tell}
-use Rattle.exec_session.specs.Spots.{Position, Tells, TellsPart, spot}
+use Rattle.exec_session.specs.Spots.{Tells, TellsPart, spot}
 use Rattle.exec_session.proofs.AnswerLemmas.{request_answered}
 use Rattle.exec_session.proofs.EventLemmas.{both_keep, err_map, ok_map, send_cause, send_keeps, sends, sends_part, was_noted}
 use Rattle.exec_session.proofs.TellLemmas.{after_told}

@@ -1,10 +1,9 @@
-use Rattle.std.proofs.Common.{◌+◌, ap, None, Some, arith, sym, ◌∙◌}
+use Rattle.std.proofs.Common.{◌+◌, ◌≤◌, ap, None, Some, arith, ◌∙◌}
 use Rattle.exec_lines.proofs.PieceLemmas.{on_err}
 use Rattle.exec_session.specs.Drains.{at_start, further}
 use Rattle.exec_session.specs.Broken.{in_turn, spent, unheard}
-use Rattle.exec_session.specs.Spots.{Position}
-use Rattle.exec_session.proofs.DrainLemmas.{closes, paused_longer, rests, rests_executor, rests_shown, still_open, told_end_at, unheard_cause, unheard_pause}
-use Rattle.exec_session.proofs.EventLemmas.{both_keep, here_keeps, pause_keeps, was_noted}
+use Rattle.exec_session.proofs.DrainLemmas.{at_moment, closes, paused_longer, rests, rests_executor, rests_shown, still_open, told_end_at, unheard_cause, unheard_pause}
+use Rattle.exec_session.proofs.EventLemmas.{both_keep, here_keeps, last_longer, pause_keeps, was_noted}
 use Rattle.exec_session.proofs.worker.Worker.drain.Goals as goal
 
 pub loop-turns-init : goal.loop-turns-init
@@ -14,13 +13,17 @@ loop-turns-init g c = record {
   gone_on = at_start;
   keeps = here_keeps c.args.self.now;
   many = omega arith;
+  since = omega (arith, c.new-pause.ensures.since);
 }
 
 pub returns-in-Some-clause-drains : goal.returns-in-Some-clause-drains
 returns-in-Some-clause-drains g c =
     let told = c.make_turn.new.self.at in
     let q = c.now-now.new.self in
-    let rest = rests told c.pauses.new.self q c.pauses.result c.now-now.result c.if-not-pauses.false c.pauses.ensures.paused
+    let paused = at_moment c.pauses.new.pause.since c.pauses.new.pause.moment c.loop-turns.now c.pauses.result told c.pauses.new.self.at
+    (c.pauses.ensures.moment ∙ c.before_turn.ensures.moment) c.pauses.ensures.paused in
+    let rest = rests c.args.start c.pauses.new.pause.since c.loop-turns.now told c.pauses.new.self q c.pauses.result c.now-now.result
+    (omega (arith, c.loop-turns.invariant.since, c.before_turn.ensures.since, c.pauses.ensures.grows)) c.if-not-pauses.false paused
     c.now-now.ensures.noted in
     record {
       turns = c.loop-turns.turns;
@@ -34,7 +37,7 @@ returns-in-Some-clause-drains g c =
       rests = rest;
       ended =
           told_end_at c.args.terms (c.loop-turns.turns + 1) c.now-now.result c.in_ok-end.end told q.at c.idle.result c.end_behind.result
-          (Some c.in-Some.end) (rests_executor told q.at c.now-now.result rest) c.end_behind.ensures c.idle.ensures.value c.in-Some.is;
+          (Some c.in-Some.end) (rests_executor c.args.start c.loop-turns.now told q.at c.now-now.result rest) c.end_behind.ensures c.idle.ensures.value c.in-Some.is;
     }
 
 pub returns-in-Some-clause-keeps : goal.returns-in-Some-clause-keeps
@@ -42,7 +45,8 @@ returns-in-Some-clause-keeps g c =
     both_keep c.args.self.now c.loop-turns.self c.now-now.new.self c.loop-turns.invariant.keeps
     (both_keep c.loop-turns.self c.make_turn.new.self c.now-now.new.self c.make_turn.ensures.keeps
     (both_keep c.make_turn.new.self c.pauses.new.self c.now-now.new.self
-    (pause_keeps c.pauses.result c.make_turn.new.self c.pauses.new.self c.pauses.ensures.left c.pauses.ensures.paused)
+    (pause_keeps c.pauses.new.pause.since c.pauses.new.pause.moment c.pauses.result c.make_turn.new.self c.pauses.new.self
+    c.pauses.ensures.left c.pauses.ensures.paused)
     (was_noted c.pauses.new.self c.now-now.new.self _ c.now-now.ensures.noted)))
 
 pub loop-turns-preserved : goal.loop-turns-preserved
@@ -53,25 +57,32 @@ loop-turns-preserved g c =
     let q = c.now-now.new.self in
     let after = c.now-now.result in
     let end = c.in_ok-end.end in
-    let rest = rests told.at mid q c.pauses.result after c.if-not-pauses.false c.pauses.ensures.paused c.now-now.ensures.noted in
-    let same = rests_executor told.at q.at after rest in
+    let paused = at_moment c.pauses.new.pause.since c.pauses.new.pause.moment c.loop-turns.now c.pauses.result told.at mid.at
+    (c.pauses.ensures.moment ∙ c.before_turn.ensures.moment) c.pauses.ensures.paused in
+    let later : c.args.start ≤ c.pauses.new.pause.since =
+    omega (arith, c.loop-turns.invariant.since, c.before_turn.ensures.since, c.pauses.ensures.grows) in
+    let rest = rests c.args.start c.pauses.new.pause.since c.loop-turns.now told.at mid q c.pauses.result after later c.if-not-pauses.false
+    paused c.now-now.ensures.noted in
+    let same = rests_executor c.args.start c.loop-turns.now told.at q.at after rest in
     let on = told_end_at c.args.terms (c.loop-turns.turns + 1) after end told.at q.at c.idle.result c.end_behind.result None same
     c.end_behind.ensures c.idle.ensures.value c.in_default.is in
-    let keeps = both_keep told mid q (pause_keeps c.pauses.result told mid c.pauses.ensures.left c.pauses.ensures.paused)
+    let keeps = both_keep told mid q
+    (pause_keeps c.pauses.new.pause.since c.pauses.new.pause.moment c.pauses.result told mid c.pauses.ensures.left c.pauses.ensures.paused)
     (was_noted mid q _ c.now-now.ensures.noted) in
-    let more = paused_longer c.pauses.result told.at mid.at c.pauses.ensures.paused in
+    let more = paused_longer c.pauses.new.pause.since c.pauses.new.pause.moment c.pauses.result told.at mid.at c.pauses.ensures.paused in
     record {
       is_open =
           ap (λ x. x.is_open) same
           ∙ still_open c.args.terms (c.loop-turns.turns + 1) after end _ told.at.executor.is_open
           (closes _ _ _ m.at told.at end c.in_ok-end.ensures.made) on;
-      shown = rests_shown told.at q.at after rest;
+      shown = rests_shown c.args.start c.loop-turns.now told.at q.at after rest;
+      since = later;
       gone_on = further c.loop-turns.turns c.loop-turns.now after m.at told.at q.at end c.loop-turns.invariant.gone_on c.in_ok-end.ensures.made rest on;
       keeps = both_keep c.args.self.now m q c.loop-turns.invariant.keeps (both_keep m told q c.make_turn.ensures.keeps keeps);
       many =
           let one = c.loop-turns.invariant.many in
-          let two = c.make_turn.ensures.keeps.0.longer in
-          let three = (was_noted mid q _ c.now-now.ensures.noted).0.longer in
+          let two = last_longer m.at told.at c.make_turn.ensures.keeps.0 in
+          let three = last_longer mid.at q.at (was_noted mid q _ c.now-now.ensures.noted).0 in
           omega (arith, one, two, more, three);
     }
 
@@ -89,17 +100,21 @@ pub returns-then-not-pauses-clause-breaks : goal.returns-then-not-pauses-clause-
 returns-then-not-pauses-clause-breaks g c =
     unheard c.loop-turns.turns c.loop-turns.now c.loop-turns.self.at c.make_turn.new.self.at c.in_ok-end.end c.loop-turns.invariant.gone_on
     c.in_ok-end.ensures.made
-    (unheard_pause c.pauses.result c.make_turn.new.self.at c.pauses.new.self.at c.if-not-pauses.true c.pauses.ensures.paused)
+    (unheard_pause c.args.start c.pauses.new.pause.since c.loop-turns.now c.pauses.result c.make_turn.new.self.at c.pauses.new.self.at
+    (omega (arith, c.loop-turns.invariant.since, c.before_turn.ensures.since, c.pauses.ensures.grows)) c.if-not-pauses.true
+    (at_moment c.pauses.new.pause.since c.pauses.new.pause.moment c.loop-turns.now c.pauses.result c.make_turn.new.self.at
+    c.pauses.new.self.at (c.pauses.ensures.moment ∙ c.before_turn.ensures.moment) c.pauses.ensures.paused))
 
 pub returns-then-not-pauses-clause-cause : goal.returns-then-not-pauses-clause-cause
 returns-then-not-pauses-clause-cause g c =
-    unheard_cause c.pauses.result c.make_turn.new.self.at c.pauses.new.self.at c.if-not-pauses.true c.pauses.ensures.paused
+    unheard_cause c.pauses.new.pause.since c.pauses.new.pause.moment c.pauses.result c.make_turn.new.self.at c.pauses.new.self.at c.if-not-pauses.true c.pauses.ensures.paused
 
 pub returns-then-not-pauses-clause-keeps : goal.returns-then-not-pauses-clause-keeps
 returns-then-not-pauses-clause-keeps g c =
     both_keep c.args.self.now c.loop-turns.self c.pauses.new.self c.loop-turns.invariant.keeps
     (both_keep c.loop-turns.self c.make_turn.new.self c.pauses.new.self c.make_turn.ensures.keeps
-    (pause_keeps c.pauses.result c.make_turn.new.self c.pauses.new.self c.pauses.ensures.left c.pauses.ensures.paused))
+    (pause_keeps c.pauses.new.pause.since c.pauses.new.pause.moment c.pauses.result c.make_turn.new.self c.pauses.new.self
+    c.pauses.ensures.left c.pauses.ensures.paused))
 
 pub returns-clause-breaks : goal.returns-clause-breaks
 returns-clause-breaks g c = spent c.loop-turns.turns c.loop-turns.now c.loop-turns.invariant.gone_on

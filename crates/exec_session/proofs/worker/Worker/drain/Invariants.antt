@@ -12,4 +12,5 @@ invariant-loop-turns g l = record {
   gone_on : GoesOn g.D.Disk.view (rules_of l.context) l.terms l.start l.fn.self.at l.turns l.now l.self.at;
   keeps : Keeps l.fn.self l.self;
   many : l.turns ≤ length l.self.at.events;
+  since : l.start ≤ l.pause.since;
 }

@@ -1,15 +1,14 @@
-use Rattle.std.proofs.Common.{[], ◌≡◌, true, List, OnErr, OnOk, ap, refl, sym, subst, ◌∙◌}
+use Rattle.std.proofs.Common.{[], List, refl, sym, subst}
 use Rattle.std.specs.Prelude.{is_ok}
 use Rattle.exec_client.specs.MayTell.{StandsBehind}
 use Rattle.exec_client.specs.Said.{Said}
-use Rattle.exec_client.specs.Tells.{noticed}
 use Rattle.executor.specs.TurnCalls.{with_empty_book}
 use Rattle.exec_client.proofs.Growing.{may_tell}
-use Rattle.exec_session.specs.Spots.{Position, Tells, TellsPart, spot}
+use Rattle.exec_session.specs.Spots.{Tells, TellsPart, spot}
 use Rattle.exec_session.proofs.EventLemmas.{both_keep, err_map, ok_map, send_cause, send_keeps, sends, sends_part, was_noted}
 use Rattle.exec_session.proofs.LeaveLemmas.{finish_taken, finish_told}
 use Rattle.exec_session.proofs.TellLemmas.{after_told}
-use Rattle.exec_session.proofs.WorkerLemmas.{finish_heard, open_noted, parts}
+use Rattle.exec_session.proofs.WorkerLemmas.{finish_heard, open_noted}
 use Rattle.exec_session.proofs.worker.Worker.finish_turn.Goals as goal
 
 pub tell-requires : goal.tell-requires

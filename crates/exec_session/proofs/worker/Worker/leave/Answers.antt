@@ -1,8 +1,8 @@
-use Rattle.std.proofs.Common.{ap, arith, refl, sym, ◌∙◌}
+use Rattle.std.proofs.Common.{ap, arith, sym, ◌∙◌}
 use Rattle.exec_lines.proofs.PieceLemmas.{on_err}
 use Rattle.exec_session.specs.Leaving.{at_first, fault, further, in_line, in_turn, left, spent, unheard}
 use Rattle.exec_session.proofs.DrainLemmas.{heard_pause, paused_executor, paused_longer, unheard_cause, unheard_pause}
-use Rattle.exec_session.proofs.EventLemmas.{both_keep, err_map, here_keeps, ok_map, pause_keeps}
+use Rattle.exec_session.proofs.EventLemmas.{both_keep, err_map, here_keeps, last_longer, ok_map, pause_keeps}
 use Rattle.exec_session.proofs.LeaveLemmas.{winds_one}
 use Rattle.exec_session.proofs.worker.Worker.leave.Goals as goal
 
@@ -53,20 +53,22 @@ loop-turns-preserved g c =
     let m = c.loop-turns.self in
     let told = c.finish_turn.new.self in
     let q = c.pauses.new.self in
-    let paused = heard_pause c.pauses.result told.at q.at c.if-not-pauses.false c.pauses.ensures.paused in
+    let since = c.pauses.new.pause.since in
+    let moment = c.pauses.new.pause.moment in
+    let paused = heard_pause 0 since moment c.pauses.result told.at q.at (omega arith) c.if-not-pauses.false c.pauses.ensures.paused in
     let one = winds_one _ _ c.loop-turns.self.at c.finish_turn.new.self.at c.loop-turns.invariant.is_open (sym c.if-not-runs_any.ensures.value)
     c.in_ok-finish_turn.ensures.made in
     record {
-      is_open = ap (λ x. x.is_open) (paused_executor c.pauses.result told.at q.at c.pauses.ensures.paused) ∙ sym c.if-not-is_open.ensures.value;
-      winds = further m.at told.at q.at c.loop-turns.invariant.winds one (sym c.if-not-is_open.ensures.value) paused;
+      is_open = ap (λ x. x.is_open) (paused_executor since moment c.pauses.result told.at q.at c.pauses.ensures.paused) ∙ sym c.if-not-is_open.ensures.value;
+      winds = further moment m.at told.at q.at c.loop-turns.invariant.winds one (sym c.if-not-is_open.ensures.value) paused;
       keeps =
           both_keep c.args.self.now m q c.loop-turns.invariant.keeps
           (both_keep m told q c.finish_turn.ensures.keeps
-          (pause_keeps c.pauses.result told q c.pauses.ensures.left c.pauses.ensures.paused));
+          (pause_keeps since moment c.pauses.result told q c.pauses.ensures.left c.pauses.ensures.paused));
       many =
           let before = c.loop-turns.invariant.many in
-          let turned = c.finish_turn.ensures.keeps.0.longer in
-          let more = paused_longer c.pauses.result told.at q.at c.pauses.ensures.paused in
+          let turned = last_longer m.at told.at c.finish_turn.ensures.keeps.0 in
+          let more = paused_longer since moment c.pauses.result told.at q.at c.pauses.ensures.paused in
           omega (arith, before, turned, more);
     }
 
@@ -83,19 +85,21 @@ returns-in_err-finish_turn-clause-keeps g c =
 pub returns-then-not-pauses-clause-breaks : goal.returns-then-not-pauses-clause-breaks
 returns-then-not-pauses-clause-breaks g c =
     let told = c.finish_turn.new.self in
-    unheard c.loop-turns.self.at told.at c.loop-turns.invariant.winds
+    unheard c.pauses.new.pause.moment c.loop-turns.self.at told.at c.loop-turns.invariant.winds
     (winds_one _ _ c.loop-turns.self.at told.at c.loop-turns.invariant.is_open (sym c.if-not-runs_any.ensures.value) c.in_ok-finish_turn.ensures.made)
-    (unheard_pause c.pauses.result told.at c.pauses.new.self.at c.if-not-pauses.true c.pauses.ensures.paused)
+    (unheard_pause 0 c.pauses.new.pause.since c.pauses.new.pause.moment c.pauses.result told.at c.pauses.new.self.at (omega arith)
+    c.if-not-pauses.true c.pauses.ensures.paused)
 
 pub returns-then-not-pauses-clause-cause : goal.returns-then-not-pauses-clause-cause
 returns-then-not-pauses-clause-cause g c =
-    unheard_cause c.pauses.result c.finish_turn.new.self.at c.pauses.new.self.at c.if-not-pauses.true c.pauses.ensures.paused
+    unheard_cause c.pauses.new.pause.since c.pauses.new.pause.moment c.pauses.result c.finish_turn.new.self.at c.pauses.new.self.at c.if-not-pauses.true c.pauses.ensures.paused
 
 pub returns-then-not-pauses-clause-keeps : goal.returns-then-not-pauses-clause-keeps
 returns-then-not-pauses-clause-keeps g c =
     both_keep c.args.self.now c.loop-turns.self c.pauses.new.self c.loop-turns.invariant.keeps
     (both_keep c.loop-turns.self c.finish_turn.new.self c.pauses.new.self c.finish_turn.ensures.keeps
-    (pause_keeps c.pauses.result c.finish_turn.new.self c.pauses.new.self c.pauses.ensures.left c.pauses.ensures.paused))
+    (pause_keeps c.pauses.new.pause.since c.pauses.new.pause.moment c.pauses.result c.finish_turn.new.self c.pauses.new.self
+    c.pauses.ensures.left c.pauses.ensures.paused))
 
 pub returns-clause-breaks : goal.returns-clause-breaks
 returns-clause-breaks g c = spent c.loop-turns.invariant.winds

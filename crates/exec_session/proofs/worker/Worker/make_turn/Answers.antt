@@ -1,16 +1,15 @@
-use Rattle.std.proofs.Common.{◌≡◌, true, [], List, OnErr, refl, sym, subst}
+use Rattle.std.proofs.Common.{◌≡◌, true, [], List, refl, sym, subst}
 use Rattle.std.specs.Prelude.{is_ok}
 use Rattle.executor.specs.Sights.{Sight}
-use Rattle.executor.specs.TurnCalls.{TakesTurn, TurnsWhile}
+use Rattle.executor.specs.TurnCalls.{TurnsWhile}
 use Rattle.exec_lines.proofs.PieceLemmas.{on_err}
 use Rattle.exec_client.specs.MayTell.{StandsBehind}
 use Rattle.exec_client.specs.Said.{Said}
-use Rattle.exec_client.specs.Tells.{noticed}
 use Rattle.exec_client.proofs.Growing.{all_still_stand, may_tell}
-use Rattle.exec_session.specs.Spots.{Position, Tells, TellsPart, at_of, moved, spot}
+use Rattle.exec_session.specs.Spots.{Position, Tells, TellsPart, spot}
 use Rattle.exec_session.proofs.EventLemmas.{moved_keeps, send_keeps, unsent}
 use Rattle.exec_session.proofs.TellLemmas.{after_told, cleared_room, turn_behind_room}
-use Rattle.exec_session.proofs.WorkerLemmas.{parts, turn_failed, turn_heard, whole}
+use Rattle.exec_session.proofs.WorkerLemmas.{parts, turn_failed, turn_heard}
 use Rattle.exec_session.proofs.worker.Worker.make_turn.Goals as goal
 
 pub make_room-requires : goal.make_room-requires

@@ -1,7 +1,6 @@
-use Rattle.std.proofs.Common.{◌≡◌, inl, inr, List, map, refl, sym, ap, subst, ◌∙◌}
+use Rattle.std.proofs.Common.{◌≡◌, inl, inr, List, map, sym, ap, subst, ◌∙◌}
 use Rattle.ocf_types.specs.declared.reply.Notice.{Notice}
 use Rattle.executor.specs.Reports.{ReportView}
-use Rattle.exec_lines.proofs.PieceLemmas.{on_err}
 use Rattle.exec_client.specs.Said.{Reported}
 use Rattle.exec_session.specs.Spots.{Tells, TellsPart}
 use Rattle.exec_session.proofs.EventLemmas.{err_map, ok_map}
