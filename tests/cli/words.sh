@@ -97,9 +97,9 @@ done
 ends 0 "" run --help
 holds "run --help" "--journal <DIR>" --memory "--root <DIR>" "--via <PROGRAM>" "--path <PATH>" "[default: /usr/lib/ocf]" \
     "[default: /usr/sbin:/usr/bin:/sbin:/bin]" --any-owner "--tidy-at <BYTES>" "[default: 6291456]" "--orphans <MS>" "[default: 20000]" --leave-orphans \
-    "just one of --journal and --memory" Examples: "ocfexec run --memory"
+    "exactly one of --journal and --memory" Examples: "ocfexec run --memory"
 ends 0 "" show --help
-holds "show --help" Examples: "ocfexec show --journal /srv/journal" "run and serve make those that are missing" OCFEXEC_JOURNAL
+holds "show --help" Examples: "ocfexec show --journal /srv/journal" "run and serve create its files part-a and part-b if they are missing" OCFEXEC_JOURNAL
 same "show --help, options" "--help --journal --memory" "$(grep -o -e '^ *\(-., \)\?--[a-z-]*' "$here/out" | grep -o -e '--.*' | sort | xargs)"
 ends 0 "" status --help
 same "status --help, options" "--exit-code --help --journal --json --memory" \
@@ -148,7 +148,7 @@ checked "the options of a run"
 export OCFEXEC_JOURNAL=$here/journal
 ends 0 "" show
 wrote "show of the journal of the environment" '{"ok":true,"resources":[]}'
-for look in status log; do ends 9 "ocfexec: no journal here yet" "$look"; done
+for look in status log metrics; do ends 9 "ocfexec: no journal here yet" "$look"; done
 mkdir "$here/other"
 "$program" run --journal "$here/other" <<< '{"op":"register","id":"r1","provider":"p","type":"t"}' > "$here/out"
 ends 0 "" show --journal "$here/other"

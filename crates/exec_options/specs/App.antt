@@ -1,5 +1,5 @@
 -- The command line of `ocfexec` as `clap` reads it: `run` and `serve` with all options of a journal, of the agents' site and of what
--- agents write; `show`, `status` and `log` with the place of a journal, and what each has of its own; and `once`.
+-- agents write; `show`, `status`, `log` and `metrics` with the place of a journal, and what each has of its own; and `once`.
 use Rattle.std.specs.Prelude.{[], ◌∷◌, Some, true, codes}
 use Rattle.clap.specs.Words.{App, Rule, Text, new_app, new_rule, with_rule, with_subcommand}
 use Rattle.clap.specs.declared.builder.ArgAction.TheVariants.{Append, SetTrue}
@@ -129,6 +129,9 @@ status_app = with_status_app (with_place_app (new_app (codes "status")))
 abbrev pub log_app : App
 log_app = with_log_app (with_place_app (new_app (codes "log")))
 
+abbrev pub metrics_app : App
+metrics_app = with_place_app (new_app (codes "metrics"))
+
 abbrev pub once_app : App
 once_app = with_site_app (with_call_app (new_app (codes "once")))
 
@@ -140,4 +143,5 @@ ocfexec_app =
     let with_show = with_subcommand with_serve show_app.top in
     let with_status = with_subcommand with_show status_app.top in
     let with_log = with_subcommand with_status log_app.top in
-    with_subcommand with_log once_app.top
+    let with_metrics = with_subcommand with_log metrics_app.top in
+    with_subcommand with_metrics once_app.top

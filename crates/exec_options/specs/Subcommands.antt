@@ -1,7 +1,7 @@
 -- The words that name what the program does.
 use Rattle.std.specs.Prelude.{ℕ, Bool, true, false, List, codes}
 use Rattle.exec_options.specs.declared.options.Subcommand.{Subcommand}
-use Rattle.exec_options.specs.declared.options.Subcommand.TheVariants.{Run, Serve, Show, Status, Log}
+use Rattle.exec_options.specs.declared.options.Subcommand.TheVariants.{Run, Serve, Show, Status, Log, Metrics}
 
 abbrev pub subcommand_word : Subcommand → List ℕ
 subcommand_word Run = codes "run"
@@ -9,6 +9,7 @@ subcommand_word Serve = codes "serve"
 subcommand_word Show = codes "show"
 subcommand_word Status = codes "status"
 subcommand_word Log = codes "log"
+subcommand_word Metrics = codes "metrics"
 
 -- the one that has no journal
 abbrev pub once_word : List ℕ
@@ -21,3 +22,4 @@ is_look Serve = false
 is_look Show = true
 is_look Status = true
 is_look Log = true
+is_look Metrics = true

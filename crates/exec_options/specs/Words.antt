@@ -73,9 +73,9 @@ IsNumberTo limit text n =
 abbrev pub IsTimeout : Text → ℕ → Type 0
 IsTimeout text n = IsNumeral 10 (without_leading_plus text) × (digits_value 10 (without_leading_plus text) ≡ n) × (0 < n) × (n < 2 ^ 32)
 
--- a moment whose text as RFC 3339 has it begins with this one, and the first moment where no text is named
+-- a moment whose text as RFC 3339 has it begins with this one, which is not empty, and the first moment where no text is named
 abbrev pub IsSince : Option Text → ℕ → Type 0
-IsSince (Some text) at = take (length text) (moment_text at) ≡ text
+IsSince (Some text) at = (0 < length text) × (take (length text) (moment_text at) ≡ text)
 IsSince None at = at ≡ 0
 
 -- a path that begins at the root folder

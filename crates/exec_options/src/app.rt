@@ -4,7 +4,7 @@ ghost use Rattle.clap.specs.Words.{app_of, rule_of, new_app};
 ghost use Rattle.clap.specs.declared.builder.command.Command.TheViews.{out-Command};
 ghost use Rattle.exec_options.specs.App.{text_rule, text_rule_or, flag_rule, word_rule, words_rule, needed_rule};
 ghost use Rattle.exec_options.specs.App.{with_agent_app, with_call_app, with_journal_app, with_log_app, with_options_app, with_place_app, with_site_app, with_status_app};
-ghost use Rattle.exec_options.specs.App.{top_app, run_app, serve_app, show_app, status_app, log_app, once_app, ocfexec_app};
+ghost use Rattle.exec_options.specs.App.{top_app, run_app, serve_app, show_app, status_app, log_app, metrics_app, once_app, ocfexec_app};
 
 use crate::texts;
 use clap::{Arg, ArgAction, Command};
@@ -94,7 +94,7 @@ fn with_place_options<'a>(alloc: Global, command: Command<'a>) -> Result<Command
         alloc,
         "journal",
         "DIR",
-        "The directory of the journal, which is kept in its files part-a and part-b; run and serve make those that are missing",
+        "The directory of the journal, which must exist; run and serve create its files part-a and part-b if they are missing",
     ))?;
     command.arg(flag(
         alloc,
@@ -112,14 +112,14 @@ fn with_journal_options<'a>(alloc: Global, command: Command<'a>) -> Result<Comma
     let command = command.arg(flag(
         alloc,
         "any-owner",
-        "As root, open a journal that other users can write, too",
+        "As root, open the journal even if other users can write it",
     ))?;
     command.arg(text_option_or(
         alloc,
         "tidy-at",
         "BYTES",
         TIDY_AT,
-        "Tidy the journal once it holds more bytes than this; 0 for never",
+        "Tidy the journal (write a snapshot to its other part) once its part is longer than this many bytes; 0 for never",
     ))
 }
 
@@ -139,7 +139,7 @@ fn with_site_options<'a>(alloc: Global, command: Command<'a>) -> Result<Command<
         alloc,
         "via",
         "PROGRAM",
-        "Start each agent as PROGRAM AGENT ACTION; left out, as AGENT ACTION",
+        "Run each agent through PROGRAM, as PROGRAM AGENT ACTION",
     ))?;
     let command = command.arg(text_option_or(
         alloc,
@@ -164,30 +164,30 @@ fn with_agent_options<'a>(alloc: Global, command: Command<'a>) -> Result<Command
         alloc,
         "log",
         "FILE",
-        "Append what agents write to FILE; -: to this program's standard error; left out, it is lost",
+        "Append what agents write to FILE, or to standard error if FILE is -; without --log and --logs it is lost",
     ))?;
     let command = command.arg(text_option(
         alloc,
         "logs",
         "DIR",
-        "Append what agents write to the file ID.log in DIR, which is opened anew for each action",
+        "Append what the agents of a resource write to DIR/ID.log, which is opened again for each action",
     ))?;
     let command = command.arg(flag(
         alloc,
         "events",
-        "Say each result on standard error, in the words of status",
+        "Print a line for each result on standard error, worded as in status",
     ))?;
     let command = command.arg(text_option_or(
         alloc,
         "orphans",
         "MS",
         ORPHANS,
-        "Wait at most this long, and not past its timeout, for what a killed executor's agents still do, then end and report it; 0: end it at once",
+        "How long an opening waits for agents that a killed executor left running, at most up to their timeouts, before it kills them; 0 for no wait",
     ))?;
     command.arg(flag(
         alloc,
         "leave-orphans",
-        "Let what a killed executor's agents still do live after that wait, and name it on standard error",
+        "Do not kill such agents after that wait: name their processes on standard error",
     ))
 }
 
@@ -210,17 +210,17 @@ fn with_status_options<'a>(alloc: Global, command: Command<'a>) -> Result<Comman
         alloc,
         "resource",
         "ID",
-        "The one resource that is asked for, whose history is told, too; left out, all",
+        "The resource to show, with its history; without it all are shown",
     ))?;
     let command = command.arg(flag(
         alloc,
         "json",
-        "Print the lines of show and a line of each resource, and no table; with ID those of that resource alone",
+        "Print JSON lines in place of the table: those of show, and one with the state of each resource",
     ))?;
     command.arg(flag(
         alloc,
         "exit-code",
-        "End with status 9 where a resource has failed, or it is not known how it is",
+        "End with status 9 if a resource is failed or unknown",
     ))
 }
 
@@ -233,19 +233,19 @@ fn with_log_options<'a>(alloc: Global, command: Command<'a>) -> Result<Command<'
         alloc,
         "resource",
         "ID",
-        "The one resource whose records are asked for, and those of openings; left out, all",
+        "The resource whose records are printed, with those of openings; without it all are printed",
     ))?;
     let command = command.arg(text_option(
         alloc,
         "since",
         "TIME",
-        "Print no record before this moment, as 2026-11-27T06:30 in UTC, or a front of it",
+        "Print the records from this moment on, in UTC, as 2026-11-27T06:30 or 2026-11-27",
     ))?;
     let command = command.arg(flag(alloc, "json", "Print each record as a line of JSON"))?;
     command.arg(flag(
         alloc,
         "salvage",
-        "Print what stands before the damage of each part, and where each ends",
+        "Of a damaged journal, print the records before the damage of each part, and where they end",
     ))
 }
 
@@ -264,7 +264,7 @@ fn with_call_options<'a>(alloc: Global, command: Command<'a>) -> Result<Command<
         alloc,
         "action",
         "ACTION",
-        "What it is to do, as start, monitor or meta-data",
+        "The action: start, stop, monitor, promote, demote, reload-agent, validate-all or meta-data",
     ))?;
     let command = command.arg(words(
         alloc,
@@ -277,14 +277,14 @@ fn with_call_options<'a>(alloc: Global, command: Command<'a>) -> Result<Command<
         "timeout",
         "MS",
         TIMEOUT,
-        "End it after so many milliseconds",
+        "Kill the agent after this many milliseconds",
     ))?;
     command.arg(text_option_or(
         alloc,
         "id",
         "ID",
         ID,
-        "The id of the resource, as the agent is told it",
+        "The id of the resource, which the agent finds in OCF_RESOURCE_INSTANCE",
     ))
 }
 
@@ -329,7 +329,7 @@ fn serve<'a>(alloc: Global) -> Result<Command<'a>, AllocError>
     let command = bare(
         alloc,
         "serve",
-        "Answers commands as run does, and makes turns by itself, while no command is there",
+        "Answers commands as run does, and also starts and polls agents by itself between them",
         texts::SERVE,
     );
     with_options(alloc, command)
@@ -355,7 +355,7 @@ fn status<'a>(alloc: Global) -> Result<Command<'a>, AllocError>
     let command = bare(
         alloc,
         "status",
-        "Prints what a journal holds, as a table for a person",
+        "Prints the state of the resources as a table",
         texts::STATUS,
     );
     let command = with_place_options(alloc, command)?;
@@ -376,6 +376,19 @@ fn log<'a>(alloc: Global) -> Result<Command<'a>, AllocError>
     with_log_options(alloc, command)
 }
 
+fn metrics<'a>(alloc: Global) -> Result<Command<'a>, AllocError>
+    ensures app { IfOk result (λ r. app_of r ≡ metrics_app) }
+    ensures local { IfOk result (λ r. (out-Command r).has_globals ≡ false) }
+{
+    let command = bare(
+        alloc,
+        "metrics",
+        "Prints what a journal holds, as metrics for Prometheus",
+        texts::METRICS,
+    );
+    with_place_options(alloc, command)
+}
+
 fn once<'a>(alloc: Global) -> Result<Command<'a>, AllocError>
     ensures app { IfOk result (λ r. app_of r ≡ once_app) }
     ensures local { IfOk result (λ r. (out-Command r).has_globals ≡ false) }
@@ -383,7 +396,7 @@ fn once<'a>(alloc: Global) -> Result<Command<'a>, AllocError>
     let command = bare(
         alloc,
         "once",
-        "Runs one action of an agent here and now, without a journal",
+        "Runs one action of an agent, without a journal",
         texts::ONCE,
     );
     let command = with_call_options(alloc, command)?;
@@ -399,11 +412,13 @@ pub fn ocfexec<'a>(alloc: Global) -> Result<Command<'a>, AllocError>
     let show = show(alloc)?;
     let status = status(alloc)?;
     let log = log(alloc)?;
+    let metrics = metrics(alloc)?;
     let once = once(alloc)?;
     let with_run = top(alloc).subcommand(run)?;
     let with_serve = with_run.subcommand(serve)?;
     let with_show = with_serve.subcommand(show)?;
     let with_status = with_show.subcommand(status)?;
     let with_log = with_status.subcommand(log)?;
-    with_log.subcommand(once)
+    let with_metrics = with_log.subcommand(metrics)?;
+    with_metrics.subcommand(once)
 }

@@ -16,6 +16,8 @@ pub enum Subcommand {
     Status,
     /// Prints the records of the journal.
     Log,
+    /// Prints what the journal holds as metrics.
+    Metrics,
 }
 
 impl Subcommand {
@@ -34,6 +36,8 @@ impl Subcommand {
             Some(Subcommand::Status)
         } else if name == "log" {
             Some(Subcommand::Log)
+        } else if name == "metrics" {
+            Some(Subcommand::Metrics)
         } else {
             None
         }

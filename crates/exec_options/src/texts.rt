@@ -16,10 +16,10 @@ pub const COMMANDS: &str =
   withdraw    id, call                                    takes a queued action out of the queue
   forget      id                                          empties a resource's history
   list                                                    names the resources
-  info        id                                          tells what a resource is and does, and what failed last
-  history     id                                          tells a resource's last results
-  drain                           limit                   makes turns until nothing is queued or running
-  watch       limit                                       makes turns, so that recurring monitors run, until its limit
+  info        id                                          shows a resource, what it does, and what failed last
+  history     id                                          shows a resource's last results
+  drain                           limit                   runs agents until nothing is queued or running
+  watch       limit                                       runs agents, recurring monitors too, until its limit
   meta        provider, type      limit                   gives an agent's metadata
   tidy                                                    writes the whole state as the journal's snapshot
 
@@ -29,22 +29,22 @@ Example:
 Commands, replies, refusals, options and statuses: man ocfexec.";
 
 /// What stands behind the help of `run`.
-pub const RUN: &str = "Give just one of --journal and --memory. The commands: ocfexec --help.
+pub const RUN: &str = "Give exactly one of --journal and --memory. The commands: ocfexec --help.
 
 Examples:
   echo '{\"op\":\"list\"}' | ocfexec run --memory
   ocfexec run --journal /var/lib/ocfexec < commands";
 
 /// What stands behind the help of `serve`.
-pub const SERVE: &str = "Give just one of --journal and --memory. The commands: ocfexec --help.
-Results come as lines of their own, which alone have the key outcome; no drain or watch is needed.
+pub const SERVE: &str = "Give exactly one of --journal and --memory. The commands: ocfexec --help.
+Each result is a line of its own, and these alone have the key outcome; no drain or watch is needed.
 
 Example:
   ocfexec serve --journal /var/lib/ocfexec";
 
 /// What stands behind the help of `show`.
-pub const SHOW: &str = "A journal that is in use can be shown too, and nothing is changed.
-Where no journal is named it is that of OCFEXEC_JOURNAL, and else /var/lib/ocfexec.
+pub const SHOW: &str = "The journal may be in use, and nothing is changed.
+Without --journal it is the journal in OCFEXEC_JOURNAL, or else in /var/lib/ocfexec.
 
 Examples:
   ocfexec show
@@ -52,9 +52,9 @@ Examples:
 
 /// What stands behind the help of `status`.
 pub const STATUS: &str =
-    "A journal that is in use can be shown too, and nothing is changed. Results are in colour on a terminal alone.
-Where no journal is named it is that of OCFEXEC_JOURNAL, and else /var/lib/ocfexec.
-STATE is what the last results tell: started, promoted, stopped, failed, unknown (what was cut off may be done or not) or never run.
+    "The journal may be in use, and nothing is changed. Colours are for a terminal alone.
+Without --journal it is the journal in OCFEXEC_JOURNAL, or else in /var/lib/ocfexec.
+STATE, by the last results: started, promoted, stopped, failed, unknown (an interrupted action may be done or not) or never run.
 
 Examples:
   ocfexec status
@@ -62,18 +62,27 @@ Examples:
   ocfexec status --journal /srv/journal --exit-code > /dev/null || echo look at it";
 
 /// What stands behind the help of `log`.
-pub const LOG: &str = "A journal that is in use can be shown too, and nothing is changed.
-Where no journal is named it is that of OCFEXEC_JOURNAL, and else /var/lib/ocfexec.
+pub const LOG: &str = "The journal may be in use, and nothing is changed.
+Without --journal it is the journal in OCFEXEC_JOURNAL, or else in /var/lib/ocfexec.
 Registrations, commands, begins, results and openings are printed, of both parts of the journal, so also what has left the history.
 
 Examples:
   ocfexec log web --since 2026-11-27
   ocfexec log --journal /srv/journal --salvage";
 
+/// What stands behind the help of `metrics`.
+pub const METRICS: &str = "The journal may be in use, and nothing is changed.
+Without --journal it is the journal in OCFEXEC_JOURNAL, or else in /var/lib/ocfexec.
+The lines are those of the text format of Prometheus, for a textfile collector; ages are counted from the moment of the call.
+
+Examples:
+  ocfexec metrics
+  ocfexec metrics > ocfexec.prom.new && mv ocfexec.prom.new ocfexec.prom";
+
 /// What stands behind the help of `once`.
 pub const ONCE: &str =
-    "What the agent writes goes to the terminal. The status is the agent's own; 124 where it was ended past its timeout, 125 where it was
-not run, and 128 and the signal's number where one ended it. Nothing is recorded: give no agent that an executor runs.
+    "What the agent writes goes to the terminal. The status is the agent's own; 124 after its timeout, 125 where it was
+not run, and 128 plus the signal's number where one ended it. Nothing is recorded: give no resource that an executor runs.
 
 Examples:
   ocfexec once heartbeat:Dummy meta-data

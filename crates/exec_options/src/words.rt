@@ -143,6 +143,9 @@ fn since(alloc: Global, matches: &ArgMatches<'_>) -> Result<u64, WordsFault>
     let Some(text) = text_of(matches, "since") else {
         return Ok(0);
     };
+    if text.is_empty() {
+        return Err(WordsFault::Since);
+    }
     match moment_begun(alloc, text) {
         Ok(Some(at)) => Ok(at.get()),
         Ok(None) => Err(WordsFault::Since),

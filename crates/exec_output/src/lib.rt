@@ -17,7 +17,9 @@ mod statuses;
 mod table;
 mod told_lines;
 
+pub use condition::{Condition, condition_of};
 pub use fault::Fault;
+pub use lines::last_run;
 pub use look::Look;
 pub use meanings::{Tone, failure_meaning, meaning, tone_of};
 pub use send::{IoFault, send_notice, send_notices, send_replies, send_reply};

@@ -109,8 +109,8 @@ fn last_asked(state: &State, place: usize, action: Action) -> Option<Ended>
     last
 }
 
-// The last result of a recurring monitor.
-fn last_run(state: &State, place: usize, call: CallId) -> Option<Ended>
+/// The last result of a recurring monitor.
+pub fn last_run(state: &State, place: usize, call: CallId) -> Option<Ended>
     requires { place < length state.now.state.resources }
     ensures { result ≡ last_of (is_run call) (at_place state.now.state place).history.ended }
 {

@@ -23,7 +23,7 @@ const PERMISSION_ADVICE: &str =
     "No permission: the journal is its owner's alone; look at it as that user, or as root.";
 
 const IN_USE_ADVICE: &str =
-    "In use: one executor at a time holds a journal; show, status and log look at it meanwhile.";
+    "In use: one executor at a time holds a journal; show, status, log and metrics look at it meanwhile.";
 
 // What can be done about a fault that the system told so.
 fn advice_of_kind(kind: ErrorKind) -> Option<&'static str> {

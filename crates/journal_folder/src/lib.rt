@@ -5,6 +5,7 @@ mod emptied;
 mod files;
 mod log;
 mod look;
+mod metrics;
 mod show;
 
 pub use emptied::not_emptied;

@@ -12,9 +12,9 @@ fn executor_moment(rt: &HostRuntime, folder: &str) -> Option<Moment> {
     Some(Moment::cut(holder.moment_at(uptime(rt)?)))
 }
 
-// The moment from which ages are counted. The moments of a journal are those of its executor's clock, which no step of the
-// system's clock changes: so it is that clock's moment where it can be known, and else the system's.
-fn moment_of(rt: &HostRuntime, journal: JournalPlace) -> Moment {
+/// The moment from which ages are counted. The moments of a journal are those of its executor's clock, which no step of the
+/// system's clock changes: so it is that clock's moment where it can be known, and else the system's.
+pub fn moment_of(rt: &HostRuntime, journal: JournalPlace) -> Moment {
     let known = match journal {
         JournalPlace::Folder(folder) => executor_moment(rt, folder),
         JournalPlace::Memory => None,

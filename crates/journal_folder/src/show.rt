@@ -7,6 +7,7 @@ use crate::emptied::not_emptied;
 use crate::files::{found, told};
 use crate::log::log_to;
 use crate::look::look_of;
+use crate::metrics::metrics_to;
 use diagnostics::{FirstError, tell_shown};
 use disk_model::Disk;
 use exec_options::{Options, Subcommand};
@@ -19,7 +20,7 @@ use std::io::{self, Write};
 // How often the files of a journal that reads as damaged are read, before that is told.
 const LOOKS: usize = 4;
 
-// Writes what the journal on this disk holds, as lines of JSON, as a table or as its records, of all resources or of one.
+// Writes what the journal on this disk holds, as lines of JSON, as a table, as its records or as metrics, of all resources or of one.
 fn show_to<D: Disk + Drop, W: Write>(
     system: &System<'_>,
     options: Options,
@@ -39,6 +40,7 @@ fn show_to<D: Disk + Drop, W: Write>(
             let ended = log_to(system, options, &mut disk, output);
             (disk, ended)
         }
+        Subcommand::Metrics => metrics_to(system, options, disk, output),
         _ => show(rt.alloc(), disk, output),
     }
 }

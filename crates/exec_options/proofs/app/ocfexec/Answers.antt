@@ -1,5 +1,5 @@
 use Rattle.std.proofs.lemmas.Result.{IfOk-weaker}
-use Rattle.exec_options.specs.App.{run_app, serve_app, show_app, status_app, log_app, once_app}
+use Rattle.exec_options.specs.App.{run_app, serve_app, show_app, status_app, log_app, metrics_app, once_app}
 use Rattle.exec_options.proofs.AppLemmas.{app-sub}
 use Rattle.exec_options.proofs.app.ocfexec.Goals as goal
 
@@ -15,5 +15,7 @@ returns c =
     with_show in
     let with_log = app-sub _ _ c.in_ok-with_log.with_log _ log_app c.in_ok-with_log.ensures c.in_ok-log.ensures.local c.in_ok-log.ensures.app
     with_status in
-    IfOk-weaker c.subcommand-6.result _ _
-    (λ r h. app-sub _ _ r _ once_app h c.in_ok-once.ensures.local c.in_ok-once.ensures.app with_log) c.subcommand-6.ensures
+    let with_metrics = app-sub _ _ c.in_ok-with_metrics.with_metrics _ metrics_app c.in_ok-with_metrics.ensures c.in_ok-metrics.ensures.local c.in_ok-metrics.ensures.app
+    with_log in
+    IfOk-weaker c.subcommand-7.result _ _
+    (λ r h. app-sub _ _ r _ once_app h c.in_ok-once.ensures.local c.in_ok-once.ensures.app with_metrics) c.subcommand-7.ensures

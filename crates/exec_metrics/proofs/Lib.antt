@@ -1,0 +1,4 @@
+pub mod MetricsLemmas
+pub mod SizeLemmas
+pub mod TextLemmas
+pub mod Examples

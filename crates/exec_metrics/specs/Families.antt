@@ -1,0 +1,46 @@
+-- The families of metrics: their names, types and helps, as the text format of Prometheus has them (exposition formats, version 0.0.4).
+use Rattle.std.specs.Prelude.{ℕ, List, ◌++◌, codes}
+use Rattle.exec_metrics.specs.declared.family.Family.{Family}
+use Rattle.exec_metrics.specs.declared.family.Family.TheVariants as family
+
+abbrev pub name : Family → List ℕ
+name family.Epoch = codes "ocfexec_journal_epoch"
+name family.Bytes = codes "ocfexec_journal_bytes"
+name family.Calls = codes "ocfexec_calls_total"
+name family.Runs = codes "ocfexec_runs_total"
+name family.Resources = codes "ocfexec_resources"
+name family.State = codes "ocfexec_resource_state"
+name family.Queued = codes "ocfexec_resource_queued_actions"
+name family.Running = codes "ocfexec_resource_running_actions"
+name family.LastCode = codes "ocfexec_resource_last_code"
+name family.LastAge = codes "ocfexec_resource_last_age_seconds"
+name family.FailureCode = codes "ocfexec_resource_failure_code"
+name family.FailureAge = codes "ocfexec_resource_failure_age_seconds"
+name family.MonitorCode = codes "ocfexec_monitor_last_code"
+name family.MonitorAge = codes "ocfexec_monitor_last_age_seconds"
+
+abbrev pub help : Family → List ℕ
+help family.Epoch = codes "How often the journal was written anew, its making included."
+help family.Bytes = codes "Bytes of the journal up to the end of its last record."
+help family.Calls = codes "Actions and recurring monitors that were asked for since the journal was made."
+help family.Runs = codes "Actions that were begun since the journal was made."
+help family.Resources = codes "Resources that are registered."
+help family.State = codes "1 for the state that the last results of a resource tell, and 0 for each other one."
+help family.Queued = codes "Actions of a resource that wait for their turn."
+help family.Running = codes "Actions of a resource that run."
+help family.LastCode = codes "The exit code of the last result of a resource."
+help family.LastAge = codes "Seconds since the last result of a resource."
+help family.FailureCode = codes "The exit code of what failed last of a resource."
+help family.FailureAge = codes "Seconds since what failed last of a resource ended."
+help family.MonitorCode = codes "The exit code of the last result of a recurring monitor."
+help family.MonitorAge = codes "Seconds since the last result of a recurring monitor."
+
+-- what is only ever counted up is a counter
+abbrev pub kind : Family → List ℕ
+kind family.Calls = codes "counter"
+kind family.Runs = codes "counter"
+kind _ = codes "gauge"
+
+-- the two lines before the samples of a family
+abbrev pub header : Family → List ℕ
+header f = codes "# HELP " ++ name f ++ codes " " ++ help f ++ codes "\n# TYPE " ++ name f ++ codes " " ++ kind f ++ codes "\n"

@@ -1,0 +1,5 @@
+pub mod Families
+pub mod Labels
+pub mod Samples
+pub mod Metrics
+pub mod Sizes

@@ -1,0 +1,113 @@
+-- The samples of a resource: a line each.
+use Rattle.std.specs.Prelude.{ℕ, ◌-◌, ◌/◌, ◌==◌, Bool, if◌then◌else◌, List, [], ◌++◌, length, slice_get, codes, decimal}
+use Rattle.std.specs.Prelude.{Option, Some, None, is_some, option_map}
+use Rattle.std.specs.List.{flat_map}
+use Rattle.std.specs.Str.{bytes_eq}
+use Rattle.ocf_types.specs.Actions.{action_word}
+use Rattle.ocf_types.specs.Outcomes.{outcome_word}
+use Rattle.ocf_types.specs.Resource.{Resource}
+use Rattle.ocf_types.specs.declared.operation.Ended.{Ended}
+use Rattle.ocf_types.specs.declared.operation.Recur.{Recur}
+use Rattle.ocf_codes.specs.OutcomeCodes.{outcome_code}
+use Rattle.exec_output.specs.Conditions.{condition_of, condition_word}
+use Rattle.exec_output.specs.Told.{is_run, last_of}
+use Rattle.exec_output.specs.declared.condition.Condition.{Condition}
+use Rattle.exec_output.specs.declared.condition.Condition.TheVariants.{NeverRun, Started, Promoted, Stopped, Failed, Unknown}
+use Rattle.exec_metrics.specs.Families.{name}
+use Rattle.exec_metrics.specs.Labels.{label, next_label}
+use Rattle.exec_metrics.specs.declared.family.Family.{Family}
+use Rattle.exec_metrics.specs.declared.family.Family.TheVariants as family
+
+-- a sample's line up to its first label, which is the resource
+abbrev pub begun : Family → List ℕ → List ℕ
+begun f id = name f ++ codes "{" ++ label (codes "resource") id
+
+-- a sample's line from behind its last label on
+abbrev pub valued : ℕ → List ℕ
+valued n = codes "} " ++ decimal n ++ codes "\n"
+
+-- a sample with no other label
+abbrev pub plain : Family → List ℕ → ℕ → List ℕ
+plain f id n = begun f id ++ valued n
+
+-- 1 for what is so
+abbrev pub bit : Bool → ℕ
+bit is = if is then 1 else 0
+
+abbrev pub is_same : Condition → Condition → Bool
+is_same c d = bytes_eq (condition_word c) (condition_word d)
+
+-- whether a resource that is so is in this state
+abbrev pub state_sample : List ℕ → Condition → Condition → List ℕ
+state_sample id is c = begun family.State id ++ next_label (codes "state") (condition_word c) ++ valued (bit (is_same is c))
+
+-- the same of each state: of those in which it runs, and of those in which a person is asked for
+abbrev pub running_samples : List ℕ → Condition → List ℕ
+running_samples id is = state_sample id is Started ++ state_sample id is Promoted
+
+abbrev pub bad_samples : List ℕ → Condition → List ℕ
+bad_samples id is = state_sample id is Failed ++ state_sample id is Unknown
+
+abbrev pub calm_samples : List ℕ → Condition → List ℕ
+calm_samples id is = state_sample id is NeverRun ++ running_samples id is ++ state_sample id is Stopped
+
+abbrev pub state_samples : List ℕ → Condition → List ℕ
+state_samples id is = calm_samples id is ++ bad_samples id is
+
+-- how old a result is that there is, in whole seconds; one that is ahead of the clock is new
+abbrev pub age : ℕ → Option Ended → Option ℕ
+age now found = option_map (λ e. (now - e.at) / 1000) found
+
+-- what a code is of
+abbrev pub code_labels : Ended → List ℕ
+code_labels e = next_label (codes "action") (action_word e.action) ++ next_label (codes "outcome") (outcome_word e.outcome)
+
+-- the code of a result, and its age; none where there is no result
+abbrev pub code_sample : Family → List ℕ → Option Ended → List ℕ
+code_sample f id None = []
+code_sample f id (Some e) = begun f id ++ code_labels e ++ valued (outcome_code e.outcome)
+
+abbrev pub age_sample : Family → List ℕ → Option ℕ → List ℕ
+age_sample f id None = []
+age_sample f id (Some n) = plain f id n
+
+-- the last one of the results
+abbrev pub last_result : List Ended → Option Ended
+last_result es = if length es == 0 then None else slice_get es (length es - 1)
+
+-- which recurring monitor a sample is of
+abbrev pub interval_label : Recur → List ℕ
+interval_label m = codes ",interval_ms=\"" ++ decimal m.interval ++ codes "\""
+
+-- of a result how it ended, and its code
+abbrev pub outcome_value : Ended → List ℕ
+outcome_value e = next_label (codes "outcome") (outcome_word e.outcome) ++ valued (outcome_code e.outcome)
+
+-- the code of a monitor's last result, and its age
+abbrev pub monitor_code : List ℕ → Recur → Option Ended → List ℕ
+monitor_code id m None = []
+monitor_code id m (Some e) = begun family.MonitorCode id ++ interval_label m ++ outcome_value e
+
+abbrev pub monitor_age : List ℕ → Recur → Option ℕ → List ℕ
+monitor_age id m None = []
+monitor_age id m (Some n) = begun family.MonitorAge id ++ interval_label m ++ valued n
+
+-- the same of a monitor among these results
+abbrev pub code_of_monitor : List ℕ → List Ended → Recur → List ℕ
+code_of_monitor id es m = monitor_code id m (last_of (is_run m.call) es)
+
+abbrev pub age_of_monitor : ℕ → List ℕ → List Ended → Recur → List ℕ
+age_of_monitor now id es m = monitor_age id m (age now (last_of (is_run m.call) es))
+
+-- the samples of a resource in a family: of the families of the journal it has none
+abbrev pub samples : ℕ → Family → List ℕ × Resource → List ℕ
+samples now family.State e = state_samples e.0 (condition_of e.1.history)
+samples now family.Queued e = plain family.Queued e.0 (length e.1.history.queue)
+samples now family.Running e = plain family.Running e.0 (bit (is_some e.1.history.running))
+samples now family.LastCode e = code_sample family.LastCode e.0 (last_result e.1.history.ended)
+samples now family.LastAge e = age_sample family.LastAge e.0 (age now (last_result e.1.history.ended))
+samples now family.FailureCode e = code_sample family.FailureCode e.0 e.1.history.failed
+samples now family.FailureAge e = age_sample family.FailureAge e.0 (age now e.1.history.failed)
+samples now family.MonitorCode e = flat_map (code_of_monitor e.0 e.1.history.ended) e.1.recurring
+samples now family.MonitorAge e = flat_map (age_of_monitor now e.0 e.1.history.ended) e.1.recurring
+samples now _ e = []

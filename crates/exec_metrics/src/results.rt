@@ -1,0 +1,80 @@
+//! The codes and ages of results.
+ghost use Rattle.std.specs.Prelude.{◌≡◌, ◌<◌, ◌++◌, length, IsTrue, OnErr, OnOk};
+ghost use Rattle.ocf_types.specs.Places.{at_place};
+ghost use Rattle.exec_metrics.specs.Samples.{age, age_sample, code_labels, code_sample, last_result};
+
+use crate::family::Family;
+use crate::label::add_next_label;
+use crate::sample::{add_plain, begin, finish};
+use exec_state::State;
+use growth::Grows;
+use ocf_codes::code_of;
+use ocf_types::{Ended, Moment, RscId, StateView};
+use std::alloc::{AllocError, Global};
+
+/// How old a result is that there is, in whole seconds. One that is ahead of the clock is new.
+pub fn age(now: Moment, found: Option<Ended>) -> Option<u64>
+    ensures { result ≡ age now found }
+{
+    match found {
+        Some(ended) => Some(now.get().saturating_sub(ended.at.get()) / 1_000),
+        None => None,
+    }
+}
+
+/// The last result of a resource that is kept.
+pub fn last_result(state: &State, place: usize) -> Option<Ended>
+    requires { place < length state.now.state.resources }
+    ensures { result ≡ last_result (at_place state.now.state place).history.ended }
+{
+    let results = state.ended_len(place);
+    if results == 0 {
+        None
+    } else {
+        Some(state.ended_at(place, results - 1))
+    }
+}
+
+// Adds of what a code is.
+fn add_code_labels(text: &mut Vec<u8>, ended: &Ended) -> Result<(), AllocError>
+    ensures added { OnOk result (text.new.items ≡ text.old.items ++ code_labels ended.now) }
+    ensures memory { OnErr result (IsTrue ⟦<Global as Grows>⟧.refuses) }
+{
+    add_next_label(text, "action", ended.action.word().as_bytes())?;
+    add_next_label(text, "outcome", ended.outcome.word().as_bytes())
+}
+
+/// Adds the code of a result, where there is one.
+pub fn add_code(
+    text: &mut Vec<u8>,
+    family: Family,
+    id: &RscId,
+    found: Option<Ended>,
+) -> Result<(), AllocError>
+    ensures added { OnOk result (text.new.items
+        ≡ text.old.items ++ code_sample family id.now found) }
+    ensures memory { OnErr result (IsTrue ⟦<Global as Grows>⟧.refuses) }
+{
+    let Some(ended) = found else {
+        return Ok(());
+    };
+    begin(text, family, id)?;
+    add_code_labels(text, &ended)?;
+    finish(text, u64::from(code_of(ended.outcome)))
+}
+
+/// Adds the age of a result, where there is one.
+pub fn add_age(
+    text: &mut Vec<u8>,
+    family: Family,
+    id: &RscId,
+    age: Option<u64>,
+) -> Result<(), AllocError>
+    ensures added { OnOk result (text.new.items ≡ text.old.items ++ age_sample family id.now age) }
+    ensures memory { OnErr result (IsTrue ⟦<Global as Grows>⟧.refuses) }
+{
+    match age {
+        Some(seconds) => add_plain(text, family, id, seconds),
+        None => Ok(()),
+    }
+}

@@ -1,0 +1,201 @@
+//! The whole text, family after family.
+ghost use Rattle.std.specs.Prelude.{◌≡◌, ◌<◌, ◌++◌, length, IfOk, IsTrue, OnErr, OnOk};
+ghost use Rattle.std.specs.List.{flat_map};
+ghost use Rattle.ocf_types.specs.Places.{entry_at};
+ghost use Rattle.exec_metrics.specs.Metrics.{bare, counts_text, failures_text, journal_text, last_text, metrics_text, monitors_text, of_each, results_text, single, size_text, states_text};
+ghost use Rattle.exec_metrics.specs.Samples.{samples};
+
+use crate::add::{add, add_number};
+use crate::family::{Family, add_header};
+use crate::measuring::Size;
+use crate::monitors::{add_ages, add_codes};
+use crate::results::{add_age, add_code, age, last_result};
+use crate::sample::{add_plain, bit};
+use crate::states::add_states;
+use exec_output::condition_of;
+use exec_state::State;
+use growth::Grows;
+use ocf_types::{Moment, StateView};
+use std::alloc::{AllocError, Global};
+
+/// Of what and when metrics are taken.
+#[derive(Clone, Copy)]
+pub struct Taken {
+    /// The moment from which ages are counted.
+    pub moment: Moment,
+    /// How large the journal is.
+    pub size: Size,
+}
+
+// A resource's place, and the family of which its samples are.
+#[derive(Clone, Copy)]
+struct Row {
+    place: usize,
+    family: Family,
+}
+
+// Adds the samples of a resource in a family.
+fn add_samples(text: &mut Vec<u8>, now: Moment, state: &State, row: Row) -> Result<(), AllocError>
+    requires { row.place < length state.now.state.resources }
+    ensures added { OnOk result (text.new.items
+        ≡ text.old.items ++ samples now row.family (entry_at state.now.state row.place)) }
+    ensures memory { OnErr result (IsTrue ⟦<Global as Grows>⟧.refuses) }
+{
+    let Row { place, family } = row;
+    let id = state.id_at(place);
+    match family {
+        Family::State => add_states(text, id, condition_of(state, place)),
+        Family::Queued => add_plain(text, family, id, state.queue_len(place) as u64),
+        Family::Running => add_plain(text, family, id, bit(state.running_at(place).is_some())),
+        Family::LastCode => add_code(text, family, id, last_result(state, place)),
+        Family::LastAge => add_age(text, family, id, age(now, last_result(state, place))),
+        Family::FailureCode => add_code(text, family, id, state.failed_at(place)),
+        Family::FailureAge => add_age(text, family, id, age(now, state.failed_at(place))),
+        Family::MonitorCode => add_codes(text, state, place),
+        Family::MonitorAge => add_ages(text, now, state, place),
+        Family::Epoch | Family::Bytes | Family::Calls | Family::Runs | Family::Resources => Ok(()),
+    }
+}
+
+// Adds the samples of each resource in a family, in order of registration.
+fn add_resources(
+    text: &mut Vec<u8>,
+    now: Moment,
+    state: &State,
+    family: Family,
+) -> Result<(), AllocError>
+    ensures added { OnOk result (text.new.items
+        ≡ text.old.items ++ flat_map (samples now family) state.now.state.resources) }
+    ensures memory { OnErr result (IsTrue ⟦<Global as Grows>⟧.refuses) }
+{
+    for place in 0..state.len() {
+        add_samples(text, now, state, Row { place, family })?;
+    }
+    Ok(())
+}
+
+// Adds a family's header, and then the samples of each resource.
+fn add_each(
+    text: &mut Vec<u8>,
+    now: Moment,
+    state: &State,
+    family: Family,
+) -> Result<(), AllocError>
+    ensures added { OnOk result (text.new.items
+        ≡ text.old.items ++ of_each now state.now.state family) }
+    ensures memory { OnErr result (IsTrue ⟦<Global as Grows>⟧.refuses) }
+{
+    add_header(text, family)?;
+    add_resources(text, now, state, family)
+}
+
+// Adds a sample without labels.
+fn add_bare(text: &mut Vec<u8>, family: Family, value: u64) -> Result<(), AllocError>
+    ensures added { OnOk result (text.new.items ≡ text.old.items ++ bare family value) }
+    ensures memory { OnErr result (IsTrue ⟦<Global as Grows>⟧.refuses) }
+{
+    add(text, family.name())?;
+    add(text, " ")?;
+    add_number(text, value)?;
+    add(text, "\n")
+}
+
+// Adds a family of one sample without labels.
+fn add_single(text: &mut Vec<u8>, family: Family, value: u64) -> Result<(), AllocError>
+    ensures added { OnOk result (text.new.items ≡ text.old.items ++ single family value) }
+    ensures memory { OnErr result (IsTrue ⟦<Global as Grows>⟧.refuses) }
+{
+    add_header(text, family)?;
+    add_bare(text, family, value)
+}
+
+// Adds how large the journal is.
+fn add_size(text: &mut Vec<u8>, size: Size) -> Result<(), AllocError>
+    ensures added { OnOk result (text.new.items ≡ text.old.items ++ size_text size) }
+    ensures memory { OnErr result (IsTrue ⟦<Global as Grows>⟧.refuses) }
+{
+    add_single(text, Family::Epoch, size.epoch)?;
+    add_single(text, Family::Bytes, size.bytes)
+}
+
+// Adds how much it has recorded since it was made.
+fn add_counts(text: &mut Vec<u8>, state: &State) -> Result<(), AllocError>
+    ensures added { OnOk result (text.new.items ≡ text.old.items ++ counts_text state.now.state) }
+    ensures memory { OnErr result (IsTrue ⟦<Global as Grows>⟧.refuses) }
+{
+    let calls = state.next_call().get().saturating_sub(1);
+    let runs = state.next_run().get().saturating_sub(1);
+    add_single(text, Family::Calls, calls)?;
+    add_single(text, Family::Runs, runs)
+}
+
+// Adds what is said of the journal.
+fn add_journal(text: &mut Vec<u8>, taken: &Taken, state: &State) -> Result<(), AllocError>
+    ensures added { OnOk result (text.new.items
+        ≡ text.old.items ++ journal_text taken.now state.now.state) }
+    ensures memory { OnErr result (IsTrue ⟦<Global as Grows>⟧.refuses) }
+{
+    add_size(text, taken.size)?;
+    add_counts(text, state)?;
+    add_single(text, Family::Resources, state.len() as u64)
+}
+
+// Adds how the resources are, and what they do.
+fn add_all_states(text: &mut Vec<u8>, now: Moment, state: &State) -> Result<(), AllocError>
+    ensures added { OnOk result (text.new.items ≡ text.old.items ++ states_text now state.now.state) }
+    ensures memory { OnErr result (IsTrue ⟦<Global as Grows>⟧.refuses) }
+{
+    add_each(text, now, state, Family::State)?;
+    add_each(text, now, state, Family::Queued)?;
+    add_each(text, now, state, Family::Running)
+}
+
+// Adds what their last results are.
+fn add_last(text: &mut Vec<u8>, now: Moment, state: &State) -> Result<(), AllocError>
+    ensures added { OnOk result (text.new.items ≡ text.old.items ++ last_text now state.now.state) }
+    ensures memory { OnErr result (IsTrue ⟦<Global as Grows>⟧.refuses) }
+{
+    add_each(text, now, state, Family::LastCode)?;
+    add_each(text, now, state, Family::LastAge)
+}
+
+// Adds what failed last.
+fn add_failures(text: &mut Vec<u8>, now: Moment, state: &State) -> Result<(), AllocError>
+    ensures added { OnOk result (text.new.items ≡ text.old.items ++ failures_text now state.now.state) }
+    ensures memory { OnErr result (IsTrue ⟦<Global as Grows>⟧.refuses) }
+{
+    add_each(text, now, state, Family::FailureCode)?;
+    add_each(text, now, state, Family::FailureAge)
+}
+
+// Adds what the last results of their monitors are.
+fn add_monitors(text: &mut Vec<u8>, now: Moment, state: &State) -> Result<(), AllocError>
+    ensures added { OnOk result (text.new.items ≡ text.old.items ++ monitors_text now state.now.state) }
+    ensures memory { OnErr result (IsTrue ⟦<Global as Grows>⟧.refuses) }
+{
+    add_each(text, now, state, Family::MonitorCode)?;
+    add_each(text, now, state, Family::MonitorAge)
+}
+
+// Adds all results.
+fn add_results(text: &mut Vec<u8>, now: Moment, state: &State) -> Result<(), AllocError>
+    ensures added { OnOk result (text.new.items
+        ≡ text.old.items ++ results_text now state.now.state) }
+    ensures memory { OnErr result (IsTrue ⟦<Global as Grows>⟧.refuses) }
+{
+    add_last(text, now, state)?;
+    add_failures(text, now, state)?;
+    add_monitors(text, now, state)
+}
+
+/// The metrics of a state.
+pub fn metrics_text(alloc: Global, taken: &Taken, state: &State) -> Result<Vec<u8>, AllocError>
+    ensures text { IfOk result (λ text. text.items ≡ metrics_text taken.now state.now.state) }
+    ensures memory { OnErr result (IsTrue ⟦<Global as Grows>⟧.refuses) }
+{
+    let mut text = Vec::new(alloc);
+    add_journal(&mut text, taken, state)?;
+    add_all_states(&mut text, taken.moment, state)?;
+    add_results(&mut text, taken.moment, state)?;
+    Ok(text)
+}

@@ -1,0 +1,234 @@
+#!/usr/bin/env python3
+"""What `metrics` prints of a journal: read by a parser of its own, after the text format of Prometheus, and by promtool where it is
+installed; compared with what `show` and `status` print, and with a second reader of the journal, at rest, while an action runs, after a
+timeout, an interruption and a tidy.
+Use: metrics.py PROGRAM"""
+import os
+import re
+import shutil
+import subprocess
+import sys
+import time
+import unittest
+
+sys.path[0] += "/../lib"
+import helper  # noqa: E402
+from helper import action, register  # noqa: E402
+import journal_format  # noqa: E402
+
+PROMTOOL = shutil.which("promtool")
+STATES = ["never run", "started", "promoted", "stopped", "failed", "unknown"]
+# each family, its type and its labels; the order is that of the output
+FAMILIES = {
+    "ocfexec_journal_epoch": ("gauge", []), "ocfexec_journal_bytes": ("gauge", []), "ocfexec_calls_total": ("counter", []),
+    "ocfexec_runs_total": ("counter", []), "ocfexec_resources": ("gauge", []),
+    "ocfexec_resource_state": ("gauge", ["resource", "state"]), "ocfexec_resource_queued_actions": ("gauge", ["resource"]),
+    "ocfexec_resource_running_actions": ("gauge", ["resource"]),
+    "ocfexec_resource_last_code": ("gauge", ["resource", "action", "outcome"]), "ocfexec_resource_last_age_seconds": ("gauge", ["resource"]),
+    "ocfexec_resource_failure_code": ("gauge", ["resource", "action", "outcome"]), "ocfexec_resource_failure_age_seconds": ("gauge", ["resource"]),
+    "ocfexec_monitor_last_code": ("gauge", ["resource", "interval_ms", "outcome"]), "ocfexec_monitor_last_age_seconds": ("gauge", ["resource", "interval_ms"]),
+}
+NAME = r"[a-zA-Z_:][a-zA-Z0-9_:]*"
+LABEL = re.compile(r'([a-zA-Z_][a-zA-Z0-9_]*)="((?:[^"\\\n]|\\["\\n])*)"')
+SAMPLE = re.compile(rf"({NAME})(?:\{{(.*)\}})? (\d+)")
+
+
+def unescaped(text):
+    return re.sub(r'\\(.)', lambda found: "\n" if found[1] == "n" else found[1], text)
+
+
+def labels_of(text):
+    """The labels between the braces of a sample, as pairs."""
+    found, at = [], 0
+    while at < len(text):
+        label = LABEL.match(text, at)
+        assert label, text
+        found.append((label[1], unescaped(label[2])))
+        at = label.end()
+        assert at == len(text) or text[at] == ",", text
+        at += 1
+    return found
+
+
+def parsed(text):
+    """The families of a text: each name with its type and its samples, a pair of labels and value each, in order."""
+    assert text.endswith("\n"), "a last line that ends"
+    families, at = {}, None
+    for line in text.split("\n")[:-1]:
+        if line.startswith("# HELP "):
+            at, says = re.fullmatch(rf"# HELP ({NAME}) (\S.*\.)", line).groups()
+            assert at not in families and "\\" not in says, line
+            families[at] = [None, []]
+        elif line.startswith("# TYPE "):
+            assert re.fullmatch(rf"# TYPE {at} (gauge|counter)", line) and families[at] == [None, []], line
+            families[at][0] = line.split(" ")[3]
+        else:
+            name, labels, value = SAMPLE.fullmatch(line).groups()
+            assert name == at and families[at][0], line
+            families[at][1].append((labels_of(labels or ""), int(value)))
+    for name, (_, samples) in families.items():
+        series = [tuple(sorted(labels)) for labels, _ in samples]
+        assert len(set(series)) == len(series), f"{name}: a series twice"
+    return families
+
+
+class Metrics(helper.Check):
+    def setUp(self):
+        super().setUp()
+        self.agent("Told", '[ "$OCF_RESKEY_code" != sleep ] || exec sleep 60\nexit "$OCF_RESKEY_code"\n')
+        self.folder = self.journal()
+        self.words = ("--journal", self.folder, "--root", self.here, "--orphans", "0")
+
+    def asks(self, *commands):
+        done = helper.run("run", *self.words, told=helper.lines(*commands))
+        self.assertEqual(done.returncode, 0, done.stderr)
+
+    def metrics(self, *words):
+        """The families that are printed of a journal, which changes nothing; the same by promtool."""
+        before = helper.parts(self.folder)
+        done = helper.run("metrics", *(words or ("--journal", self.folder)))
+        self.assertEqual((done.returncode, done.stderr), (0, b""))
+        self.assertEqual(helper.parts(self.folder), before, "metrics that write nothing")
+        if PROMTOOL:
+            checked = subprocess.run([PROMTOOL, "check", "metrics"], input=done.stdout, capture_output=True)
+            self.assertEqual((checked.returncode, checked.stdout, checked.stderr), (0, b"", b""), "promtool check metrics")
+        families = parsed(done.stdout.decode())
+        self.assertEqual({name: kind for name, (kind, _) in families.items()}, {name: kind for name, (kind, _) in FAMILIES.items()})
+        self.assertEqual(list(families), list(FAMILIES), "the order of the families")
+        for name, (_, samples) in families.items():
+            for labels, _ in samples:
+                self.assertEqual([key for key, _ in labels], FAMILIES[name][1], name)
+        return {name: [(tuple(value for _, value in labels), value) for labels, value in samples] for name, (_, samples) in families.items()}
+
+    def is_whole(self):
+        """What is printed is what `show`, `status` and the second reader tell."""
+        now = time.time()
+        found = self.metrics()
+        lines = helper.replies(helper.run("status", "--json", "--journal", self.folder).stdout)
+        names = lines[0]["resources"]
+        states = {line["id"]: line for line in lines if "state" in line}
+        infos = dict(zip(names, lines[1::2]))
+        results = {name: lines[2 + 2 * at]["results"] for at, name in enumerate(names)}
+        ages = {family: dict(found.pop(family)) for family in [family for family in found if family.endswith("_age_seconds")]}
+        part = journal_format.found(*helper.parts(self.folder))
+        kinds = [event["event"] for event in part.events()]
+        runs = [(name, monitor["interval"], [result for result in results[name] if result["call"] == monitor["call"]])
+                for name in names for monitor in infos[name]["recurring"]]
+        last = [(name, results[name][-1]) for name in names if results[name]]
+        failed = [(name, infos[name]["failed"]) for name in names if infos[name]["failed"]]
+        self.assertEqual(found, {
+            "ocfexec_journal_epoch": [((), part.epoch)], "ocfexec_journal_bytes": [((), part.end)],
+            "ocfexec_calls_total": [((), part.state["next_call"] - 1 + kinds.count("exec") + kinds.count("recur"))],
+            "ocfexec_runs_total": [((), part.state["next_run"] - 1 + kinds.count("begin"))], "ocfexec_resources": [((), len(names))],
+            "ocfexec_resource_state": [((name, state), int(states[name]["state"] == state)) for name in names for state in STATES],
+            "ocfexec_resource_queued_actions": [((name,), states[name]["queued"]) for name in names],
+            "ocfexec_resource_running_actions": [((name,), int(states[name]["running"] is not None)) for name in names],
+            "ocfexec_resource_last_code": [((name, each["action"], each["outcome"]), each["code"]) for name, each in last],
+            "ocfexec_resource_failure_code": [((name, each["action"], each["outcome"]), each["code"]) for name, each in failed],
+            "ocfexec_monitor_last_code": [((name, str(interval), each[-1]["outcome"]), each[-1]["code"]) for name, interval, each in runs if each],
+        })
+        at = {
+            "ocfexec_resource_last_age_seconds": {(name,): each["at"] for name, each in last},
+            "ocfexec_resource_failure_age_seconds": {(name,): each["at"] for name, each in failed},
+            "ocfexec_monitor_last_age_seconds": {(name, str(interval)): each[-1]["at"] for name, interval, each in runs if each},
+        }
+        for family, moments in at.items():
+            self.assertEqual(list(ages[family]), list(moments), family)
+            for series, moment in moments.items():
+                self.assertAlmostEqual(ages[family][series], now - moment / 1000, delta=5 * helper.slowness(), msg=f"{family} of {series}")
+        return found
+
+    def is_cut_off(self):
+        """Whether an action runs and one is queued, and one was withdrawn."""
+        web = helper.replies(helper.run("status", "--json", "--journal", self.folder).stdout)[-1]
+        return web["running"] and web["queued"] == 1 and helper.results(self.folder)["web"][-1]["outcome"] == "cancelled"
+
+    def test_none(self):
+        """a journal without resources, one in memory and a folder without a journal"""
+        found = helper.run("metrics", "--journal", self.here)
+        self.assertEqual((found.returncode, found.stdout, found.stderr), (9, b"", b"ocfexec: no journal here yet\n"))
+        self.asks()
+        self.is_whole()
+        self.assertEqual(self.metrics("--memory")["ocfexec_journal_epoch"], [((), 0)])
+
+    def test_results(self):
+        """results, failures and monitors of three resources"""
+        self.asks(register("web:1", "Told", code="0"), register("db", "Told", code="7"), register("none", "Told", code="0"))
+        self.is_whole()
+        self.asks(action("web:1", "start"), action("db", "monitor"), {"op": "drain"}, {"op": "recur", "id": "web:1", "interval": 100},
+                  {"op": "recur", "id": "web:1", "interval": 3600000}, {"op": "recur", "id": "db", "interval": 250}, {"op": "watch", "limit": 600})
+        found = self.is_whole()
+        self.assertEqual(found["ocfexec_resource_last_code"][1], (("db", "monitor", "done"), 7))
+        self.assertEqual(found["ocfexec_resource_failure_code"], [(("db", "monitor", "done"), 7)])
+        self.assertIn(("db", "failed"), [series for series, value in found["ocfexec_resource_state"] if value])
+        self.asks({"op": "forget", "id": "db"}, {"op": "unregister", "id": "none"})
+        self.is_whole()
+
+    def test_cut_off(self):
+        """what runs and is queued, a timeout, an interruption, what was withdrawn, and ages that rise"""
+        self.asks(register("web", "Told", code="sleep"), action("web", "start", timeout=100), {"op": "drain"})
+        self.is_whole()
+        run = self.heard("serve", *self.words)
+        run.tell(action("web", "start"), action("web", "stop"), action("web", "stop"), {"op": "withdraw", "id": "web", "call": 4})
+        self.eventually("a start that runs, and one stop behind it", self.is_cut_off)
+        found = self.is_whole()
+        self.assertEqual(found["ocfexec_resource_running_actions"], [(("web",), 1)])
+        self.assertEqual(found["ocfexec_resource_queued_actions"], [(("web",), 1)])
+        run.killed()
+        self.is_whole()
+        self.asks()
+        found = self.is_whole()
+        self.assertEqual(found["ocfexec_resource_last_code"], [(("web", "start", "interrupted"), 1)])
+        self.assertIn(("web", "unknown"), [series for series, value in found["ocfexec_resource_state"] if value])
+        before = dict(self.metrics()["ocfexec_resource_last_age_seconds"])[("web",)]
+        time.sleep(2.1)
+        self.assertGreaterEqual(dict(self.metrics()["ocfexec_resource_last_age_seconds"])[("web",)], before + 2)
+
+    @unittest.skipUnless(PROMTOOL, "install prometheus, for promtool")
+    def test_promtool(self):
+        """promtool takes the metrics of a resource that has failed, and has nothing to say of them"""
+        self.asks(register("web", "Told", code="1"), action("web", "start"), {"op": "drain"}, {"op": "recur", "id": "web", "interval": 100},
+                  {"op": "watch", "limit": 300})
+        self.is_whole()
+
+    def test_tidied(self):
+        """counters that a tidy leaves, an epoch that it raises, and a journal that an executor holds"""
+        self.asks(register("web", "Told", code="0"), action("web", "start"), {"op": "drain"})
+        before = self.is_whole()
+        run = self.heard("serve", *self.words)
+        run.tell({"op": "tidy"})
+        run.awaits(lambda value: value.get("end") == "done")
+        after = self.is_whole()
+        self.assertEqual(after["ocfexec_journal_epoch"], [((), before["ocfexec_journal_epoch"][0][1] + 1)])
+        self.assertEqual(after["ocfexec_runs_total"], before["ocfexec_runs_total"])
+        self.assertNotEqual(after["ocfexec_journal_bytes"], before["ocfexec_journal_bytes"])
+        self.assertEqual(run.ends(), 0)
+
+    def test_damaged(self):
+        """a damaged journal and words that are none"""
+        self.asks(register("web", "Told", code="0"))
+        with open(os.path.join(self.folder, "part-a"), "r+b") as part:
+            part.seek(1)
+            part.write(b"X")
+        found = helper.run("metrics", "--journal", self.folder)
+        self.assertEqual((found.returncode, found.stdout, found.stderr), (3, b"", b"ocfexec: damaged part A at 0: magic\n"))
+        for words in (["web"], ["--json"], ["--exit-code"], ["--journal", self.folder, "--memory"]):
+            self.assertEqual(helper.run("metrics", *words).returncode, 2, words)
+
+    def test_named(self):
+        """a journal that the environment names, a reader that is gone, and an output that is full"""
+        self.asks(register("web", "Told", code="0"))
+        named = {**os.environ, "OCFEXEC_JOURNAL": self.folder}
+        self.assertEqual(parsed(helper.run("metrics", env=named).stdout.decode())["ocfexec_resources"][1], [([], 1)])
+        with open("/dev/full", "wb") as full:
+            done = subprocess.run([helper.PROGRAM, "metrics"], env=named, stdout=full, stderr=subprocess.PIPE)
+        self.assertEqual(done.returncode, 7)
+        read, write = os.pipe()
+        os.close(read)
+        done = subprocess.run([helper.PROGRAM, "metrics"], env=named, stdout=write, stderr=subprocess.PIPE)
+        os.close(write)
+        self.assertEqual((done.returncode, done.stderr), (0, b""))
+
+
+if __name__ == "__main__":
+    helper.main()
