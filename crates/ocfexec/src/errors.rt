@@ -1,8 +1,5 @@
 //! Standard error, for the lines of results.
 use child_keeper::System;
-use diagnostics::is_journal;
-use exec_events::Events;
-use exec_options::Options;
 use std::io::{self, Eprint, Write};
 use std::str;
 
@@ -28,16 +25,5 @@ impl Write for Errors<'_> {
 
     fn flush(&mut self) -> io::Result<()> {
         Ok(())
-    }
-}
-
-/// Which lines of results the options ask for: with their priority where standard error goes to the system's journal.
-pub fn events_of(rt: &HostRuntime, options: Options) -> Events {
-    if !options.events {
-        Events::None
-    } else if is_journal(rt) {
-        Events::Marked
-    } else {
-        Events::Plain
     }
 }

@@ -1,19 +1,7 @@
 //! Output that counts as read only while the journal is where it was opened.
 use exec_lines::Output;
-use exec_options::{JournalPlace, Options, Subcommand};
 use file_disk::JournalPaths;
 use std::io::{self, Write};
-
-/// The paths of the journal of a run that serves, which may rest for long without a device call; none of any other run, or where
-/// they are not found.
-pub fn served_paths(rt: &HostRuntime, options: Options) -> Option<JournalPaths> {
-    match (options.subcommand, options.journal) {
-        (Subcommand::Serve, JournalPlace::Folder(folder)) => {
-            JournalPaths::find(rt, rt.alloc(), folder).ok()
-        }
-        _ => None,
-    }
-}
 
 /// The output of a run over a journal. Once a path of the journal leads to another file, or to none, nobody counts as reading the
 /// output: so a run that makes no device call, as one that serves while nothing happens, ends within a second.
@@ -25,9 +13,8 @@ pub struct Guarded<W> {
 }
 
 impl<W> Guarded<W> {
-    /// The output of a run, which watches the paths of its journal if it serves.
-    pub fn new(rt: HostRuntime, options: Options, output: W) -> Guarded<W> {
-        let paths = served_paths(&rt, options);
+    /// The output of a run, which watches the paths of a journal, if there are any.
+    pub fn new(rt: HostRuntime, paths: Option<JournalPaths>, output: W) -> Guarded<W> {
         Guarded { rt, output, paths }
     }
 }

@@ -3,7 +3,6 @@ ghost use Rattle.std.specs.Prelude.{◌≡◌, ◌||◌, true, IfErr, is_some};
 
 use child_keeper::{Log, LogDirectory, System};
 use diagnostics::report_cause;
-use exec_options::Options;
 use exec_output::Fault;
 use file_disk::OWNER_ONLY;
 use std::fs::{self, OpenOptions};
@@ -40,15 +39,14 @@ fn opened(rt: &HostRuntime, name: &str) -> io::Result<Log> {
     Log::to_file(rt.alloc(), &options.open(rt, name)?)
 }
 
-/// Where the options say that agents write: in the logs of a directory, if one is named, else in one log. Why a file was not opened is
-/// told here.
-pub fn log_of(system: &System<'_>, options: Options) -> Result<Log, Fault>
+/// Where agents write: in the logs of a directory, if one is named, else in one log. Why a file was not opened is told here.
+pub fn log_of(system: &System<'_>, log: Option<&str>, logs: Option<&str>) -> Result<Log, Fault>
     ensures { IfErr result
         (λ f. (f ≡ Fault.Log)
-        × ((is_some options.entry.log || is_some options.entry.logs) ≡ true)) }
+        × ((is_some log.entry || is_some logs.entry) ≡ true)) }
 {
     let rt = system.host();
-    let (name, made) = match (options.logs, options.log) {
+    let (name, made) = match (logs, log) {
         (Some(name), _) => (name, logs_in(rt, name)),
         (None, Some(name)) => (name, opened(rt, name)),
         (None, None) => return Ok(Log::none()),

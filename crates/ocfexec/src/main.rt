@@ -3,29 +3,47 @@
 
 ghost use Rattle.std.specs.Prelude.{◌≡◌};
 ghost use Rattle.std.specs.Process.{exit_status};
-ghost use Rattle.ocfexec.specs.Starts.{status_of_end};
+ghost use Rattle.exec_program.specs.Starts.{status_of_end};
 
-mod agents;
 mod errors;
 mod guarded;
+mod host;
 mod log;
 mod metadata;
 mod once;
-mod run;
-mod start;
+mod words;
 
 use child_keeper::System;
-use diagnostics::{report, report_cause};
+use diagnostics::{FirstError, report, report_cause};
 use exec_output::Fault;
+use exec_program::program;
+use host::SystemHost;
 use std::process::ExitCode;
+use words::{named_journal, words_of};
 
 fn main(rt: HostRuntime) -> ExitCode {
     let system = System::new(&rt);
-    let ended = start::start(&system);
+    let ended = start(&system);
     if let Err(fault) = ended {
         tell(&system, fault);
     }
     exit_code(ended)
+}
+
+// Does what the words of the command line ask for; the exit status that it ends with.
+fn start(system: &System<'_>) -> Result<u8, Fault> {
+    let words = words_of(system.host())?;
+    let named = named_journal(system.host())?;
+    let named = match &named {
+        Some(folder) => Some(folder.as_str()),
+        None => None,
+    };
+    let (unread, unwritten) = (FirstError::none(), FirstError::none());
+    program(
+        &SystemHost::new(system, &unread, &unwritten),
+        named,
+        words.as_slice(),
+    )
 }
 
 // Says on standard error what ended the program.

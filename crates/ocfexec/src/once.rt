@@ -1,9 +1,9 @@
 //! An action that is run once.
-use crate::agents::site_of_once;
 use child_keeper::System;
 use diagnostics::{children_ignored, tell_ignored};
 use exec_once::{OnceCall, OnceEnd, OnceFault, read_agent, read_parameters, read_what, run_once};
 use exec_options::OnceOptions;
+use exec_program::site_of_once;
 use ocf_types::RscId;
 use std::alloc::Global;
 use std::io::Eprint;

@@ -1,0 +1,4 @@
+pub mod ProgramLemmas
+pub mod RunLemmas
+pub mod StartLemmas
+pub mod WaitLemmas

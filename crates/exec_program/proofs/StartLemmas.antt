@@ -1,0 +1,159 @@
+-- Why a program ends as it does.
+use Rattle.std.proofs.Common.{inl, inr, ⊎_elim, ◌||◌, ℕ, List, Result, Ok, Err, Option, ap, subst, sym, ◌≡◌, is_some, true}
+use Rattle.disk_model.specs.View.{View}
+use Rattle.child_model.specs.Children.{ChildrenView}
+use Rattle.executor.specs.declared.opening.OpenError.{OpenError}
+use Rattle.executor.specs.declared.opening.OpenError.TheVariants as opening
+use Rattle.executor.specs.declared.report.Report.{Report}
+use Rattle.exec_options.specs.Faults.{IsFault}
+use Rattle.exec_options.specs.Words.{AsksFor, Gives, GivesOnce, folder_of}
+use Rattle.exec_options.specs.declared.once.OnceOptions.{OnceOptions}
+use Rattle.exec_options.specs.declared.words.Wanted.{Wanted}
+use Rattle.exec_options.specs.declared.words.Wanted.TheVariants as wanted
+use Rattle.exec_options.specs.declared.fault.WordsFault.{WordsFault}
+use Rattle.exec_options.specs.declared.fault.WordsFault.TheVariants as words_fault
+use Rattle.exec_options.specs.declared.options.Options.{Options}
+use Rattle.exec_output.specs.Faults.{IsRunEnd}
+use Rattle.exec_output.specs.declared.fault.Fault.{Fault}
+use Rattle.exec_output.specs.declared.fault.Fault.TheVariants as fault
+use Rattle.exec_trace.specs.Edges.{EdgeView}
+use Rattle.exec_session.specs.Answers.{Source}
+use Rattle.exec_session.specs.Rules.{Rules}
+use Rattle.exec_session.specs.Spots.{Position, position, spot}
+use Rattle.exec_session.specs.Ends.{Ended, EndsAs}
+use Rattle.journal_folder.specs.Ends.{IsFolderEnd}
+use Rattle.exec_program.specs.Starts.{EndsFor, IsEndOf, IsToldAs, StartEndsFor, opening_fault, with_status}
+
+-- a run does not end by its words
+ends : {D N T : Type 0} (look : D → View) (source : Source) (rules : Rules) (report : Report N)
+    (p q : Position D) (r : Result T Fault)
+    → EndsAs look source rules report p q r → IsRunEnd r
+ends look source rules report p q (Ok done) how = tt
+ends look source rules report p q (Err fault.Usage) how = absurd how
+ends look source rules report p q (Err fault.Choice) how = absurd how
+ends look source rules report p q (Err fault.TidyAt) how = absurd how
+ends look source rules report p q (Err fault.Root) how = absurd how
+ends look source rules report p q (Err fault.Orphans) how = absurd how
+ends look source rules report p q (Err fault.NotText) how = absurd how
+ends look source rules report p q (Err fault.Log) how = absurd how
+ends look source rules report p q (Err fault.NoResource) how = absurd how
+ends look source rules report p q (Err fault.NotOpened) how = absurd how
+ends look source rules report p q (Err fault.NoJournal) how = absurd how
+ends look source rules report p q (Err fault.NotWell) how = absurd how
+ends look source rules report p q (Err (fault.Damaged damage)) how = tt
+ends look source rules report p q (Err fault.Memory) how = absurd how
+ends look source rules report p q (Err fault.Disk) how = tt
+ends look source rules report p q (Err fault.Full) how = tt
+ends look source rules report p q (Err fault.InputOrOutput) how = tt
+ends look source rules report p q (Err fault.ReplyMemory) how = tt
+ends look source rules report p q (Err fault.ChildrenIgnored) how = absurd how
+
+pub run_ends : {D C N : Type 0} (look : D → View) (tend : C → ChildrenView) (source : Source) (rules : Rules) (report : Report N)
+    (p : Position D) (edge : EdgeView D) (ended : Result Unit Fault) (disk : D) (children : C)
+    → Ended look tend source rules report p edge ended disk children → IsRunEnd ended
+run_ends look tend source rules report p edge ended disk children ends_so =
+    ends look source rules report p (position (spot ends_so.last edge.heard edge.events) edge.left) ended ends_so.ends
+
+-- a run that nobody reads the report of does not end by its words, and neither does one whose end is that of a run
+pub unheard_ends : (T : Type 0) (f : Fault) → f ≡ fault.InputOrOutput → IsRunEnd {T = T} (Err f)
+unheard_ends T f is = subst (λ x. IsRunEnd {T = T} (Err x)) (sym is) tt
+
+pub same_ends : {T : Type 0} (r s : Result T Fault) → r ≡ s → IsRunEnd s → IsRunEnd r
+same_ends r s same ends = subst IsRunEnd (sym same) ends
+
+-- neither does one whose opening failed
+opening_end : (T : Type 0) (why : OpenError) → IsRunEnd {T = T} (Err (opening_fault why))
+opening_end T opening.Disk = tt
+opening_end T (opening.Damaged damage) = tt
+opening_end T opening.Memory = tt
+opening_end T opening.Foreign = tt
+opening_end T opening.Full = tt
+
+pub opening_ends : {T : Type 0} (why : OpenError) (f : Fault) (r : Result T Fault) → f ≡ opening_fault why → r ≡ Err f → IsRunEnd r
+opening_ends {T} why f r is same =
+    subst IsRunEnd (sym same) (subst (λ (x : Fault). IsRunEnd {T = T} (Err x)) (sym is) (opening_end T why))
+
+-- words that give no options
+pub refused_ends : {T : Type 0} (named : Option (List ℕ)) (words : List (List ℕ)) (f : WordsFault) (r : Result T Fault) → IsFault named words f → IsToldAs f r
+    → EndsFor named words r
+refused_ends named words (words_fault.Help text) (Ok done) is told = inl (text, is)
+refused_ends {T} named words (words_fault.Help text) (Err f) is told = subst (λ x. EndsFor {T = T} named words (Err x)) (sym told) (inl (text, is))
+refused_ends named words (words_fault.Usage text) r is told = subst (λ x. EndsFor named words x) (sym told) (inl (text, is))
+refused_ends named words words_fault.Choice r is told = subst (λ x. EndsFor named words x) (sym told) is
+refused_ends named words words_fault.TidyAt r is told = subst (λ x. EndsFor named words x) (sym told) is
+refused_ends named words words_fault.Root r is told = subst (λ x. EndsFor named words x) (sym told) is
+refused_ends named words words_fault.Orphans r is told = subst (λ x. EndsFor named words x) (sym told) is
+refused_ends named words words_fault.Since r is told = subst (λ x. EndsFor named words x) (sym told) (inr (inl is))
+refused_ends named words words_fault.Timeout r is told = subst (λ x. EndsFor named words x) (sym told) (inr (inr is))
+refused_ends named words words_fault.Memory r is told = subst (λ x. EndsFor named words x) (sym told) tt
+
+-- words that ask for a journal
+pub journal_ends : {T : Type 0} (named : Option (List ℕ)) (words : List (List ℕ)) (o : Options) (r : Result T Fault) → Gives named words o → IsRunEnd r → EndsFor named words r
+journal_ends named words o (Ok done) gives ends = inr (o, gives)
+journal_ends named words o (Err fault.Usage) gives ends = absurd ends
+journal_ends named words o (Err fault.Choice) gives ends = absurd ends
+journal_ends named words o (Err fault.TidyAt) gives ends = absurd ends
+journal_ends named words o (Err fault.Root) gives ends = absurd ends
+journal_ends named words o (Err fault.Orphans) gives ends = absurd ends
+journal_ends named words o (Err fault.NotText) gives ends = absurd ends
+journal_ends named words o (Err fault.Log) gives ends = absurd ends
+journal_ends named words o (Err fault.NoResource) gives ends = (o, gives)
+journal_ends named words o (Err fault.NotOpened) gives ends = absurd ends
+journal_ends named words o (Err fault.NoJournal) gives ends = absurd ends
+journal_ends named words o (Err fault.NotWell) gives ends = (o, gives)
+journal_ends named words o (Err (fault.Damaged damage)) gives ends = (o, gives)
+journal_ends named words o (Err fault.Memory) gives ends = tt
+journal_ends named words o (Err fault.Disk) gives ends = (o, gives)
+journal_ends named words o (Err fault.Full) gives ends = (o, gives)
+journal_ends named words o (Err fault.InputOrOutput) gives ends = inr (o, gives)
+journal_ends named words o (Err fault.ReplyMemory) gives ends = (o, gives)
+journal_ends named words o (Err fault.ChildrenIgnored) gives ends = (o, gives)
+
+-- words that ask for a journal in the files of a folder
+pub folder_ends : {T : Type 0} (named : Option (List ℕ)) (words : List (List ℕ)) (o : Options) (r : Result T Fault) → Gives named words o
+    → is_some (folder_of o.journal) ≡ true → IsFolderEnd r → EndsFor named words r
+folder_ends named words o r gives is_in =
+    ⊎_elim (journal_ends named words o r gives)
+    (⊎_elim (λ is. subst (λ x. EndsFor named words x) (sym is) (o, gives, is_in)) (λ is. subst (λ x. EndsFor named words x) (sym is) (o, gives, is_in)))
+
+-- words that ask for what ends so
+pub options_end : {T : Type 0} (home : Option (List ℕ)) (words : List (List ℕ)) (o : Options) (r : Result T Fault) → Gives home words o
+    → IsEndOf o r → EndsFor home words r
+options_end {T} home words o r gives =
+    ⊎_elim (journal_ends home words o r gives)
+    (⊎_elim (λ is. subst (λ x. EndsFor home words x) (sym is.0) (o, gives, is.1)) (λ is. folder_ends home words o r gives is.0 is.1))
+
+-- why a program ends as it does that is given these words: they ask for a journal, for an action that is run once, or for nothing
+pub starts_journal : (home : Option (List ℕ)) (words : List (List ℕ)) (o : Options) (r : Result (Unit {0}) Fault) (ended : Result ℕ Fault)
+    → Gives home words o → IsEndOf o r → ended ≡ with_status r → StartEndsFor home words ended
+starts_journal home words o r ended gives ends is = inr (r, is, options_end home words o r gives ends)
+
+pub starts_once : (home : Option (List ℕ)) (words : List (List ℕ)) (o : OnceOptions) (ended : Result ℕ Fault) → GivesOnce words o
+    → StartEndsFor home words ended
+starts_once home words o ended gives = inl (o, gives)
+
+pub starts_nothing : (home : Option (List ℕ)) (words : List (List ℕ)) (f : WordsFault) (r : Result (Unit {0}) Fault) (ended : Result ℕ Fault)
+    → IsFault home words f → IsToldAs f r → ended ≡ with_status r → StartEndsFor home words ended
+starts_nothing home words f r ended is told same = inr (r, same, refused_ends home words f r is told)
+
+-- the same where it is known what the words ask for
+pub starts_asked_journal : (home : Option (List ℕ)) (words : List (List ℕ)) (w : Wanted) (o : Options) (r : Result (Unit {0}) Fault)
+    (ended : Result ℕ Fault) → AsksFor home words w → w ≡ wanted.Journal o → IsEndOf o r → ended ≡ with_status r
+    → StartEndsFor home words ended
+starts_asked_journal home words w o r ended asks is =
+    starts_journal home words o r ended (subst (λ (x : Wanted). AsksFor home words x) is asks)
+
+pub starts_asked_once : (home : Option (List ℕ)) (words : List (List ℕ)) (w : Wanted) (o : OnceOptions) (ended : Result ℕ Fault)
+    → AsksFor home words w → w ≡ wanted.Once o → StartEndsFor home words ended
+starts_asked_once home words w o ended asks is =
+    starts_once home words o ended (subst (λ (x : Wanted). AsksFor home words x) is asks)
+
+-- how a run of a journal, or a look at one, ends: on its disk, in its directory, or since its log is not opened
+pub ends_on_disk : {T : Type 0} (o : Options) (r : Result T Fault) → IsRunEnd r → IsEndOf o r
+ends_on_disk o r ends = inl ends
+
+pub ends_in_folder : {T : Type 0} (o : Options) (r : Result T Fault) → is_some (folder_of o.journal) ≡ true → IsFolderEnd r → IsEndOf o r
+ends_in_folder o r is_in ends = inr (inr (is_in, ends))
+
+pub ends_without_log : {T : Type 0} (o : Options) (f : Fault) → f ≡ fault.Log → (is_some o.log || is_some o.logs) ≡ true → IsEndOf {T = T} o (Err f)
+ends_without_log o f is named = inr (inl (ap Err is, named))

@@ -1,0 +1,26 @@
+-- How is waited for what is left of interrupted actions.
+use Rattle.std.proofs.Common.{◌≡◌, ℕ, List, Some, inl, subst, sym, Bor}
+use Rattle.ocf_env.specs.Places.{SiteView}
+use Rattle.ocf_types.specs.State.{State}
+use Rattle.disk_model.specs.View.{View}
+use Rattle.exec_commands.specs.declared.left.Left.{Left}
+use Rattle.exec_journal.specs.Opening.{OpensAt}
+use Rattle.exec_journal.specs.Place.{Place}
+use Rattle.exec_options.specs.declared.options.JournalPlace.{JournalPlace}
+use Rattle.exec_options.specs.declared.options.JournalPlace.TheVariants.{Folder}
+use Rattle.exec_options.specs.declared.options.Options.{Options}
+use Rattle.exec_program.specs.Asked.{Asked}
+use Rattle.exec_program.specs.Starts.{site_of}
+use Rattle.exec_program.specs.Waits.{WaitsAt, WaitsFor}
+
+-- a journal of a directory was read, and what is left was waited for at the site of the options
+pub waits_in : {F L A S R W H D : Type 0} (asked : Asked F L A S R W H) (look : D → View) (o : Options) (old under new : D) (left : List Left)
+    (place : JournalPlace) (folder : Bor (List ℕ)) (p : Place) (s : State) (site : SiteView)
+    → place ≡ Folder folder → OpensAt p s (look old) (look under) → new ≡ under → site ≡ site_of o
+    → asked.orphans folder.now o.orphans o.leave_orphans site s (Some left) → WaitsFor asked look o old new left place
+waits_in asked look o old under new left place folder p s site is found same at waited =
+    let reads : OpensAt p s (look old) (look new) = subst (λ (d : _). OpensAt p s (look old) (look d)) (sym same) found in
+    let hears : asked.orphans folder.now o.orphans o.leave_orphans (site_of o) s (Some left) =
+    subst (λ (x : SiteView). asked.orphans folder.now o.orphans o.leave_orphans x s (Some left)) at waited in
+    let waits : WaitsAt asked o folder.now (look old) (look new) (Some left) = record { place = p; state = s; found = reads; waited = hears } in
+    subst (λ (x : JournalPlace). WaitsFor asked look o old new left x) (sym is) (inl waits)

@@ -1,0 +1,62 @@
+use Rattle.std.proofs.Common.{rules, ◌∙◌, ℕ, List, Option, Result, Err, inl, inr, ap, subst}
+use Rattle.ocf_env.specs.Places.{SiteView}
+use Rattle.exec_commands.specs.declared.left.Left.{Left}
+use Rattle.exec_output.specs.declared.fault.Fault.{Fault}
+use Rattle.exec_session.specs.Rules.{rules_of}
+use Rattle.exec_program.specs.Runs.{EndsBy, IsHeldTo}
+use Rattle.exec_program.proofs.RunLemmas.{edge_begins, ended_from}
+use Rattle.exec_program.proofs.run.run_agents.Goals as goal
+
+pub returns-in-Ok-open-clause-runs : goal.returns-in-Ok-open-clause-runs
+returns-in-Ok-open-clause-runs g c = inl (record {
+  agents = c.in-Ok-prepared.agents;
+  source = c.source-source.result;
+  reader = c.in-Ok.reader;
+  writer = c.writer.result;
+  watch = c.watch-watch.result;
+  disk = c.in_ok-disk.disk;
+  lives = c.in_ok-disk.left.items;
+  now = c.moment.result;
+  executor = c.in-Ok-open.executor;
+  report = c.in-Ok-open.report;
+  rules = rules_of c.context_of-context.result;
+  edge = c.run_lines-run.result.edge;
+  ran = c.run_lines-run.result.ended;
+  last_disk = c.run_lines-run.result.disk;
+  last_agents = c.run_lines-run.result.children;
+  stands = record { logs = search rules; fresh = search rules; waited = c.in_ok-disk.ensures.waits; shown = c.moment.ensures };
+  opened = c.in-Ok-open.ensures.opened;
+  at_site = c.in-Ok-open.ensures.site ∙ c.in-Ok-prepared.ensures.sites.0;
+  of_site = subst (λ (x : SiteView). (g.H.Host.asked c.args.host.now).source x c.source-source.result) c.in-Ok-prepared.ensures.sites.1 c.source-source.ensures;
+  word = c.leave_own_word.ensures;
+  reads = c.in-Ok.ensures;
+  writes = subst (λ (x : Option (List ℕ)). (g.H.Host.asked c.args.host.now).writer x c.writer.result) c.served_folder-in-Ok-open.ensures c.writer.ensures;
+  watches = subst (λ (x : Option (List ℕ)). (g.H.Host.asked c.args.host.now).watch x c.watch-watch.result) c.served_folder.ensures c.watch-watch.ensures;
+  held = subst (λ (x : List Left). IsHeldTo c.args.options x (rules_of c.context_of-context.result)) c.as_slice.ensures.value c.context_of-context.ensures.held;
+  runs = ended_from g.D.Disk.view g.H.Agents.Children.view g.H.Source.Metadata.gives c.context_of-context.result.metadata.now c.source-source.result
+      (rules_of c.context_of-context.result) c.in-Ok-open.report c.in-Ok-open.executor c.new-edge.result _ c.run_lines-run.result.edge
+      c.run_lines-run.result.ended c.run_lines-run.result.disk c.run_lines-run.result.children c.context_of-context.ensures.metadata
+      (edge_begins c.new-edge.result (g.H.Reader.Read.remaining c.in-Ok.reader) c.new-client.result.client.opened.value c.in-Ok-open.executor
+      c.new-client.result.client.telling.said (g.H.Writer.Write.contents c.new-client.result.client.writer) (g.H.Writer.Write.contents c.writer.result)
+      c.new-edge.ensures
+      (ap (λ t. t.opened.value) c.new-client.ensures.client ∙ c.new-teller.ensures.opened)
+      (ap (λ t. t.telling.said) c.new-client.ensures.client ∙ c.new-teller.ensures.told)
+      (ap (λ t. g.H.Writer.Write.contents t.writer) c.new-client.ensures.client ∙ ap g.H.Writer.Write.contents c.new-teller.ensures.writer))
+      c.run_lines-run.ensures.ends;
+  ends = subst (λ (r : Result Unit Fault). EndsBy (g.H.Host.asked c.args.host.now) c.args.options c.watch-watch.result r c.ended_over-ended.result)
+      c.told-ended.ensures c.ended_over-ended.ensures.ends;
+})
+
+pub returns-in-Err-clause-runs : goal.returns-in-Err-clause-runs
+returns-in-Err-clause-runs g c = inr (inl (record {
+  agents = c.in-Ok-prepared.agents;
+  last_agents = c.in-Err.fault.children;
+  disk = c.in_ok-disk.disk;
+  last_disk = c.in-Err.fault.disk;
+  lives = c.in_ok-disk.left.items;
+  now = c.moment.result;
+  why = c.in-Err.fault.why;
+  stands = record { logs = search rules; fresh = search rules; waited = c.in_ok-disk.ensures.waits; shown = c.moment.ensures };
+  refused = search rules;
+  ends = c.told.ensures ∙ ap Err c.opening_fault.ensures;
+}))

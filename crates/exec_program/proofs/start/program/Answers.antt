@@ -1,0 +1,27 @@
+use Rattle.std.proofs.Common.{map, option_map, string_bytes}
+use Rattle.exec_program.proofs.ProgramLemmas.{does_once}
+use Rattle.exec_program.proofs.StartLemmas.{starts_asked_journal, starts_asked_once, starts_nothing}
+use Rattle.exec_program.proofs.start.program.Goals as goal
+
+pub returns-in-Ok-Journal-clause-ends : goal.returns-in-Ok-Journal-clause-ends
+returns-in-Ok-Journal-clause-ends g c =
+    starts_asked_journal (option_map (λ s. s.now) c.args.named) (map string_bytes c.args.words.now)
+    c.in-Ok-Journal.field-0 c.in-Ok-Journal.options c.on_journal.result c.with_status.result
+    c.in-Ok-Journal.ensures.ok c.in-Ok-Journal.field-0-is c.on_journal.ensures.ends c.with_status.ensures
+
+pub returns-in-Ok-Once-clause-ends : goal.returns-in-Ok-Once-clause-ends
+returns-in-Ok-Once-clause-ends g c =
+    starts_asked_once (option_map (λ s. s.now) c.args.named) (map string_bytes c.args.words.now)
+    c.in-Ok-Once.field-0 c.in-Ok-Once.options _ c.in-Ok-Once.ensures.ok c.in-Ok-Once.field-0-is
+
+pub returns-in-Ok-Once-clause-does : goal.returns-in-Ok-Once-clause-does
+returns-in-Ok-Once-clause-does g c =
+    does_once (g.H.Host.asked c.args.host.now) g.H.Agents.Children.view g.H.Source.Metadata.gives g.H.Reader.Read.remaining g.H.Writer.Write.contents
+    g.H.Files.Disk.view (option_map (λ s. s.now) c.args.named) (map string_bytes c.args.words.now)
+    c.in-Ok-Once.field-0 c.in-Ok-Once.options _ c.in-Ok-Once.ensures.ok c.in-Ok-Once.field-0-is c.once.ensures
+
+pub returns-in-Err-clause-ends : goal.returns-in-Err-clause-ends
+returns-in-Err-clause-ends g c =
+    starts_nothing (option_map (λ s. s.now) c.args.named) (map string_bytes c.args.words.now)
+    c.in-Err.fault c.refuse.result c.with_status-in-Err.result
+    c.in-Err.ensures.fault c.refuse.ensures.told c.with_status-in-Err.ensures

@@ -1,0 +1,45 @@
+-- What the system is asked for.
+use Rattle.std.specs.Prelude.{ℕ, Bool, List, [], Option, None, Result}
+use Rattle.clap.specs.declared.error.Error.{Error}
+use Rattle.ocf_env.specs.Places.{SiteView}
+use Rattle.ocf_types.specs.State.{State}
+use Rattle.child_model.specs.Children.{ChildrenView}
+use Rattle.exec_commands.specs.declared.left.Left.{Left}
+use Rattle.exec_options.specs.declared.once.OnceOptions.{OnceOptions}
+use Rattle.exec_options.specs.declared.options.Options.{Options}
+use Rattle.exec_output.specs.declared.fault.Fault.{Fault}
+
+-- What a system was asked for, with what it gave: each relation holds of what one method was given and gave. Texts are bytes, times
+-- milliseconds.
+pub record Asked (Files Log Agents Source Reader Writer Watch : Type 0) : Type 1 where
+  -- the files of the journal in a directory, of any owner or not; why there are none
+  pub files : List ℕ → Bool → Files → Type 0
+  pub no_files : List ℕ → Bool → Fault → Type 0
+  -- where agents write, by the file and the directory that are named
+  pub log : Option (List ℕ) → Option (List ℕ) → Log → Type 0
+  pub agents : Log → Agents → Type 0
+  pub source : SiteView → Source → Type 0
+  -- standard input, and standard output, which counts as read while the journal of a directory is there
+  pub reader : Reader → Type 0
+  pub writer : Option (List ℕ) → Writer → Type 0
+  pub moment : ℕ → Type 0
+  -- whether SIGCHLD is ignored. POSIX, sigaction
+  pub ignored : Bool → Type 0
+  -- the wait for what is left of a state's actions: of the journal of a directory, for so long, leaving it alive or not, at a site; what
+  -- lives on, or that nobody hears of it
+  pub orphans : List ℕ → ℕ → Bool → SiteView → State → Option (List Left) → Type 0
+  -- word of the executor in a directory
+  pub word : List ℕ → Type 0
+  -- the paths of the journal of a directory, and that they lead elsewhere
+  pub watch : Option (List ℕ) → Watch → Type 0
+  pub moved : Watch → Type 0
+  -- a line on standard output
+  pub line : List ℕ → Type 0
+  -- what the options ask to see of the journal of a directory, or of one in memory
+  pub shown : Options → Option (List ℕ) → Result Unit Fault → Type 0
+  pub once : OnceOptions → ℕ → Type 0
+  pub printed : Error → Type 0
+
+-- agents of which none was started, with a book of so many answers, at any site
+abbrev pub fresh_agents : ℕ → ChildrenView
+fresh_agents book = record { book = []; log = []; room = book; last_run = 0; live = []; site = None }

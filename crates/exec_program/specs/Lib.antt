@@ -1,0 +1,6 @@
+pub mod Asked
+pub mod Limits
+pub mod Program
+pub mod Runs
+pub mod Starts
+pub mod Waits

@@ -1,0 +1,37 @@
+-- How is waited for what is left of interrupted actions, before an executor is opened.
+use Rattle.std.specs.Prelude.{◌≡◌, ◌⊎◌, ℕ, List, [], Option, Some, None}
+use Rattle.ocf_types.specs.State.{State}
+use Rattle.disk_model.specs.View.{View}
+use Rattle.exec_commands.specs.declared.left.Left.{Left}
+use Rattle.exec_journal.specs.Opening.{FailsToOpen, OpensAt}
+use Rattle.exec_journal.specs.Place.{Place}
+use Rattle.exec_journal.specs.declared.fault.JournalFault.{JournalFault}
+use Rattle.exec_options.specs.declared.options.JournalPlace.{JournalPlace}
+use Rattle.exec_options.specs.declared.options.JournalPlace.TheVariants.{Folder, Memory}
+use Rattle.exec_options.specs.declared.options.Options.{Options}
+use Rattle.exec_program.specs.Asked.{Asked}
+use Rattle.exec_program.specs.Starts.{site_of}
+
+-- The journal of a directory was read, from one view of its disk to another, and what is left of the actions that run at its state was
+-- waited for, as the options say: this lives on, or nobody hears of it.
+pub record WaitsAt {F L A S R W H : Type 0} (asked : Asked F L A S R W H) (o : Options) (folder : List ℕ) (old new : View)
+    (left : Option (List Left)) : Type 0 where
+  pub place : Place
+  pub state : State
+  pub found : OpensAt place state old new
+  pub waited : asked.orphans folder o.orphans o.leave_orphans (site_of o) state left
+
+-- the same, or the journal was not read
+abbrev pub WaitsIn : {F L A S R W H : Type 0} → Asked F L A S R W H → Options → List ℕ → View → View → List Left → Type 0
+WaitsIn asked o folder old new left =
+    WaitsAt asked o folder old new (Some left) ⊎ ((f : JournalFault) × FailsToOpen f old new × (left ≡ []))
+
+-- the same of the journal at this place, over which its disk comes from one state to another: in memory there is nothing to wait for
+abbrev pub WaitsFor : {F L A S R W H D : Type 0} → Asked F L A S R W H → (D → View) → Options → D → D → List Left → JournalPlace → Type 0
+WaitsFor asked look o old new left (Folder folder) = WaitsIn asked o folder.now (look old) (look new) left
+WaitsFor asked look o old new left Memory = (new ≡ old) × (left ≡ [])
+
+-- it was waited for what is left in a directory, over this disk, and nobody hears of it
+abbrev pub IsUnheard : {F L A S R W H D : Type 0} → Asked F L A S R W H → (D → View) → Options → D → JournalPlace → Type 0
+IsUnheard {D = D} asked look o old (Folder folder) = (disk : D) × WaitsAt asked o folder.now (look old) (look disk) None
+IsUnheard asked look o old Memory = ⊥

@@ -1,0 +1,178 @@
+//! The system as the program asks it.
+ghost use Rattle.std.specs.Prelude.{◌≡◌, ◌||◌, true, is_some, option_map, IfErr, IfOk, OnErr, None, Some};
+ghost use Rattle.exec_output.specs.Faults.{IsRunEnd};
+ghost use Rattle.journal_folder.specs.Ends.{IsFolderEnd, IsNotOpened};
+ghost use Rattle.exec_program.specs.Asked.{Asked, fresh_agents};
+
+use child_model::Children;
+use clap::Error;
+use disk_model::Disk;
+use exec_commands::Left;
+use exec_lines::{Input, Output};
+use exec_options::{OnceOptions, Options};
+use exec_output::Fault;
+use exec_session::Metadata;
+use exec_state::State;
+use file_disk::{FileError, TellsError};
+use ocf_env::Site;
+use std::alloc::{AllocError, Global};
+use std::io::{self, Write};
+use std::rt::Clock;
+
+/// How is waited for what is left of the actions that a journal finds interrupted.
+#[derive(Clone, Copy)]
+pub struct Wait<'a> {
+    /// The directory of the journal.
+    pub folder: &'a str,
+    /// How long at most, in milliseconds.
+    pub limit: u64,
+    /// Whether what outlives the wait lives on. It is ended otherwise.
+    pub leave: bool,
+}
+
+/// The system as the program asks it, with a method for each thing that it gives.
+///
+/// A clause cannot say what a system does. So `asked` leaves open what it means to have asked for something, a relation for each
+/// method: a program that is proved for all such relations has asked for just what its contract says, since there is no other way to
+/// them. What was asked once stays asked.
+pub trait Host {
+    /// The files of a journal.
+    type Files: Disk + TellsError + Drop;
+
+    /// Where agents write.
+    type Log: Drop;
+
+    /// Agents.
+    type Agents: Children + Drop;
+
+    /// The metadata of agents.
+    type Source: Metadata;
+
+    /// Standard input.
+    type Reader: Input + Drop;
+
+    /// Standard output.
+    type Writer: Output + Drop;
+
+    /// Standard error, for the lines of results.
+    type Errors: Write + Drop;
+
+    /// The clocks of the system.
+    type Ticker: Clock + Drop;
+
+    /// The paths of a journal, as they are watched.
+    type Watch: Drop;
+
+    ghost asked: { Self → Asked Self.Files Self.Log Self.Agents Self.Source Self.Reader Self.Writer Self.Watch };
+
+    /// The allocator.
+    fn alloc(&self) -> Global;
+
+    /// The files of the journal in this directory, of any owner or not as the options say. Why there are none is said by the host.
+    fn files(&self, options: Options, folder: &str) -> Result<Self::Files, Fault>
+        ensures files { IfOk result ((asked self.now).files folder.now options.entry.any_owner) }
+        ensures none { IfErr result ((asked self.now).no_files folder.now options.entry.any_owner) }
+        ensures fault { IsNotOpened result };
+
+    /// Where agents write: in the files of a directory, if one is named, else in one file. Why it was not opened is said by the host.
+    fn log(&self, log: Option<&str>, logs: Option<&str>) -> Result<Self::Log, Fault>
+        ensures log { IfOk result
+            ((asked self.now).log (option_map (λ s. s.now) log.entry) (option_map (λ s. s.now) logs.entry)) }
+        ensures fault { IfErr result
+            (λ f. (f ≡ Fault.Log) × ((is_some log.entry || is_some logs.entry) ≡ true)) };
+
+    /// Agents, none yet, that write there, with a book of so many answers.
+    fn agents(&self, log: Self::Log, book: usize) -> Result<Self::Agents, AllocError>
+        ensures agents { IfOk result ((asked self.now).agents log) }
+        ensures fresh { IfOk result (λ a. Self.Agents.view a ≡ fresh_agents book) };
+
+    /// The metadata of the agents of this site.
+    fn source(&self, site: Site) -> Self::Source
+        ensures { (asked self.now).source site result };
+
+    /// Asks no agent any more.
+    fn give_up(&self, source: Self::Source);
+
+    /// Standard input.
+    fn reader(&self) -> Result<Self::Reader, AllocError>
+        ensures { IfOk result (asked self.now).reader };
+
+    /// Standard output, which counts as read only while the journal of this directory, if one is named, is where it was.
+    fn writer(&self, served: Option<&str>) -> Self::Writer
+        ensures { (asked self.now).writer (option_map (λ s. s.now) served.entry) result };
+
+    /// Standard error, for the lines of results.
+    fn errors(&self) -> Self::Errors;
+
+    /// Whether standard error goes to the system's journal.
+    fn is_marked(&self) -> bool;
+
+    /// The clocks of the system.
+    fn ticker(&self) -> Self::Ticker;
+
+    /// The moment that the system's clock shows, in milliseconds since 1970.
+    fn moment(&self) -> u64
+        ensures { (asked self.now).moment result };
+
+    /// Whether the end of an agent would not be seen, since SIGCHLD is ignored.
+    fn children_ignored(&self) -> bool
+        ensures { (asked self.now).ignored result };
+
+    /// Says which signals are ignored.
+    fn tell_ignored(&self);
+
+    /// Waits for what is left of the actions that run at this state, of agents at this site. What lives on, with its run; `None`
+    /// once nobody can read what would be reported.
+    fn await_orphans(&self, wait: Wait<'_>, site: &Site, state: &State) -> Option<Vec<Left>>
+        ensures { (asked self.now).orphans wait.entry.folder.now wait.entry.limit wait.entry.leave site.now
+            state.now.state (option_map (λ v. v.items) result) };
+
+    /// Leaves word in this directory of the executor whose clock shows this moment.
+    fn leave_word(&self, folder: &str, moment: u64)
+        ensures { (asked self.now).word folder.now };
+
+    /// The paths of the journal in this directory, if one is named, as they are now.
+    fn watch(&self, served: Option<&str>) -> Self::Watch
+        ensures { (asked self.now).watch (option_map (λ s. s.now) served.entry) result };
+
+    /// It is an error if such a path leads to another file by now, or to none.
+    fn check(&self, watch: &Self::Watch) -> Result<(), FileError>
+        ensures { OnErr result ((asked self.now).moved watch.now) };
+
+    /// Writes a line to standard output.
+    fn write_line(&self, line: &[u8])
+        ensures { (asked self.now).line line.now };
+
+    /// Shows the journal in this directory, as the options say.
+    fn show_files(&self, options: Options, folder: &str) -> Result<(), Fault>
+        ensures shown { (asked self.now).shown options.entry (Some folder.now) result }
+        ensures ends { IsFolderEnd result };
+
+    /// Shows an empty journal in memory, as the options say.
+    fn show_memory(&self, options: Options) -> Result<(), Fault>
+        ensures shown { (asked self.now).shown options.entry None result }
+        ensures ends { IsRunEnd result };
+
+    /// Runs an action once; the exit status that tells how it ended.
+    fn once(&self, options: &OnceOptions<'_>) -> u8
+        ensures { (asked self.now).once options.now result };
+
+    /// Prints a text of the command line: one that was asked for to standard output, another one to standard error.
+    fn print(&self, text: &Error) -> io::Result<()>
+        ensures { (asked self.now).printed text.now };
+
+    /// Says a line on standard error.
+    fn say(&self, line: &str);
+
+    /// Says that a text that was asked for could not be written, and why.
+    fn tell_unwritten(&self, error: io::Error);
+
+    /// Says that nobody reads any more what would be reported.
+    fn tell_unheard(&self);
+
+    /// Says that the journal's device failed, and what it answered.
+    fn tell_device(&self, options: Options, met: Option<FileError>);
+
+    /// Says why a run stopped before its input ended, where standard input or output failed.
+    fn tell_run(&self, ended: Result<(), Fault>);
+}

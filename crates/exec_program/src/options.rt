@@ -1,0 +1,79 @@
+//! What a run is held to by its options.
+ghost use Rattle.std.specs.Prelude.{◌≡◌, option_map};
+ghost use Rattle.exec_program.specs.Runs.{IsHeldTo, named_in, served_folder, told_of, way_of};
+ghost use Rattle.exec_session.specs.Rules.{rules_of};
+
+use crate::host::Host;
+use crate::limits::MOST_TURNS;
+use exec_commands::{Left, NoticeForm};
+use exec_events::Events;
+use exec_options::{JournalPlace, Options, Subcommand};
+use exec_session::{Pace, RunContext, Way};
+use std::alloc::Global;
+
+// How a run goes that this subcommand asks for.
+fn way_of(subcommand: Subcommand) -> Way
+    ensures { result ≡ way_of subcommand }
+{
+    match subcommand {
+        Subcommand::Serve => Way::Serve,
+        Subcommand::Run
+        | Subcommand::Show
+        | Subcommand::Status
+        | Subcommand::Log
+        | Subcommand::Metrics => Way::Run,
+    }
+}
+
+/// The directory whose journal a run serves, which may rest for long without a device call.
+pub fn served_folder<'a>(options: Options<'a>) -> Option<&'a str>
+    ensures { option_map (λ s. s.now) result ≡ served_folder options.entry }
+{
+    match (options.subcommand, options.journal) {
+        (Subcommand::Serve, JournalPlace::Folder(folder)) => Some(folder),
+        _ => None,
+    }
+}
+
+// What a notice tells: a client that is served need not ask when an action began and ended, and which process lives on of it.
+fn form_of(way: Way, left: &[Left]) -> NoticeForm<'_>
+    ensures { named_in result ≡ told_of way left.now }
+{
+    match way {
+        Way::Run => NoticeForm::Short,
+        Way::Serve => NoticeForm::Timed(left),
+    }
+}
+
+/// What a run is given beside its executor and its edge, where these processes live on.
+pub fn context_of<'a, M>(
+    alloc: Global,
+    options: Options,
+    metadata: &'a M,
+    left: &'a [Left],
+) -> RunContext<'a, M>
+    ensures held { IsHeldTo options.entry left.now (rules_of result) }
+    ensures metadata { result.metadata.now ≡ metadata.now }
+{
+    let way = way_of(options.subcommand);
+    RunContext {
+        alloc,
+        metadata,
+        way,
+        form: form_of(way, left),
+        most_turns: MOST_TURNS,
+        tidy_at: options.tidy_at,
+        pace: Pace::new(),
+    }
+}
+
+/// Which lines of results the options ask for: with their priority where standard error goes to the system's journal.
+pub fn events_of<H: Host>(host: &H, options: Options) -> Events {
+    if !options.events {
+        Events::None
+    } else if host.is_marked() {
+        Events::Marked
+    } else {
+        Events::Plain
+    }
+}

@@ -1,0 +1,96 @@
+//! A run over a journal: its executor, its standard streams, and how it ends.
+ghost use Rattle.std.specs.Prelude.{◌≡◌, IfOk};
+ghost use Rattle.exec_output.specs.Faults.{IsRunEnd};
+ghost use Rattle.exec_program.specs.Asked.{fresh_agents};
+ghost use Rattle.exec_program.specs.Limits.{book_room};
+ghost use Rattle.exec_program.specs.Runs.{LeavesWord, RunsOn};
+ghost use Rattle.exec_program.specs.Starts.{site_of};
+
+use crate::ends::{ended_over, opening_fault, told};
+use crate::host::Host;
+use crate::limits::BOOK_ROOM;
+use crate::options::{context_of, events_of, served_folder};
+use crate::site::site_of;
+use crate::wait::await_interrupted;
+use disk_model::Disk;
+use exec_client::Teller;
+use exec_events::Eventful;
+use exec_lines::{RunClock, moment_now};
+use exec_options::{JournalPlace, Options};
+use exec_output::Fault;
+use exec_session::{LineRoom, run_lines};
+use exec_trace::Edge;
+use executor::Executor;
+use file_disk::TellsError;
+use ocf_env::Site;
+use std::alloc::AllocError;
+use std::rt::Clock;
+
+// The agents of a run; twice where they are, for its executor and for their metadata; and room for its lines.
+fn prepared<H: Host>(
+    host: &H,
+    options: Options,
+    log: H::Log,
+) -> Result<(H::Agents, Site, Site, LineRoom), AllocError>
+    ensures agents { IfOk result (λ r. (H.asked host.now).agents log r.0) }
+    ensures fresh { IfOk result (λ r. H.Agents.view r.0 ≡ fresh_agents book_room) }
+    ensures sites { IfOk result (λ r. (r.1 ≡ site_of options.entry) × (r.2 ≡ site_of options.entry)) }
+{
+    let alloc = host.alloc();
+    let agents = host.agents(log, BOOK_ROOM)?;
+    let own = site_of(alloc, options)?;
+    let site = site_of(alloc, options)?;
+    let room = LineRoom::new(alloc)?;
+    Ok((agents, own, site, room))
+}
+
+// Leaves word of this executor beside its journal, if that is in files, with the moment that its clock shows.
+fn leave_own_word<H: Host>(host: &H, options: Options, clock: &impl Clock)
+    ensures { LeavesWord (H.asked host.now) options.entry.journal }
+{
+    if let JournalPlace::Folder(folder) = options.journal {
+        host.leave_word(folder, moment_now(clock).get());
+    }
+}
+
+/// Opens the executor on this disk and answers the lines of standard input.
+#[tactic(auto, using(crate::proofs::StartLemmas::run_ends, crate::proofs::StartLemmas::same_ends, crate::proofs::StartLemmas::unheard_ends))]
+pub fn run_agents<H: Host, D: Disk + TellsError + Drop>(
+    host: &H,
+    options: Options,
+    log: H::Log,
+    disk: D,
+) -> Result<(), Fault>
+    ensures ends { IsRunEnd result }
+    ensures runs { RunsOn (H.asked host.now) H.Agents.view H.Source.gives H.Reader.remaining H.Writer.contents
+        D.view options.entry log disk result }
+{
+    let alloc = host.alloc();
+    let Ok(reader) = host.reader() else {
+        return Err(Fault::Memory);
+    };
+    let Ok((agents, own, site, room)) = prepared(host, options, log) else {
+        return Err(Fault::Memory);
+    };
+    let watch = host.watch(served_folder(options));
+    let (disk, left) = await_interrupted(host, options, &site, disk)?;
+    match Executor::open(alloc, disk, agents, own, host.moment()) {
+        Ok((executor, report)) => {
+            let ticker = host.ticker();
+            let clock = RunClock::new(&ticker, executor.clock());
+            leave_own_word(host, options, &clock);
+            let source = host.source(site);
+            let context = context_of(alloc, options, &source, left.as_slice());
+            let teller = Teller::new(alloc, host.writer(served_folder(options)), &executor);
+            let client = Eventful::new(alloc, teller, host.errors(), events_of(host, options));
+            let edge = Edge::new(reader, client, &clock);
+            let run = run_lines(&context, edge, (executor, report), room);
+            host.give_up(source);
+            let ended = told(host, options, &run.disk, run.ended);
+            let ended = ended_over(host, options, &watch, ended);
+            host.tell_run(ended);
+            ended
+        }
+        Err(fault) => told(host, options, &fault.disk, Err(opening_fault(fault.why))),
+    }
+}

@@ -1,0 +1,121 @@
+//! From the words to a run.
+ghost use Rattle.std.specs.Prelude.{◌≡◌, map, option_map, string_bytes};
+ghost use Rattle.exec_program.specs.Program.{Does, DoesAs, Looks, Prints, RunsFor};
+ghost use Rattle.exec_program.specs.Starts.{IsEndOf, IsToldAs, StartEndsFor, with_status};
+
+use crate::host::Host;
+use crate::run::run_agents;
+use exec_options::{JournalPlace, Options, Subcommand, Wanted, WordsFault, read_words};
+use exec_output::Fault;
+use file_disk::RamDisk;
+use std::io::ErrorKind;
+
+// What ends well ends with status 0.
+fn with_status(ended: Result<(), Fault>) -> Result<u8, Fault>
+    ensures { result ≡ with_status ended }
+{
+    match ended {
+        Ok(()) => Ok(0),
+        Err(fault) => Err(fault),
+    }
+}
+
+// What words end with that give no options. A text that was asked for is printed, and so is that of a usage fault.
+fn refuse<H: Host>(host: &H, fault: &WordsFault) -> Result<(), Fault>
+    ensures told { IsToldAs fault.now result }
+    ensures prints { Prints (H.asked host.now) fault.now }
+{
+    match fault {
+        WordsFault::Help(text) => match host.print(text) {
+            Ok(()) => Ok(()),
+            // who asked has read enough
+            Err(error) if error.kind() == ErrorKind::BrokenPipe => Ok(()),
+            Err(error) => {
+                host.tell_unwritten(error);
+                Err(Fault::InputOrOutput)
+            }
+        },
+        WordsFault::Usage(text) => {
+            let _ = host.print(text);
+            Err(Fault::Usage)
+        }
+        WordsFault::Choice => Err(Fault::Choice),
+        WordsFault::TidyAt => Err(Fault::TidyAt),
+        WordsFault::Root => Err(Fault::Root),
+        WordsFault::Orphans => Err(Fault::Orphans),
+        WordsFault::Since => {
+            host.say("ocfexec: give --since a moment, as 2026-11-27 or 2026-11-27T06:30");
+            Err(Fault::Usage)
+        }
+        WordsFault::Timeout => {
+            host.say("ocfexec: give --timeout milliseconds, from 1 to 4294967295");
+            Err(Fault::Usage)
+        }
+        WordsFault::Memory => Err(Fault::Memory),
+    }
+}
+
+/// Does what these words ask for, the program's name first, where the environment names this directory for a journal; the exit
+/// status that it ends with.
+#[tactic(auto, using(crate::proofs::StartLemmas::starts_journal, crate::proofs::StartLemmas::starts_once, crate::proofs::StartLemmas::starts_nothing))]
+pub fn program<H: Host>(host: &H, named: Option<&str>, words: &[String]) -> Result<u8, Fault>
+    ensures ends { StartEndsFor (option_map (λ s. s.now) named.entry) (map string_bytes words.now) result }
+    ensures does { Does (H.asked host.now) H.Agents.view H.Source.gives H.Reader.remaining H.Writer.contents
+        H.Files.view (option_map (λ s. s.now) named.entry) (map string_bytes words.now) result }
+{
+    match read_words(host.alloc(), named, words) {
+        Ok(Wanted::Journal(options)) => with_status(on_journal(host, options)),
+        Ok(Wanted::Once(options)) => Ok(host.once(&options)),
+        Err(fault) => with_status(refuse(host, &fault)),
+    }
+}
+
+// Does with a journal what these options ask for.
+fn on_journal<H: Host>(host: &H, options: Options) -> Result<(), Fault>
+    ensures ends { IsEndOf options.entry result }
+    ensures does { DoesAs (H.asked host.now) H.Agents.view H.Source.gives H.Reader.remaining
+        H.Writer.contents H.Files.view options.entry options.entry.subcommand result }
+{
+    match options.subcommand {
+        Subcommand::Run | Subcommand::Serve => start_agents(host, options),
+        Subcommand::Show | Subcommand::Status | Subcommand::Log | Subcommand::Metrics => {
+            look(host, options)
+        }
+    }
+}
+
+// Shows of a journal what these options ask for.
+#[tactic(auto, using(crate::proofs::StartLemmas::ends_on_disk, crate::proofs::StartLemmas::ends_in_folder))]
+fn look<H: Host>(host: &H, options: Options) -> Result<(), Fault>
+    ensures ends { IsEndOf options.entry result }
+    ensures looks { Looks (H.asked host.now) options.entry options.entry.journal result }
+{
+    match options.journal {
+        JournalPlace::Folder(folder) => host.show_files(options, folder),
+        JournalPlace::Memory => host.show_memory(options),
+    }
+}
+
+// Starts agents as these options ask for.
+#[tactic(auto, using(crate::proofs::StartLemmas::ends_on_disk, crate::proofs::StartLemmas::ends_in_folder, crate::proofs::StartLemmas::ends_without_log))]
+fn start_agents<H: Host>(host: &H, options: Options) -> Result<(), Fault>
+    ensures ends { IsEndOf options.entry result }
+    ensures runs { RunsFor (H.asked host.now) H.Agents.view H.Source.gives H.Reader.remaining
+        H.Writer.contents H.Files.view options.entry result }
+{
+    if host.children_ignored() {
+        return Err(Fault::ChildrenIgnored);
+    }
+    host.tell_ignored();
+    let log = match host.log(options.log, options.logs) {
+        Ok(log) => log,
+        Err(fault) => return Err(fault),
+    };
+    match options.journal {
+        JournalPlace::Folder(folder) => match host.files(options, folder) {
+            Ok(disk) => run_agents(host, options, log, disk),
+            Err(fault) => Err(fault),
+        },
+        JournalPlace::Memory => run_agents(host, options, log, RamDisk::new(host.alloc())),
+    }
+}

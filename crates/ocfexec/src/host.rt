@@ -1,0 +1,255 @@
+//! The system's answers to what the program asks. Nothing is decided here: each method makes the calls of the system that it is named
+//! for, and what its clause says of them is trusted.
+ghost use Rattle.std.specs.Prelude.{⊤};
+
+use crate::errors::Errors;
+use crate::guarded::Guarded;
+use crate::log::log_of;
+use crate::metadata::SiteMetadata;
+use crate::once::once;
+use child_keeper::{Log, Processes, System};
+use clap::Error;
+use diagnostics::{
+    FirstError, Noted, children_ignored, is_journal, tell_ignored, tell_run, tell_shown,
+};
+use exec_commands::Left;
+use exec_lines::{Patient, moment_now, write_flushed};
+use exec_options::{OnceOptions, Options};
+use exec_orphans::{Orphans, await_orphans, leave_word};
+use exec_output::Fault;
+use exec_program::{Host, Wait};
+use exec_state::State;
+use file_disk::{FileDisk, FileError, JournalPaths, RamDisk};
+use journal_folder::{found, not_emptied, open_files, show_files, show_on, tell_device};
+use ocf_env::Site;
+use std::alloc::{AllocError, Global};
+use std::io::{self, BufReader, Eprint, StdinLock};
+use std::rt::Stdout;
+
+// How many bytes of the input are read at once.
+const READ_SIZE: usize = 65_536;
+
+/// The system of the program.
+#[derive(Drop)]
+pub struct SystemHost<'a> {
+    system: &'a System<'a>,
+    // The first error of standard input and of standard output.
+    unread: &'a FirstError,
+    unwritten: &'a FirstError,
+}
+
+impl<'a> SystemHost<'a> {
+    /// Over standard streams that met no error yet.
+    pub fn new(
+        system: &'a System<'a>,
+        unread: &'a FirstError,
+        unwritten: &'a FirstError,
+    ) -> SystemHost<'a> {
+        SystemHost {
+            system,
+            unread,
+            unwritten,
+        }
+    }
+}
+
+// The paths of the journal in this directory, as they are now; none where they are not found.
+fn paths_of(rt: &HostRuntime, served: Option<&str>) -> Option<JournalPaths> {
+    JournalPaths::find(rt, rt.alloc(), served?).ok()
+}
+
+impl<'a> Host for SystemHost<'a> {
+    type Files = FileDisk<HostRuntime>;
+
+    type Log = Log;
+
+    type Agents = Processes<&'a System<'a>>;
+
+    type Source = SiteMetadata<'a>;
+
+    type Reader = BufReader<Patient<Noted<'a, StdinLock<'a>>>>;
+
+    type Writer = Guarded<Patient<Noted<'a, Stdout>>>;
+
+    type Errors = Errors<'a>;
+
+    type Ticker = HostRuntime;
+
+    type Watch = Option<JournalPaths>;
+
+    // what the system does is not said: it is trusted that each method asks for just that
+    ghost asked = { λ host. record {
+      files = λ folder any disk. ⊤;
+      no_files = λ folder any fault. ⊤;
+      log = λ file folder log. ⊤;
+      agents = λ log agents. ⊤;
+      source = λ site source. ⊤;
+      reader = λ reader. ⊤;
+      writer = λ served writer. ⊤;
+      moment = λ now. ⊤;
+      ignored = λ is. ⊤;
+      orphans = λ folder limit leave site state left. ⊤;
+      word = λ folder. ⊤;
+      watch = λ served watch. ⊤;
+      moved = λ watch. ⊤;
+      line = λ bytes. ⊤;
+      shown = λ options place ended. ⊤;
+      once = λ options status. ⊤;
+      printed = λ text. ⊤;
+    } };
+
+    fn alloc(&self) -> Global {
+        self.system.host().alloc()
+    }
+
+    // TRUSTED: the files are those of this directory.
+    #[tactic(auto, using(crate::proofs::HostLemmas::if_ok_any, crate::proofs::HostLemmas::if_err_any))]
+    fn files(&self, options: Options, folder: &str) -> Result<FileDisk<HostRuntime>, Fault> {
+        let opened = open_files(self.system.host(), options, folder);
+        found(self.system, folder, not_emptied(opened))
+    }
+
+    // TRUSTED: agents write there.
+    #[tactic(auto, using(crate::proofs::HostLemmas::if_ok_any))]
+    fn log(&self, log: Option<&str>, logs: Option<&str>) -> Result<Log, Fault> {
+        log_of(self.system, log, logs)
+    }
+
+    // TRUSTED: the agents write to this log.
+    #[tactic(auto, using(crate::proofs::HostLemmas::if_ok_any))]
+    fn agents(&self, log: Log, book: usize) -> Result<Processes<&'a System<'a>>, AllocError> {
+        Processes::new(self.system, self.alloc(), log, book)
+    }
+
+    // TRUSTED: the agents that are asked are those of this site.
+    fn source(&self, site: Site) -> SiteMetadata<'a> {
+        SiteMetadata::new(self.system, site)
+    }
+
+    fn give_up(&self, source: SiteMetadata<'a>) {
+        source.give_up();
+    }
+
+    // TRUSTED: it is standard input, which waits while no reply can be written.
+    fn reader(&self) -> Result<BufReader<Patient<Noted<'a, StdinLock<'a>>>>, AllocError> {
+        let input = self.unread.input(self.system.host().reader());
+        let input = input.with_replies(libc::STDOUT_FILENO);
+        match BufReader::with_capacity(self.alloc(), READ_SIZE, input) {
+            Ok(reader) => Ok(reader),
+            Err(_) => Err(AllocError),
+        }
+    }
+
+    // TRUSTED: it is standard output.
+    fn writer(&self, served: Option<&str>) -> Guarded<Patient<Noted<'a, Stdout>>> {
+        let rt = self.system.host();
+        let output = self.unwritten.output(rt.stdout());
+        Guarded::new(*rt, paths_of(rt, served), output)
+    }
+
+    // TRUSTED: it is standard error.
+    fn errors(&self) -> Errors<'a> {
+        Errors::new(self.system)
+    }
+
+    fn is_marked(&self) -> bool {
+        is_journal(self.system.host())
+    }
+
+    // TRUSTED: they are the system's clocks.
+    fn ticker(&self) -> HostRuntime {
+        *self.system.host()
+    }
+
+    // TRUSTED: it is the moment that the system's clock shows.
+    fn moment(&self) -> u64 {
+        moment_now(self.system.host()).get()
+    }
+
+    // TRUSTED: /proc says it so.
+    fn children_ignored(&self) -> bool {
+        children_ignored(self.system.host())
+    }
+
+    fn tell_ignored(&self) {
+        tell_ignored(self.system);
+    }
+
+    // TRUSTED: what is left is waited for so, and ended or left.
+    fn await_orphans(&self, wait: Wait<'_>, site: &Site, state: &State) -> Option<Vec<Left>> {
+        let how = Orphans {
+            folder: wait.folder,
+            limit: wait.limit,
+            leave: wait.leave,
+        };
+        await_orphans(self.system, how, site, state)
+    }
+
+    // TRUSTED: the word stands in this directory.
+    fn leave_word(&self, folder: &str, moment: u64) {
+        leave_word(self.system, folder, moment);
+    }
+
+    // TRUSTED: the paths are those of this directory.
+    fn watch(&self, served: Option<&str>) -> Option<JournalPaths> {
+        paths_of(self.system.host(), served)
+    }
+
+    // TRUSTED: it is an error only where a path leads elsewhere.
+    #[tactic(auto, using(crate::proofs::HostLemmas::on_err_any))]
+    fn check(&self, watch: &Option<JournalPaths>) -> Result<(), FileError> {
+        match watch {
+            Some(paths) => paths.check(self.system.host()),
+            None => Ok(()),
+        }
+    }
+
+    // TRUSTED: the line is written to standard output.
+    fn write_line(&self, line: &[u8]) {
+        let _ = write_flushed(&mut io::writer(self.system.host()), line);
+    }
+
+    // TRUSTED: what is shown is of this directory.
+    fn show_files(&self, options: Options, folder: &str) -> Result<(), Fault> {
+        show_files(self.system, options, folder)
+    }
+
+    // TRUSTED: what is shown is of an empty journal.
+    fn show_memory(&self, options: Options) -> Result<(), Fault> {
+        show_on(self.system, options, RamDisk::new(self.alloc()))
+    }
+
+    // TRUSTED: the action is run once, with this status.
+    fn once(&self, options: &OnceOptions<'_>) -> u8 {
+        once(self.system, options)
+    }
+
+    // TRUSTED: the text is printed.
+    fn print(&self, text: &Error) -> io::Result<()> {
+        text.print(self.system.host())
+    }
+
+    fn say(&self, line: &str) {
+        let _ = self.system.eprintln(line);
+    }
+
+    fn tell_unwritten(&self, error: io::Error) {
+        tell_shown(
+            self.system,
+            &FirstError::of(error),
+            Err(Fault::InputOrOutput),
+        );
+    }
+
+    fn tell_unheard(&self) {
+        tell_shown(self.system, &FirstError::none(), Err(Fault::InputOrOutput));
+    }
+
+    fn tell_device(&self, options: Options, met: Option<FileError>) {
+        tell_device(self.system, options, met);
+    }
+
+    fn tell_run(&self, ended: Result<(), Fault>) {
+        tell_run(self.system, self.unread, self.unwritten, ended);
+    }
+}

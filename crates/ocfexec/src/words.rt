@@ -1,0 +1,29 @@
+//! The words of the command line, and what the environment names.
+use exec_output::Fault;
+use std::env::{self, VarError};
+use std::io::ErrorKind;
+
+// The variable that names the directory of the journal where a look is given none.
+const JOURNAL: &str = "OCFEXEC_JOURNAL";
+
+// TRUSTED: they are the words of the command line.
+/// The words of the command line, the program's name first.
+pub fn words_of(rt: &HostRuntime) -> Result<Vec<String>, Fault> {
+    match env::args(rt) {
+        Ok(words) => words.collect(rt.alloc()).map_err(|_| Fault::Memory),
+        Err(error) if error.kind() == ErrorKind::InvalidData => Err(Fault::NotText),
+        Err(_) => Err(Fault::Memory),
+    }
+}
+
+// TRUSTED: it is what the environment says.
+/// The directory that the environment names for the journal; an empty text names none.
+pub fn named_journal(rt: &HostRuntime) -> Result<Option<String>, Fault> {
+    match env::var(rt, JOURNAL) {
+        Ok(folder) if folder.is_empty() => Ok(None),
+        Ok(folder) => Ok(Some(folder)),
+        Err(VarError::NotPresent) => Ok(None),
+        Err(VarError::NotUnicode) => Err(Fault::NotText),
+        Err(VarError::OutOfMemory) => Err(Fault::Memory),
+    }
+}
