@@ -3,7 +3,7 @@ PREFIX ?= /usr/local
 PROGRAM := crates/ocfexec/out/ocfexec
 AGENTS := crates/ocf_agents/out/ocf_agents
 
-.PHONY: run test check mutants bench costs statement soak fuzz sanitize install deb guide clean
+.PHONY: run test check mutants bench plots costs statement soak fuzz sanitize install deb source guide clean
 
 # Compiles every crate, proves nothing, and answers the example's commands, with the example's agent.
 run:
@@ -18,13 +18,20 @@ test:
 check:
 	@tests/check.sh $(if $(FAST),--fast) $(NAME) $(NAMES)
 
-# Tries the wrong bodies of one crate, make mutants NAME=recurring; without a name or with NAME=gate all those under a stamp.
+# Tries the wrong bodies of one crate, make mutants NAME=recurring; without a name those that the gate tries. NAME=every tries those of all
+# crates that were not seen refused as they are now, JOBS=n crates at once, and NAME=show says which these are, and tries nothing.
 mutants:
-	@mutants/try.sh $(or $(NAME),gate)
+	@mutants/stamps.py $(if $(JOBS),-j $(JOBS)) $(if $(filter show,$(NAME)),show every,$(if $(filter every,$(NAME)),check every,all $(NAME)))
 
 # The rate of each benchmark, whose programs are proved by this call: the gate has no benchmarks.
 bench:
 	@bench/rates.sh
+
+# Draws docs/pictures/performance.svg from one run of the comparison with pacemaker-execd and the floor; nothing else should run
+# meanwhile. It needs python3-matplotlib, and what bench/against_execd.sh asks for. ROUNDS=1 is a trial, which the picture says.
+plots: $(PROGRAM)
+	@figures=$$(mktemp) && FIGURES=$$figures bench/against_execd.sh $(PROGRAM) $(or $(ROUNDS),7) rates waits answers && \
+		bench/plots.py $$figures docs/pictures/performance.svg; status=$$?; rm -f $$figures; exit $$status
 
 # What each crate costs in a gate from nothing, as the table of docs/ARCHITECTURE.md. Nothing else should run meanwhile.
 costs:
@@ -46,7 +53,7 @@ fuzz:
 sanitize:
 	@tests/sanitize.sh
 
-# Installs the programs that the gate proved and built, or proves and builds them first; with them the manual page, the
+# Installs the programs that the gate proved and built, or proves and builds them first; with them the manual page, README.md, the
 # clients with their library, and the units.
 install: $(PROGRAM) $(AGENTS)
 	install -D $(PROGRAM) $(DESTDIR)$(PREFIX)/bin/ocfexec
@@ -54,11 +61,15 @@ install: $(PROGRAM) $(AGENTS)
 	install -D -m 644 docs/ocfexec.8 $(DESTDIR)$(PREFIX)/share/man/man8/ocfexec.8
 	install -d $(DESTDIR)$(PREFIX)/share/doc/ocfexec
 	install examples/client.py examples/client.sh examples/with-executor.sh $(DESTDIR)$(PREFIX)/share/doc/ocfexec
-	install -m 644 examples/ocfexec.py examples/resources.py examples/*.service examples/*.socket $(DESTDIR)$(PREFIX)/share/doc/ocfexec
+	install -m 644 README.md examples/ocfexec.py examples/resources.py examples/*.service examples/*.socket $(DESTDIR)$(PREFIX)/share/doc/ocfexec
 
 # Builds a Debian package of the programs that the gate proved, and of no others.
 deb:
 	@package/deb.sh
+
+# Builds a Debian source package of the last commit, from which dpkg-buildpackage builds that package where `rt` is.
+source:
+	@package/source.sh
 
 # The first hour in one go, on this machine: builds that package, installs it, runs each command of docs/GUIDE.md, and removes it.
 guide:

@@ -6,7 +6,7 @@
 # It installs nothing. It needs bash and a C compiler (apt-get install gcc libc6-dev); jq for the reading of commands;
 # and for pacemaker-execd: apt-get install pacemaker pacemaker-dev pkg-config, and root, since the daemon wants it and gets
 # a mount of its own in place of /usr/lib/ocf. Without these it says so and compares with the floor alone. Journals lie in
-# a folder under TMPDIR, whose device is so measured.
+# a folder under TMPDIR, whose device is so measured. Where FIGURES names a file, each single figure is added to it, for plots.py.
 # Use: against_execd.sh [PROGRAM [ROUNDS [PART..]]], where a part is rates, waits, answers, monitors or reading, and without
 # any all of them run
 set -eu
@@ -139,6 +139,11 @@ at_share() {
     sort -g | awk -v share="$1" '{ all[NR] = $1 } END { n = int(NR * share); if (n < NR * share) n++; print all[n] }'
 }
 
+# Adds numbers, a line each, to the file of figures, if there is one: KIND SYSTEM AGENT WIDTH NUMBER. Use: figures KIND SYSTEM AGENT WIDTH
+figures() {
+    [ -z "${FIGURES-}" ] || awk -v of="$*" '{ print of, $1 }' >> "$FIGURES"
+}
+
 # The processor's time of this machine in all, what was stolen from it, and what it was idle, in ticks.
 processor() {
     awk '/^cpu / { print $2 + $3 + $4 + $5 + $6 + $7 + $8 + $9, $9, $5 + $6 }' /proc/stat
@@ -178,6 +183,9 @@ measure() {
         done
     done
     close_loads
+    for system in "${systems[@]}"; do
+        column rate "$1" "$2" "$system" | figures rate "$system" "$1" "$2"
+    done
 }
 
 # A table of medians, a row for each agent and width. Use: table_of COLUMN DIGITS
@@ -262,6 +270,7 @@ waits() {
         [ "$system" != execd ] || [ -n "$execd" ] || continue
         for width in 1 256; do
             late "$system" "$width" > "$here/late"
+            figures end "$system" Compiled "$width" < "$here/late"
             printf '| %s | %d | %s | %.2f ms | %.2f ms |\n' "$system" "$width" "$(waiting "$system" "$width")" \
                 "$(median < "$here/late")" "$(at_share 0.99 < "$here/late")"
         done
@@ -282,6 +291,7 @@ answers() {
         [ "$system" != execd ] || [ -n "$execd" ] || continue
         load_of "$system" asks Compiled 256 1 6000 0 -
         echo | "${words[@]}" | awk '{ print $1 * 1000 }' > "$here/answered"
+        figures answer "$system" Compiled 256 < "$here/answered"
         printf '| %s | %.3f ms | %.3f ms |\n' "$system" "$(median < "$here/answered")" "$(at_share 0.99 < "$here/answered")"
     done
     echo
@@ -422,6 +432,7 @@ rates() {
 
 compile
 began=$(date +%s)
+read -r load_before _ < /proc/loadavg
 read -r all stolen idle < <(processor)
 start_execd
 systems=(ours-journal ours-memory ours-drain floor-memory floor-journal)
@@ -435,4 +446,5 @@ share() {
 }
 echo "$(date +%F), $(nproc) cores, $rounds rounds, $(($(date +%s) - began)) seconds. Of the processor's time" \
     "$(share $((stolen_now - stolen))) was stolen by the host and $(share $((idle_now - idle))) was idle;" \
-    "the load at the end was $(cut -d ' ' -f 1 /proc/loadavg)."
+    "the load before was $load_before, and at the end $(cut -d ' ' -f 1 /proc/loadavg)."
+[ -z "${FIGURES-}" ] || echo "run $(date +%F) $(nproc) $rounds $load_before" >> "$FIGURES"

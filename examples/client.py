@@ -1,6 +1,6 @@
 #!/usr/bin/env python3
-"""Keeps the resources of a file running through ocfexec: probes each, starts it where it does not run, monitors it, and starts it
-anew where a monitor fails. An executor that ends is started again: with --journal it goes on where it was.
+"""Keeps the resources of a file running through ocfexec: probes each, starts it if it does not run, monitors it, and restarts it
+when a monitor fails. An executor that ends is started again: with --journal it goes on where it was.
 
     client.py ocfexec serve --journal /var/lib/ocfexec --meta-variables --log -
     client.py --file resources.json --check
@@ -8,10 +8,11 @@ anew where a monitor fails. An executor that ends is started again: with --journ
 SIGTERM, SIGINT  stop the resources, and end the client; its status is 1 where one did not stop
 SIGUSR1          ends the client and leaves the resources running; what runs ends first, and the next client goes on
 SIGHUP           reads the file again: what is new there is started, what is gone is stopped and taken out of the journal, what has
-                 another agent or other parameters is stopped as it was and started as it is, what was given up is tried again
+                 another agent or other parameters is stopped with the old ones and started with the new ones, what was given up is
+                 tried again
 
 resources.py beside this file says what the file may hold. Resources are brought up side by side, in no order. One that fails is
-started anew at once, and then after 1, 2, 4 .. 60 seconds; one that has failed too often is stopped and given up, and named.
+restarted at once, and then after 1, 2, 4 .. 60 seconds; one that has failed too often is stopped and given up, and named.
 Where the file is not there, or names nothing, nothing is done and no executor started, until SIGHUP.
 
 Each result is printed as a line of JSON. Agents of Debian's package resource-agents want --meta-variables: without Pacemaker's
@@ -54,7 +55,7 @@ def notify(*lines):
             try:
                 to.sendto("\n".join(lines).encode(), "\0" + path[1:] if path.startswith("@") else path)
             except OSError as error:
-                say(f"systemd could not be told: {error.strerror}")
+                say(f"cannot notify systemd: {error.strerror}")
 
 
 def described(result):
@@ -74,7 +75,7 @@ class Resource:
         self.name, self.executor = name, executor
         self.wanted, self.had = None, resources.Wanted("", "")  # what the file wants, and what it wanted before
         self.state, self.is_settled = "new", False  # in a word, and whether its first start has ended, in either way
-        self.restarts = []  # when it was started anew, by the monotonic clock
+        self.restarts = []  # when it was restarted, by the monotonic clock
         self.task = self.awaited = None  # awaited: the number of a call, or WATCH
         self.due, self.last = NEVER, None  # when its pause is over; its last result
 
@@ -121,7 +122,7 @@ class Resource:
         """Stops it as it was, and takes it out of the journal."""
         try:
             self.clear()
-            say(f"{self.name} is not in the file: it is stopped, and taken out of the journal")
+            say(f"{self.name} is no longer in the file: it is stopped and unregistered")
             yield from self.unregistered()
             self.state = "gone"
         except GivenUp as why:
@@ -134,7 +135,7 @@ class Resource:
         if self.cancel_monitors():
             self.last = yield self.action("stop")
             if self.last["code"] != 0:
-                return say(f"{self.name} is not stopped: {described(self.last)}")
+                return say(f"{self.name} could not be stopped: {described(self.last)}")
             say(f"{self.name} is stopped")
         self.state = "stopped"
         return None
@@ -151,7 +152,7 @@ class Resource:
     def registered(self):
         info = self.ask("info", "unknown-resource")
         if "error" not in info and not self.wanted.is_registered_as(info):
-            say(f"{self.name} is another one in the file now: it is stopped as it was")
+            say(f"{self.name} has changed in the file: it is stopped with its old agent and parameters")
             yield from self.unregistered()
         self.ask("register", "exists", provider=self.wanted.provider, type=self.wanted.type, params=self.wanted.params)
 
@@ -299,7 +300,7 @@ class Client:
             if number == signal.SIGHUP:
                 self.is_ready = False
                 notify("RELOADING=1", f"MONOTONIC_USEC={time.monotonic_ns() // 1000}")
-                say(f"{self.file} was read again" if self.read() else "all stays as it was")
+                say(f"{self.file} was read again" if self.read() else "the file is not used, and nothing is changed")
                 continue
             self.is_ready = True
             self.tell("STOPPING=1")
@@ -352,7 +353,7 @@ class Client:
             if resource.due <= time.monotonic():
                 resource.go_on(None)
         while self.executor.troubles:
-            say(f"the executor could not go on: {self.executor.troubles.pop(0)}")
+            say(f"the executor could not make a turn: {self.executor.troubles.pop(0)}")
         self.resources = {name: resource for name, resource in self.resources.items() if resource.state != "gone"}
 
     def told_results(self):
@@ -380,7 +381,7 @@ class Client:
         if os.path.exists(self.file) and not self.read():
             return 2
         while not self.resources:
-            say(f"no resource is known from {self.file}, so nothing is done")
+            say(f"{self.file} is missing or names no resource: nothing to do until SIGHUP")
             self.tell()
             if self.rest():
                 return 0
@@ -395,7 +396,7 @@ class Client:
                     return ended.status
                 if self.is_stopping and not self.has_opened:
                     return 1
-            # an executor that has told a result is followed by the next one at once
+            # an executor that has sent a result is followed by the next one at once
             pause = 0 if self.has_worked else min(LONGEST, 2 * pause or 1)
             if pause and self.rest(pause) and self.is_leaving:
                 return 0
@@ -403,8 +404,8 @@ class Client:
 
 def main():
     parser = argparse.ArgumentParser(description=__doc__, formatter_class=argparse.RawDescriptionHelpFormatter)
-    parser.add_argument("--file", default=FILE, help="what is to be kept (%(default)s)")
-    parser.add_argument("--check", action="store_true", help="only say whether the file is as it should be")
+    parser.add_argument("--file", default=FILE, help="the file of resources (%(default)s)")
+    parser.add_argument("--check", action="store_true", help="check the file, and exit")
     parser.add_argument("words", nargs=argparse.REMAINDER, help="the executor's command line")
     options = parser.parse_args()
     if options.check:

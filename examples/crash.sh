@@ -19,7 +19,7 @@ say() {
     printf '\n== %s\n' "$1"
 }
 
-# Waits until this stands in the file, and then kills the process that writes it. Use: kill_after TEXT FILE PID
+# Waits until this is in the file, and then kills the process that writes it. Use: kill_after TEXT FILE PID
 kill_after() {
     until grep -q -s -e "$1" "$2" || ! kill -0 "$3"; do
         sleep 0.05

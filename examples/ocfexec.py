@@ -303,8 +303,8 @@ class Executor:
                 del delivered[next(iter(delivered))]
 
     def _missed(self):
-        """Results in the journal that no line has told. At the first opening these are another program's, and are in `past` alone;
-        what was withdrawn is told by no line at any time."""
+        """Results in the journal that no line has reported. At the first opening these are another program's, and are in `past` alone;
+        no line reports what was withdrawn."""
         missed = {}
         for name, results in self.past.items():
             for result in results:

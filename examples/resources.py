@@ -1,4 +1,5 @@
 """The file of the resources that client.py keeps: what it may hold. What is wrong is named by its key. Times are in milliseconds.
+docs/resources.schema.json says the same as a JSON Schema, for an editor or another program.
 
     {"resources": {
       "web": {
@@ -22,7 +23,7 @@ class Wrong(Exception):
 
 
 class Wanted(NamedTuple):
-    """What the file wants of a resource. It is started anew `restarts` times in `within` milliseconds at most."""
+    """What the file wants of a resource. It is restarted `restarts` times in `within` milliseconds at most."""
 
     provider: str
     type: str
@@ -41,7 +42,7 @@ class Wanted(NamedTuple):
 
 
 def wrong(key, what, value):
-    raise Wrong(f"{key}: {what} is wanted, not {json.dumps(value)}")
+    raise Wrong(f"{key}: expected {what}, not {json.dumps(value)}")
 
 
 def is_name(value, more=""):
@@ -57,7 +58,7 @@ def check_object(key, value, needed=(), others=None):
             raise Wrong(f"{key}.{name}: it is missing")
     for name in value if others is not None else ():
         if name not in (*needed, *others):
-            raise Wrong(f"{key}.{name}: there is no such key; there are {', '.join((*needed, *others))}")
+            raise Wrong(f"{key}.{name}: unknown key; known are {', '.join((*needed, *others))}")
 
 
 def check_number(key, value, least):
@@ -97,11 +98,11 @@ def check_resource(name, value):
 
 
 def without_twins(pairs):
-    """An object, none of whose keys stands twice."""
+    """An object, none of whose keys occurs twice."""
     found = {}
     for name, value in pairs:
         if name in found:
-            raise Wrong(f"{name}: this key stands twice in one object")
+            raise Wrong(f"{name}: this key occurs twice in one object")
         found[name] = value
     return found
 
@@ -112,7 +113,7 @@ def read(path):
         try:
             found = json.load(file, object_pairs_hook=without_twins)
         except (ValueError, RecursionError) as error:
-            raise Wrong(f"this is not JSON: {error}") from None
+            raise Wrong(f"not JSON: {error}") from None
     check_object("the file", found, ("resources",), ())
     resources = found["resources"]
     check_object("resources", resources)

@@ -6,7 +6,7 @@ set -euo pipefail
 program=$1
 shell=$2
 
-# Each subcommand, a line each: its name, and what it does, behind a tab.
+# Each subcommand, a line each: its name, and what it does, after a tab.
 subcommands() {
     "$program" --help | awk '/^Commands:/ { on = 1; next } /^$/ { on = 0 } on && $1 != "help" {
         name = $1; sub(/^ *[^ ]+ +/, ""); print name "\t" $0 }'
@@ -30,9 +30,9 @@ takes_id() {
 }
 
 # A function of the shell that prints the ids of the resources of the journal that the words name, or of the one that is looked at where
-# they name none. What is done here is the same in each shell: the program is asked with that place alone.
+# they name none. What is done here is the same in each shell: the program is asked with that place alone, and no function of its name.
 # shellcheck disable=SC2016 # the shell that completes expands it
-ids_of='ocfexec show "${place[@]}" 2>/dev/null | sed -n "1s/.*\"resources\":\[\([^]]*\)\].*/\1/p" | tr -d "\"" | tr "," "\n"'
+ids_of='command ocfexec show "${place[@]}" 2>/dev/null | sed -n "1s/.*\"resources\":\[\([^]]*\)\].*/\1/p" | tr -d "\"" | tr "," "\n"'
 
 in_bash() {
     local name words
@@ -134,6 +134,8 @@ in_zsh() {
 in_fish() {
     local name option value help seen
     echo "function __ocfexec_ids"
+    # (fish says itself that it knows no such command)
+    echo "    command -q ocfexec; or return"
     echo "    set -l place"
     echo "    set -l words (commandline -opc)"
     echo "    if set -l at (contains -i -- --journal \$words); and test \$at -lt (count \$words)"

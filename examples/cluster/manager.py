@@ -12,7 +12,7 @@ Keys of etcd:
     /failed/NAME/NODE  it did not start there; goes by itself after a while
     /fencing/NODE   the node is being fenced, or asks for it, and may not join
 
-What runs here is known by the executor's journal alone, and is found out anew whenever the manager or the executor starts.
+What runs here is known by the executor's journal alone, and is found out again whenever the manager or the executor starts.
 """
 import argparse
 import json
@@ -131,7 +131,7 @@ class Manager:
             self.record.add(result.pop("id"), result)
 
     def recovered(self, name):
-        """What the last action says. The report of the opening is told once, so it is read from the record: the manager may
+        """What the last action says. The report of the opening is sent once, so it is read from the record: the manager may
         have been killed between the report and what it did about it."""
         service, last = Service(name), self.record.last(name) or {"action": "monitor", "outcome": "done", "code": 0}
         action, outcome = last["action"], last["outcome"]
@@ -250,7 +250,7 @@ class Manager:
     # The loop
 
     def look(self):
-        """Keeps the lease and reads the keys. A lease that was lost is taken anew when all is stopped, and etcd is not waited
+        """Keeps the lease and reads the keys. A lease that was lost is taken again when all is stopped, and etcd is not waited
         for before; a manager that has just started joins with what may run, since its node was not fenced."""
         self.lease.keep()
         if not self.lease.held():
@@ -284,7 +284,7 @@ class Manager:
             action = service.task.send(result)
             limit = TIMEOUT if self.lease.held() else int(self.lease.reserve * 1000)
             service.call = self.executor.ask(op="exec", id=service.name, action=action, timeout=limit)["call"]
-        except (StopIteration, Unreachable):  # what could not be told to etcd is chosen again
+        except (StopIteration, Unreachable):  # what could not be written to etcd is chosen again
             service.task = None
 
     def hear(self):
@@ -301,7 +301,7 @@ class Manager:
                 service.state = "doubtful"
 
     def manage(self):
-        """One run of the executor, until it ends. A lease that is lost ends it, since a stop would wait behind what runs: the
+        """One run of the executor, until it ends. A lease that is lost ends it, since a stop would wait for what runs: the
         next one has it as interrupted, and stops all."""
         self.open()
         while True:

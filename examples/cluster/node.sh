@@ -1,5 +1,5 @@
 #!/bin/sh
-# The first process of a node: it brings up the node's network, where it has one of its own, and starts the manager again
+# The first process of a node: it sets up the node's network, where it has one of its own, and starts the manager again
 # whenever that ends. What is left of processes falls to it. Use: node.sh ADDRESS|- COMMAND..
 address=$1
 shift

@@ -1,4 +1,4 @@
-"""The record of all that the executor told, as the manager keeps it."""
+"""The record of all that the executor sent, as the manager keeps it."""
 import json
 
 

@@ -84,7 +84,7 @@ class Keeper(helper.Check):
         self.manager.signal(signal.SIGUSR1)
         self.manager.waits("its end", lambda: not self.manager.read("active"))
         self.assertEqual((self.manager.read("ExecMainStatus"), self.called()), ("0", ["start"]))
-        self.assertTrue(os.path.exists(self.place("web")))
+        self.assertTrue(os.path.exists(self.place("web")), "the service of web is up")
 
     def test_person(self):
         """a wrong file, and a damaged journal, are not tried again"""
@@ -113,7 +113,7 @@ class Keeper(helper.Check):
             self.assertIn(said, done.stdout)
             self.assertEqual(self.manager.read("active"), active)
         self.assertEqual((self.manager.read("ExecMainStatus"), self.called()), ("0", ["start"]))
-        self.assertTrue(os.path.exists(self.place("web")))
+        self.assertTrue(os.path.exists(self.place("web")), "the service of web is up")
 
     def test_nothing(self):
         """without a file it is up, and nothing is started, until a reload finds one"""
@@ -124,6 +124,19 @@ class Keeper(helper.Check):
         self.wants("web")
         self.manager.reload()
         self.says("running: web")
+
+    @unittest.skipUnless(shutil.which("systemd-analyze"), "there is no systemd-analyze")
+    def test_hardening(self):
+        """the unit has a comment for each hardening option that systemd-analyze finds not set"""
+        with open(os.path.join(EXAMPLES, "ocfexec.service"), encoding="utf-8") as file:
+            text = file.read()
+        shutil.copy(os.path.join(EXAMPLES, "ocfexec.service"), self.place("ocfexec.service"))
+        done = subprocess.run(["systemd-analyze", "security", "--offline=true", "--json=short", self.place("ocfexec.service")],
+                              capture_output=True, text=True, timeout=60)
+        self.assertEqual(done.returncode, 0, done.stderr)
+        found = {name.partition("=")[0] for each in json.loads(done.stdout) if each["set"] is False for name in each["name"].split("/")}
+        self.assertIn("NoNewPrivileges", found)
+        self.assertEqual([name for name in sorted(found) if f"{name}=" not in text], [])
 
     @unittest.skipUnless(shutil.which("systemd-analyze"), "there is no systemd-analyze")
     def test_verify(self):
