@@ -1,11 +1,10 @@
 #!/usr/bin/env python3
-# check: slow alone
+# check: slow
 """What ends with an action, with real processes. Wanted: behind a timeout, at the end of the input and after a signal the agent has ended
 with all its descendants, in whatever session they are, and with its background jobs; daemons, and services of earlier starts, live.
 The agent whose `start` is slow, and comes up late where only the agent is killed, stays down in `run` and in `serve`, after SIGTERM,
 and after its executor was killed.
 Use: endings.py PROGRAM"""
-import json
 import os
 import pwd
 import shutil
@@ -197,7 +196,7 @@ class Endings(helper.Check):
         child = self.awaits_pid("child")
         run.awaits(lambda value: helper.is_notice(value, id="r1"))
         self.ended([child])
-        self.assertTrue(helper.is_alive(second))
+        self.assertTrue(helper.is_alive(second), "the agent of the other resource runs on")
 
     def test_end_of_input(self):
         """what an agent started ends with the run's input"""
@@ -214,15 +213,13 @@ class Endings(helper.Check):
             run.tell(self.register(f"sleep 62.{MINE}{n:03}; :", name=f"r{n}"))
         run.tell(*[helper.action(f"r{n}", "start", timeout=4000) for n in range(256)])
         first, _ = run.awaits(helper.is_notice, 60)
-        until = time.monotonic() + 20
-        while len(run.told()) < 256 and time.monotonic() < until:
-            time.sleep(0.01)
+        self.eventually("256 notices", lambda: len(run.told()) >= 256)
         self.assertEqual([end["outcome"] for end in run.told()], ["timed-out"] * 256)
         found = subprocess.run(["pgrep", "-f", f"^sleep 62[.]{MINE}"], capture_output=True, check=False).stdout.split()
         self.ended([int(pid) for pid in found])
-        last = [moment for moment, line in run.lines if "outcome" in json.loads(line)][-1]
+        last = [moment for moment, line in run.lines if "outcome" in helper.value_of(line)][-1]
         at = [end["at"] for end in run.told()]
-        self.assertLess(max(at) - min(at) + (last - first) * 1000, 6000, "in time")
+        self.took_less(6, (max(at) - min(at)) / 1000 + last - first, "256 timeouts and their notices")
 
     @unittest.skipUnless(shutil.which("cc"), "install a C compiler")
     def test_stuck(self):
@@ -238,8 +235,8 @@ class Endings(helper.Check):
             run.tell({"op": "list"})
             moment, _ = run.awaits(lambda value: "resources" in value, after=before)
             slowest = max(slowest, moment - began)
-            self.assertLess(moment - began, 5, "a reply")
-        self.assertLess(slowest, helper.number("STUCK_MILLIS", 300) / 1000, "the latest reply")
+            self.took_less(5, moment - began, "a reply")
+        self.took_less(helper.number("STUCK_MILLIS", 300) / 1000, slowest, "the latest reply")
         run.tell(helper.action("r0", "monitor"), helper.action("r0", "stop", timeout=500), helper.action("other", "start"))
         ends = [run.awaits(lambda value, name=name, what=what: helper.is_notice(value, id=name, action=what))[1]
                 for name, what in (("r0", "monitor"), ("r0", "stop"), ("other", "start"))]

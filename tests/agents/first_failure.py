@@ -67,7 +67,7 @@ class FirstFailure(helper.Check):
         self.does(*[helper.action(name, "monitor") for name in names], {"op": "drain"})
         code, out, _ = self.asked("status", "--json")
         self.assertEqual(code, 0)
-        states = [json.loads(line) for line in out.splitlines()]
+        states = [helper.value_of(line) for line in out.splitlines()]
         self.assertEqual([line["id"] for line in states if line.get("state", "started") != "started"], ["r23"])
 
     def test_interrupted(self):

@@ -103,7 +103,8 @@ class Logs(WithLogs):
         self.does("exit 0")
         first = self.read()
         self.does("exit 1")
-        self.assertTrue(self.read().startswith(first))
+        found = self.read()
+        self.assertTrue(found.startswith(first), f"wanted, and more after it:\n{first}\nfound:\n{found}")
         self.assertIn("OCF_ERR_GENERIC (1)\n", self.read()[len(first):])
 
     def test_timeout(self):
@@ -204,7 +205,7 @@ class Logs(WithLogs):
             done = self.does("exit 0")
             self.ends_with(done, code=0)
             self.names(done, f"{log}: not a plain file")
-            self.assertFalse(os.path.exists(target))
+            self.assertFalse(os.path.exists(target), f"{log}: nothing is written to what it points at")
             if os.path.isdir(log):
                 os.rmdir(log)
             else:
@@ -241,7 +242,7 @@ class Logs(WithLogs):
         log = self.place("log")
         self.ends_with(self.does("exit 0", "--log", log, "--logs", self.logs), code=0)
         self.assertIn("start of web\n", self.read())
-        self.assertFalse(os.path.exists(log))
+        self.assertFalse(os.path.exists(log), "no file of --log beside --logs")
 
 
 @unittest.skipUnless(os.path.exists(f"{OCF}/resource.d/heartbeat/Dummy"), "needs the package resource-agents")
@@ -269,4 +270,5 @@ class OfDebian(WithLogs):
         self.assertIn("no_such_directive", self.read())
 
 
-helper.main()
+if __name__ == "__main__":
+    helper.main()

@@ -3,7 +3,6 @@
 it started, and so do a client that goes away and a journal that is removed. A run of commands alone waits for its agent, without a limit
 where the line names none, and both give the same replies.
 Use: metadata.py PROGRAM"""
-import os
 import shutil
 import subprocess
 import sys
@@ -84,7 +83,7 @@ class Metadata(helper.Check):
         self.after(run, began, 0.9, 1.5, lambda value: helper.is_notice(value, id="s", outcome="timed-out"))
         at = self.after(run, began, 2.9, 4, lambda value: "meta" in value)
         self.after(run, at, 0, 0.5, lambda value: "resources" in value)
-        self.assertGreaterEqual(self.monitors(run, began, at), 4)
+        self.came_often(4, self.monitors(run, began, at), "monitors of half a second in three seconds")
         self.assertEqual(self.replies(run), [{"meta": 13}, {"of": "Slow"}, {"ok": True, "resources": ["m", "s"]}])
         self.assertEqual(run.ends(), 0)
 
@@ -95,7 +94,7 @@ class Metadata(helper.Check):
         run.tell(meta("Slow", limit=1000), LIST)
         pids = self.pids()
         at = self.after(run, began, 1, 1.5, lambda value: value.get("end") == "limit")
-        self.assertGreaterEqual(self.monitors(run, began, at), 5)
+        self.came_often(5, self.monitors(run, began, at), "monitors until the limit of a second")
         self.gone(pids)
         self.after(run, at, 0, 0.5, lambda value: "resources" in value)
         self.assertEqual(run.ends(), 0)

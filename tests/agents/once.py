@@ -2,7 +2,6 @@
 """An action that is run once: its status is that of its agent, or tells why there is none; its agent finds just the variables of an
 action, and writes where the program does; past its timeout it is gone with all that it started.
 Use: once.py PROGRAM"""
-import os
 import sys
 import time
 
@@ -49,9 +48,9 @@ class Once(helper.Check):
         self.agent("Waits", 'sleep 60 & echo $! > "$OCF_RESKEY_pid"; wait\n')
         began = time.monotonic()
         self.assertEqual(self.once("--timeout", "300", "test:Waits", "start", f"pid={self.place('pid')}"), (124, "", ""))
-        self.assertLess(time.monotonic() - began, 10)
+        self.took_less(10, time.monotonic() - began, "an action with a timeout of 300 milliseconds")
         with open(self.place("pid"), encoding="ascii") as file:
-            self.assertFalse(helper.is_alive(file.read().strip()))
+            self.assertFalse(helper.is_alive(file.read().strip()), "what the agent started is gone")
 
     def test_not_run(self):
         """It is 125 where nothing was run, with a line that says why."""

@@ -10,9 +10,11 @@ import socket
 import subprocess
 import sys
 import time
+import unittest
 
 sys.path[0] += "/../lib"
 import helper  # noqa: E402
+import schema  # noqa: E402
 from helper import PROGRAM  # noqa: E402
 
 sys.dont_write_bytecode = True
@@ -32,24 +34,33 @@ esac
 """
 # what a file may not hold, and how the message begins that says so
 WRONG = (
-    ("[]", "the file: an object is wanted"),
-    ("{", "this is not JSON: "),
+    ("[]", "the file: expected an object"),
+    ("{", "not JSON: "),
     ('{"resource": {}}', "the file.resources: it is missing"),
-    ('{"resources": {}, "more": 1}', "the file.more: there is no such key"),
+    ('{"resources": {}, "more": 1}', "the file.more: unknown key"),
     ('{"resources": {"a b": {}}}', "resources.a b: a resource's name"),
-    ('{"resources": {"a": 1}}', "resources.a: an object is wanted, not 1"),
-    ('{"resources": {"a": {}, "a": {}}}', "a: this key stands twice"),
+    ('{"resources": {"a": 1}}', "resources.a: expected an object, not 1"),
+    ('{"resources": {"a": {}, "a": {}}}', "a: this key occurs twice"),
     ('{"resources": {"a": {"type": "T"}}}', "resources.a.provider: it is missing"),
-    ('{"resources": {"a": {"provider": "..", "type": "T"}}}', "resources.a.provider: a name"),
-    ('{"resources": {"a": {"provider": "p", "type": "T", "param": {}}}}', "resources.a.param: there is no such key"),
+    ('{"resources": {"a": {"provider": "..", "type": "T"}}}', "resources.a.provider: expected a name"),
+    ('{"resources": {"a": {"provider": "p", "type": "T", "param": {}}}}', "resources.a.param: unknown key"),
     ('{"resources": {"a": {"provider": "p", "type": "T", "params": {"1": "x"}}}}', "resources.a.params.1: a parameter's name"),
-    ('{"resources": {"a": {"provider": "p", "type": "T", "params": {"x": 1}}}}', "resources.a.params.x: a text"),
-    ('{"resources": {"a": {"provider": "p", "type": "T", "interval": "10s"}}}', "resources.a.interval: a whole number from 1"),
-    ('{"resources": {"a": {"provider": "p", "type": "T", "interval": true}}}', "resources.a.interval: a whole number from 1"),
-    ('{"resources": {"a": {"provider": "p", "type": "T", "timeouts": {"start": 0}}}}', "resources.a.timeouts.start: a whole number"),
-    ('{"resources": {"a": {"provider": "p", "type": "T", "timeouts": {"promote": 1}}}}', "resources.a.timeouts.promote: there is no"),
-    ('{"resources": {"a": {"provider": "p", "type": "T", "restarts": -1}}}', "resources.a.restarts: a whole number from 0"),
+    ('{"resources": {"a": {"provider": "p", "type": "T", "params": {"x": 1}}}}', "resources.a.params.x: expected a text"),
+    ('{"resources": {"a": {"provider": "p", "type": "T", "interval": "10s"}}}', "resources.a.interval: expected a whole number from 1"),
+    ('{"resources": {"a": {"provider": "p", "type": "T", "interval": true}}}', "resources.a.interval: expected a whole number from 1"),
+    ('{"resources": {"a": {"provider": "p", "type": "T", "timeouts": {"start": 0}}}}', "resources.a.timeouts.start: expected a whole number"),
+    ('{"resources": {"a": {"provider": "p", "type": "T", "timeouts": {"promote": 1}}}}', "resources.a.timeouts.promote: unknown key"),
+    ('{"resources": {"a": {"provider": "p", "type": "T", "restarts": -1}}}', "resources.a.restarts: expected a whole number from 0"),
 )
+# and what it may
+RIGHT = (
+    '{"resources": {}}',
+    '{"resources": {"a": {"provider": "p", "type": "T"}, "b:0": {"provider": ".p", "type": "T", "params": {"_x1": ""}, "interval": 1}}}',
+    '{"resources": {"a": {"provider": "p", "type": "T", "timeouts": {"stop": 4294967295}, "restarts": 0, "within": 1}}}',
+    json.dumps({"resources": {str(n): {"provider": "p", "type": "T", "params": {f"p{n}": "x" * 1024 for n in range(64)}} for n in range(256)}}),
+)
+# what is no JSON, or is hidden where it is read as JSON: that no schema refuses
+BEFORE = ("not JSON", "a: this key occurs twice")
 
 
 class Kept(helper.Check):
@@ -109,12 +120,12 @@ class Kept(helper.Check):
         return int(found[0]) if found else None
 
     def test_kept(self):
-        """resources are probed as stopped, started, monitored, started anew where they stop, and stopped at the end"""
+        """resources are probed as stopped, started, monitored, restarted where they stop, and stopped at the end"""
         self.wants(a=self.dummy("a"), b=self.dummy("b"))
         client = self.client()
         for name in "ab":
             self.comes(client, id=name, interval=100, code=0)
-        info = json.loads(helper.shown(self.place("journal")).splitlines()[1])
+        info = helper.value_of(helper.shown(self.place("journal")).splitlines()[1])
         self.assertIsNone(info["failed"], "a probe that expected 7")
         os.remove(self.place("a"))
         self.comes(client, id="a", interval=100, code=7)
@@ -127,11 +138,11 @@ class Kept(helper.Check):
         """one that leaves keeps them running, and the next one goes on without a start or a failure"""
         self.wants(a=self.dummy("a"))
         self.assertEqual(self.starts_and_leaves(), 0)
-        self.assertTrue(os.path.exists(self.place("a")))
+        self.assertTrue(os.path.exists(self.place("a")), "the service of a is up")
         client = self.client()
         self.comes(client, id="a", interval=0, code=0, action="monitor")
         self.comes(client, id="a", interval=100, code=0)
-        info = json.loads(helper.shown(self.place("journal")).splitlines()[1])
+        info = helper.value_of(helper.shown(self.place("journal")).splitlines()[1])
         self.assertEqual((self.starts(), info["failed"]), (1, None))
         self.assertEqual(self.ended(client, signal.SIGTERM), 0)
 
@@ -159,7 +170,7 @@ class Kept(helper.Check):
         self.runs("other")
         self.assertFalse(os.path.exists(self.place("a")), "the one before is stopped")
         self.assertEqual(self.ended(client, signal.SIGUSR1), 0)
-        info = json.loads(helper.shown(self.place("journal")).splitlines()[1])
+        info = helper.value_of(helper.shown(self.place("journal")).splitlines()[1])
         self.assertEqual((info["type"], info["params"]), ("Other", {"state": self.place("other")}))
         self.wants(a=self.dummy("third", "Other"))
         client = self.client()
@@ -174,7 +185,7 @@ class Kept(helper.Check):
         with open(self.place("resources.json"), "w", encoding="ascii") as file:
             file.write('{"resources": {"a": 1}}')
         os.kill(client.run.pid, signal.SIGHUP)
-        self.waits("refusal", lambda: "resources.a: an object is wanted" in self.said())
+        self.waits("refusal", lambda: "resources.a: expected an object" in self.said())
         self.wants(b=self.dummy("b"))
         os.kill(client.run.pid, signal.SIGHUP)
         self.waits("removal of a", lambda: list(helper.results(self.place("journal"))) == ["b"])
@@ -228,13 +239,36 @@ class Kept(helper.Check):
                          (2, "", [f"client: {self.place('resources.json')}: {wrong.exception}"]))
         self.assertEqual(os.listdir(self.place("journal")), [])
 
+    @unittest.skipIf(schema.library() is None, "there is no python3-jsonschema")
+    def test_schema(self):
+        """docs/resources.schema.json takes what the client takes, and refuses what it refuses"""
+        with open(os.path.join(helper.TOP, "docs/resources.schema.json"), encoding="utf-8") as file:
+            whole = json.load(file)
+        schema.library().Draft202012Validator.check_schema(whole)
+        holds = schema.library().Draft202012Validator(whole).is_valid
+        more = ({"resources": {"..": {"provider": "p", "type": "T"}}},
+                {"resources": {str(n): {"provider": "p", "type": "T"} for n in range(257)}},
+                {"resources": {"a": {"provider": "p", "type": "T", "params": {f"p{n}": "" for n in range(65)}}}},
+                {"resources": {"a": {"provider": "p", "type": "T", "params": {"x": "y\0"}}}},
+                {"resources": {"a": {"provider": "p", "type": "T", "params": {"x": "y" * 1025}}}})
+        wrong = [text for text, begins in WRONG if not begins.startswith(BEFORE)] + [json.dumps(value) for value in more]
+        for text in (*RIGHT, *wrong):
+            with open(self.place("resources.json"), "w", encoding="ascii") as file:
+                file.write(text)
+            try:
+                resources.read(self.place("resources.json"))
+                is_read = True
+            except resources.Wrong:
+                is_read = False
+            self.assertEqual((is_read, holds(json.loads(text))), (text in RIGHT,) * 2, text[:300])
+
     def test_nothing(self):
         """without a file, or with an empty one, it says so and starts nothing, until the file names a resource"""
         client = self.client()
-        self.waits("word of it", lambda: self.said().count("so nothing is done") == 1)
+        self.waits("word of it", lambda: self.said().count("nothing to do until SIGHUP") == 1)
         self.wants()
         os.kill(client.run.pid, signal.SIGHUP)
-        self.waits("word of it", lambda: self.said().count("so nothing is done") == 2)
+        self.waits("word of it", lambda: self.said().count("nothing to do until SIGHUP") == 2)
         self.assertEqual((self.child(client), os.listdir(self.place("journal"))), (None, []))
         self.wants(a=self.dummy("a"))
         os.kill(client.run.pid, signal.SIGHUP)
@@ -284,12 +318,14 @@ class Kept(helper.Check):
         runs = sorted(value["run"] for value in client.told() if value["run"])
         self.assertEqual(runs, list(range(1, len(runs) + 1)), "each run once")
         self.assertGreater(len(runs), kills)
-        # an opening reports what was interrupted before what was dropped, which a history has the other way round
+        # an opening reports what was interrupted before what was dropped, which a history has the other way round; of what the client
+        # itself withdrew at its end there is no notice
         told = {(value["call"], value["run"]): value for value in client.told()}
         for name, results in helper.results(self.place("journal")).items():
             for result in results:
-                self.assertEqual(told[result["call"], result["run"]], {**result, "id": name})
+                if result["outcome"] != "cancelled":
+                    self.assertEqual(told[result["call"], result["run"]], {**result, "id": name})
 
 
 if __name__ == "__main__":
-    helper.main()
+    helper.main(in_memory=True)

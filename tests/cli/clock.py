@@ -67,7 +67,7 @@ class Clock(helper.Check):
         self.assertEqual(self.ended(run, "start"), [("timed-out", 1)])
         run.tell({"op": "recur", "id": "r1", "interval": 200}, {"op": "watch", "limit": 1500})
         run.awaits(lambda value: value.get("end") == "limit")
-        self.assertGreaterEqual(len(self.ended(run, "monitor")), 3, "monitors of 200 ms in 1.5 s")
+        self.came_often(3, len(self.ended(run, "monitor")), "monitors of 200 ms in 1.5 s")
         self.assertEqual(run.ends(), 0)
 
     def test_back(self):
@@ -129,7 +129,7 @@ class Clock(helper.Check):
 
     def test_status(self):
         """a status of a journal in use, the clock set back and forward"""
-        run, began = self.monitored(), time.monotonic()
+        began, run = time.monotonic(), self.monitored()
         for seconds in (0, -3600, 3600, -YEARS, YEARS):
             table = self.status(seconds)
             self.is_true_to(table, 5 + time.monotonic() - began)
@@ -142,7 +142,7 @@ class Clock(helper.Check):
 
     def test_status_alone(self):
         """a status of the parts alone, the clock set back and forward"""
-        run, began = self.monitored(), time.monotonic()
+        began, run = time.monotonic(), self.monitored()
         run.run.kill()
         run.run.wait()
         with open(os.path.join(self.place("journal"), "executor"), encoding="ascii") as file:

@@ -18,7 +18,7 @@ in_bash() {
     bash --norc -c '. "$1"; shift; complete -p ocfexec > /dev/null || exit 1
         COMP_WORDS=("$@"); COMP_CWORD=$(($# - 1)); _ocfexec; printf "%s\n" "${COMPREPLY[@]}"' bash "$here/bash" "$@" | sort | xargs
 }
-same "bash, subcommands" "--help --version log once run serve show status" "$(in_bash ocfexec '')"
+same "bash, subcommands" "--help --version log metrics once run serve show status" "$(in_bash ocfexec '')"
 same "bash, an option" "--journal" "$(in_bash ocfexec serve --jo)"
 same "bash, a flag" "--leave-orphans" "$(in_bash ocfexec serve --le)"
 same "bash, a flag of a journal" "--any-owner" "$(in_bash ocfexec serve --an)"
@@ -41,7 +41,7 @@ in_fish() {
 if command -v fish > /dev/null; then
     same "fish, subcommands" "run serve show status" "$(in_fish 'ocfexec s' | tr ' ' '\n' | cat - <(in_fish 'ocfexec r' | tr ' ' '\n') | sort | xargs)"
     same "fish, an option" "--journal" "$(in_fish 'ocfexec serve --jo')"
-    same "fish, an option of status" "--json" "$(in_fish 'ocfexec status --js')"
+    same "fish, an option of status, and no word of what fish finds nowhere" "--json" "$(in_fish 'ocfexec status --js' 2>&1)"
     same "fish, an id" "web" "$(PATH=$here/bin:$PATH in_fish "ocfexec status --journal $here/journal w")"
     same "fish, a directory" "$here/lib/ $here/libexec/" "$(in_fish "ocfexec serve --journal $here/li")"
     checked "fish"
@@ -49,30 +49,42 @@ else
     missing fish
 fi
 
-# What zsh makes of lines that are typed and completed, on a terminal of its own: the words of each. Use: in_zsh LINE..
+# What zsh makes of lines that are typed and completed, on a terminal of its own: the words of each. It says when it has prompted, and when
+# it has completed, and is waited for. Use: in_zsh LINE..
 in_zsh() {
+    cat > "$here/set_up" <<'ZSH'
+fpath=($here/zsh $fpath)
+autoload -U compinit && compinit -u -d $here/dump
+ocfexec() { print -r -- $argv >> $here/words }
+precmd() { : > $here/prompted }
+completes() { zle expand-or-complete; : > $here/completed }
+zle -N completes && bindkey '^I' completes
+ZSH
     cat > "$here/typed" <<'ZSH'
 zmodload zsh/zpty
+here=$1
+awaits() { until [[ -e $here/$1 ]]; do sleep 0.02; done; rm $here/$1 }
 zpty shell zsh -f -i
-zpty -w shell "fpath=($1/zsh \$fpath); autoload -U compinit; compinit -u -d $1/dump; ocfexec() { print -r -- \$argv >> $1/words }; : > $1/ready"
-until [[ -e $1/ready ]]; do sleep 0.1; done
+zpty -w shell "here=$here; source $here/set_up"
 for line in "${@:2}"; do
-    sleep 0.3
+    awaits prompted
     zpty -w -n shell "$line"$'\t'
-    sleep 0.7
+    awaits completed
     zpty -w -n shell $'\n'
 done
-sleep 0.5
+awaits prompted
 zpty -d shell
 ZSH
-    HOME=$here timeout 30 zsh -f "$here/typed" "$here" "$@" > /dev/null 2>&1
+    HOME=$here timeout $((30 * $(slowness))) zsh -f "$here/typed" "$here" "$@" > /dev/null 2>&1
     sed 's/ *$//' "$here/words"
 }
 if command -v zsh > /dev/null; then
     same "zsh" "serve
 serve --journal
 status --json
-serve --journal $here/libexec" "$(in_zsh 'ocfexec se' 'ocfexec serve --jo' 'ocfexec status --js' "ocfexec serve --journal $here/libe")"
+serve --journal $here/libexec
+status --journal $here/journal web" "$(PATH=$here/bin:$PATH in_zsh 'ocfexec se' 'ocfexec serve --jo' 'ocfexec status --js' "ocfexec serve --journal $here/libe" \
+    "ocfexec status --journal $here/journal w")"
     checked "zsh"
 else
     missing zsh

@@ -5,7 +5,6 @@ fails a run waits, too; starts with signals ignored, which are named; and starts
 that is not absolute.
 Use: ends.py PROGRAM"""
 import fcntl
-import json
 import os
 import resource
 import shutil
@@ -184,7 +183,7 @@ class Ends(helper.Check):
         # no file of it may grow any more, so the record of the agent's end is refused
         size = os.path.getsize(os.path.join(folder, "part-a"))
         resource.prlimit(run.pid, resource.RLIMIT_FSIZE, (size, size))
-        self.assertEqual(json.loads(run.stdout.readline()), {"end": "disk"})
+        self.assertEqual(helper.value_of(run.stdout.readline()), {"end": "disk"})
         self.assertEqual(run.wait(helper.PATIENCE), 5)
         self.assertEqual(run.stdout.read(), b"")
         run.stdin.close()

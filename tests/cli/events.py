@@ -144,4 +144,5 @@ class Events(helper.Check):
         self.assertEqual(sorted(said), sorted(f"r{n}" for n in range(40)))
 
 
-helper.main()
+if __name__ == "__main__":
+    helper.main()

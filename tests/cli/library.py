@@ -10,6 +10,7 @@ import time
 
 sys.path[0] += "/../lib"
 import helper  # noqa: E402
+import schema  # noqa: E402
 from helper import PROGRAM, action, register  # noqa: E402
 
 sys.dont_write_bytecode = True
@@ -21,6 +22,14 @@ KILLS = 100
 TALKS = "#!/bin/sh\nread -r line\necho 'good morning'\nread -r line\n"
 
 
+class Held(ocfexec.Executor):
+    """One each of whose lines is held against the schema."""
+
+    def _take_line(self, value):
+        schema.hold(value)
+        super()._take_line(value)
+
+
 class Library(helper.Check):
     def setUp(self):
         super().setUp()
@@ -28,7 +37,7 @@ class Library(helper.Check):
         self.agent("Slow", f"echo $$ >> {self.here}/slow\nsleep 0.3\n")
 
     def executor(self, *words, **how):
-        executor = ocfexec.Executor([PROGRAM, "serve", *words, "--root", self.here], **how)
+        executor = Held([PROGRAM, "serve", *words, "--root", self.here], **how)
         self.addCleanup(self.gone, executor)
         executor.start()
         return executor
@@ -82,7 +91,7 @@ class Library(helper.Check):
         time.sleep(0.3)
         executor.ask(op="list")
         began = time.monotonic()
-        self.assertTrue(executor.hear(30))
+        self.assertTrue(executor.hear(30), "the reply has come")
         self.took_less(1, time.monotonic() - began, "what is there at once")
         self.assertEqual([result["outcome"] for result in executor.take()], ["not-started"])
 
@@ -115,7 +124,7 @@ class Library(helper.Check):
         self.assertGreaterEqual(len(called), 3)
         os.write(waker, b"!")
         began = time.monotonic()
-        self.assertFalse(executor.hear(30))
+        self.assertFalse(executor.hear(30), "nothing has come but the waker's byte")
         self.took_less(1, time.monotonic() - began, "what a byte wakes")
 
     def test_reported(self):
@@ -186,4 +195,4 @@ class Library(helper.Check):
 
 
 if __name__ == "__main__":
-    helper.main()
+    helper.main(in_memory=True)

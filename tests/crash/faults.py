@@ -126,10 +126,9 @@ class Faults(helper.Check):
 
     def asks(self, run, command, many):
         # asks it so often, waits for all replies, and says whether one is that the journal is full
-        before, until = len(run.lines), time.monotonic() + 30
+        before = len(run.lines)
         run.tell(*[command] * many, {"op": "list"})
-        while not self.told(run, before, '"resources"') and time.monotonic() < until:
-            time.sleep(0.005)
+        self.eventually("the resources", lambda: self.told(run, before, '"resources"'))
         return self.told(run, before, '"number":14') > 0
 
     def fill(self, run):
@@ -147,11 +146,10 @@ class Faults(helper.Check):
         run = self.heard("serve", "--memory", "--tidy-at", "0", "--root", self.here)
         run.tell(register("full", "Quick"), register("quick", "Quick"), {"op": "recur", "id": "quick", "interval": 20})
         self.assertEqual(self.fill(run), 1)
-        seen = len(run.told())
         run.tell({"op": "tidy"})
         run.awaits(lambda value: value == {"end": "done"})
-        time.sleep(0.3)
-        self.assertGreater(len(run.told()), seen, "monitors go on")
+        seen = len(run.told())
+        self.eventually("monitors that go on", lambda: len(run.told()) > seen)
         self.assertEqual(self.fill(run), 2)
         self.assertEqual(run.ends(), 0)
 

@@ -13,7 +13,6 @@ import shutil
 import struct
 import subprocess
 import sys
-import tempfile
 import threading
 import time
 
@@ -24,8 +23,6 @@ from helper import PROGRAM  # noqa: E402
 MEMORY = {"error": "memory", "number": 15}
 # How standard error begins with each status, where it goes to the system's journal.
 ENDS = {0: b"", 4: b"ocfexec: memory\nFree memory ", 7: b"ocfexec: input or output\nA reply or a notice found no memory."}
-# where files are kept in memory: thousands of runs sync theirs
-SHARED = "/dev/shm"
 DRAIN, LIST = {"op": "drain"}, {"op": "list"}
 
 
@@ -116,7 +113,7 @@ class Growths(helper.Check):
         line = run.stdout.readline()
         if not line.endswith(b"\n"):
             return None
-        value = json.loads(line)
+        value = helper.value_of(line)
         if "meta" in value:
             value["text"] = run.stdout.read(value["meta"] + 1).decode()
         if "error" in value or value.get("id") == "r2" and helper.is_notice(value):
@@ -484,7 +481,7 @@ class Growths(helper.Check):
             with self.subTest(refused=refuse):
                 ends[found.status] += 1
                 if found.status == 5:
-                    self.assertTrue(found.err.startswith(b"ocfexec: disk\n"))
+                    self.assertEqual(found.err[:14], b"ocfexec: disk\n")
                     closed = [[{"error": "disk", "number": 16}], [{"error": "closed", "number": 17}]]
                     self.assertIn(found.answers, ([], closed))
                 else:
@@ -498,6 +495,4 @@ if __name__ == "__main__":
     if not shutil.which("cc"):
         print("growths.py: skipped: install a C compiler (apt-get install gcc)")
         sys.exit(77)
-    if os.access(SHARED, os.W_OK) and not os.statvfs(SHARED).f_flag & os.ST_NOEXEC:
-        tempfile.tempdir = SHARED
-    helper.main()
+    helper.main(in_memory=True)

@@ -144,7 +144,7 @@ class Orphans(helper.Check):
         second = self.opened("--leave-orphans", "--orphans", "0", way="serve")
         _, first = second.awaits(lambda value: True)
         self.assertEqual(first["outcome"], "interrupted")
-        self.assertTrue(helper.is_alive(first["lives"]))
+        self.assertTrue(helper.is_alive(first["lives"]), "what is told as alive is")
         self.assertIn(f"pid {first['lives']} of start of r1", self.said())
 
     def test_ended_at_the_limit(self):
@@ -195,7 +195,7 @@ class Orphans(helper.Check):
         pid = self.starts(f"echo $$ > {agent}\nsh -c 'echo $$ > $OCF_RESKEY_file; sleep 30; :'\n:\n", "pid")
         with open(agent, encoding="ascii") as number:
             os.kill(int(number.read()), 9)
-        self.assertTrue(helper.is_alive(pid))
+        self.assertTrue(helper.is_alive(pid), "what the agent started outlives it")
         second = self.opened(via="")
         self.reported(second)
         self.assertFalse(helper.is_alive(pid), "it has ended before the report")

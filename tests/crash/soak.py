@@ -1,5 +1,5 @@
 #!/usr/bin/env python3
-# check: builds
+# check: built
 """A long life: hours over one journal, on a simulated clock. The program of tests/trials plays them through the program's own run, with
 a disk in memory and scripted agents; this plans them, and looks at all that is said. 64 resources have four recurring monitors each, a
 client starts, stops, withdraws and asks by chance, at times a hundred lines at once, the wall clock jumps at each opening, and journals
@@ -64,7 +64,7 @@ class Life:
     def __init__(self, seed, note):
         self.dice, self.note = random.Random(seed), note
         self.all = {name: Resource() for name in IDS}
-        self.doubt = {}  # the command that was refused for the disk: it may have been recorded
+        self.doubt = []  # the commands that were refused together, as the disk failed: they may have been recorded
         self.next_call = 1  # above each call that was told or found
         self.opening = 13  # how many device calls an opening makes; each record costs four, and four more when it is read
         self.hourly = 4_000  # how many an hour makes behind that
@@ -142,7 +142,7 @@ class Life:
         for line in self.program.stdout:
             if line.startswith(b"== "):
                 return out, self.left(line)
-            out.append(json.loads(line))
+            out.append(helper.value_of(line))
         raise AssertionError(f"the program ended, with {self.program.wait()}")
 
     def left(self, line):
@@ -175,7 +175,7 @@ class Life:
         if "error" in reply:
             self.counts[reply["error"]] += 1
             if reply["error"] == "disk":
-                self.doubt = command
+                self.doubt.append(command)
             return
         self.counts["acknowledged"] += command["op"] not in ("list", "info", "history")
         self.next_call = max(self.next_call, reply.get("call", 0) + 1)
@@ -211,15 +211,20 @@ class Life:
 
     # what an opening finds
 
-    def doubts(self, op, name):
-        return (self.doubt.get("op"), self.doubt.get("id")) == (op, name)
+    def doubts(self, op, name, **keys):
+        """Whether a command of these keys is among those that were refused together, as the disk failed: they are recorded, or not."""
+        wanted = {"op": op, "id": name, **keys}
+        return any(wanted.items() <= command.items() for command in self.doubt)
+
+    def params_in_doubt(self, name):
+        return [command["params"] for command in self.doubt if command.get("id") == name and "params" in command]
 
     def look_at_list(self, found):
         for name in IDS:
             known = self.all[name]
             if known.there != (name in found):
                 assert self.doubts("unregister" if known.there else "register", name), ("the registry", name)
-                self.all[name] = Resource(not known.there, self.doubt.get("params"))
+                self.all[name] = Resource(not known.there, next(iter(self.params_in_doubt(name)), None))
         assert set(found) <= set(IDS)
 
     def look_at_info(self, name, reply):
@@ -229,12 +234,12 @@ class Life:
             return
         assert (reply["queued"], reply["running"]) == ([], None), ("an opening leaves nothing queued", reply)
         if reply["params"] != known.params:
-            assert self.doubts("params", name) and reply["params"] == self.doubt["params"], ("parameters", reply)
+            assert reply["params"] in self.params_in_doubt(name), ("parameters", reply)
             known.params = reply["params"]
         found = {monitor["interval"]: monitor["call"] for monitor in reply["recurring"]}
         for interval, _ in set(found.items()) ^ set(known.monitors.items()):
             op = "recur" if interval in found else "cancel"
-            assert self.doubts(op, name) and self.doubt["interval"] == interval, ("monitors", reply, known.monitors)
+            assert self.doubts(op, name, interval=interval), ("monitors", reply, known.monitors)
         known.monitors = found
         self.next_call = max([self.next_call, *[call + 1 for call in found.values()]])
 
@@ -255,10 +260,11 @@ class Life:
         fresh = [result for result in found if str(result) not in old]
         booted = [result for result in fresh if is_booted(result)]
         more = [result for result in fresh if not is_booted(result)]
-        assert len(more) <= (0 if exact else 1), ("results that were not told", name, more)
+        ended = [result for result in more if result["outcome"] != "cancelled"]
+        assert len(ended) <= (0 if exact else 1), ("results that were not told", name, more)
         for result in more:
             if result["outcome"] == "cancelled":
-                assert self.doubts("withdraw", name) and self.doubt["call"] == result["call"], ("withdrawn by itself", name, result)
+                assert self.doubts("withdraw", name, call=result["call"]), ("withdrawn by itself", name, result)
         told = [] if self.doubts("forget", name) and len(found) == len(fresh) else known.told
         assert found == [*told, *more, *booted][-KEPT:], ("a history", name, known.told, found)
         if report:
@@ -298,7 +304,7 @@ class Life:
                     self.look_at_info(command["id"], reply)
                 case "history":
                     self.look_at_history(command["id"], reply, report[command["id"]], exact)
-        self.doubt = {}
+        self.doubt = []
 
     def stopped_opening(self, calls):
         """An opening that is stopped near its end, before the report or behind it."""

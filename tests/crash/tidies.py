@@ -1,5 +1,5 @@
 #!/usr/bin/env python3
-# check: slow alone
+# check: slow
 """Tidies one journal again and again, a change between each two, and kills `PROGRAM run` with signal 9 at random moments. Wanted after
 each kill: the last change that was acknowledged is found, or one that was sent behind it; all that never changed is found as it was; a
 second opening writes nothing. A session of four times what a part holds is answered without a refusal, since the program tidies by
@@ -121,12 +121,9 @@ class Tidies(helper.Check):
         self.assertEqual(notice["outcome"], "timed-out")
         self.took_less(2, at - began, "a timeout beside a tidy")
         self.assertGreater(os.path.getsize(os.path.join(journal, "part-a")), length + 40000, "past the first mark")
-        until = time.monotonic() + 60
-        while os.path.getsize(os.path.join(journal, "part-b")) < 2000000 and time.monotonic() < until:
-            time.sleep(0.1)
-        self.assertGreaterEqual(os.path.getsize(os.path.join(journal, "part-b")), 2000000, "tidied once nothing runs")
+        self.eventually("a tidy once nothing runs", lambda: os.path.getsize(os.path.join(journal, "part-b")) >= 2000000)
         self.assertEqual(run.ends(60), 0)
 
 
 if __name__ == "__main__":
-    helper.main()
+    helper.main(in_memory=True)

@@ -23,7 +23,6 @@ from helper import PROGRAM, action  # noqa: E402
 EXPECT_ROWS = True
 # how many commands a row has at most; how often it is synced, by its body and by its gate; and how many rows more may be made
 ROW, SYNCS_OF_A_ROW, MORE_ROWS = 64, 2, 1
-SHARED = "/dev/shm"
 # monitors that come due once in a check
 INTERVALS = [3_600_000 + place for place in range(10)]
 QUESTIONS = ["info", "history", "list"]
@@ -270,7 +269,7 @@ class Together(helper.Check):
                 self.assertEqual(seen(way([word, "--journal", folder, "--root", self.here], text)), seen(wanted), "with a journal")
                 state = state or left(helper.shown(folder))
                 self.assertEqual(left(helper.shown(folder)), state, "what is left")
-        values = [json.loads(line) for line in wanted.split(b"\n")[:-1]]
+        values = [helper.value_of(line) for line in wanted.split(b"\n")[:-1]]
         accepted, refused = sum(value.get("ok", False) for value in values), sum("error" in value for value in values)
         kinds = {value["error"] for value in values if "error" in value}
         print(f"together: {word}: {len(lines)} lines, {len(text)} bytes: {accepted} accepted or answered, {refused} refused by "
@@ -353,7 +352,7 @@ class Together(helper.Check):
         return replied, found
 
     def test_kills(self):
-        """killed with batches under way: what was replied stands, and a front part is found"""
+        """killed with batches under way: what was replied is found, and of the rest a prefix"""
         dice, count, seen = random.Random(self.seed), len(NAMES), []
         for number in range(helper.number("ROUNDS", 16)):
             folder = self.journal(f"journal{number}")
@@ -436,6 +435,4 @@ class Together(helper.Check):
 
 
 if __name__ == "__main__":
-    if os.access(SHARED, os.W_OK) and not os.statvfs(SHARED).f_flag & os.ST_NOEXEC:
-        tempfile.tempdir = SHARED
-    helper.main()
+    helper.main(in_memory=True)

@@ -47,7 +47,7 @@ class Durable(helper.Check):
         if not shutil.which("cc"):
             self.skipTest("install a C compiler (apt-get install gcc)")
         subprocess.run(["cc", "-O2", "-o", self.place("loop"), SOURCE], check=True)
-        commands, ours, floor = helper.number("COMMANDS", 400), [], []
+        commands, ours, floor = helper.number("COMMANDS", 200), [], []
         for _ in range(helper.number("ROUNDS", 7)):
             ours.append(self.recorded(commands) / commands)
             loop = [self.place("loop"), self.place("plain"), str(commands)]

@@ -113,6 +113,7 @@ mkdir half && : > half/part-b
 run half '{"op":"list"}'
 same "one empty file" '{"ok":true,"resources":[]}' "$(cat out)"
 same "what is made" "half/executor half/part-a half/part-b" "$(echo half/*)"
+checked "what is made, and what is found again"
 
 # What can't be opened
 refused nowhere 5 "ocfexec: disk" "nowhere: No such file or directory"
@@ -132,6 +133,7 @@ refused folder_b 5 "ocfexec: disk" "folder_b/part-b: not a plain file"
 mkdir dangling && ln -s ../made/none dangling/part-b
 refused dangling 5 "ocfexec: disk" "dangling/part-b: not a plain file"
 [ ! -e made/none ] || differs "a link to nothing" "no file" "made/none"
+checked "what cannot be opened"
 
 # A part whose file is gone is refused while the other one holds a journal, and nothing is made
 journal lost
@@ -144,6 +146,7 @@ run lost_a '{"op":"tidy"}'
 rm lost_a/part-a
 refused lost_a 5 "ocfexec: disk" "lost_a/part-a: gone, while part-b holds a journal"
 same "a lost part A" "lost_a/executor lost_a/part-b" "$(echo lost_a/*)"
+checked "a part that is gone beside one that holds a journal"
 
 # Beside a file that holds no journal no other one is said to be gone
 mkdir garbage && printf 'not a journal at all' > garbage/part-a
@@ -165,16 +168,18 @@ if [ "$(id -u)" -ne 0 ]; then
     refused unreadable 5 "ocfexec: disk" "unreadable/part-a: Permission denied"
     same "no permission, advice" "No permission: the journal is its owner's alone; look at it as that user, or as root." "$(tail -n 1 "$here/err")"
 fi
+checked "a part that holds no journal, is empty beside one that was tidied, or cannot be read"
 
 # One executor at a time
 hold made
 refused made 5 "ocfexec: disk" "made: in use by another executor"
-same "in use, advice" "In use: one executor at a time holds a journal; show, status and log look at it meanwhile." "$(tail -n 1 "$here/err")"
+same "in use, advice" "In use: one executor at a time holds a journal; show, status, log and metrics look at it meanwhile." "$(tail -n 1 "$here/err")"
 ln made/part-a linked_a && mkdir other && mv linked_a other/part-a && : > other/part-b
 refused other 5 "ocfexec: disk" "other/part-a: in use by another executor"
 let_go "the executor that has the journal"
 run made '{"op":"list"}'
 same "the journal after it" '{"ok":true,"resources":["r1"]}' "$(cat out)"
+checked "one executor at a time"
 
 # Files that are replaced under an executor: no other one opens them, and the next command or tidy fails
 journal replaced
@@ -199,6 +204,7 @@ mv swapped swapped_away && journal swapped
 loses "a folder in another's place" "swapped/part-a: replaced while in use" "$exec_start" "$disk_error"
 run swapped "$exec_start"
 same "the folder in its place" '{"call":1,"key":"r1_start_0","ok":true}' "$(cat out)"
+checked "files and folders that are replaced, renamed or removed under an executor"
 
 # A mount over the folder
 if [ "$(id -u)" -eq 0 ]; then apart="unshare --mount"; else apart="unshare --user --map-root-user --mount"; fi
@@ -226,6 +232,7 @@ COVERS
 else
     echo "files.sh: a mount over the folder is not tried: $(cat err)"
 fi
+checked "a mount over the folder"
 
 # What is shown of a folder that may only be read, and of one without files: nothing is made and nothing changes
 chmod 711 "$here"
@@ -242,6 +249,7 @@ same "both folders" "$before" "$(inside fixed && inside bare)"
 chmod 755 fixed bare
 hidden "show of a directory that is not there" "nowhere: No such file or directory (os error 2)
 Missing directory: make it, for its owner alone, or name another by --journal." show --journal nowhere
+checked "what is shown of a folder that may only be read, and of one without files"
 
 # Root opens only a journal of which it is the only writer; any other user opens whatever it may
 if [ "$(id -u)" -eq 0 ]; then
@@ -262,6 +270,7 @@ if [ "$(id -u)" -eq 0 ]; then
     printf '%s\n' "$register" | setpriv --reuid=65534 --regid=65534 --clear-groups "$here/viewer" run --journal nobody > out 2> err
     same "an executor that is not root" '{"ok":true}' "$(cat out err)"
 fi
+checked "root opens a journal alone of which it is the only writer"
 
 # A journal is shown while its executor is busy with registrations, parameters and tidies: what is listed is a prefix of
 # what was registered, and no shorter than what was listed before
@@ -299,6 +308,7 @@ wait "$pid"
 same "the busy executor, status" "0 " "$? $(cat busy_err)"
 same "the busy executor, refusals" "" "$(grep -v -x -e '{"ok":true}' -e '{"end":"done"}' busy_replies)"
 echo "50 shows of a busy journal: $last resources in the last one, $(grep -c end busy_replies) tidies"
+checked "what is shown of a journal while its executor is busy"
 
 # Standard streams that are closed: nothing of what is meant for them lands in a part
 printf '%s\n' "$register" > line
@@ -306,6 +316,7 @@ cp -r made streams
 "$program" run --journal streams < line >&- 2>&-
 same "standard output closed, status" 7 $?
 diff -r -x executor made streams || differs "standard output closed" "the same bytes" "others"
+checked "standard output that is closed"
 
 # A device that is full: no file grows past 64 KiB
 value=$(printf '%01024d' 0)
@@ -330,6 +341,7 @@ same "a full device, last replies" '{"error":"disk","number":16}
 same "a full device, accepted" 4 "$(grep -c '^{"ok":true}$' out)"
 run full '{"op":"list"}'
 same "opened again" '{"ok":true,"resources":["r1"]}' "$(cat out)"
+checked "a device that is full"
 
 # Room that was reserved before the device filled: 300 commands and a tidy, and without it no command at all
 if command -v fallocate > found && $apart mount -t tmpfs -o size=1m none "$here/other" 2> err; then
@@ -368,6 +380,7 @@ $check_device" "$(cat other_err)"
 else
     echo "files.sh: reserved room is not tried: $(cat err)"
 fi
+checked "room that was reserved before the device filled"
 
 # A full part: 541 replacements of all parameters, and no tidy
 journal much
@@ -384,4 +397,4 @@ echo "opening a part of $(stat -c %s much/part-a) bytes: $took milliseconds (und
 took_less "opening a full part" 5000 "$took"
 [ "$memory" -lt 65536 ] || differs "opening a full part, KiB" "under 65536" "$memory"
 
-finish "files of a journal, their locks and their faults"
+finish "the opening of a full part"

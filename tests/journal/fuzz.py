@@ -1,5 +1,5 @@
 #!/usr/bin/env python3
-# check: builds
+# check: built
 """What guided fuzzing found of inputs, tests/fuzz/corpus, handed once more to the readers that they were found for: none crashes,
 takes long or fails, so what is read spells the same bytes, a pair that is refused is not written, and what a run leaves opens. The
 program of tests/trials hands them over. Of each pair the program's own `show` says the damage that a second reader finds, which is
@@ -26,7 +26,7 @@ class Fuzz(helper.Check):
     def inputs(self, reader):
         folder = os.path.join(CORPUS, reader)
         names = sorted(os.listdir(folder))
-        self.assertTrue(names)
+        self.assertTrue(names, f"{folder} has an input")
         for name in names:
             with open(os.path.join(folder, name), "rb") as file:
                 yield name, file.read()

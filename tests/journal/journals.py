@@ -2,7 +2,6 @@
 """Journals whose parts are spelled by hand, after docs/FORMAT.md: what they are shown as, what their opening reports, each cause of
 damage, and a part that has no room left for a boot.
 Use: journals.py PROGRAM"""
-import json
 import subprocess
 import sys
 
@@ -121,14 +120,14 @@ class Journals(helper.Check):
     def test_failed(self):
         """what failed last is the probe that did not find what it expected"""
         found = self.shows(self.spelled("journal", probed(), b""))
-        _, info, history = (json.loads(line) for line in found.stdout.splitlines())
+        _, info, history = (helper.value_of(line) for line in found.stdout.splitlines())
         first, second = history["results"]
         self.assertEqual((first["code"], second["code"], info["failed"]), (7, 0, second))
 
     def test_withdrawn(self):
         """what was withdrawn has a result and is queued no more"""
         found = self.shows(self.spelled("journal", withdrawn(), b""))
-        _, info, history = (json.loads(line) for line in found.stdout.splitlines())
+        _, info, history = (helper.value_of(line) for line in found.stdout.splitlines())
         result = {"action": "stop", "at": 30, "call": 2, "code": 1, "interval": 0, "name": "OCF_ERR_GENERIC", "outcome": "cancelled",
                   "run": 0, "since": 30}
         self.assertEqual((info["queued"], info["running"]["call"], info["failed"], history["results"]), ([3], 1, None, [result]))

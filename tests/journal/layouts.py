@@ -45,7 +45,7 @@ def carried(name):
 def but_for(text, ids):
     """What is shown of all resources but these: the first line lists them, and two lines follow of each."""
     shown = text.splitlines()
-    names = json.loads(shown[0])["resources"]
+    names = helper.value_of(shown[0])["resources"]
     return shown[:1] + [line for n, line in enumerate(shown[1:]) if names[n // 2] not in ids]
 
 
@@ -118,4 +118,4 @@ class Layouts(helper.Check):
 
 
 if __name__ == "__main__":
-    helper.main()
+    helper.main(in_memory=True)

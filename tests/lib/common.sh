@@ -36,6 +36,7 @@ run() {
     { [ $# -eq 0 ] || printf '%s\n' "$@"; } > "$here/asked"
     status=0
     "$program" run --journal "$folder" < "$here/asked" > "$here/out" 2> "$here/err" || status=$?
+    cat "$here/out" >> "$here/all_lines"
 }
 
 # Runs a command whose standard error is a file, which its environment names as the stream to the system's journal: so a fault is
@@ -71,15 +72,21 @@ feed() {
     rm "$here/in"
 }
 
-# Waits until a command succeeds, for $patience seconds at most; else says so, with the last lines of a file, and fails the check.
+# Whether something was waited for so many seconds that no more are due. Use: is_past SECONDS
+is_past() {
+    [ "$1" -ge "$patience" ] && [ "$1" -ge $((patience * $(slowness))) ]
+}
+
+# Waits until a command succeeds, for $patience seconds at most, on a busy machine as many times longer as it is slower than a quiet one;
+# else says so, with the last lines of a file, and fails the check.
 # Use: eventually WHAT FILE COMMAND..
 patience=60
 eventually() {
     eventually_what=$1 eventually_file=$2
     shift 2
-    eventually_until=$(($(date +%s) + patience))
+    eventually_began=$(date +%s)
     until "$@"; do
-        if [ "$(date +%s)" -ge "$eventually_until" ]; then
+        if is_past $(($(date +%s) - eventually_began)); then
             differs "$eventually_what" "it within $patience seconds, by $*" "$(tail -n 5 "$eventually_file")"
             finish "$eventually_what"
         fi
@@ -133,8 +140,19 @@ outcomes() {
     notices "$1" | cut -d ' ' -f 1-3
 }
 
+# Holds the lines of all runs since the last time, and of the program that is fed, against the schema of the program's lines, as the
+# checks in Python do.
+hold_lines() {
+    [ ! -f "${fed-}" ] || cat "$fed" >> "$here/all_lines"
+    [ -s "$here/all_lines" ] || return 0
+    held=$(python3 "$top/tests/lib/schema.py" "$here/all_lines" 2>&1) ||
+        differs "the lines" "lines of docs/protocol.schema.json" "$(echo "$held" | tail -n 1)"
+    : > "$here/all_lines"
+}
+
 # Prints what was checked since the last such line, with its time. Use: checked NAME
 checked() {
+    hold_lines
     check_now=$(date +%s%3N)
     check_took=$((check_now - check_began))
     check_began=$check_now

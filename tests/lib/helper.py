@@ -1,7 +1,7 @@
 """What the checks in Python share: the program, a folder for each check, its agents, the lines of commands, and runs that are asked
 and heard. A module is called as `tests/FOLDER/NAME.py PROGRAM`; each of its tests is a check, which is printed with its time. With ONLY
 in the environment, the one test of that sentence is tried; with `-k WORD` after the program those with this in their name or sentence,
-and with `-f` none after one that failed. A test that fails says how it is played again, with the numbers that it asked
+and with `-f` none after one that failed. `pytest` runs such a module, too, with PROGRAM in the environment. A test that fails says how it is played again, with the numbers that it asked
 for; one by chance, which asked for SEED, leaves its folder, with what it was given, in tests/failed."""
 import argparse
 import contextlib
@@ -20,12 +20,15 @@ import unittest
 
 import schema
 
-PROGRAM = os.path.realpath(sys.argv[1]) if len(sys.argv) > 1 else ""
+IS_CALLED = os.path.exists(os.path.join(os.path.dirname(os.path.abspath(sys.argv[0])), "../lib/helper.py"))
+PROGRAM = os.path.realpath(sys.argv[1]) if IS_CALLED and len(sys.argv) > 1 else os.environ.get("PROGRAM", "")
 PARTS = ("part-a", "part-b")
+MEMORY = "/dev/shm"
 TOP = os.path.dirname(os.path.dirname(os.path.dirname(os.path.abspath(__file__))))
 FAILED = os.path.join(TOP, "tests/failed")
-# how many of the last lines are told where another one did not come, and for how many seconds one is waited for
-LAST, PATIENCE = 10, 60
+# how many of the last lines are told where another one did not come, and for how many seconds one is waited for; on a busy machine as
+# many times longer as it is slower than a quiet one, so many times at most
+LAST, PATIENCE, SLOWER = 10, 60, 4
 # how many seconds a whole run may take, which is less than a script of checks may
 WHOLE = 280
 # how this module is called again, and the numbers that the test under way asked for
@@ -173,6 +176,11 @@ def slowness():
         return max(1.0, os.getloadavg()[0] / len(os.sched_getaffinity(0)))
 
 
+def more_patience(seconds):
+    """For how many seconds more than so many something is waited for now."""
+    return seconds * (min(SLOWER, slowness()) - 1)
+
+
 def keep(folder, into):
     """Copies a folder into the place of an earlier one, but for what is no plain file."""
     shutil.rmtree(into, ignore_errors=True)
@@ -241,6 +249,8 @@ class Heard:
         """The moment and the value of the first line of which this holds, after so many; it fails where none comes in time."""
         found = self.hears(holds, seconds, after)
         if found[0] is None:
+            found = self.hears(holds, more_patience(seconds), after)
+        if found[0] is None:
             end = "before the end of its output" if self.is_over else f"within {seconds} s"
             raise AssertionError(f"no such line came {end}; {self.state()}")
         return found
@@ -261,8 +271,10 @@ class Heard:
     def ends(self, seconds=PATIENCE):
         """The exit status, after the end of its input."""
         self.run.stdin.close()
+        with contextlib.suppress(subprocess.TimeoutExpired):
+            self.run.wait(seconds)
         try:
-            status = self.run.wait(seconds)
+            status = self.run.wait(more_patience(seconds))
         except subprocess.TimeoutExpired:
             raise AssertionError(f"it did not end within {seconds} s after the end of its input; {self.state()}") from None
         self.reader.join()
@@ -279,6 +291,11 @@ class Heard:
             self.err.close()
 
 
+def count_bad(result):
+    """How many tests failed; pytest counts for itself."""
+    return len(getattr(result, "failures", ())) + len(getattr(result, "errors", ()))
+
+
 class Check(unittest.TestCase):
     """A check has a folder of its own, `here`, which is the root of its agents, too."""
 
@@ -290,9 +307,9 @@ class Check(unittest.TestCase):
 
     def run(self, result=None):
         numbers.clear()
-        bad = len(result.failures) + len(result.errors)
+        bad = count_bad(result)
         super().run(result)
-        if len(result.failures) + len(result.errors) > bad:
+        if count_bad(result) > bad:
             self.say_again()
         self.clear()
         return result
@@ -360,7 +377,7 @@ class Check(unittest.TestCase):
         """Waits until this gives what is true, and gives that; it fails where that takes longer than so many seconds."""
         until = time.monotonic() + seconds
         while not (found := holds()):
-            if time.monotonic() > until:
+            if time.monotonic() > until and time.monotonic() > until + more_patience(seconds):
                 self.fail(f"{what}: not within {seconds} s")
             time.sleep(0.005)
         return found
@@ -374,6 +391,13 @@ class Check(unittest.TestCase):
                 text = file.read()
             return [int(word) for word in text.split()] if text.endswith("\n") else []
         return self.eventually(f"numbers in {os.path.basename(path)}", written)
+
+    def came_often(self, least, count, what):
+        """That something came so many times in a time that was given; on a busy machine as many times fewer as it is slower than a quiet
+        one, but once."""
+        if count < least:
+            slower = slowness()
+            self.assertGreaterEqual(count, max(1, least / slower), f"{what}, on a machine that is {slower:.1f} times slower than a quiet one")
 
     def took_less(self, most, took, what):
         """That something took less than so many seconds; on a busy machine as many times more as it is slower than a quiet one."""
@@ -428,7 +452,11 @@ def chosen(tests, only, part):
             yield test
 
 
-def main(failfast=False):
+def main(failfast=False, in_memory=False):
+    """Runs the tests of a module. Those of runs that sync thousands of times have their files in memory, where programs can be run there:
+    what a killed program wrote is there all the same."""
+    if in_memory and os.access(MEMORY, os.W_OK) and not os.statvfs(MEMORY).f_flag & os.ST_NOEXEC:
+        tempfile.tempdir = MEMORY
     found = unittest.defaultTestLoader.loadTestsFromModule(sys.modules["__main__"])
     parser = argparse.ArgumentParser()
     parser.add_argument("-k", default="", metavar="WORD", help="only tests with this in their name or sentence")

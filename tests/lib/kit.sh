@@ -34,12 +34,13 @@ done
 LINKER
 }
 
-# The same of a program that is compiled without AddressSanitizer, and runs with a shim before the C library as one of the gate's does.
-# Use: keep_plain_program COPY FILE
+# The same of a program that is optimised and compiled without AddressSanitizer: it runs with a shim before the C library, as one of the
+# gate's does, and nearly as fast. Use: keep_plain_program COPY FILE
 keep_plain_program() {
     replace_tool "$1" clang << 'CLANG'
 for word; do
     shift
+    case $word in -O?) word=-O2 ;; esac
     [ "$word" = -fsanitize=address ] || set -- "$@" "$word"
 done
 exec "$tool" "$@"

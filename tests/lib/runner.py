@@ -4,9 +4,10 @@
 A script prints a line for each of its checks, `ok`, `failed` or `skipped`, with its time; one that needs what the machine has not ends
 with 77. A script that prints none fails. Several run at once, and what one printed is printed whole when it has ended. A line
 `# check: MARK..` near the head of a script says `slow`, so that --fast leaves it out, `builds`, so that it begins early and may take
-longer, as it may have to build a program first, or `alone`, so that nothing runs beside it, as it measures time or load; in a script in
-Python single tests may be slow (helper.slow). The last lines say what was skipped and why, what took longest and what failed; the very
-last counts the checks.
+longer, as it may have to build a program first, `built`, so that it begins after those, as it needs the same program, or `alone`, so that
+nothing runs beside it, as it measures time or load; in a script in Python single tests may be slow (helper.slow). A script that takes too
+long is ended, and on a busy machine it may take as many times longer as that is slower. The last lines say what was skipped and why, what
+took longest and what failed; the very last counts the checks.
 
 Use: runner.py [--fast] [--jobs N] [--limit SECONDS] [NAME..], with PROGRAM in the environment, and JOBS for --jobs; a NAME is that of a
 script or of a folder, and without any all are run"""
@@ -25,7 +26,7 @@ from pathlib import Path
 TOP = Path(__file__).resolve().parents[2]
 FOLDERS = ["cli", "journal", "agents", "crash", "load", "system", "repository"]
 # the marks, and in how many lines they may stand
-MARKS, HEAD = {"slow", "builds", "alone"}, 5
+MARKS, HEAD = {"slow", "builds", "built", "alone"}, 5
 MARK = re.compile(r"# check: (.*)")
 CHECK = re.compile(r"^(ok|failed|skipped) +([0-9.]+) s  (.*)$", re.MULTILINE)
 WHY = re.compile(r"skipped: (.*)")
@@ -34,6 +35,8 @@ SKIPPED, LATE, NOT_STARTED = 77, 124, 126
 GRACE, SLOWEST = 5, 10
 # how many seconds more than its limit a script may take that may have to build a program first
 BUILD = 600
+# how many times its limit a script may take on a machine that is so much slower than a quiet one
+SLOWER = 4
 
 
 class Script:
@@ -95,31 +98,56 @@ class Runner:
             except OSError as error:
                 return Ended(script, NOT_STARTED, f"{script.path}: {error.strerror}\n".encode(), 0)
             self.live.add(running)
-            status = self.awaits(running, self.limit + BUILD * ("builds" in script.marks))
+            status = self.awaits(running, self.limit + BUILD * bool(script.marks & {"builds", "built"}))
             self.live.discard(running)
             output.seek(0)
             return Ended(script, status, output.read(), time.monotonic() - began)
 
     def awaits(self, running, limit):
-        try:
-            return running.wait(0 if self.is_closed else limit)
-        except subprocess.TimeoutExpired:
-            end(running)
-            return LATE
+        began = time.monotonic()
+        while not self.is_closed and (left := began + limit * min(SLOWER, slowness()) - time.monotonic()) > 0:
+            try:
+                return running.wait(left)
+            except subprocess.TimeoutExpired:
+                pass
+        end(running)
+        return LATE
 
     def run_all(self, scripts, jobs, take):
         """Runs these, so many at once, and hands on each as soon as it has ended."""
+        waiting, under_way = list(scripts), {}
         with concurrent.futures.ThreadPoolExecutor(jobs) as pool:
-            runs = [pool.submit(self.run, script) for script in scripts]
             try:
-                for run in concurrent.futures.as_completed(runs):
-                    take(run.result())
+                while waiting or under_way:
+                    while len(under_way) < jobs and (script := ready(waiting, under_way.values())):
+                        waiting.remove(script)
+                        under_way[pool.submit(self.run, script)] = script
+                    for run in concurrent.futures.wait(under_way, return_when=concurrent.futures.FIRST_COMPLETED).done:
+                        del under_way[run]
+                        take(run.result())
             except BaseException:
                 self.is_closed = True
                 pool.shutdown(wait=False, cancel_futures=True)
                 for running in list(self.live):
                     end(running)
                 raise
+
+
+def ready(waiting, under_way):
+    """The first script that can begin: one that needs what others build waits for these."""
+    is_building = any("builds" in script.marks for script in [*waiting, *under_way])
+    return next((script for script in waiting if not (is_building and "built" in script.marks)), None)
+
+
+def slowness():
+    """How many times longer than on a quiet machine things may take, by the share of the last five minutes, or of the last one, in which a
+    process waited for a processor; 1 where the system does not tell it."""
+    try:
+        with open("/proc/pressure/cpu", encoding="ascii") as pressure:
+            shares = [float(word.partition("=")[2]) / 100 for word in pressure.readline().split()[2:4]]
+        return 1 / max(0.01, 1 - max(shares))
+    except OSError:
+        return 1
 
 
 def end(running):

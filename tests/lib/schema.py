@@ -1,5 +1,6 @@
 """The lines of the program, held against docs/protocol.schema.json where Debian's python3-jsonschema is installed. Lines of one form,
-which differ in nothing but numbers and texts, are looked at as often as SAMPLES says, so that a check with a million lines is not slow."""
+which differ in nothing but numbers and texts, are looked at as often as SAMPLES says, so that a check with a million lines is not slow.
+Use: schema.py FILE, with lines of the program; or as a module."""
 import json
 import os
 import sys
@@ -57,3 +58,11 @@ def hold(value):
     seen[kind] = seen.get(kind, 0) + 1
     if seen[kind] <= SAMPLES and not lines.is_valid(value):
         raise AssertionError(f"docs/protocol.schema.json has no such line: {json.dumps(value)}")
+
+
+if __name__ == "__main__":
+    with open(sys.argv[1], encoding="utf-8") as told:
+        for text in told:
+            # (a line that the program could not end is none)
+            if text.endswith("\n"):
+                hold(json.loads(text))

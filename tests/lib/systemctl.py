@@ -67,7 +67,8 @@ class Manager:
         self.start()
 
     def reload(self):
-        subprocess.run(self.unit.words("Service.ExecReload", MAINPID=self.read("MainPID")), check=True)
+        for words in self.unit.commands("Service.ExecReload", MAINPID=self.read("MainPID")):
+            subprocess.run(words, stdout=subprocess.DEVNULL, check=True)
 
     def signal(self, number):
         os.kill(int(self.read("MainPID")), number)

@@ -16,14 +16,20 @@ class Unit:
                 section = line.strip("[]")
             elif line and not line.startswith("#"):
                 name, value = line.split("=", 1)
-                self.values[f"{section}.{name}"] = value.strip()
+                self.values.setdefault(f"{section}.{name}", []).append(value.strip())
 
     def get(self, name, default=""):
-        return self.values.get(name, default)
+        """Its last value."""
+        return self.values.get(name, [default])[-1]
+
+    def commands(self, name, **variables):
+        """The words of each of its commands, with backslashes doubled there, and with these variables in the place of a word $NAME; without
+        one that has no value the word is left out."""
+        for value in self.values.get(name, []):
+            found = shlex.split(value.replace("\\\\", "\\"))
+            found = [variables.get(word[1:], "") if word.startswith("$") else word for word in found]
+            yield [word for word in found if word]
 
     def words(self, name, **variables):
-        """The words of a command, with backslashes doubled there, and with these variables in the place of a word $NAME; without one that
-        has no value the word is left out."""
-        found = shlex.split(self.get(name).replace("\\\\", "\\"))
-        found = [variables.get(word[1:], "") if word.startswith("$") else word for word in found]
-        return [word for word in found if word]
+        """The words of its last command."""
+        return list(self.commands(name, **variables))[-1]

@@ -1,5 +1,4 @@
 #!/usr/bin/env python3
-# check: alone
 """Serving, by the built program: commands while agents run, half a line, a flood of questions beside a timeout, many ends at once, a
 reader that does not read, the end of input, scripts of a run, signals that end agents, what waiting costs, and kills at random
 moments.
@@ -47,13 +46,13 @@ class Serving(helper.Check):
         self.assertEqual(run.ends(), 0, "the end of input with an agent running")
 
     def test_half_a_line(self):
-        """monitors go on while half a line stands"""
+        """monitors go on while half a line waits for its end"""
         run = self.slow_and_quick()
         run.tell({"op": "recur", "id": "quick", "interval": 100})
         run.awaits(lambda value: value.get("key") == "quick_monitor_100")
         run.send(b'{"op":"li')
-        time.sleep(1)
-        self.assertGreaterEqual(sum(value["interval"] == 100 for value in run.told()), 6, "monitors while half a line stands")
+        seen = len(run.told())
+        self.eventually("six monitors while half a line waits for its end", lambda: sum(value["interval"] == 100 for value in run.told()[seen:]) >= 6)
         run.send(b'st"}\n')
         _, reply = run.awaits(lambda value: "resources" in value)
         self.assertEqual(reply, {"ok": True, "resources": ["slow", "quick"]}, "a line in two pieces")
@@ -88,10 +87,9 @@ class Serving(helper.Check):
         """two hundred and fifty-six agents that end at once"""
         run, names = self.served(), [f"r{place}" for place in range(256)]
         run.tell(*[sleeper(name, **{"for": "0.3"}) for name in names], *[action(name, "start") for name in names])
-        run.awaits(lambda value: helper.is_notice(value, call=256))
-        time.sleep(0.5)
-        self.assertEqual([value["outcome"] for value in run.told()], ["done"] * 256)
+        self.eventually("256 notices", lambda: len(run.told()) >= 256)
         self.assertEqual(run.ends(), 0, "the end of the many")
+        self.assertEqual([value["outcome"] for value in run.told()], ["done"] * 256)
 
     def test_reader_that_waits(self):
         """a reader that reads nothing for three seconds loses nothing"""
@@ -226,7 +224,7 @@ class Serving(helper.Check):
 
     @helper.slow
     def test_kills(self):
-        """what was told stands behind kills at random moments"""
+        """what was sent is found after kills at random moments"""
         random.seed(helper.number("SEED", 7))
         lives, told = helper.number("LIVES", 60), 0
         for number in range(lives):

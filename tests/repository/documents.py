@@ -2,7 +2,7 @@
 """The names in the documents: each path, file, edit, item of a crate, target of make, subcommand and option that README.md,
 CONTRIBUTING.md, docs/, mutants/README.md and the crates' READMEs name in backticks is there, and each other word in backticks stands
 somewhere in the repository beside the documents; in a README, a section or a row of one crate it stands in that crate. Each label of
-a clause that a table names behind a function is that of a clause or of a field of a definition. Each file with a body that is proved
+a clause that a table or a list names after a function is that of a clause or of a field of a definition. Each file with a body that is proved
 by hand is named as trusted. The manual page has the options of `--help`, and no others, and fits 80 columns.
 Use: documents.py PROGRAM"""
 import collections
@@ -23,7 +23,7 @@ DOCUMENTS = ["README.md", "CONTRIBUTING.md", "mutants/README.md",
 MANUAL = "docs/ocfexec.8"
 # What is made of the definitions.
 STATEMENT = "docs/STATEMENT.antt.txt"
-SUBCOMMANDS = ["run", "serve", "show", "status", "log", "once"]
+SUBCOMMANDS = ["run", "serve", "show", "status", "log", "metrics", "once"]
 # What others name so, what only a gate or a check leaves, and what a document says is not there.
 OUTSIDE = {"--default-signal", "--keep-size", "--length", "--pdeathsig", "/srv/hour", "ArgGroup", "clap_complete", "clone3", "crates/ocfexec/out/gate", "crates/ocfexec/out/ocfexec",
            "fallocate", "flock", "get_ocf_metadata", "hidepid", "list_ocf_providers", "migrate_from", "migrate_to", "nohup",
@@ -35,10 +35,13 @@ ITEM = re.compile(r"\w+(::\w+)*")
 PAIR = re.compile(r"[a-z]\w* [A-Z]\w*")
 PATH = re.compile(r"[\w.*-]+(/[\w.*-]*)+")
 OPTION = re.compile(r"(?<![\w-])--?[A-Za-z][a-z-]*")
-# The labels behind a name in a table, as `Journal::open`: opened, failed; and what is a label: of a clause, or a field or a case of a
+# The labels after a name in a table or a list, as `Journal::open`: opened, failed; and what is a label: of a clause, or a field or a case of a
 # definition.
 LABELS = re.compile(r"`[\w:]+`: ([a-z_]+(?:, [a-z_]+)*)(?=;|\)| \||, `| \(|$)")
 LABEL = re.compile(r"^ *(?:(?:ensures|requires) (\w+) \{|(?:pub )?(\w+) :)", re.MULTILINE)
+# The sections of a crate's README, in their order; what it is and how it works stands before them.
+SECTION = re.compile(r"^(## Proved|\*\*[^*]+\.\*\*)", re.MULTILINE)
+SECTIONS = ["## Proved", "**Tested.**", "**Trusted.**", "**Not proved.**", "**Not done.**"]
 CALL = re.compile(r"[ $]*((?:ocfexec|make) [^|<>&#]*?)(?:   .*)?$")
 
 
@@ -65,7 +68,7 @@ def is_any(pattern):
 
 
 class Names:
-    """What there is to be named. A place is a line of a document, behind the heading that it stands under."""
+    """What there is to be named. A place is a line of a document, after its heading."""
 
     def __init__(self):
         self.crates = set(os.listdir(os.path.join(helper.TOP, "crates")))
@@ -184,8 +187,8 @@ class Documents(helper.Check):
         self.assertEqual([one for _, name, place in self.found for one in misspelled(name) if self.names.is_there(one, place)], [])
 
     def test_labels(self):
-        """the labels of clauses that tables name are there, and none is that is misspelled"""
-        found = [label for path in DOCUMENTS for row in re.findall(r"^\|.*", read(path), re.MULTILINE)
+        """the labels of clauses that tables and lists name are there, and none is that is misspelled"""
+        found = [label for path in DOCUMENTS for row in re.findall(r"^(?:\||- ).*", read(path), re.MULTILINE)
                  for labels in LABELS.findall(row) for label in labels.split(", ")]
         self.assertGreater(len(found), 100)
         self.assertEqual([label for label in found if label not in self.names.labels], [])
@@ -197,11 +200,17 @@ class Documents(helper.Check):
         lines = {crate: os.path.join(helper.TOP, "crates", crate, "README.md") for crate in crates}
         self.assertEqual([crate for crate, path in lines.items() if not os.path.exists(path) or read(path).count("\n") > 40], [])
 
+    def test_form(self):
+        """the README of a crate has sections of one form, in one order"""
+        found = {path: SECTION.findall(read(path)) for path in DOCUMENTS if path.startswith("crates/")}
+        self.assertGreater(len(found), 30)
+        self.assertEqual({path: sections for path, sections in found.items() if sections != [one for one in SECTIONS if one in sections]}, {})
+
     def test_by_hand(self):
         """each file with a body that is proved by hand is named as trusted in docs/PROVED.md"""
         trusted = read("docs/PROVED.md").partition("## Trusted")[2]
         files = [path for path in self.names.files if re.fullmatch(r"crates/\w+/src/.*\.rt", path) and "proved by hand" in read(path)]
-        self.assertTrue(files)
+        self.assertTrue(files, "a body is proved by hand")
         self.assertEqual([path for path in files if f"`{path}`" not in trusted], [])
 
     def test_moved(self):
@@ -213,7 +222,7 @@ class Documents(helper.Check):
     def test_manual(self):
         """the manual page has the options of --help, and no others"""
         wanted = set().union(*[options(text) for text in self.names.helps.values()])
-        long = [{name for name in found if name.startswith("--")} for found in (options(read(MANUAL).replace("\\-", "-")), wanted)]
+        long = [{name for name in found if name.startswith("--")} for found in (options(re.sub(r"\\f[BIP]", "", read(MANUAL)).replace("\\-", "-")), wanted)]
         self.assertEqual(*long)
 
     @unittest.skipUnless(shutil.which("man") and shutil.which("groff"), "install man-db and groff-base")

@@ -1,8 +1,8 @@
 #!/usr/bin/env python3
 """What each wrong body says of itself: an edit of crates/CRATE/must-fail, mutants/CRATE or mutants/gate/CRATE names the functions of its
-crate that must refuse it, with clauses that they have, and one of mutants/tests a script of `make check` and a sentence of it. The tables
-of mutants/README.md name edits that there are, with a star where they are tried for each commit, and a row names the clauses that its
-edits do, behind their functions. What an edit takes away is there once in its file.
+crate that must refuse it, with clauses that they have, and one of mutants/tests a script of `make check` and a sentence of it. The list
+of mistakes in mutants/README.md names edits that there are, with a star where they are tried for each commit. What an edit takes away is
+there once in its file.
 Use: edits.py PROGRAM"""
 import collections
 import os
@@ -17,11 +17,9 @@ sys.path.append(os.path.join(helper.TOP, "mutants"))
 import goals  # noqa: E402
 
 TOP = Path(helper.TOP)
-QUOTED = re.compile(r"`([^`]+)`(\*?)")
+QUOTED = re.compile(r"`(\w+)/(\w+)`(\*?)")
 ENSURES = re.compile(r"^\s*ensures (\w+) \{", re.MULTILINE)
 REFUSED_BY = re.compile(r"^refused by: ([^,\n]+), (.+)$", re.MULTILINE)
-# A function that a row names, or a definition, with the labels behind it: `Journal::open`: opened, failed
-TOLD = re.compile(r"`(?:\w+::)*(\w+)`(?:: (\w+(?:, \w+)*))?")
 
 
 def edits():
@@ -44,30 +42,11 @@ def clauses(crate):
     return found
 
 
-def told(text):
-    """The functions that a row names, each with the labels behind it."""
-    found = collections.defaultdict(set)
-    for function, labels in TOLD.findall(text):
-        found[function] |= set(labels.split(", ")) - {""}
-    return found
-
-
-def listed(text):
-    """The edits that a row names, as `CRATE/NAME`*, `NAME` of the same crate: each by its crate and name, and whether it has a star. The
-    name of a crate alone stands for more edits of that crate."""
-    crate = ""
-    for word, star in QUOTED.findall(text):
-        if not (TOP / "crates" / word).is_dir():
-            crate, _, name = word.rpartition("/") if "/" in word else (crate, "", word)
-            yield crate, name, bool(star)
-
-
-def rows():
-    """The rows of the tables: the edits, and what refuses them."""
+def listed():
+    """The edits that the list of mistakes names: the crate and the name of each, and whether it has a star."""
     for line in goals.read(TOP / "mutants/README.md").splitlines():
-        columns = line.strip("| ").split(" | ")
-        if line.startswith("| ") and len(columns) > 2:
-            yield list(listed(columns[1])), told(columns[-1])
+        if line.startswith("- **"):
+            yield from ((crate, name, bool(star)) for crate, name, star in QUOTED.findall(line))
 
 
 def taken(path, crate):
@@ -124,24 +103,20 @@ class Edits(helper.Check):
             self.assertEqual(is_slow(goals.read(TOP / script), sentence), says, f"{path.relative_to(TOP)}: {script}, {sentence}")
 
     def test_table(self):
-        """the tables name edits that there are, with a star where they are tried for each commit"""
+        """the list of mistakes names edits that there are, with a star where they are tried for each commit"""
         found = edits() | {("tests", path.stem): path for path in TOP.glob("mutants/tests/*.edit")}
-        for named, _ in rows():
-            for crate, name, star in named:
-                self.assertIn((crate, name), found, f"{crate}/{name}: there is no such edit")
-                is_tried = found[crate, name].parent.name == "must-fail" or found[crate, name].parts[-3] == "gate"
-                self.assertEqual(star, is_tried, f"{crate}/{name}: a star, and not tried for each commit, or the other way round")
+        self.assertGreater(len(list(listed())), 50)
+        for crate, name, star in listed():
+            self.assertIn((crate, name), found, f"{crate}/{name}: there is no such edit")
+            is_tried = found[crate, name].parent.name == "must-fail" or found[crate, name].parts[-3] == "gate"
+            self.assertEqual(star, is_tried, f"{crate}/{name}: a star, and not tried for each commit, or the other way round")
 
-    def test_rows(self):
-        """a row of the table names the clauses that its edits name, each behind its function"""
-        found, refusing = edits(), collections.defaultdict(list)
-        for named, functions in rows():
-            for crate, name, _ in named:
-                refusing[crate, name].append(functions)
-        for edit, told_of in refusing.items():
-            for function, clause in goals.named(found[edit]) if edit in found else []:
-                is_told = clause is None or any(clause in functions[function] for functions in told_of)
-                self.assertTrue(is_told, f"{'/'.join(edit)}: its row has no `{function}`: {clause}")
+    def test_untried(self):
+        """mutants/untried names edits that there are, each once and in order"""
+        names = goals.read(TOP / "mutants/untried").split()
+        self.assertEqual(names, sorted(set(names)), "mutants/untried: not in order, or not once")
+        found = {f"{crate}/{name}" for crate, name in edits()} | {f"tests/{path.stem}" for path in TOP.glob("mutants/tests/*.edit")}
+        self.assertEqual(set(names) - found, set(), "mutants/untried: there are no such edits")
 
 
 if __name__ == "__main__":

@@ -37,15 +37,18 @@ def conditions(lines):
 
 
 class Growth(helper.Check):
-    def test_one_crate_alone_cites_that_an_allocator_refuses(self):
+    def test_cited(self):
+        """one crate alone cites that an allocator refuses"""
         cited = {path for path, lines in sources("rt", "antt") if any(map(LEMMA.search, lines))}
         self.assertEqual(cited, {"crates/growth/specs/Refused.antt", "crates/growth/src/growth.rt"})
 
-    def test_no_condition_claims_that_an_allocator_refuses(self):
+    def test_claimed(self):
+        """no condition claims that an allocator refuses"""
         claims = [f"{path}:{number}" for path, lines in sources("rt") for number, line in conditions(lines) if CLAIM.search(line)]
         self.assertEqual(claims, [])
 
-    def test_each_growth_of_a_library_says_that_it_is_trusted(self):
+    def test_trusted(self):
+        """each growth of a library says that it is trusted"""
         silent = [f"{path}:{number + 1}" for path, lines in sources("rt") for number, line in enumerate(lines)
                   if TRUSTED_CALL.search(line) and not any("// TRUSTED:" in near for near in lines[max(0, number - 3):number + 1])]
         self.assertEqual(silent, [])

@@ -3,6 +3,7 @@
 it leaves out, and what it runs at once; and what is left of a test by chance that failed.
 Use: runner.py PROGRAM"""
 import os
+import re
 import shutil
 import signal
 import subprocess
@@ -70,7 +71,7 @@ class Runner(helper.Check):
 
     def ran(self, *words):
         """The status, and the lines of what is said, without those of how long it took."""
-        done = subprocess.run([*self.words, *words], capture_output=True, text=True, env=self.environment, timeout=60)
+        done = subprocess.run([*self.words, *words], capture_output=True, text=True, env=self.environment, timeout=helper.WHOLE)
         self.assertEqual(done.stderr, "")
         return done.returncode, [line for line in done.stdout.splitlines() if "at once, in" not in line]
 
@@ -97,19 +98,32 @@ class Runner(helper.Check):
         """a script fails that prints no check, that ends with another status, that takes too long, and that cannot be started"""
         self.script("cli/mute", "echo nothing of it\n")
         self.script("cli/status", GOOD + "exit 3\n")
-        self.script("cli/hangs", f"echo begun; echo $$ > {self.place('pid')}; sleep 60\n")
+        self.script("cli/hangs", f"echo begun; echo $$ > {self.place('pid')}; sleep 600\n")
         self.script("cli/not_executable", GOOD, mode=0o644)
         status, said = self.ran("--limit", "1")
         self.assertEqual((status, said[-1]), (1, "1 passed, 4 failed"))
         self.assertIn("begun", said)
         failed = said[said.index("failed 4:") + 1:-2]
-        wanted = ["hangs.sh: it ended with status 124, after 1 s", "mute.sh: it ended without a line of a check",
+        wanted = ["hangs.sh: it ended with status 124, after N s", "mute.sh: it ended without a line of a check",
                   "not_executable.sh: it ended with status 126", "status.sh: it ended with status 3"]
-        self.assertEqual(sorted(failed), ["    tests/cli/" + line for line in wanted])
+        self.assertEqual(sorted(re.sub(r"after \d+ s$", "after N s", line) for line in failed), ["    tests/cli/" + line for line in wanted])
         with open(self.place("pid"), encoding="ascii") as file:
             self.assertFalse(helper.is_alive(int(file.read())), "what took too long is gone")
-        self.script("cli/built", "sleep 1.5\n" + GOOD, mark="# check: builds\n")
-        self.assertEqual(self.ran("--limit", "1", "built")[1][-1], "1 passed, 0 failed")
+        for name in ("builds", "built"):
+            self.script(f"cli/{name}", "sleep 1.5\n" + GOOD, mark=f"# check: {name}\n")
+            self.assertEqual(self.ran("--limit", "1", name)[1][-1], "1 passed, 0 failed")
+
+    def test_built(self):
+        """what needs a program that others build begins after these, and all else before"""
+        for name, mark in (("a_built", "built"), ("b_built", "built"), ("builds", "builds"), ("other", "")):
+            self.script(f"cli/{name}", f"cd {self.here}; echo begun {name} >> log; sleep 0.3; echo ended {name} >> log\n" + GOOD,
+                        mark=f"# check: {mark}\n" if mark else "")
+        self.assertEqual(self.ran()[1][-1], "4 passed, 0 failed")
+        with open(self.place("log"), encoding="ascii") as file:
+            log = file.read().splitlines()
+        self.assertEqual(sorted(log[:2]), ["begun builds", "begun other"])
+        for name in ("a_built", "b_built"):
+            self.assertLess(log.index("ended builds"), log.index(f"begun {name}"), log)
 
     def test_skipped(self):
         """what is skipped is named with its reason, a script or one of its checks"""

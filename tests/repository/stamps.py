@@ -3,6 +3,7 @@
 """The stamps of wrong bodies, mutants/stamps.py, over a repository of three small crates and an `rt` that stands in for the kit's: it
 refuses each edit whose old text is there, but for those that say that they are harmless, and notes which edits it was handed.
 Use: stamps.py PROGRAM"""
+import datetime
 import os
 import re
 import shutil
@@ -83,7 +84,7 @@ class Stamps(helper.Check):
     def lines(self):
         """The lines of mutants/tried, by their edits."""
         with open(self.place("top/mutants/tried"), encoding="utf-8") as file:
-            return dict(line.split() for line in file)
+            return {edit: total for edit, total, *_ in map(str.split, file)}
 
     def environment(self):
         """An environment whose `rt` is the one that stands in."""
@@ -121,6 +122,39 @@ class Stamps(helper.Check):
             self.assertEqual((asked, status), (["high/" + edit for edit in wanted], 0))
         _, status, asked = self.called("gate", script="mutants/try.sh")
         self.assertEqual((asked, status, sorted(self.lines())), (EVERY, 0, EVERY))
+
+    def test_every(self):
+        """the name of a crate chooses all its edits, every chooses all there are, and what was tried when is shown"""
+        self.edit("high/more", folder="mutants")
+        self.tries(["high/more", "high/one", "high/two"], 3, 0, "all", "high")
+        with open(self.place("top/mutants/tried"), encoding="ascii") as file:
+            today = file.readline().split()[2]
+        self.assertEqual(today, datetime.date.today().isoformat())
+        self.edit("high/more", folder="mutants", new="n + 7")
+        told = ["beside/one: never seen refused under a stamp", f"high/more: last seen refused {today}",
+                "low/one: never seen refused under a stamp", "2 of 5 wrong bodies as mutants/tried has them"]
+        said, status, asked = self.called("show", "every")
+        self.assertEqual((said.splitlines(), status, asked), (told, 0, []))
+        self.assertEqual(self.called("show", "low")[0].splitlines(), [told[2], "0 of 1 wrong bodies as mutants/tried has them"])
+        self.tries(["beside/one", "high/more", "low/one"], 5, 0, "check", "every", "-j", "1")
+        self.assertEqual(sorted(self.lines()), sorted([*EVERY, "high/more"]))
+        done = subprocess.run([sys.executable, self.place("top/mutants/stamps.py"), "all", "none"], capture_output=True, text=True,
+                              env=self.environment(), check=False)
+        self.assertEqual((done.returncode, done.stdout, done.stderr), (1, "", "stamps.py: mutants has no edit of a crate none\n"))
+
+    def test_tests(self):
+        """an edit that a test refuses rests on all of the program, and its own script says what became of it"""
+        self.write("top/crates.txt", "low:\nhigh: low\nbeside:\nocfexec: high\n")
+        self.edit("tests/told", folder="mutants")
+        self.write("top/mutants/try_tests.sh", "#!/bin/sh\nfor name; do echo \"$name: refused\"; done\n")
+        os.chmod(self.place("top/mutants/try_tests.sh"), 0o755)
+        self.tries([], 1, 0, "all", "tests")
+        self.assertEqual(list(self.lines()), ["tests/told"])
+        self.write("top/mutants/try_tests.sh", "#!/bin/sh\necho \"$1: NOT REFUSED\"\n")
+        self.tries([], 1, 0, "check", "tests")
+        self.write("top/crates/low/src/lib.rt", SOURCE + "// more\n")
+        self.assertIn("NOT REFUSED", self.tries([], 0, 1, "check", "tests"))
+        self.assertEqual(self.lines(), {})
 
     def test_ci(self):
         """where the kit takes no crate by name, as CI is true, the gate is that of a copy of it and those below, and what is not refused fails"""
@@ -231,7 +265,7 @@ class Stamps(helper.Check):
             asked = int(file.read())
         call.terminate()
         self.assertEqual(call.wait(20), 143)
-        self.assertFalse(os.path.exists(f"/proc/{asked}"))
+        self.assertFalse(os.path.exists(f"/proc/{asked}"), "the process of the try is gone")
         self.assertEqual(self.lines(), found)
 
     def test_gone(self):
@@ -247,7 +281,7 @@ class Stamps(helper.Check):
         os.mkdir(self.place("top/mutants/tried.new"))
         for _ in range(2):
             self.assertIn("cannot be written", self.tries(EVERY, 4, 0))
-        self.assertFalse(os.path.exists(self.place("top/mutants/tried")))
+        self.assertFalse(os.path.exists(self.place("top/mutants/tried")), "no line was written")
 
     def test_changed_meanwhile(self):
         """an edit counts only where no file that it rests on changed while it was tried"""

@@ -1,0 +1,237 @@
+"""What tests/system/booted.sh checks in the container that it boots: the guide with the package, and the units as they are installed, by
+systemctl(1) and journalctl(1) themselves. It writes to that machine's /etc and /usr, and is for none that is kept.
+Use: booted.py PROGRAM"""
+import glob
+import json
+import os
+import shutil
+import subprocess
+import sys
+import time
+import unittest
+
+import helper
+from helper import PROGRAM
+
+EXAMPLES = os.path.join(helper.TOP, "examples")
+# what the container shares with the machine
+SHARED = "/check"
+AGENT_PATH = "/usr/lib/ocf/resource.d/check/Dummy"
+# the service is a process, which any signal of another one would end
+AGENT = f"""#!/bin/sh
+echo "$1" >> {SHARED}/calls
+case $1 in
+start)
+    setsid sleep 1000 > /dev/null 2>&1 < /dev/null &
+    echo $! > "$OCF_RESKEY_state"
+    ;;
+stop)
+    [ -e "$OCF_RESKEY_state" ] || exit 0
+    kill "$(cat "$OCF_RESKEY_state")"
+    rm -f "$OCF_RESKEY_state"
+    ;;
+monitor) [ -e "$OCF_RESKEY_state" ] && kill -0 "$(cat "$OCF_RESKEY_state")" 2> /dev/null || exit 7 ;;
+esac
+"""
+NGINX = """worker_processes 1;
+pid /srv/booted/nginx.pid;
+error_log /srv/booted/error.log;
+events { }
+http { access_log off; server { listen 127.0.0.1:8088; root /srv/booted; } }
+"""
+NGINX_WANTED = {"provider": "heartbeat", "type": "nginx", "params": {"configfile": "/srv/booted/nginx.conf"}, "interval": 500}
+# Use: sh -c WRITER sh NAME COUNT FIFO
+WRITER = """exec > "$3"
+printf '{"op":"register","id":"%s","provider":"check","type":"Dummy","params":{"state":"/srv/booted/%s"}}\\n' "$1" "$1"
+n=0
+while [ $n -lt "$2" ]; do
+    n=$((n + 1))
+    printf '{"op":"info","id":"%s"}\\n' "$1"
+done
+"""
+
+
+def systemctl(*words, **how):
+    return subprocess.run(["systemctl", *words], capture_output=True, text=True, timeout=90, **how)
+
+
+def shown(name, unit="ocfexec"):
+    return systemctl("show", "-P", name, unit).stdout.strip()
+
+
+def write(path, text, mode=0o644):
+    os.makedirs(os.path.dirname(path), exist_ok=True)
+    with open(path, "w", encoding="ascii") as file:
+        file.write(text)
+    os.chmod(path, mode)
+
+
+def dummy(name):
+    return {"provider": "check", "type": "Dummy", "params": {"state": f"/srv/booted/{name}"}, "interval": 500}
+
+
+class Package(helper.Check):
+    def setUp(self):
+        super().setUp()
+        if not os.path.exists(f"{helper.TOP}/crates/ocfexec/out/gate"):
+            self.skipTest("no gate has passed on these programs, so there is no package")
+
+    def does(self, *words):
+        """What a command printed that had to succeed."""
+        done = subprocess.run(words, capture_output=True, text=True, timeout=200)
+        self.assertEqual(done.returncode, 0, done.stdout + done.stderr)
+        return done.stdout
+
+    @helper.slow
+    def test_guide(self):
+        """the guide's commands with the package, by systemctl and journalctl themselves"""
+        self.does(f"{helper.TOP}/tests/system/guide.sh", PROGRAM, "/")
+
+    @helper.slow
+    def test_removed(self):
+        """an upgrade of the package, and its removal, leave what runs, and the removal says so"""
+        deb = self.does(f"{helper.TOP}/package/deb.sh", self.here).strip()
+        write(AGENT_PATH, AGENT, 0o755)
+        os.makedirs("/srv/booted", exist_ok=True)
+        self.does("dpkg", "--install", deb)
+        write("/etc/ocfexec/resources.json", json.dumps({"resources": {"web": dummy("web")}}))
+        self.does("systemctl", "start", "ocfexec")
+        main = shown("MainPID")
+        self.does("dpkg", "--install", deb)
+        self.assertEqual((shown("ActiveState"), shown("StatusText"), shown("MainPID") != main), ("active", "running: web", True))
+        self.assertIn("the services that it keeps run on", self.does("dpkg", "--remove", "ocfexec"))
+        self.assertEqual((shown("ActiveState"), os.path.exists("/srv/booted/web")), ("inactive", True))
+        with open(f"{SHARED}/calls", encoding="ascii") as calls:
+            self.assertEqual([word for word in calls.read().split() if word != "monitor"], ["start"])
+        self.assertIn("the journal in /var/lib/ocfexec is kept", self.does("dpkg", "--purge", "ocfexec"))
+        shutil.rmtree("/var/lib/ocfexec")
+        shutil.rmtree("/etc/ocfexec", ignore_errors=True)
+
+
+class Units(helper.Check):
+    @classmethod
+    def setUpClass(cls):
+        """Installs as `make install` does, and the units as they say themselves."""
+        shutil.copytree(EXAMPLES, "/usr/local/share/doc/ocfexec")
+        shutil.copy(PROGRAM, "/usr/local/bin/ocfexec")
+        for unit in glob.glob(f"{EXAMPLES}/*.service") + glob.glob(f"{EXAMPLES}/*.socket"):
+            shutil.copy(unit, "/etc/systemd/system")
+        write(AGENT_PATH, AGENT, 0o755)
+        write("/srv/booted/index.html", "hello")
+        write("/srv/booted/nginx.conf", NGINX)
+        write(f"{SHARED}/last.json", json.dumps({"resources": {"last": dummy("last")}}))
+        systemctl("daemon-reload", check=True)
+
+    def tearDown(self):
+        systemctl("stop", "ocfexec", "ocfexec-fifo.socket", "ocfexec-fifo")
+        systemctl("reset-failed")
+        for folder in ("/var/lib/ocfexec", "/var/lib/ocfexec-fifo", "/etc/ocfexec"):
+            shutil.rmtree(folder, ignore_errors=True)
+
+    def does(self, *words):
+        done = systemctl(*words)
+        self.assertEqual((done.returncode, done.stderr), (0, ""), self.log())
+
+    def log(self):
+        return subprocess.run(["journalctl", "-u", "ocfexec", "-u", "ocfexec-fifo", "-o", "cat", "-n", "30"], capture_output=True, text=True).stdout
+
+    def wants(self, **wanted):
+        write("/etc/ocfexec/resources.json", json.dumps({"resources": wanted}))
+
+    def says(self, wanted):
+        until = time.monotonic() + 30
+        while shown("StatusText") != wanted:
+            self.assertLess(time.monotonic(), until, f"{wanted}, not {shown('StatusText')}:\n{self.log()}")
+            time.sleep(0.05)
+
+    def comes(self, what, holds):
+        self.eventually(what, holds, 30)
+
+    def pids(self):
+        """The processes of nginx and of a Dummy, which both live."""
+        found = []
+        for name in ("nginx.pid", "other"):
+            with open(f"/srv/booted/{name}", encoding="ascii") as file:
+                found.append(int(file.read()))
+        self.assertEqual([pid for pid in found if not helper.is_alive(pid)], [], self.log())
+        return found
+
+    @unittest.skipUnless(os.path.exists("/usr/lib/ocf/resource.d/heartbeat/nginx") and shutil.which("nginx", path="/usr/sbin"),
+                         "install the packages resource-agents and nginx")
+    def test_changes(self):
+        """with no file it is up and does nothing; its file names a Dummy, and then nginx, which runs through a restart, kills and a stop"""
+        self.does("start", "ocfexec")
+        self.assertEqual((shown("ActiveState"), shown("StatusText"), os.listdir("/var/lib/ocfexec")), ("active", "nothing is configured", []))
+        self.assertIn("nothing to do until SIGHUP", self.log())
+        self.wants(web=dummy("web"), other=dummy("other"))
+        self.does("reload", "ocfexec")
+        self.says("running: web, other")
+        self.assertTrue(os.path.exists("/srv/booted/web"), "the Dummy runs")
+        self.wants(web=NGINX_WANTED, other=dummy("other"))
+        self.does("reload", "ocfexec")
+        self.says("running: web, other")
+        self.assertFalse(os.path.exists("/srv/booted/web"), "the Dummy is stopped")
+        self.refuses_a_wrong_file()
+        self.wants(web=NGINX_WANTED, other=dummy("other"))
+        pids, main = self.pids(), shown("MainPID")
+        self.does("restart", "ocfexec")
+        self.says("running: web, other")
+        self.assertEqual((self.pids(), shown("MainPID") != main), (pids, True))
+        main = shown("MainPID")
+        self.does("kill", "--kill-who=main", "--signal=SIGKILL", "ocfexec")
+        self.comes("another client", lambda: shown("MainPID") not in ("0", main))
+        self.says("running: web, other")
+        self.does("kill", "--kill-who=main", "--signal=SIGUSR1", "ocfexec")
+        self.comes("its end", lambda: shown("ActiveState") == "inactive")
+        self.assertEqual(self.pids(), pids)
+        self.does("start", "ocfexec")
+        self.says("running: web, other")
+        self.assertEqual(self.pids(), pids, self.log())
+        self.does("stop", "ocfexec")
+        self.assertEqual((shown("Result"), [pid for pid in pids if helper.is_alive(pid)]), ("success", []))
+
+    def refuses_a_wrong_file(self):
+        write("/etc/ocfexec/resources.json", '{"resources": {"web": {"type": "nginx"}}}')
+        self.assertNotEqual(systemctl("reload", "ocfexec").returncode, 0, "a wrong file fails the reload")
+        self.assertIn("resources.web.provider: it is missing", self.log())
+        self.assertEqual(shown("ActiveState"), "active")
+
+    def test_person(self):
+        """a wrong file and a damaged journal fail it once, with that status"""
+        self.wants(web={"provider": "check"})
+        for status in ("2", "3"):
+            if status == "3":
+                self.wants(web=dummy("web"))
+                write("/var/lib/ocfexec/part-a", "\1 no journal")
+                write("/var/lib/ocfexec/part-b", "")
+            systemctl("start", "ocfexec")
+            self.comes("its end", lambda: shown("ActiveState") == "failed")
+            self.assertEqual((shown("ExecMainStatus"), shown("NRestarts")), (status, "0"), self.log())
+            systemctl("reset-failed")
+
+    def test_pair(self):
+        """the FIFO of the pair serves two writers with a thousand lines each, and is there while the executor is another one"""
+        count, fifo, answers = 1000, "/run/ocfexec-fifo/commands", "/run/ocfexec-fifo/answers"
+        self.does("start", "ocfexec-fifo.socket")
+        for name in ("one", "two"):
+            self.addCleanup(subprocess.Popen(["sh", "-c", WRITER, "sh", name, str(count), fifo]).wait)
+
+        def found():
+            with open(answers, "rb") as file:
+                return helper.replies(file.read())
+        self.comes("answers", lambda: os.path.exists(answers) and len(found()) >= 2 * (count + 1))
+        self.assertEqual([value for value in found() if "error" in value], [])
+        self.assertEqual(len([value for value in found() if "recurring" in value]), 2 * count)
+        main = shown("MainPID", "ocfexec-fifo")
+        self.does("restart", "ocfexec-fifo")
+        with open(fifo, "w", encoding="ascii") as commands:
+            commands.write('{"op":"list"}\n')
+        self.comes("an answer", lambda: found()[-1].get("resources"))
+        self.assertEqual(sorted(found()[-1]["resources"]), ["one", "two"])
+        self.assertNotEqual(shown("MainPID", "ocfexec-fifo"), main)
+        self.does("stop", "ocfexec-fifo.socket", "ocfexec-fifo")
+        self.assertEqual((found()[-1], shown("Result", "ocfexec-fifo")), ({"end": "left"}, "success"))
+
+
+if __name__ == "__main__":
+    helper.main()
