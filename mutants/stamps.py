@@ -1,18 +1,22 @@
 #!/usr/bin/env python3
-"""The wrong bodies of mutants/gate/CRATE/*.edit, each under a stamp: mutants/tried has a line `CRATE/EDIT SUM` for each that was seen
-refused. The sum is over the edit but for its comments, the kit, and the lines of crates.txt and the files of src/, specs/ and proofs/ of
-the crate and of all crates below it, so a stamp is old as soon as one of them differs.
+"""The wrong bodies under a stamp: mutants/tried has a line `CRATE/EDIT SUM DATE` for each that was seen refused, and when. The sum is over
+the edit but for its comments, the kit, and the lines of crates.txt and the files of src/, specs/ and proofs/ of the crate and of all
+crates below it, so a stamp is old as soon as one of them differs.
 
 `check` tries each edit whose line is missing or old, and `all` tries every one; both write the lines of what was refused, and take away
-those of what was not. An edit counts where the check refuses it, and its first refused goal is of an edited function or of a caller of
-one; where that is none of the functions that the edit names this is told. Of the crates, -j are tried at a time, three if left out, and
-no more than memory holds. What the kit saw of the same files on this machine before it does not do again. The last line counts the edits.
+those of what was not. `show` tries nothing, and says which lines are missing or old. NAME is `gate` for the edits of mutants/gate/CRATE,
+which is meant where there is none, the name of a crate for all its edits in mutants, `tests` for those that a test refuses, or `every`.
 
-Use: stamps.py check|all [-j CRATES]"""
+An edit counts where the check refuses it, and its first refused goal is of an edited function or of a caller of one; where that is none
+of the functions that the edit names this is told. Of the crates, -j are tried at a time, three if left out, and no more than memory
+holds. What the kit saw of the same files on this machine before it does not do again. The last line counts the edits.
+
+Use: stamps.py check|all|show [-j CRATES] [NAME..]"""
 import argparse
 import collections
 import concurrent.futures
 import contextlib
+import datetime
 import glob
 import hashlib
 import os
@@ -27,8 +31,12 @@ sys.dont_write_bytecode = True
 import goals  # noqa: E402
 
 TOP = os.path.dirname(os.path.dirname(os.path.abspath(__file__)))
-EDITS = os.path.join(TOP, "mutants", "gate")
-TRIED = os.path.join(TOP, "mutants", "tried")
+MUTANTS = os.path.join(TOP, "mutants")
+EDITS = os.path.join(MUTANTS, "gate")
+TRIED = os.path.join(MUTANTS, "tried")
+# The edits that a test refuses: they rest on the whole program, and a script of theirs says what became of each.
+TESTS, PROGRAM = "tests", "ocfexec"
+FATE_OF_TEST = re.compile(r"^([\w-]+): (refused|NOT .*)$", re.MULTILINE)
 PARTS = ("src", "specs", "proofs")
 NAME = re.compile(r"[A-Za-z0-9_-][A-Za-z0-9_.-]*\.edit")
 # What the check of one crate may take of memory.
@@ -68,7 +76,8 @@ class Texts:
 
     def sum_of_edit(self, edit):
         """The sum that an edit's line has, once it was seen refused with these texts."""
-        crates = [(name, self.words[name], self.sum_of_crate(name)) for name in self.at_or_below(edit.split("/")[0])]
+        crate = edit.split("/")[0]
+        crates = [(name, self.words[name], self.sum_of_crate(name)) for name in self.at_or_below(PROGRAM if crate == TESTS else crate)]
         return hashlib.sha256(repr((edit, edit_of(edit), self.kit, crates)).encode()).hexdigest()
 
 
@@ -82,7 +91,9 @@ def crate_of(edit):
 
 
 def path_of(edit):
-    return os.path.join(EDITS, edit + ".edit")
+    """The path of an edit, in mutants/gate or in mutants."""
+    path = os.path.join(EDITS, edit + ".edit")
+    return path if os.path.exists(path) else os.path.join(MUTANTS, edit + ".edit")
 
 
 def edit_of(edit):
@@ -90,8 +101,14 @@ def edit_of(edit):
     return b"".join(line for line in read(path_of(edit)).splitlines(keepends=True) if not line.startswith(b"#"))
 
 
+def others():
+    """The edits by name that no gate tries."""
+    found = glob.glob(os.path.join("*", "*.edit"), root_dir=MUTANTS)
+    return sorted(path.removesuffix(".edit") for path in found if path.split(os.sep)[0] != "gate")
+
+
 def edits():
-    """The edits by name, and the paths of what stands among them and is none, or is one of no crate."""
+    """The edits of the gate by name, and the paths of what stands among them and is none, or is one of no crate."""
     found, odd = [], []
     for path in sorted(glob.glob("**", root_dir=EDITS, recursive=True)):
         if os.path.isdir(os.path.join(EDITS, path)) or path.endswith(".md"):
@@ -108,17 +125,27 @@ class Stamps:
     def __init__(self):
         self.lines, self.lock, self.is_told = {}, threading.Lock(), False
         with contextlib.suppress(FileNotFoundError), open(TRIED, encoding="utf-8") as file:
-            self.lines = {words[0]: words[1] for words in map(str.split, file) if len(words) == 2}
+            self.lines = {edit: rest for edit, *rest in map(str.split, file) if rest}
         self.found = dict(self.lines)
+
+    def has(self, edit, total):
+        """Whether an edit was seen refused with texts of this sum."""
+        return self.lines.get(edit, [None])[0] == total
+
+    def told(self, edit, total):
+        """What is known of an edit: nothing, where its line is of this sum."""
+        rest = self.lines.get(edit)
+        return "never seen refused under a stamp" if not rest else None if rest[0] == total else f"last seen refused {' '.join(rest[1:])}".rstrip()
 
     def settle(self, known, refused, others):
         """Notes the sums of edits that were refused, drops the lines of others, and of what is no edit, and writes the file."""
+        today = datetime.date.today().isoformat()
         with self.lock:
-            self.lines.update(refused)
-            self.lines = {edit: total for edit, total in self.lines.items() if edit in known and edit not in others}
+            self.lines.update({edit: [total, today] for edit, total in refused.items()})
+            self.lines = {edit: rest for edit, rest in self.lines.items() if edit in known and edit not in others}
             try:
                 with open(TRIED + ".new", "w", encoding="utf-8") as file:
-                    file.writelines(f"{edit} {total}\n" for edit, total in sorted(self.lines.items()))
+                    file.writelines(f"{' '.join([edit, *rest])}\n" for edit, rest in sorted(self.lines.items()))
                 os.replace(TRIED + ".new", TRIED)
             except OSError as error:
                 if not self.is_told:
@@ -137,7 +164,13 @@ def fates(crate, names, running):
         running.add(tried)
         said = tried.communicate()[0]
         running.discard(tried)
+    if crate == TESTS:
+        return {f"{crate}/{name}": fate for name, fate in FATE_OF_TEST.findall(said)}, said
     return dict(goals.FATE.findall(said)), said
+
+
+def is_of_contract(edit):
+    return not edit.startswith(TESTS + "/")
 
 
 def fault_of(edit, fate):
@@ -146,12 +179,12 @@ def fault_of(edit, fate):
         return "NOT TRIED: the crate was not proved, or nothing was said of this edit"
     if not fate.startswith("refused"):
         return fate
-    return goals.fault(crate_of(edit), path_of(edit), fate)
+    return goals.fault(crate_of(edit), path_of(edit), fate) if is_of_contract(edit) else None
 
 
 def told_of(edit, fate, fault):
     """The line of an edit that was tried."""
-    differs = None if fault else goals.differs(crate_of(edit), path_of(edit), fate)
+    differs = None if fault or not is_of_contract(edit) else goals.differs(crate_of(edit), path_of(edit), fate)
     return f"  {'FAILED' if fault else 'refused'}  {edit}: {f'{differs}: ' if differs else ''}{fault or fate}"
 
 
@@ -213,19 +246,49 @@ def try_all(wanted, asked, stamps, known):
             end_all(running)
 
 
-def main():
+def chosen(names, gate, every):
+    """The edits that these names stand for: those of the gate, of a crate, that a test refuses, or every one."""
+    found = set()
+    for name in names or ["gate"]:
+        of_name = every if name == "every" else gate if name == "gate" else [edit for edit in every if edit.split("/")[0] == name]
+        if not of_name and name not in ("every", "gate"):
+            sys.exit(f"stamps.py: mutants has no edit of a crate {name}")
+        found.update(of_name)
+    return found
+
+
+def show(sums, stamps):
+    """Says which edits of these have no line, or an old one."""
+    told = {edit: stamps.told(edit, total) for edit, total in sums.items()}
+    for edit, what in told.items():
+        if what:
+            print(f"{edit}: {what}")
+    print(f"{sum(not what for what in told.values())} of {len(sums)} wrong bodies as mutants/tried has them")
+    return 0
+
+
+def words():
     asked = argparse.ArgumentParser(description=__doc__.split("\n", maxsplit=1)[0])
-    asked.add_argument("what", choices=["check", "all"])
+    asked.add_argument("what", choices=["check", "all", "show"])
+    asked.add_argument("names", nargs="*", metavar="NAME", help="gate, tests, every, or the name of a crate")
     asked.add_argument("-j", type=int, default=0, metavar="CRATES", help="how many crates are tried at a time")
-    asked = asked.parse_args()
+    return asked.parse_args()
+
+
+def main():
+    asked = words()
     signal.signal(signal.SIGTERM, lambda *_: sys.exit(143))
     began, texts, stamps = time.monotonic(), Texts(), Stamps()
-    known, odd = edits()
+    gate, odd = edits()
+    every = gate + others()
+    known = sorted(chosen(asked.names, gate, every))
     sums = {edit: texts.sum_of_edit(edit) for edit in known}
-    wanted = {edit: total for edit, total in sums.items() if asked.what == "all" or stamps.lines.get(edit) != total}
+    if asked.what == "show":
+        return show(sums, stamps)
+    wanted = {edit: total for edit, total in sums.items() if asked.what == "all" or not stamps.has(edit, total)}
     kept = len(known) - len(wanted)
     print(f"wrong bodies under a stamp: {kept} as mutants/tried has them, {len(wanted)} to be tried", flush=True)
-    refused = try_all(wanted, asked.j, stamps, set(known)) if wanted else 0
+    refused = try_all(wanted, asked.j, stamps, set(every)) if wanted else 0
     for path in odd:
         print(f"  FAILED  mutants/gate/{path}: no edit of a crate")
     if wanted:

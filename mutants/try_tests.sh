@@ -2,9 +2,8 @@
 # Tries the wrong bodies that only a check of the built program refuses, mutants/tests/*.edit, and prints the fate of each. In a copy
 # of the repository it makes the edit and compiles the program, unproved: the check that the edit names has to fail with it, and to
 # pass with a program that is compiled so without an edit. That takes two minutes for each program on a quiet machine. With
-# PROGRAMS=DIR the programs are kept in DIR, and what is there is not compiled again. What is compiled so is not optimised, and several
-# times slower than what the gate builds, so on a busy machine two million rounds of it may take an hour. With FAST=1 the slow checks are
-# left out: what is refused then is what `make check FAST=1` refuses.
+# PROGRAMS=DIR the programs are kept in DIR, and what is there is not compiled again. With FAST=1 the slow checks are left out: what is
+# refused then is what `make check FAST=1` refuses.
 # Use: mutants/try_tests.sh [NAME..]
 set -eu
 cd "$(dirname "$0")/.."
