@@ -1,4 +1,4 @@
--- The lines around an agent's own words, computed on examples.
+-- The lines around an agent's own output, computed on examples.
 use Rattle.std.proofs.Common.{◌≡◌, ℕ, List, None, refl}
 use Rattle.std.specs.Prelude.{codes}
 use Rattle.std.specs.Fmt.{digits}

@@ -1,4 +1,4 @@
--- The lines around an agent's own words: one before them, and one after its end.
+-- The lines around an agent's own output: one before them, and one after its end.
 use Rattle.std.specs.Prelude.{ℕ, List, [], ◌++◌, Option, Some, None, codes, decimal}
 use Rattle.std.specs.Borrow.{Bor}
 use Rattle.log_lines.specs.Dates.{moment_text}
@@ -26,7 +26,7 @@ call_text call = codes "call " ++ decimal call
 abbrev pub run_text : ℕ → List ℕ
 run_text run = codes "run " ++ decimal run
 
--- before the words: the call, its run and the action
+-- before the output: the call, its run and the action
 abbrev pub begun_line : Stamp → Begun → List ℕ
 begun_line s b = stamp_text s ++ call_text b.call ++ codes " begins as " ++ run_text b.run ++ codes ": " ++ b.action.now ++ codes "\n"
 
@@ -43,7 +43,7 @@ refusal_text Missing = codes " was not started: the agent's file is missing"
 refusal_text Denied = codes " was not started: the agent's file may not be run"
 refusal_text Other = codes " was not started"
 
--- how a run ended, after so many milliseconds
+-- how a run ended, after this many milliseconds
 abbrev pub end_text : LoggedEnd → ℕ → List ℕ
 end_text (Exited code) millis = codes " ended in " ++ millis_text millis ++ code_text code
 end_text (Signaled signal) millis = codes " was ended after " ++ millis_text millis ++ codes " by signal " ++ decimal signal

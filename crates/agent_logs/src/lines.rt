@@ -1,4 +1,4 @@
-//! The lines around an agent's own words.
+//! The lines around an agent's own output.
 ghost use Rattle.std.specs.Prelude.{◌≡◌, ◌++◌, IfOk, IsTrue, OnErr, OnOk};
 ghost use Rattle.agent_logs.specs.Lines.{begun_line, call_text, code_text, end_text, ended_line, id_text, millis_text, refusal_text, run_text, stamp_text};
 
@@ -92,7 +92,7 @@ fn add_run(line: &mut Vec<u8>, run: RunId) -> Result<(), AllocError>
     add_number(line, run.get())
 }
 
-/// The line that is written before an agent's own words.
+/// The line that is written before an agent's own output.
 pub fn begun_line(
     alloc: Global,
     stamp: &Stamp<'_>,
@@ -145,7 +145,7 @@ fn refusal_text(fault: StartFault) -> &'static str
     }
 }
 
-// How a run ended, after so many milliseconds.
+// How a run ended, after this many milliseconds.
 fn add_end(line: &mut Vec<u8>, end: LoggedEnd, millis: u64) -> Result<(), AllocError>
     ensures added { OnOk result (line.new.items ≡ line.old.items ++ end_text end millis) }
     ensures memory { OnErr result (IsTrue ⟦<Global as Grows>⟧.refuses) }
@@ -166,7 +166,7 @@ fn add_end(line: &mut Vec<u8>, end: LoggedEnd, millis: u64) -> Result<(), AllocE
     }
 }
 
-/// The line that is written after an agent's own words.
+/// The line that is written after an agent's own output.
 pub fn ended_line(alloc: Global, stamp: &Stamp<'_>, ended: Ended) -> Result<Vec<u8>, AllocError>
     ensures line { IfOk result (λ line. line.items ≡ ended_line stamp.now ended) }
     ensures memory { OnErr result (IsTrue ⟦<Global as Grows>⟧.refuses) }

@@ -138,7 +138,7 @@ impl Kept {
         let _ = rt.eprint(str::from_utf8(line).unwrap_or_default());
     }
 
-    // Writes a line to a file; a failure is told.
+    // Writes a line to a file; a failure is reported.
     fn write<R: Clock + Eprint>(&self, rt: &R, id: &RscId, file: &File, line: &[u8]) {
         if let Err(error) = write_line(file, line) {
             self.tell(rt, id, &error);
@@ -223,9 +223,9 @@ impl Log {
         Log::at(alloc, Place::Directory(directory))
     }
 
-    /// Writes the line of a run that begins, and gives what its agent writes to. A log of a resource that cannot be opened or written
-    /// is told, and stops nothing: the agent writes nowhere then. It fails only where this process may open no descriptor more, or
-    /// the line finds no memory.
+    /// Writes the line of a run that begins, and gives what its agent writes to. A log of a resource that cannot be opened or
+    /// written is reported, and the action goes on: the agent then writes nowhere. It fails only where this process may open no
+    /// further descriptor, or there is no memory for the line.
     pub fn begin<R: Clock + Eprint>(
         &self,
         rt: &R,

@@ -1,4 +1,4 @@
--- Where a run stands among others, and who is left without it.
+-- The index of a run among others, and who is left without it.
 use Rattle.std.specs.Prelude.{◌≡◌, ◌==◌, ◌<◌, ℕ, zero, suc, ◌+◌, List, [], ◌∷◌, Some, None, Contains}
 use Rattle.std.specs.Prelude.{cond, false, filter, length, map, not, slice_get, slice_index_or, slice_set, true}
 use Rattle.std.specs.List.{position_from, remove}
@@ -24,7 +24,7 @@ pub found : {X : Type 0} (f : X → ℕ) (run k : ℕ) (xs : List X) → positio
 found f run k xs e = let at = found_at f run 0 k xs e in
     ap (slice_get (map f xs)) (let same : k ≡ at.0 = omega (arith, at.1) in same) ∙ at.2
 
--- and stands among the others
+-- and is among the others
 pub found_within : {X : Type 0} (f : X → ℕ) (run k : ℕ) (xs : List X) → position_from (λ x. f x == run) 0 xs ≡ Some k → k < length xs
 found_within f run k xs e = let within : k < length (map f xs) = slice_get_within (map f xs) k run (found f run k xs e) in
     omega (arith, within, length-map xs f)

@@ -7,7 +7,7 @@ use Rattle.std.specs.declared.process.ExitStatus.{ExitStatus}
 abbrev pub CountsAs : ExitStatus → ℕ → Type 0
 CountsAs status code = MatchOption (exit_code status) (code ≡ 1) (λ told. told ≡ pos code)
 
--- a child was seen to end so, by the status that the system told of it
+-- a child was seen to end so, by the status that the system reported
 abbrev pub EndedWith : Option ExitStatus → ℕ → Type 0
 EndedWith None code = ⊥
 EndedWith (Some status) code = CountsAs status code

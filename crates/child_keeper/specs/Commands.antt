@@ -8,7 +8,7 @@ use Rattle.ocf_env.specs.Places.{Call, Pair}
 abbrev pub given : List Pair → List ℕ → Option (Option (List ℕ))
 given pairs name = var_after Some Some name None pairs
 
--- the command asks for just this call: its program with its arguments, with its variables and no other, in the root folder
+-- the command asks for just this call: its program with its arguments, with its variables and no other, in the root directory
 pub record Asks {M : Type 0} (c : Command M) (call : Call) : Type 0 where
   pub program : command_program c ≡ call.program
   pub arguments : command_args c ≡ call.arguments

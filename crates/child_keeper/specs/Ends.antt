@@ -20,7 +20,7 @@ start_fault _ = Other
 abbrev pub signal_of : ExitStatus → ℤ
 signal_of status = unwrap_or (exit_signal status) (pos 0)
 
--- a child that ended so is told so: by its exit code, or where it has none by the signal that ended it
+-- a child that ended in this way is reported in this way: by its exit code, or where it has none by the signal that ended it
 abbrev pub TellsEnd : Poll → ExitStatus → Type 0
 TellsEnd (Exited code) status = exit_code status ≡ Some (pos code)
 TellsEnd (Signaled signal) status = (exit_code status ≡ None) × (signal_of status ≡ pos signal)

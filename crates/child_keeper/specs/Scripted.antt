@@ -10,7 +10,7 @@ use Rattle.child_keeper.specs.declared.scripted.Scripted.{Scripted}
 abbrev pub script_view : {M : Type 0} → Script M → ScriptView
 script_view s = record { starts = deque_items s.starts; polls = deque_items s.polls; kills = deque_items s.kills; fault_in = 0 }
 
--- with a fault planned so many calls ahead
+-- with a fault planned this many calls ahead
 abbrev pub planned_in : ℕ → ScriptView → ScriptView
 planned_in calls v = record { starts = v.starts; polls = v.polls; kills = v.kills; fault_in = calls }
 

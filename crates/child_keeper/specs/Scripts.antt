@@ -13,7 +13,7 @@ pub record ScriptView : Type 0 where
   pub kills : List (Result Unit KillFault)
   pub fault_in : ℕ
 
--- the next answer of a list, and behind its end this one
+-- the next answer of a list, and after its end this one
 abbrev pub head_or : {A : Type 0} → A → List A → A
 head_or last [] = last
 head_or last (a ∷ rest) = a

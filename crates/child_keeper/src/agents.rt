@@ -32,7 +32,7 @@ pub struct Agents<P: OpenProcess + Drop, A: Allocator> {
     pub ghost room: { live_limit ≤ vec_capacity agents },
 }
 
-// Where the first child of a run stands.
+// The index of the first child of a run.
 fn first_of<P: OpenProcess + Drop>(agents: &[Agent<P>], run: RunId) -> Option<usize>
     ensures { result ≡ position_from (λ a. a.run == run) 0 agents.now }
 {
@@ -67,14 +67,14 @@ impl<P: OpenProcess + Drop, A: Allocator> Agents<P, A> {
         self.agents.push_reserved(agent);
     }
 
-    // Where the first child of a run stands.
+    // The index of the first child of a run.
     fn first(&self, run: RunId) -> Option<usize>
         ensures { result ≡ position_from (λ a. a.run == run) 0 self.now.agents.items }
     {
         first_of(self.agents.as_slice(), run)
     }
 
-    // Where the child of a run stands.
+    // The index of the child of a run.
     fn place(&self, run: RunId) -> usize
         requires lives { Contains (runs_of self.now.agents.items) run }
         ensures within { result < vec_len self.now.agents }

@@ -18,7 +18,7 @@ pub struct Book<A: Allocator> {
 }
 
 impl<A: Grows> Book<A> {
-    /// A book for so many entries. It fails only where memory is refused; there is none for more than [`GROWTH_LIMIT`] entries.
+    /// A book for this many entries. It fails only where memory is refused; there is none for more than [`GROWTH_LIMIT`] entries.
     pub fn new(alloc: A, room: usize) -> Result<Book<A>, AllocError>
         ensures empty { IfOk result (λ b. b.entries.items ≡ []) }
         ensures no_log { IfOk result (λ b. b.log.items ≡ []) }

@@ -9,7 +9,7 @@ use ocf_env::{Invocation, Text};
 use std::alloc::{AllocError, Allocator};
 use std::process::{Command, Stdio};
 
-// Each agent runs in this folder, so that it keeps no other from being unmounted.
+// Each agent runs in this directory, so that it keeps no other from being unmounted.
 const FOLDER: &str = "/";
 
 fn push_argument<A: Grows>(command: &mut Command<A>, argument: &str) -> Result<(), AllocError>
@@ -116,7 +116,7 @@ fn silence<A: Grows>(command: &mut Command<A>)
     command.stderr(Stdio::null());
 }
 
-/// The command of an invocation: its program with its arguments, its variables and no other, in the root folder, with
+/// The command of an invocation: its program with its arguments, its variables and no other, in the root directory, with
 /// nothing to read and nowhere to write.
 pub fn command_of<A: Grows, L: Allocator>(
     alloc: A,

@@ -227,7 +227,7 @@ where
         output
     }
 
-    // How many milliseconds it has left: as many as can be told where it has no limit.
+    // How many milliseconds it has left: the greatest number where it has no limit.
     fn left(&self, clock: &impl Clock) -> u32 {
         match self.deadline {
             Some(deadline) => deadline.left(clock),

@@ -27,7 +27,7 @@ use std::rt::Clock;
 use std::time::Duration;
 use std::{mem, process};
 
-/// Agents as processes of the system. Each runs in the root folder with just the variables of its launch, and reads
+/// Agents as processes of the system. Each runs in the root directory with just the variables of its launch, and reads
 /// nothing and writes where the log says; it has no descriptor but 0, 1 and 2, blocks no signal and is ended by SIGPIPE, and
 /// has the umask of this process. OCF Resource Agent API 1.1, actions.
 ///
@@ -54,8 +54,9 @@ pub struct Processes<R: process::Processes + Drop, A: Allocator + Copy = Global>
 impl<R: process::Processes + Clock + Eprint + ProcFiles + Drop, A: Grows> Processes<R, A> {
     ghost use Rattle.child_keeper.specs.Processes.{processes_of};
 
-    /// No children yet, which will write to the log, with a book of so many entries. The room for the book and for all that may
-    /// live is made here. It fails only where memory is refused; there is none for a book of more than [`GROWTH_LIMIT`] entries.
+    /// No children yet, which will write to the log, with a book of this many entries. Memory for the book and for all processes
+    /// that may live is taken here. It fails only where memory is refused; there is none for a book of more than
+    /// [`GROWTH_LIMIT`] entries.
     pub fn new(rt: R, alloc: A, log: Log, book: usize) -> Result<Processes<R, A>, AllocError>
         ensures children { IfOk result
             (λ p. processes_of p ≡ record { book = []; log = []; room = book; last_run = 0; live = []; site = None }) }
@@ -193,7 +194,7 @@ fn tell_killed<R: Eprint + ProcFiles, P: OpenProcess + Drop>(rt: &R, agent: &Age
     ));
 }
 
-// Says on standard error which signal ended an agent, since its result does not tell that.
+// Says on standard error which signal ended an agent, since its result does not record that.
 fn tell_signaled<R: Eprint, P: OpenProcess + Drop>(rt: &R, agent: &Agent<P>, signal: u8) {
     let (run, id) = (agent.run.get(), name_text(agent.id.as_bytes()));
     let _ = rt.eprintln(format_args!("ocfexec: run {run} of {id} was ended by signal {signal}"));

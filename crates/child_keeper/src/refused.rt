@@ -14,8 +14,8 @@ pub fn name_text(name: &[u8]) -> &str {
     str::from_utf8(name).unwrap_or_default()
 }
 
-/// Why an agent was not started, by the system's error. The error is said on standard error where what is recorded does not tell
-/// which it was.
+/// Why an agent was not started, by the system's error. The error is reported on standard error where the recorded result does
+/// not say which one it was.
 pub fn refused<R: Eprint, W: Display + Drop>(rt: &R, what: W, error: &io::Error) -> StartFault
     ensures { result ≡ start_fault (error_kind error.now) }
 {

@@ -4,7 +4,7 @@ use ocf_types::StartFault;
 use std::alloc::{Allocator, Global};
 use std::collections::VecDeque;
 
-/// The answers to starts, to polls and to kills, each in its order. Behind the last one a child starts, runs on and lets
+/// The answers to starts, to polls and to kills, each in its order. After the last one a child starts, runs on and lets
 /// itself be killed.
 #[derive(Drop)]
 pub struct Script<A: Allocator = Global> {

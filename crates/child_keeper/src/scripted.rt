@@ -30,8 +30,8 @@ pub struct Scripted<A: Allocator = Global> {
 impl<A: Grows> Scripted<A> {
     ghost use Rattle.child_keeper.specs.Scripted.{children_of, planned_in, script_of, script_view};
 
-    /// Children that play a script, with a book of so many entries. It fails only where memory is refused; there is none for a
-    /// book of more than [`GROWTH_LIMIT`] entries.
+    /// Children that play a script, with a book of this many entries. It fails only where memory is refused; there is none for
+    /// a book of more than [`GROWTH_LIMIT`] entries.
     pub fn new(alloc: A, script: Script<A>, book: usize) -> Result<Scripted<A>, AllocError>
         ensures children { IfOk result
             (λ c. children_of c ≡ record { book = []; log = []; room = book; last_run = 0; live = []; site = None }) }
@@ -47,8 +47,8 @@ impl<A: Grows> Scripted<A> {
         })
     }
 
-    /// The start, poll or kill that is so many calls ahead, 1 for the next one, is to fault; 0 takes the plan back. The
-    /// answer of its list is taken and not given.
+    /// The start, poll or kill that is this many calls ahead, 1 for the next one, will fail; 0 cancels the plan. The answer
+    /// of its list is consumed and not given.
     pub fn plan_fault(&mut self, calls: u64)
         ensures planned { script_of self.new ≡ planned_in calls (script_of self.old) }
         ensures children { children_of self.new ≡ children_of self.old }
@@ -67,7 +67,7 @@ impl<A: Grows> Scripted<A> {
     }
 }
 
-// The next answer of a list, and behind its end the last one.
+// The next answer of a list, and after its end the last one again.
 fn next_of<T: Drop, A: Allocator>(list: &mut VecDeque<T, A>, last: T) -> T
     ensures value { result ≡ head_or last (deque_items list.old) }
     ensures rest { deque_items list.new ≡ drop 1 (deque_items list.old) }

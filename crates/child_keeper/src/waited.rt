@@ -6,7 +6,7 @@ use std::process::ChildStdout;
 
 /// A stream whose bytes can be waited for.
 pub trait Waited {
-    /// Waits for so many milliseconds at most. Whether a read does not wait then: there are bytes, or no more will come.
+    /// Waits for at most this many milliseconds. Gives whether a read would not block then: there are bytes, or no more will come.
     fn is_ready(&self, millis: u32) -> bool;
 }
 

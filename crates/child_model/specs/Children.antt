@@ -62,7 +62,7 @@ abbrev pub live_polled : Poll → ℕ → List ℕ → List ℕ
 live_polled poll.Running run live = live
 live_polled _ run live = without_run run live
 
--- after a start of a run, asked when the journal's disk had had so many device calls
+-- after a start of a run, asked when the journal's disk had had this many device calls
 abbrev pub after_start : ChildrenView → ℕ → ℕ → Result Unit StartFault → ChildrenView
 after_start v run at answer = record (with_entry v run at (start_answer answer)) { last_run = run; live = live_started answer run v.live }
 
@@ -82,7 +82,7 @@ given_up v = record v { live = [] }
 abbrev pub emptied : ChildrenView → ChildrenView
 emptied v = record v { book = []; room = v.room + length v.book }
 
--- this entry is the last one of the book and of the log now, behind all that were there
+-- this entry is the last one of the book and of the log now, after all that were there
 abbrev pub Adds : ChildrenView → ChildrenView → Entry → Type 0
 Adds old new entry = (new.book ≡ old.book ++ entry ∷ []) × (new.log ≡ old.log ++ entry ∷ [])
 
@@ -91,7 +91,7 @@ abbrev pub IsOfStart : Answer → Type 0
 IsOfStart (asked.Start answer) = ⊤
 IsOfStart _ = ⊥
 
--- the book asked for a start of this run when the journal's disk had had so many device calls
+-- the book asked for a start of this run when the journal's disk had had this many device calls
 abbrev pub Asked : List Entry → ℕ → ℕ → Type 0
 Asked book run at = (answer : Answer) × IsOfStart answer × Contains book (record { run = run; at = at; answer = answer })
 

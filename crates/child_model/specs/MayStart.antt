@@ -25,7 +25,7 @@ pub record IsLaunch (insisted : Option SiteView) (s : State) (launch : LaunchOf 
   pub run_is : running.run ≡ launch.run
   pub invocation : IsInvocation site (registration_of launch.id resource) running launch.invocation
 
--- the journal, over a disk that is seen so, is settled at a state in which the launched action runs: whatever a stop leaves,
+-- the journal, over a disk in this view, is settled at a state in which the launched action runs: whatever a crash leaves,
 -- its begin is found; the launch is at the site that is insisted on, if any
 abbrev pub MayStart : {D M : Type 0} → Option SiteView → Journal D M → View → LaunchOf Call → Type 0
 MayStart insisted j v launch = (s : State) × Settled j v s × IsLaunch insisted s launch

@@ -24,7 +24,7 @@ pub fn one_entry()
     ensures stays { (v : ChildrenView) → ((emptied v).log ≡ v.log) × ((given_up v).log ≡ v.log) }
 {}
 
-/// An entry tells what its call answered: no two answers to a start are told alike, and so for a poll and a kill.
+/// An entry determines what its call answered: no two answers to a start have the same entry, and so for a poll and a kill.
 pub fn answers_are_told()
     ensures start { (a b : Result Unit StartFault) → start_answer a ≡ start_answer b → a ≡ b }
     ensures poll { (a b : Poll) → poll_answer a ≡ poll_answer b → a ≡ b }
@@ -48,8 +48,8 @@ pub fn starts_asked()
         ↔ Asked v.book r t }
 {}
 
-/// After a call a run lives just where it lived before, but the one that is named: it lives after a start that was done,
-/// and not after a kill or after a poll that says anything but that it runs.
+/// After a call each run lives exactly when it lived before, except the one that is named: it lives after a start that
+/// succeeded, and does not after a kill or after a poll that reports anything but that it runs.
 pub fn who_lives()
     ensures start { (v : ChildrenView) (run at r : ℕ) (answer : Result Unit StartFault)
         → Contains (after_start v run at answer).live r

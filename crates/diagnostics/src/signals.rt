@@ -39,10 +39,10 @@ const INHERITED: [(u8, &str); 27] = [
     (31, "SIGSYS"),
 ];
 
-// How much is read of what the system tells of this process.
+// How much is read of what the system says about this process.
 const STATUS_LIMIT: usize = 16_384;
 
-/// Whether SIGCHLD is ignored: then the system itself waits for each child, and tells of none how it ended. Where the system
+/// Whether SIGCHLD is ignored: then the system itself reaps each child, and reports of none how it ended. Where the system
 /// does not say, it is taken as not ignored. Linux, signal(7) and wait(2).
 pub fn children_ignored(rt: &HostRuntime) -> bool {
     let mut status = [0u8; STATUS_LIMIT];

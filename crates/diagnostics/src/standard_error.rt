@@ -1,5 +1,5 @@
-//! What standard error says of the fault that ends the program: one line, for a program that reads it. A person, at a terminal or in the
-//! system's journal, is also told what brought it about and what can be done about it.
+//! What standard error says of the fault that ends the program: one line, for a program that reads it. A person, at a
+//! terminal or in the system's journal, is also told what caused it and what can be done about it.
 use exec_output::Fault;
 use process_ends::System;
 use std::fmt::Display;
@@ -66,7 +66,7 @@ pub fn report(system: &System<'_>, fault: Fault) {
     advise(system, fault);
 }
 
-/// Names a fault, and tells a person what brought it about and what can be done about it.
+/// Names a fault, and tells a person what caused it and what can be done about it.
 pub fn report_cause<W: Display + Drop>(system: &System<'_>, fault: Fault, cause: W) {
     name(system, fault);
     explain(system, cause);

@@ -90,8 +90,8 @@ impl FirstError {
     }
 }
 
-// Says that input or output failed, and to a person which of them and why. Where neither met an error the program stopped since
-// nobody reads what it writes.
+// Says that input or output failed, and to a person which of them and why. Where neither met an error, the program ended
+// because nobody reads its output.
 fn tell(system: &System<'_>, input: &FirstError, output: &FirstError) {
     name(system, Fault::InputOrOutput);
     match (input.met.get(), output.met.get()) {
@@ -118,7 +118,7 @@ pub fn tell_shown(system: &System<'_>, output: &FirstError, ended: Result<(), Fa
     }
 }
 
-/// Says why a run stopped before its input ended, where input or output failed, and what can be done about it.
+/// Says why a run ended before its input did, where input or output failed, and what can be done about it.
 pub fn tell_run(
     system: &System<'_>,
     input: &FirstError,

@@ -1,4 +1,4 @@
-//! The part beside a part.
+//! The other part of a pair.
 ghost use Rattle.std.specs.Prelude.{◌≡◌};
 ghost use Rattle.disk_model.specs.Image.{other};
 

@@ -4,7 +4,7 @@ use exec_journal::{Cause, Damage, JournalFault};
 use ocf_types::{Layout, Part};
 use std::alloc::Global;
 
-// Where a part's version stands: behind its gate and four bytes of magic.
+// Where a part's version is: after its gate and four bytes of magic.
 const VERSION_AT: usize = 5;
 
 // Which of the counts a cause has.
@@ -22,7 +22,7 @@ fn place_of(cause: Cause) -> usize {
     }
 }
 
-// Whether a damage may stand there in the first journal: at its beginning, or at a gate.
+// Whether damage may be there in the first journal: at its beginning, or at a gate.
 fn may_stand(damage: &Damage) -> bool {
     damage.part == Part::A && [0, 44, 78].contains(&damage.at)
 }

@@ -1,4 +1,4 @@
-//! Disks that stop, fail and lie, and what they leave. Nothing here is part of the product.
+//! Disks that crash, fail and lie, and what they leave. Nothing here is part of the product.
 #![tactic(auto)]
 
 #[cfg(test)]

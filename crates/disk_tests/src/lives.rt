@@ -1,4 +1,4 @@
-// Two machines, one behind the other: the first is stopped in each device call in turn, and the second is opened on what the stop left.
+// Two machines, one after the other: the first crashes in each device call in turn, and the second is opened on what the crash left.
 use crate::steps::{nowhere, registration};
 use child_keeper::{Script, Scripted};
 use disk_model::Fill;
@@ -74,7 +74,7 @@ fn stands(first: &[Reply], second: &[Reply]) -> bool {
     interrupted || !matches!(first.last(), Some(ReplyOf::Turn(TurnEnd::Done)))
 }
 
-// How many requests and turns the first machine answered that is stopped in this device call, if all of it stands.
+// How many requests and turns the first machine answered that crashes in this device call, if all of them are found again.
 fn answered(alloc: Global, stop: u64, fill: Fill) -> Option<usize> {
     let one = machine(alloc, 0, first(alloc)?, stop)?;
     let other = machine(alloc, 4, second(alloc)?, u64::MAX)?;

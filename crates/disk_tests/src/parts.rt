@@ -24,7 +24,7 @@ fn state_on(alloc: Global, disk: MemDisk) -> Result<State, JournalFault> {
     }
 }
 
-/// Opens the journal on a disk: the spelling of the state that is found, or the fault.
+/// Opens the journal on a disk: the encoding of the state that is found, or the fault.
 pub fn found_on(alloc: Global, disk: MemDisk) -> Result<Vec<u8>, JournalFault> {
     let state = state_on(alloc, disk)?;
     Ok(encode_state(alloc, &state)?)

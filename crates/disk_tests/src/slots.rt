@@ -1,4 +1,4 @@
-// Slots read from disks that fail or answer anything. What stands at a gate otherwise is read by each opening of a journal.
+// Slots read from disks that fail or answer anything. What is at a gate otherwise is read by each opening of a journal.
 use crate::parts::disk_with;
 use disk_model::Disk;
 use disk_model::wild::WildDisk;
@@ -6,14 +6,14 @@ use gated_slots::{Frame, SlotRead, read_slot};
 use ocf_types::Part;
 use std::alloc::Global;
 
-// What stands at a gate of a part.
+// What is at a gate of a part.
 fn read<D: Disk>(alloc: Global, disk: &mut D, part: Part, at: u64) -> Option<(SlotRead, Frame)> {
     let mut frame = Frame::new(alloc).ok()?;
     let found = read_slot(disk, part, at, &mut frame);
     Some((found, frame))
 }
 
-// What is told where that device call fails, of the length, the gate, the length of the body and the body; and the counts.
+// What is answered where that device call fails, of the length, the gate, the length of the body and the body; and the counts.
 fn failed(alloc: Global, call: u64) -> Option<(SlotRead, u64, u64)> {
     let mut disk = disk_with(alloc, &[], &[1, 0, 0, 0, 1, 5, 1])?;
     disk.plan_fault(call);

@@ -24,7 +24,7 @@ const REGISTER: &[u8] = b"{\"op\":\"register\",\"id\":\"r1\",\"provider\":\"p\",
 // How many device calls an opening of a fresh disk makes.
 const OPENING_CALLS: u64 = 13;
 
-// A fresh disk that fails in this device call behind the opening.
+// A fresh disk that fails in this device call after the opening.
 fn failing_disk(alloc: Global, call: u64) -> MemDisk {
     let mut disk = MemDisk::new(alloc);
     disk.plan_fault(OPENING_CALLS.saturating_add(call));
@@ -107,7 +107,7 @@ impl Read for Stumbling {
     }
 }
 
-// How a run ends whose input, read five bytes at a time, fails behind a line and a half, if the line was answered.
+// How a run ends whose input, read five bytes at a time, fails after a line and a half, if the line was answered.
 fn unread(alloc: Global) -> Option<Result<(), Fault>> {
     let input = Stumbling {
         left: b"{\"op\":\"list\"}\n{\"op\":\"list\"}",
@@ -125,7 +125,7 @@ fn reads_that_bring_nothing_are_made_again_and_one_that_fails_ends_the_run(rt: H
     assert_eq!(rt; unread(rt.alloc()), Some(Err(Fault::InputOrOutput)));
 }
 
-// Takes one byte at a time, each behind a write that was interrupted.
+// Takes one byte at a time, each after a write that was interrupted.
 #[derive(Drop)]
 struct Sparing {
     taken: Vec<u8>,
@@ -164,7 +164,7 @@ fn writes_that_take_little_are_made_again(rt: HostRuntime) {
     assert_eq!(rt; from_utf8(writer.taken.as_slice()), Ok(BOTH_DONE));
 }
 
-// How a run ends whose output takes so many bytes of two replies of 27 bytes each.
+// How a run ends whose output takes this many bytes of two replies of 27 bytes each.
 fn two_replies(alloc: Global, taken: usize) -> Option<Result<(), Fault>> {
     let mut room = [0u8; 54];
     let lines = b"{\"op\":\"list\"}\n{\"op\":\"list\"}\n";

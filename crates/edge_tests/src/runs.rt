@@ -1,4 +1,4 @@
-// Runs over whole inputs, over a disk in memory and scripted children, by a clock that stands still.
+// Runs over whole inputs, over a disk in memory and scripted children, by a clock that does not move.
 use child_keeper::{Script, Scripted};
 use child_model::Poll;
 use disk_model::MemDisk;
@@ -17,7 +17,7 @@ use std::str::from_utf8;
 use std::time::Duration;
 use trial_parts::{NoMetadata, nowhere};
 
-// A clock that stands still.
+// A clock that does not move.
 struct Standing;
 
 impl Clock for Standing {

@@ -1,4 +1,4 @@
--- What stands behind what is told, piece by piece.
+-- The events that back what is sent, piece by piece.
 use Rattle.std.proofs.Common.{◌≡◌, inl, inr, ℕ, false, List, [], ◌∷◌, ◌++◌, map, Result, Ok, Err, refl, sym, subst}
 use Rattle.std.proofs.lemmas.List.{append-nil, map-append}
 use Rattle.std.specs.List.{flat_map}
@@ -28,12 +28,12 @@ use Rattle.exec_ledger.proofs.Keeping.{command_keeps}
 use Rattle.exec_client.specs.Behind.{Behind, TellsOf, claims, nothing, says_else, tells, untold}
 use Rattle.exec_client.specs.Said.{Said, answered, noticed_by}
 
--- nothing told is behind any events
+-- nothing sent is backed by any events
 pub none_told : (es : List Event) → Behind [] es
 none_told [] = nothing
 none_told (e ∷ es) = untold e [] es (none_told es)
 
--- one behind the other
+-- one after the other
 pub both_behind : (ss : List Said) (es : List Event) (ts : List Said) (fs : List Event) → Behind ss es → Behind ts fs
     → Behind (ss ++ ts) (es ++ fs)
 both_behind _ _ ts fs nothing later = later
@@ -41,7 +41,7 @@ both_behind _ _ ts fs (untold e ss es b) later = untold e (ss ++ ts) (es ++ fs) 
 both_behind _ _ ts fs (tells s e ss es t b) later = tells s e (ss ++ ts) (es ++ fs) t (both_behind ss es ts fs b later)
 both_behind _ _ ts fs (says_else s ss es none b) later = says_else s (ss ++ ts) (es ++ fs) none (both_behind ss es ts fs b later)
 
--- behind more events
+-- after more events
 pub behind_more : (ss : List Said) (es fs : List Event) → Behind ss es → Behind ss (es ++ fs)
 behind_more ss es fs b =
     subst (λ (ts : List Said). Behind ts (es ++ fs)) (append-nil ss) (both_behind ss es [] fs b (none_told fs))
@@ -49,7 +49,7 @@ behind_more ss es fs b =
 pub behind_after : (ss : List Said) (fs es : List Event) → Behind ss es → Behind ss (fs ++ es)
 behind_after ss fs es b = both_behind [] fs ss es (none_told fs) b
 
--- one that is told of one event, or says nothing of any
+-- a message of one event, or one that says nothing of any
 one_told : (s : Said) (e : Event) → TellsOf s e → Behind (s ∷ []) (e ∷ [])
 one_told s e t = tells s e [] [] t nothing
 

@@ -1,4 +1,4 @@
--- What is told of calls, piece by piece.
+-- What is sent of calls, piece by piece.
 use Rattle.std.proofs.Common.{◌≡◌, ℕ, List, [], ◌∷◌, ◌++◌, map, append_assoc, refl, sym, ap, subst, ◌∙◌}
 use Rattle.std.proofs.lemmas.List.{append-nil, map-append}
 use Rattle.std.specs.List.{AllByRecursion, flat_map}
@@ -15,7 +15,7 @@ use Rattle.exec_client.specs.Behind.{Behind, nothing, says_else, tells, untold}
 use Rattle.exec_client.specs.Said.{Said, answered}
 use Rattle.exec_client.specs.Tells.{ClaimsNothing, Says, TellsCalls}
 
--- what stands behind no event claims nothing
+-- what no event backs claims nothing
 claims_none : (ss : List Said) (es : List Event) → es ≡ [] → Behind ss es → ClaimsNothing ss
 claims_none _ _ same nothing = tt
 claims_none _ _ same (untold e ss es b) = absurd cc

@@ -1,4 +1,4 @@
--- Examples: what is told too often, too early or not at all is refused by the definitions.
+-- Examples: what is sent too often, too early or not at all is refused by the definitions.
 use Rattle.std.proofs.Common.{ℕ, true≢false, List, [], ◌∷◌, ◌++◌, ap, length, length-append, arith}
 use Rattle.ocf_types.specs.Kinds.{Event, Reply, Request}
 use Rattle.ocf_types.specs.declared.reply.ReplyOf.TheVariants.{Done}
@@ -15,11 +15,11 @@ use Rattle.exec_client.specs.Tells.{TellsCalls}
 abbrev ok : Said
 ok = answered Done
 
--- nothing is recorded behind it
+-- no recorded event backs it
 too_early : (ss : List Said) → Behind (ok ∷ ss) [] → ⊥
 too_early ss (says_else _ _ _ none behind) = true≢false none
 
--- one event stands behind two of them
+-- one event backs two of them
 twice : (e : Event) → Behind (ok ∷ ok ∷ []) (e ∷ []) → ⊥
 twice e (untold _ _ _ behind) = too_early (ok ∷ []) behind
 twice e (tells _ _ _ _ is behind) = too_early [] behind

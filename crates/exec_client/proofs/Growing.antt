@@ -1,4 +1,4 @@
--- What each call of an executor does, and what may be told of it then.
+-- What each call of an executor does, and what may be sent of it then.
 use Rattle.std.proofs.Common.{◌≡◌, ◌↔◌, ℕ, Bool, true, false, List, [], ◌∷◌, ◌++◌, map, Result, Ok, Err, refl, sym, ap, subst, ◌∙◌}
 use Rattle.std.proofs.lemmas.List.{append-nil, map-append}
 use Rattle.std.specs.List.{AllByRecursion, flat_map}
@@ -48,7 +48,7 @@ events_are : (ss : List Said) (d e : Effects) → d ≡ e → Behind ss e.events
 events_are ss d e same behind = subst (λ (f : Effects). Behind ss f.events) (sym same) behind
 
 module _ {D : Type 0} (look : D → View) where
-  -- no call, one call, and calls behind others
+  -- no call, one call, and calls after others
   pub none_stands : (x y : Sight D) (said : List Said) → y ≡ x → Behind said [] → StandsBehind look x y said
   none_stands x y said same behind = record {
     calls = [];
@@ -78,7 +78,7 @@ module _ {D : Type 0} (look : D → View) where
     behind = both_behind ss one.effects.events ts two.effects.events one.behind two.behind;
   }
 
-  -- nothing is told of the later calls
+  -- nothing is sent of the later calls
   pub still_stand : (x y z : Sight D) (ss : List Said) → StandsBehind look x y ss → StandsBehind look y z [] → StandsBehind look x z ss
   still_stand x y z ss one two =
       subst (λ (said : List Said). StandsBehind look x z said) (append-nil ss) (both_stand x y z ss [] one two)
@@ -192,13 +192,13 @@ module _ {D : Type 0} (look : D → View) where
   pub cleared_stands : (x y : Sight D) → y ≡ with_empty_book x → StandsBehind look x y []
   cleared_stands x y cleared = one_stands x y Cleared no_effects [] (cleared, refl) refl nothing
 
-  -- what may be told now, of an executor that went on by calls
+  -- what may be sent now, of an executor that went on by calls
   pub may_tell : (heard : Heard D) (x y : Sight D) (what : Told) → AllStand look heard x → StandsBehind look x y (said_in what)
       → MaySay y what → MayTell look heard y what
   may_tell heard x y what stands more says =
       record { stands = both_stand heard.opened x y heard.told (said_in what) stands more; says = says }
 
-  -- calls of which nothing is told
+  -- calls of which nothing is sent
   pub all_still_stand : (heard : Heard D) (x y : Sight D) → AllStand look heard x → StandsBehind look x y [] → AllStand look heard y
   all_still_stand heard x y stands more = still_stand heard.opened x y heard.told stands more
 

@@ -1,4 +1,4 @@
--- The lines of what is told.
+-- The lines of what is sent.
 use Rattle.std.proofs.Common.{◌≡◌, ℕ, List, [], ◌∷◌, ◌++◌, map, Result, Ok, Err, OnErr, OnOk, Option, refl, sym, ap, subst}
 use Rattle.std.specs.Io.KnownBytes.{Appends}
 use Rattle.std.specs.List.{flat_map}
@@ -8,13 +8,13 @@ use Rattle.exec_commands.specs.Replies.{formed_line}
 use Rattle.exec_commands.specs.declared.notice.NoticeForm.{NoticeForm}
 use Rattle.exec_client.specs.Said.{Said, line_of}
 
--- the lines of items that are told so
+-- the lines of items that are sent in this form
 pub lines_are : {X : Type 0} (form : NoticeForm) (tell : X → Said) (xs : List X)
     → flat_map (line_of form) (map tell xs) ≡ flat_map (λ x. line_of form (tell x)) xs
 lines_are form tell [] = refl
 lines_are form tell (x ∷ xs) = ap (λ (l : List ℕ). line_of form (tell x) ++ l) (lines_are form tell xs)
 
--- what is written of several that are told so
+-- what is written of several that are sent in this form
 pub writes_all : {X T E : Type 0} (form : NoticeForm) (tell : X → Said) (xs : List X) (more : List Said) (r : Result T E)
     (a b : Option (List ℕ)) → more ≡ map tell xs → OnOk r (Appends a b (flat_map (λ x. line_of form (tell x)) xs))
     → OnOk r (Appends a b (flat_map (line_of form) more))

@@ -1,4 +1,4 @@
--- A signal that is told of a run is that of a poll of it.
+-- A signal that is named of a run is that of a poll of it.
 use Rattle.std.proofs.Common.{◌≡◌, ◌⊎◌, inl, inr, ℕ, zero, suc, ◌&&◌, Bool, true, false, List, [], ◌∷◌, Option, Some, None, true≢false, refl, sym, ap, ◌∙◌, arith}
 use Rattle.std.specs.Prelude.{◌==◌, Contains, is_some, option_map, unwrap_or}
 use Rattle.std.specs.List.{find}
@@ -32,7 +32,7 @@ entry_is : (e : Entry) (run : ℕ) (answer : Answer) → e.run ≡ run → e.ans
 entry_is e run answer same told =
     ap (λ (r : ℕ). entry_of r e.at e.answer) same ∙ ap (λ (a : Answer). entry_of run e.at a) told
 
--- an answer that tells a signal is that poll
+-- an answer that names a signal is that poll
 is_poll : (answer : Answer) (signal : ℕ) → signal_in answer ≡ Some signal → answer ≡ poll_answer (poll.Signaled signal)
 is_poll (asked.Poll (poll.Signaled n)) signal is = ap (λ (o : Option ℕ). poll_answer (poll.Signaled (unwrap_or o 0))) is
 is_poll (asked.Poll poll.Running) signal is = absurd cc
@@ -41,7 +41,7 @@ is_poll (asked.Poll poll.Fault) signal is = absurd cc
 is_poll (asked.Start given) signal is = absurd cc
 is_poll (asked.Kill given) signal is = absurd cc
 
--- a signal that is told is that of a poll
+-- a signal that is named is that of a poll
 pub told_is_polled : (book : List Entry) (run signal : ℕ) → signal_of book run ≡ Some signal
     → (at : ℕ) × Contains book (signaled run at signal)
 told_is_polled [] run signal is = absurd cc
@@ -66,7 +66,7 @@ some_there : (o : Option ℕ) → is_some o ≡ true → (n : ℕ) × (o ≡ Som
 some_there None e = absurd (true≢false (sym e))
 some_there (Some n) e = (n, refl)
 
--- of a run of which a poll says that a signal ended it a signal is told
+-- a signal is named of a run of which a poll says that a signal ended it
 pub polled_is_told : (book : List Entry) (run at signal : ℕ) → Contains book (signaled run at signal)
     → (n : ℕ) × (signal_of book run ≡ Some n)
 polled_is_told [] run at signal there = absurd (omega (arith, there.1))

@@ -1,4 +1,4 @@
--- What stands behind what is told: each acknowledgement and each notice of a result has an event of its own.
+-- The events that back what is sent: each acknowledgement and each notice of a result has an event of its own.
 use Rattle.std.specs.Prelude.{◌≡◌, Bool, true, false, List, [], ◌∷◌}
 use Rattle.ocf_types.specs.Kinds.{Event}
 use Rattle.ocf_types.specs.declared.reply.Notice.{Notice}
@@ -21,7 +21,7 @@ TellsOf (Answered (Request reply)) e = KeepsRunning e.change × (reply ≡ ackno
 TellsOf (Noticed notice signal) e = IsOfResult notice e
 TellsOf _ e = ⊥
 
--- Whatever is told and says that something is recorded says it of one of these events: each of another, in their order.
+-- Whatever is sent and says that something is recorded says it of one of these events: each of a different one, in their order.
 pub data Behind : List Said → List Event → Type 0 where
   nothing : Behind [] []
   untold : (e : Event) (ss : List Said) (es : List Event) → Behind ss es → Behind ss (e ∷ es)

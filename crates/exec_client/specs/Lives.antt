@@ -1,11 +1,11 @@
--- What clients were told over a whole life.
+-- What clients were sent over a whole life.
 use Rattle.std.specs.Prelude.{◌≡◌, List, [], ◌∷◌, ◌++◌}
 use Rattle.executor.specs.Lives.{InOpening, InService, Sitting}
 use Rattle.exec_client.specs.Behind.{Behind}
 use Rattle.exec_client.specs.Said.{Said}
 
--- this was told over these sittings, the last sitting first: in each what stands behind what its calls had recorded when they
--- returned
+-- this was sent over these incarnations, the last one first: in each of them what is backed by what its calls had recorded
+-- when they returned
 abbrev pub ToldOver : {D : Type 0} → List (Sitting D) → List Said → Type 0
 ToldOver [] told = told ≡ []
 ToldOver (InOpening old new now end ∷ older) told = ToldOver older told

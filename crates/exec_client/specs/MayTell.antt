@@ -1,4 +1,4 @@
--- When a client may be told something.
+-- When a client may be sent something.
 use Rattle.std.specs.Prelude.{◌≡◌, ◌⊎◌, true, ⊤, List, [], ◌∷◌, ◌++◌}
 use Rattle.std.specs.List.{AllByRecursion}
 use Rattle.ocf_types.specs.Answer.{reply_to}
@@ -19,8 +19,8 @@ use Rattle.exec_client.specs.Tells.{TellsCalls}
 use Rattle.exec_client.specs.declared.told.Told.{Told}
 use Rattle.exec_client.specs.declared.told.Told.TheVariants as told
 
--- Calls lead from one sight of an executor to another; what was told is just what they answered, none left out; and what they
--- recorded stands behind it.
+-- Calls lead from one view of an executor to another; what was sent is just what they answered, none left out; and what they
+-- recorded backs it.
 pub record StandsBehind {D : Type 0} (look : D → View) (old new : Sight D) (said : List Said) : Type 0 where
   pub calls : List Exchange
   pub effects : Effects
@@ -54,11 +54,11 @@ MaySay x (told.Replies given) = AllByRecursion (MayAnswer x) given.now
 MaySay x (told.Notices turn) = ⊤
 MaySay x (told.Report notices) = IsReported x notices.now
 
--- all that was told stands behind what the executor recorded since it was opened
+-- all that was sent is backed by what the executor recorded since it was opened
 abbrev pub AllStand : {D : Type 0} → (D → View) → Heard D → Sight D → Type 0
 AllStand look heard x = StandsBehind look heard.opened x heard.told
 
--- This may be told to a client of an executor that is seen so: all that was told stands, and this, too.
+-- This may be sent to a client of an executor in this view: all that was sent is recorded, and so is this.
 pub record MayTell {D : Type 0} (look : D → View) (heard : Heard D) (x : Sight D) (what : Told) : Type 0 where
   pub stands : StandsBehind look heard.opened x (heard.told ++ said_in what)
   pub says : MaySay x what

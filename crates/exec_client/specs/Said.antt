@@ -1,4 +1,4 @@
--- What a client is told.
+-- What a client is sent.
 use Rattle.std.specs.Prelude.{ℕ, List, [], ◌∷◌, map, Option, None}
 use Rattle.ocf_types.specs.Kinds.{Reply}
 use Rattle.ocf_types.specs.declared.reply.Notice.{Notice}
@@ -17,15 +17,15 @@ pub data Said : Type 0 where
   Noticed : Notice → Option ℕ → Said
   Reported : Notice → Said
 
--- a reply to a request, as it is told
+-- a reply to a request, as it is sent
 abbrev pub answered : Reply → Said
 answered reply = Answered (Request reply)
 
--- a notice of a turn, behind which children had answered so: the signal is that of its run
+-- a notice of a turn, by the end of which children had answered so: the signal is that of its run
 abbrev pub noticed_by : List Entry → Notice → Said
 noticed_by book notice = Noticed notice (signal_of book notice.result.run)
 
--- all that is told at once, in its order
+-- all that is sent at once, in its order
 abbrev pub said_in : Told → List Said
 said_in (told.Reply reply) = Answered reply.now ∷ []
 said_in (told.Replies replies) = map answered replies.now

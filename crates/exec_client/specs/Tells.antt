@@ -1,4 +1,4 @@
--- That what each call answered was told.
+-- That what each call answered was sent.
 use Rattle.std.specs.Prelude.{◌≡◌, false, List, [], ◌∷◌, ◌++◌, map}
 use Rattle.std.specs.List.{AllByRecursion}
 use Rattle.disk_model.specs.View.{View}
@@ -13,8 +13,8 @@ use Rattle.exec_client.specs.Said.{Said, answered, noticed_by}
 abbrev pub noticed : {D : Type 0} → Sight D → List Said
 noticed x = map (noticed_by x.children.book) x.told
 
--- this is what is told of a call that left the executor so: the reply to a request, those to the commands of a row, the notices
--- of a turn, also of one that begins nothing, and nothing of a tidy or an emptied book
+-- this is what is sent of a call that left the executor in this view: the reply to a request, those to the commands of a row,
+-- the notices of a turn, also of one that begins nothing, and nothing of a tidy or an emptied book
 abbrev pub Says : {D : Type 0} → Exchange → Sight D → List Said → Type 0
 Says (Took (input.Request now request) reply) new said = said ≡ answered reply ∷ []
 Says (Took (input.Turn now) reply) new said = said ≡ noticed new
@@ -26,7 +26,7 @@ Says _ new said = said ≡ []
 abbrev pub ClaimsNothing : List Said → Type 0
 ClaimsNothing said = AllByRecursion (λ s. claims s ≡ false) said
 
--- One call after the other, and of each was told just what it answered, none left out; between them stands what is told of no
+-- One call after the other, and of each was sent just what it answered, none left out; between them comes what is sent of no
 -- call: a report, a line that was refused, metadata, the end of a drain or a tidy.
 abbrev pub TellsCalls : {D : Type 0} → (D → View) → Sight D → List Exchange → Sight D → Effects → List Said → Type 0
 TellsCalls look old [] new effects said = (new ≡ old) × (effects ≡ no_effects) × ClaimsNothing said

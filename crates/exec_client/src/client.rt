@@ -1,4 +1,4 @@
-//! Who is told what an executor did.
+//! A client, which is sent what an executor did.
 ghost use Rattle.std.specs.Prelude.{◌≡◌, Bool, IfErr, IsTrue, OnErr, OnOk};
 ghost use Rattle.exec_client.specs.Heard.{Heard, Hears, HearsPart, IsTold};
 ghost use Rattle.exec_client.specs.MayTell.{MayTell};
@@ -12,16 +12,16 @@ use exec_commands::NoticeForm;
 use exec_output::IoFault;
 use executor::Executor;
 
-/// Who is told what an executor did since it was opened, and is told it in no other way.
+/// A client, which is sent what an executor did since it was opened, and is sent it in no other way.
 pub trait Client<D: Disk + Drop, C: Children + Drop> {
-    /// The executor as it was opened, what was told of it since, and what is written of that.
+    /// The executor as it was opened, what was sent of it since, and what of that is written.
     ghost heard: { Self → Heard D };
 
-    /// Whether the allocator refuses growths that what is told needs.
+    /// Whether the allocator refuses memory that a message needs.
     ghost refuses: { Bool };
 
-    /// Tells it, once it stands; notices in this form. After an error a front of it may be told, and of the line behind that
-    /// a part.
+    /// Sends this, once what it says is recorded; notices in this form. After an error a prefix of its lines may have been
+    /// sent, and a part of the next line.
     fn tell(
         &mut self,
         executor: &Executor<D, C>,
@@ -36,6 +36,6 @@ pub trait Client<D: Disk + Drop, C: Children + Drop> {
             (HearsPart form.entry (heard self.old) (heard self.new) (said_in what.now)) }
         ensures memory { IfErr result (λ f. f ≡ Memory → IsTrue Self.refuses) };
 
-    /// Whether what is told may still reach somebody.
+    /// Whether anybody may still read what is sent.
     fn is_heard(&self) -> bool;
 }

@@ -1,4 +1,4 @@
-//! The laws of what clients were told, each the contract of a function that does nothing else.
+//! The laws of what clients were sent, each the contract of a function that does nothing else.
 ghost use Rattle.std.specs.Prelude.{◌≡◌, ℕ, List, Some, Contains};
 ghost use Rattle.ocf_types.specs.Kinds.{Event};
 ghost use Rattle.ocf_types.specs.State.{State, after_all};
@@ -33,7 +33,7 @@ pub fn told_stands<D: Disk>()
     promise::<D>();
 }
 
-/// A signal is told of a run exactly where a poll of it says that one ended it: that of such a poll.
+/// A notice names a signal exactly when a poll of its run reported that a signal ended it, and it names that signal.
 pub fn signals_are_polled()
     ensures polled { (book : List Entry) (run signal : ℕ) → signal_of book run ≡ Some signal
         → (at : ℕ) × Contains book

@@ -1,4 +1,4 @@
-//! What a client of an executor is told, and when it may be: nothing is acknowledged that is not recorded.
+//! What a client of an executor is sent, and when: nothing is acknowledged that is not recorded.
 #![tactic(auto)]
 
 mod client;

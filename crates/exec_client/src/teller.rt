@@ -23,7 +23,7 @@ use ocf_types::Notice;
 use std::alloc::Global;
 use std::io::Write;
 
-/// A client of an executor of this type that is told by lines. Nobody else holds the writer.
+/// A client of an executor of this type to which lines are written. Nobody else holds the writer.
 #[derive(Drop)]
 pub struct Teller<E, W> {
     alloc: Global,
@@ -32,7 +32,8 @@ pub struct Teller<E, W> {
     pub(crate) telling: Telling,
 }
 
-// Writes the line of a notice, with the signal that ended its run by this book, and flushes it. After an error a front of it is written.
+// Writes the line of a notice, with the signal that ended its run by this book, and flushes it. After an error a prefix of
+// it is written.
 fn send_noticed<W: Write>(
     alloc: Global,
     writer: &mut W,
@@ -52,8 +53,8 @@ fn send_noticed<W: Write>(
     send_notice(alloc, writer, form, notice, signal)
 }
 
-// Writes a turn's notices, a line each with the signal that ended its run by this book, and flushes each line. After an error a front
-// of the lines is written.
+// Writes a turn's notices, a line each with the signal that ended its run by this book, and flushes each line. After an
+// error a prefix of the lines is written.
 fn send_turn<W: Write>(
     alloc: Global,
     writer: &mut W,
@@ -75,7 +76,7 @@ fn send_turn<W: Write>(
     Ok(())
 }
 
-// Writes the lines of what is told, and flushes them. After an error a front of them is written.
+// Writes the lines of a message, and flushes them. After an error a prefix of them is written.
 fn write_told<W: Output>(
     alloc: Global,
     writer: &mut W,
@@ -99,7 +100,7 @@ fn write_told<W: Output>(
 }
 
 impl<E, W: Output> Teller<E, W> {
-    /// A client of the executor that was just opened, who was told nothing yet.
+    /// A client of the executor that was just opened, which was sent nothing yet.
     pub fn new(alloc: Global, writer: W, executor: &E) -> Teller<E, W>
         ensures opened { result.opened.value ≡ executor.now }
         ensures told { result.telling.said ≡ [] }

@@ -1,4 +1,4 @@
-//! What was told, for contracts alone.
+//! What was sent, for contracts alone.
 ghost use Rattle.std.specs.Prelude.{◌≡◌, List, [], ◌++◌};
 ghost use Rattle.std.specs.Borrow.{ftrue};
 ghost use Rattle.exec_client.specs.Said.{Said};
@@ -6,7 +6,7 @@ ghost use Rattle.exec_client.specs.Said.{Said};
 use crate::told::Told;
 use std::marker::Model;
 
-/// What was told, in its order.
+/// What was sent, in order.
 ///
 /// Nothing of it is kept when the program runs. So `new` and `with` have no body to speak of, and are proved by hand.
 #[derive(Drop)]
@@ -21,7 +21,7 @@ impl Model for Telling {
 impl Telling {
     ghost use Rattle.exec_client.specs.Said.{said_in};
 
-    /// Nothing was told.
+    /// Nothing was sent.
     pub fn new() -> Telling
         ensures { result.said ≡ [] }
     {
@@ -35,7 +35,7 @@ impl Telling {
         Telling {}
     }
 
-    /// This is told next.
+    /// This is sent next.
     pub fn note(&mut self, what: &Told)
         ensures { self.new.said ≡ self.old.said ++ said_in what.now }
     {

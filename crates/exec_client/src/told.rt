@@ -1,4 +1,4 @@
-//! What a client is told at once.
+//! A message: what a client is sent at once.
 ghost use Rattle.std.specs.Prelude.{◌≡◌};
 ghost use Rattle.exec_client.specs.Said.{said_in};
 ghost use Rattle.exec_client.specs.Tells.{noticed};
@@ -10,8 +10,8 @@ use exec_commands::LineReply;
 use executor::Executor;
 use ocf_types::{Notice, Reply};
 
-/// The notices of a turn, and what the children had answered behind it: the signal that ended a run is theirs, since the journal
-/// has none.
+/// The notices of a turn, and what the children had answered by its end: the signal that ended a run comes from there, since the
+/// journal records none.
 #[derive(Clone, Copy)]
 pub struct TurnNotices<'a> {
     pub notices: &'a [Notice],
@@ -32,7 +32,7 @@ impl<'a> TurnNotices<'a> {
     }
 }
 
-/// What a client is told at once.
+/// A message: what a client is sent at once.
 #[derive(Clone, Copy)]
 pub enum Told<'a> {
     /// The reply to a line.

@@ -40,7 +40,7 @@ drain_stays limit = given_stays (limit_of limit) (λ limit. Ok (line.Drain limit
 watch_stays : (limit : ℕ) → Stays (given (millis_of limit) (λ limit. Ok (line.Watch limit)))
 watch_stays limit = given_stays (millis_of limit) (λ limit. Ok (line.Watch limit)) (λ l is. cc)
 
--- a question for metadata, behind its provider and its agent
+-- a question for metadata, after its provider and its agent
 limited_stays : (provider agent : List ℕ) (limit : Option ℕ)
     → Stays (given (limit_if_named limit) (λ limit. Ok (line.Meta provider agent limit)))
 limited_stays provider agent limit =

@@ -31,7 +31,7 @@ pub after_at : (ms : List TextPair) (i : ℕ) (d : TextPair) → i < length ms �
     → is_after (last_name None (texts_seen (take i ms))) (get_or ms i d).0.now ≡ true
 after_at ms i d h sorted = after_from None ms i d h sorted
 
--- the names of members, wherever they stand
+-- the names of members, wherever they are
 pub names_seen : (ms : List TextPair) → list_all (λ (m : TextPair). is_param_name m.0.now) ms ≡ are_names (texts_seen ms)
 names_seen [] = refl
 names_seen (m ∷ ms) = rw (names_seen ms) refl

@@ -1,5 +1,5 @@
--- What stands under the keys of a line: RFC 8259 objects, strings and numbers. A key that is missing though it is
--- needed, or that holds another type, is syntax.
+-- The values of the keys of a line: RFC 8259 objects, strings and numbers. A key that is missing though it is needed, or
+-- that holds another type, is syntax.
 use Rattle.std.specs.Borrow.{Bor}
 use Rattle.std.specs.Prelude.{ℕ, map, Bool, true, ◌&&◌, List, [], ◌∷◌, Option, Some, option_map, option_and_then, Result, Ok, Err, codes}
 use Rattle.std.specs.Option.{option_map_or, ok_or}
@@ -37,7 +37,7 @@ member_texts (member name d ms) = option_and_then (λ text. option_map (λ ps. (
 abbrev pub texts : Data → Option ParamList
 texts d = option_and_then member_texts (as_object d)
 
--- a name and a text, wherever they stand
+-- a name and a text, wherever they are
 abbrev pub TextPair : Type 0
 TextPair = Bor (List ℕ) × Bor (List ℕ)
 

@@ -110,7 +110,7 @@ other_words =
     ∷ (codes "drain", operation.Drain) ∷ (codes "watch", operation.Watch) ∷ (codes "meta", operation.Meta)
     ∷ (codes "tidy", operation.Tidy) ∷ []
 
--- the operation that a word has in a table, if it stands there
+-- the operation that a word has in a table, if it is there
 abbrev pub operation_in : List (List ℕ × Operation) → List ℕ → Option Operation
 operation_in words word = option_map (λ row. row.1) (find (λ row. bytes_eq word row.0) words)
 

@@ -162,7 +162,7 @@ pub fn value_of(alloc: Global, bytes: &[u8]) -> Result<Value, Refusal>
 }
 
 /// What a line, without its newline, asks for, or why it is refused: the first of syntax, unknown-op, bad-name and
-/// bad-value that holds. Memory may stand in place of any answer but that to a line of more than 131,072 bytes, where the
+/// bad-value that holds. Any answer but that to a line of more than 131,072 bytes may be want of memory instead, where the
 /// allocator refused it. No line asks the run to end, and a question for metadata has no limit but one that it names.
 pub fn read_command(alloc: Global, bytes: &[u8]) -> Result<Line, Refusal>
     ensures ok { IfOk result (λ l. line_read bytes.now ≡ Ok l) }

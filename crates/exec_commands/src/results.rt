@@ -1,4 +1,4 @@
-//! Results, as they stand in histories, and what failed last.
+//! Results, as histories show them, and what failed last.
 ghost use Rattle.std.specs.Prelude.{◌≡◌, map, IfOk, IsTrue, OnErr};
 ghost use Rattle.ocf_codes.specs.ExitCodes.{name_read};
 ghost use Rattle.ocf_codes.specs.OutcomeCodes.{outcome_code};

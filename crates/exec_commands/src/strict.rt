@@ -41,7 +41,7 @@ fn has_key_twice(alloc: Global, bytes: &[u8]) -> Result<bool, AllocError>
 }
 
 /// What a line of a run that serves asks for, or why it is refused: as `read_served` says, but that a line in which an object
-/// has a key twice is refused as syntax. Memory may stand in place of any answer, where the allocator refused it.
+/// has a key twice is refused as syntax. Any answer may be want of memory instead, where the allocator refused it.
 pub fn read_strictly(alloc: Global, bytes: &[u8]) -> Result<Line, Refusal>
     ensures ok { IfOk result (λ l. (served_line_read bytes.now ≡ Ok l) × ¬ (HasKeyTwice bytes.now)) }
     ensures refused { IfErr result (λ e. e ≢ Memory

@@ -63,7 +63,7 @@ event_text n =
 abbrev pub event_line : Bool → Bool → Notice → List ℕ
 event_line marks failed n = marked marks failed n.result.outcome ++ event_text n ++ codes "\n"
 
--- the results that are told
+-- the results that are sent
 abbrev pub notices_in : Told → List Notice
 notices_in (told.Reply reply) = []
 notices_in (told.Replies replies) = []

@@ -1,4 +1,4 @@
-//! A client that tells another one first, and then a person.
+//! A client that sends to another one first, and then to a person.
 ghost use Rattle.std.specs.Prelude.{◌≡◌, IfOk, OnOk};
 ghost use Rattle.std.specs.Io.KnownBytes.{Appends};
 ghost use Rattle.std.specs.List.{flat_map};
@@ -29,8 +29,8 @@ pub enum Events {
     Marked,
 }
 
-/// A client that is told what another one is told, after that one; and where events are asked for, a person is given a line of each
-/// result. What is written for the person, and whether that fails, changes nothing of the run.
+/// A client that sends each message to another one first; where events are asked for, it then writes a line of each result for a
+/// person. What is written for the person, and whether that fails, changes nothing of the run.
 #[derive(Drop)]
 pub struct Eventful<T, W> {
     alloc: Global,
@@ -107,7 +107,7 @@ fn write_events<D: Disk + Drop, C: Children + Drop, W: Write>(
     Ok(())
 }
 
-// The results that are told.
+// The results that are sent.
 fn notices_in<'a>(what: &Told<'a>) -> &'a [Notice]
     ensures { result.now ≡ notices_in what.now }
 {

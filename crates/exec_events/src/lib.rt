@@ -1,4 +1,4 @@
-//! Lines for a person of each result, on standard error, by a client that tells another one first.
+//! Lines for a person of each result, on standard error, by a client that sends to another one first.
 #![tactic(auto)]
 
 mod eventful;

@@ -1,11 +1,11 @@
--- What a writer holds where a front of the bytes was written.
+-- What a writer holds where a prefix of the bytes was written.
 use Rattle.std.proofs.Common.{◌≡◌, ℕ, ◌+◌, ◌-◌, ◌≤◌, List, Option, length, take, take_all, drop, sym, subst, take-append-drop, length-drop, arith}
 use Rattle.std.proofs.Math.Seq.{take-add}
 use Rattle.std.proofs.KnownBytes.{Appends-trans}
 use Rattle.std.specs.Io.KnownBytes.{Appends}
 use Rattle.exec_lines.specs.Fronts.{AppendsFront}
 
--- the first n bytes are a front
+-- the first n bytes are a prefix
 pub front_taken : (a b : Option (List ℕ)) (bytes : List ℕ) (n : ℕ) → Appends a b (take n bytes) → AppendsFront a b bytes
 front_taken a b bytes n written =
     record { front = take n bytes; rest = drop n bytes; parts = sym (take-append-drop n bytes); written = written }

@@ -23,7 +23,7 @@ NoNewline = All (λ b. b ≢ 10)
 pub place-le : (xs : List ℕ) → position_or_len is_newline xs ≤ length xs
 place-le xs = prefix_len-le-length (λ x. not (is_newline x)) xs
 
--- no newline stands before the first one
+-- there is no newline before the first one
 pub none_before : (xs : List ℕ) → NoNewline (take (position_or_len is_newline xs) xs)
 none_before xs k d h e =
     let n = position_or_len is_newline xs in
@@ -32,7 +32,7 @@ none_before xs k d h e =
     let hit : is_newline (get_or xs k d) ≡ true = eq-eqb _ 10 (sym (get_or-take n xs k d below) ∙ e) in
     true≢false (sym hit ∙ miss)
 
--- a front with no newline moves the first one on
+-- a prefix with no newline moves the first one on
 pub place-append : (xs ys : List ℕ) → NoNewline xs → position_or_len is_newline (xs ++ ys) ≡ length xs + position_or_len is_newline ys
 place-append [] ys h = sym (zero-add _)
 place-append (x ∷ xs) ys h =
@@ -58,7 +58,7 @@ line-unended d h =
       ap (λ n. drop (n + 1) d) place ∙ drop_of_length-le d (omega arith),
     )
 
--- what a reader had left began with this line, and it has left what stands behind the line
+-- what a reader had left began with this line, and it has left what comes after the line
 abbrev pub HasRead : Option (List ℕ) → Option (List ℕ) → List ℕ → Type 0
 HasRead a c d = IfSome a (λ xs. (0 < length xs) × (first_line xs ≡ d) × (c ≡ Some (after_first_line xs)))
 
@@ -239,7 +239,7 @@ ok_is e = cc
 pub some_line_is : {E : Type 0} {n : Next} → ◌≡◌ {A = Result (Option Next) E} (Ok (Some n)) (Ok (Some Line)) → n ≡ Line
 some_line_is e = cc
 
--- the clauses of a line that was read, in the words of what stands next
+-- the clauses of a line that was read, in the words of what comes next
 pub next-of : (a c : Option (List ℕ)) (items : List ℕ) (n : Next) → Clauses a c items n → IsNext a n items c
 next-of None c items n h = tt
 next-of (Some xs) c items n h = (h.answer, h.line, h.rest)

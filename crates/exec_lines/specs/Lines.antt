@@ -13,7 +13,7 @@ is_newline b = b == 10
 abbrev pub first_line : List ℕ → List ℕ
 first_line = before_first is_newline
 
--- what stands behind the first line and its newline
+-- what comes after the first line and its newline
 abbrev pub after_first_line : List ℕ → List ℕ
 after_first_line = after_first is_newline
 
@@ -25,7 +25,7 @@ line_room = line_limit + 1
 abbrev pub line_answer : List ℕ → Next
 line_answer line = if nat_le (length line) line_limit then Line else TooLong
 
--- what stands next in these bytes
+-- what comes next in these bytes
 abbrev pub next_of : List ℕ → Next
 next_of [] = End
 next_of (x ∷ xs) = line_answer (first_line (x ∷ xs))

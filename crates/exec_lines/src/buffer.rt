@@ -6,7 +6,7 @@ use growth::{Grows, with_capacity};
 use ocf_types::LINE_LIMIT;
 use std::alloc::{AllocError, Allocator, Global};
 
-// One byte above the greatest length of a line: a buffer that is full holds the front of a longer one.
+// One byte above the greatest length of a line: a full buffer holds the beginning of a longer one.
 const ROOM: usize = LINE_LIMIT + 1;
 
 /// Room for one line. It takes all its memory when it is made, 131,073 bytes: one byte more than the longest line has,

@@ -6,12 +6,12 @@ use std::io::{BufRead, Write};
 
 /// Input of which it can be asked whether something is there.
 pub trait Input: BufRead {
-    /// Waits for at most so many milliseconds until a read would not wait, and says whether it would not. The end of the
-    /// input and a fault are there, too: a read tells them. Nothing is read.
+    /// Waits for at most this many milliseconds until a read would not wait, and says whether it would not. The end of the
+    /// input and a fault count as there, too: a read reports them. Nothing is read.
     fn is_ready(&mut self, millis: u32) -> bool
         ensures same { Self.remaining self.new ≡ Self.remaining self.old };
 
-    /// Whether a whole line stands in what was read already, so that the next one is there without a wait.
+    /// Whether what was read already holds a whole line, so that the next one is there without a wait.
     fn has_line(&self) -> bool;
 }
 

@@ -14,7 +14,7 @@ use ocf_types::NUM_MAX;
 use std::alloc::Allocator;
 use std::io::{self, BufRead, ErrorKind};
 
-/// What stands next in the input.
+/// What comes next in the input.
 #[derive(Clone, Copy, PartialEq, Eq)]
 pub enum Next {
     /// A line of at most 131,072 bytes.
@@ -25,7 +25,7 @@ pub enum Next {
     End,
 }
 
-// What one read brought.
+// What one read gave.
 #[derive(Clone, Copy, PartialEq, Eq)]
 enum Piece {
     // Bytes of the line, which goes on.
@@ -123,7 +123,7 @@ fn answer<A: Allocator>(buffer: &LineBuffer<A>, piece: Piece) -> Next
 }
 
 /// Reads once, and goes on with a line in the buffer, which a line that was answered is cleared from before. It gives what
-/// stands next in the input once that line is whole; none while it goes on. An interrupted read brings nothing. After an error
+/// comes next in the input once that line is whole; none while it goes on. An interrupted read gives nothing. After an error
 /// what was read of the line is still there.
 pub fn gather_line<R: BufRead, A: Allocator>(
     reader: &mut R,
@@ -145,9 +145,9 @@ pub fn gather_line<R: BufRead, A: Allocator>(
     }
 }
 
-/// Reads the next line into the buffer, without its newline; the last line needs none. The rest of a line that is too
-/// long is passed over, its newline too. An interrupted read is made again. After an error the front of the line is lost.
-/// It gives up, with the kind `TimedOut`, after 9,007,199,254,740,991 reads.
+/// Reads the next line into the buffer, without its newline; the last line needs none. The rest of a line that is too long
+/// is passed over, its newline too. An interrupted read is made again. After an error the beginning of the line is lost. It
+/// gives up, with the kind `TimedOut`, after 9,007,199,254,740,991 reads.
 pub fn next_line<R: BufRead, A: Allocator>(
     reader: &mut R,
     buffer: &mut LineBuffer<A>,

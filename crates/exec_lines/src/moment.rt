@@ -16,7 +16,7 @@ pub fn moment_of(time: SystemTime) -> Moment
     }
 }
 
-/// The moment that the system's clock shows, in milliseconds since 1970; 0 where it can't be read or stands before 1970.
+/// The moment that the system's clock shows, in milliseconds since 1970; 0 where it can't be read or shows a time before 1970.
 pub fn moment_now(clock: &impl Clock) -> Moment {
     match SystemTime::now(clock) {
         Ok(time) => moment_of(time),

@@ -5,7 +5,7 @@ use libc::types::pollfd;
 // How long is waited at most by one call, in milliseconds.
 const LONGEST: u32 = 60_000;
 
-// Waits for at most so many milliseconds for a descriptor, and gives what it is found to be; none where nothing came.
+// Waits for at most this many milliseconds for a descriptor, and gives what it is found to be; none where nothing came.
 fn found(descriptor: i32, events: i16, millis: u32) -> Option<i16> {
     let mut asked = [pollfd {
         fd: descriptor,
@@ -19,8 +19,8 @@ fn found(descriptor: i32, events: i16, millis: u32) -> Option<i16> {
     }
 }
 
-/// Waits for at most so many milliseconds, a minute at most, until a read of the descriptor would not wait. A signal counts
-/// as ready, and so do a fault and the end of the input, which the read tells.
+/// Waits for at most this many milliseconds, a minute at most, until a read of the descriptor would not wait. A signal
+/// counts as ready, and so do a fault and the end of the input, which the read reports.
 pub fn is_readable(descriptor: i32, millis: u32) -> bool {
     found(descriptor, POLLIN, millis).is_some()
 }

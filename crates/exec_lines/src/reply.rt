@@ -19,8 +19,8 @@ fn write_once<W: Write>(writer: &mut W, bytes: &[u8]) -> io::Result<usize>
     }
 }
 
-/// Writes the bytes. An interrupted write is made again. After an error a front of them is written. It gives up, with the kind
-/// `TimedOut`, after 9,007,199,254,740,991 writes.
+/// Writes the bytes. An interrupted write is made again. After an error a prefix of them is written. It gives up, with the
+/// kind `TimedOut`, after 9,007,199,254,740,991 writes.
 pub fn write_bytes<W: Write>(writer: &mut W, bytes: &[u8]) -> io::Result<()>
     ensures written { OnOk result
         (Appends (W.contents writer.old) (W.contents writer.new) bytes.now) }
@@ -37,8 +37,8 @@ pub fn write_bytes<W: Write>(writer: &mut W, bytes: &[u8]) -> io::Result<()>
     Err(io::Error::from(ErrorKind::TimedOut))
 }
 
-/// Writes the bytes and flushes the writer, so that at `Ok` they are handed to the system. After an error a front of them is
-/// written.
+/// Writes the bytes and flushes the writer, so that at `Ok` they are handed to the system. After an error a prefix of them
+/// is written.
 pub fn write_flushed<W: Write>(writer: &mut W, bytes: &[u8]) -> io::Result<()>
     ensures written { OnOk result
         (Appends (W.contents writer.old) (W.contents writer.new) bytes.now) }

@@ -22,7 +22,7 @@ use Rattle.exec_metrics.specs.declared.family.Family.TheVariants as family
 abbrev pub begun : Family → List ℕ → List ℕ
 begun f id = name f ++ codes "{" ++ label (codes "resource") id
 
--- a sample's line from behind its last label on
+-- a sample's line from after its last label on
 abbrev pub valued : ℕ → List ℕ
 valued n = codes "} " ++ decimal n ++ codes "\n"
 

@@ -1,4 +1,4 @@
--- How an action ended that was run once, and the exit status that tells of it.
+-- How an action ended that was run once, and the exit status that reports it.
 use Rattle.std.specs.Prelude.{◌≡◌, ◌+◌, ◌%◌, ℕ, ⊤, Option, Some, None, pos}
 use Rattle.std.specs.Process.{exit_code}
 use Rattle.std.specs.declared.process.ExitStatus.{ExitStatus}
@@ -14,14 +14,14 @@ once_status TimedOut = 124
 once_status Lost = 125
 once_status NotStarted = 125
 
--- a child that ended so is told so: by its exit code, or where it has none by the signal that ended it
+-- a child that ended in this way is reported in this way: by its exit code, or where it has none by the signal that ended it
 abbrev pub TellsStatus : ExitStatus → OnceEnd → Type 0
 TellsStatus status (Exited code) = exit_code status ≡ Some (pos code)
 TellsStatus status (Signaled signal) = (exit_code status ≡ None) × (signal_of status ≡ pos signal)
 TellsStatus status _ = ⊥
 
--- a child is told to have ended by the status that the system told of it, or where it told none: past its time alone, or since it could
--- not be asked
+-- a child is reported to have ended by the status that the system gave, or where it gave none: past its time alone, or
+-- since it could not be asked
 abbrev pub IsEndOf : ExitStatus → OnceEnd → Type 0
 IsEndOf status Lost = ⊤
 IsEndOf status end = TellsStatus status end

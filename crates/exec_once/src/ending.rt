@@ -16,14 +16,14 @@ pub enum OnceEnd {
     Signaled(u8),
     /// It still ran as its timeout passed.
     TimedOut,
-    /// The system did not tell how it ended.
+    /// The system did not report how it ended.
     Lost,
     /// It was not started.
     NotStarted,
 }
 
 impl OnceEnd {
-    /// The exit status that tells of it, as timeout(1) and a shell do.
+    /// The exit status that reports it, as timeout(1) and a shell do.
     pub fn status(self) -> u8
         ensures { result ≡ once_status self }
     {
@@ -43,7 +43,7 @@ fn signal_of(status: ExitStatus) -> u8
     (status.signal().unwrap_or(0).cast_unsigned() % 256) as u8
 }
 
-// How a child ended, by the status that the system tells of it.
+// How a child ended, by the status that the system reports.
 fn end_of(status: ExitStatus) -> OnceEnd
     ensures { TellsStatus status result }
 {
@@ -53,7 +53,7 @@ fn end_of(status: ExitStatus) -> OnceEnd
     }
 }
 
-/// How a child has ended that has so many milliseconds left, or `None` where it is to be asked again.
+/// How a child with this many milliseconds left has ended, or `None` where it is to be asked again.
 pub fn end_now<P: OpenProcess>(child: &mut Child<P>, left: u32) -> Option<OnceEnd>
     ensures ended { IfSome result (IsEndNow (child_status child.new) left) }
     ensures none { IfNone result (0 < left) }

@@ -1,4 +1,4 @@
-//! The words of an action that is to be run once.
+//! The arguments of an action that is to be run once.
 ghost use Rattle.std.specs.Prelude.{IfSome};
 ghost use Rattle.exec_once.specs.Texts.{IsWhat};
 
@@ -9,7 +9,7 @@ use ocf_types::{
 };
 use std::alloc::Global;
 
-/// Why words name no action that can be run once.
+/// Why arguments name no action that can be run once.
 #[derive(Clone, Copy, Debug, PartialEq, Eq)]
 pub enum OnceFault {
     /// A parameter is no `NAME=VALUE`, or there are too many.

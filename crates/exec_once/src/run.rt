@@ -54,9 +54,8 @@ fn await_end<R: Clock, P: OpenProcess>(rt: &R, child: &mut Child<P>, millis: u32
     OnceEnd::Lost
 }
 
-/// Runs an action, and waits for its end, so many milliseconds at most: then its agent is killed, with all that descends from it.
-/// Nothing to read is given to the agent, and its output is that of this program. Why it is not started is said on standard
-/// error.
+/// Runs an action, and waits for its end for at most this many milliseconds: then its agent is killed, with all its descendants.
+/// The agent has nothing to read, and writes where this program does. Why it was not started is reported on standard error.
 pub fn run_once<R: Processes + Clock + Eprint + ProcFiles, S: Allocator>(
     rt: &R,
     alloc: Global,

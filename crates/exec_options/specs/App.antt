@@ -8,19 +8,19 @@ use Rattle.clap.specs.declared.builder.ArgAction.TheVariants.{Append, SetTrue}
 abbrev pub text_rule : Text → Rule
 text_rule id = record (new_rule id) { long = Some id; value_names = 1 }
 
--- an option with one text, which stands for this one where it is left out
+-- an option with one text, for which this one is taken where it is left out
 abbrev pub text_rule_or : Text → Text → Rule
 text_rule_or id default = record (text_rule id) { defaults = default ∷ [] }
 
--- a word that stands by itself
+-- an argument that is no option
 abbrev pub word_rule : Text → Rule
 word_rule id = record (new_rule id) { value_names = 1 }
 
--- a word that has to be there
+-- an argument that has to be there
 abbrev pub needed_rule : Text → Rule
 needed_rule id = record (word_rule id) { required = true }
 
--- words that stand by themselves, as many as there are
+-- arguments that are no options, as many as there are
 abbrev pub words_rule : Text → Rule
 words_rule id = record (word_rule id) { action = Some Append }
 
@@ -107,7 +107,7 @@ with_call_app a =
     let a₄ = with_rule a₃ (text_rule_or (codes "timeout") default_timeout) in
     with_rule a₄ (text_rule_or (codes "id") default_id)
 
--- a subcommand is asked for; the version is told by `--version`
+-- a subcommand is asked for; `--version` prints the version
 abbrev pub top_app : App
 top_app =
     let a = new_app (codes "ocfexec") in

@@ -1,4 +1,4 @@
--- The faults of words that give no options.
+-- The faults of arguments that give no options.
 use Rattle.std.specs.Prelude.{◌≡◌, ◌⊎◌, ℕ, ⊤, true, false, List, [], Option, None, codes, is_some}
 use Rattle.clap.specs.Words.{Kinds, Row, Text, IsAmong, fault_of, first_of, kind_of}
 use Rattle.clap.specs.declared.error.Error.{Error}
@@ -29,7 +29,7 @@ HasFaultKind kinds Since = ⊥
 HasFaultKind kinds Timeout = ⊥
 HasFaultKind kinds Memory = ⊤
 
--- the words name a subcommand and where its journal is, and the other options that they name have this flaw
+-- the arguments name a subcommand and where its journal is, and the other options that they name have this flaw
 pub record Flawed (named : Option Text) (words : List Text) (flaw : List Row → Type 0) : Type 0 where
   pub subcommand : Subcommand
   pub rows : List Row
@@ -37,20 +37,20 @@ pub record Flawed (named : Option Text) (words : List Text) (flaw : List Row →
   pub placed : is_some (place_in subcommand named rows) ≡ true
   pub has_flaw : flaw rows
 
--- the words name an action that is to be run once, and what they name beside it has this flaw
+-- the arguments name an action that is to be run once, and what they name beside it has this flaw
 pub record OnceFlawed (words : List Text) (flaw : List Row → Type 0) : Type 0 where
   pub rows : List Row
   pub names : Names words once_word rows
   pub has_flaw : flaw rows
 
--- the words name a subcommand, and no place for its journal
+-- the arguments name a subcommand, and no place for its journal
 pub record Unplaced (named : Option Text) (words : List Text) : Type 0 where
   pub subcommand : Subcommand
   pub rows : List Row
   pub names : Names words (subcommand_word subcommand) rows
   pub none : place_in subcommand named rows ≡ None
 
--- the words name no subcommand that has a journal
+-- the arguments name no subcommand that has a journal
 abbrev pub Unnamed : List Text → Type 0
 Unnamed words = (s : Subcommand) (rows : List Row) → ¬ Names words (subcommand_word s) rows
 
@@ -74,7 +74,7 @@ SinceFlaw rows = is_some (first_of (codes "since") rows) ≡ true
 abbrev pub TimeoutFlaw : List Row → Type 0
 TimeoutFlaw rows = (n : ℕ) → ¬ IsTimeout (timeout_text rows) n
 
--- the flaw that a fault tells of; want of memory is none
+-- the flaw that a fault reports; want of memory is none
 abbrev pub HasFlaw : List Row → WordsFault → Type 0
 HasFlaw rows TidyAt = TidyAtFlaw rows
 HasFlaw rows Root = RootFlaw rows
@@ -95,8 +95,8 @@ HasOnceFlaw rows Timeout = TimeoutFlaw rows
 HasOnceFlaw rows Memory = ⊤
 HasOnceFlaw rows _ = ⊥
 
--- `clap` refuses the words for this, or takes them and yet they give no options: by the place of their journal, or else by another
--- option; the environment names this directory
+-- `clap` refuses the arguments for this, or takes them and yet they give no options: by the place of their journal, or else by
+-- another option; the environment names this directory
 abbrev pub IsFault : Option Text → List Text → WordsFault → Type 0
 IsFault named words Choice = (fault_of ocfexec_app words ≡ []) × (Unplaced named words ⊎ Unnamed words)
 IsFault named words TidyAt = (fault_of ocfexec_app words ≡ []) × Flawed named words TidyAtFlaw
@@ -106,11 +106,11 @@ IsFault named words Since = (fault_of ocfexec_app words ≡ []) × Flawed named 
 IsFault named words Timeout = (fault_of ocfexec_app words ≡ []) × OnceFlawed words TimeoutFlaw
 IsFault named words fault = HasFaultKind (fault_of ocfexec_app words) fault
 
--- the words ask for help or the version
+-- the arguments ask for help or the version
 abbrev pub AsksForText : Option Text → List Text → Type 0
 AsksForText named words = (text : Error) × IsFault named words (Help text)
 
--- the words are not those of the command line, or name a moment or a timeout that is none
+-- the arguments are not those of the command line, or name a moment or a timeout that is none
 abbrev pub IsMisused : Option Text → List Text → Type 0
 IsMisused named words =
     ((text : Error) × IsFault named words (Usage text)) ⊎ (IsFault named words Since ⊎ IsFault named words Timeout)

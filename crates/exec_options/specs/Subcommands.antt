@@ -1,4 +1,4 @@
--- The words that name what the program does.
+-- The arguments that name what the program does.
 use Rattle.std.specs.Prelude.{ℕ, Bool, true, false, List, codes}
 use Rattle.exec_options.specs.declared.options.Subcommand.{Subcommand}
 use Rattle.exec_options.specs.declared.options.Subcommand.TheVariants.{Run, Serve, Show, Status, Log, Metrics}

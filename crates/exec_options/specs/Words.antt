@@ -1,4 +1,4 @@
--- The options that words give.
+-- The options that arguments give.
 use Rattle.std.specs.Prelude.{◌≡◌, ◌<◌, ◌≤◌, ◌==◌, ◌^◌, length, map, take, ℕ, Bool, true, false, if◌then◌else◌, List, [], ◌∷◌}
 use Rattle.std.specs.Prelude.{Option, Some, None, option_map, unwrap_or, codes, bytes_eq}
 use Rattle.std.specs.Str.Parse.{IsNumeral, digits_value, without_leading_plus}
@@ -16,7 +16,7 @@ use Rattle.exec_options.specs.declared.options.JournalPlace.TheVariants.{Folder,
 use Rattle.exec_options.specs.App.{default_id, default_orphans, default_path, default_root, default_tidy_at, default_timeout, ocfexec_app}
 use Rattle.exec_options.specs.Subcommands.{is_look, once_word, subcommand_word}
 
--- the folder that is named, or none in memory
+-- the directory that is named, or none in memory
 abbrev pub folder_of : JournalPlace → Option Text
 folder_of (Folder dir) = Some dir.now
 folder_of Memory = None
@@ -42,7 +42,7 @@ place_of default (Some folder) false = Some (Some folder)
 place_of default None true = Some None
 place_of default None false = option_map Some default
 
--- where the journal is that a subcommand's words name, where the environment names this directory
+-- where the journal is that a subcommand's arguments name, where the environment names this directory
 abbrev pub place_in : Subcommand → Option Text → List Row → Option (Option Text)
 place_in s named rows =
     place_of (default_folder s named) (first_of (codes "journal") rows) (is_true_text (first_of (codes "memory") rows))
@@ -78,7 +78,7 @@ abbrev pub IsSince : Option Text → ℕ → Type 0
 IsSince (Some text) at = (0 < length text) × (take (length text) (moment_text at) ≡ text)
 IsSince None at = at ≡ 0
 
--- a path that begins at the root folder
+-- a path that begins at the root directory
 abbrev pub is_absolute : Text → Bool
 is_absolute (b ∷ more) = b == 47
 is_absolute [] = false
@@ -130,24 +130,24 @@ abbrev pub IsOnceWanted : List Row → Wanted → Type 0
 IsOnceWanted rows (wanted.Journal o) = ⊥
 IsOnceWanted rows (wanted.Once o) = IsOnceFrom rows o
 
--- by `clap`'s rules the words name the subcommand of this name, with these rows
+-- by `clap`'s rules the arguments name the subcommand of this name, with these rows
 abbrev pub Names : List Text → Text → List Row → Type 0
 Names words name rows = subcommand_of ocfexec_app words ≡ Some (name, rows)
 
--- the words name a subcommand whose rows hold the options, where the environment names this directory
+-- the arguments name a subcommand whose rows hold the options, where the environment names this directory
 pub record Gives (named : Option Text) (words : List Text) (o : Options) : Type 0 where
   pub rows : List Row
   pub names : Names words (subcommand_word o.subcommand) rows
   pub placed : IsPlacedAt named rows o
   pub read : IsReadFrom rows o
 
--- the words name an action that is to be run once, and their rows hold these options
+-- the arguments name an action that is to be run once, and their rows hold these options
 pub record GivesOnce (words : List Text) (o : OnceOptions) : Type 0 where
   pub rows : List Row
   pub names : Names words once_word rows
   pub read : IsOnceFrom rows o
 
--- the words ask for this
+-- the arguments ask for this
 abbrev pub AsksFor : Option Text → List Text → Wanted → Type 0
 AsksFor named words (wanted.Journal o) = Gives named words o
 AsksFor named words (wanted.Once o) = GivesOnce words o

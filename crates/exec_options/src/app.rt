@@ -19,7 +19,7 @@ pub const ID: &str = "once";
 /// How many milliseconds an action that is run once may take where nothing is named.
 pub const TIMEOUT: &str = "20000";
 
-/// The folder of the agents where none is named.
+/// The directory of the agents where none is named.
 pub const ROOT: &str = "/usr/lib/ocf";
 
 /// The `PATH` of the agents where none is named.
@@ -69,7 +69,7 @@ fn word<'a>(alloc: Global, id: &'a str, value: &'a str, help: &'a str) -> Arg<'a
     Arg::new(alloc, id).value_name(value).help(help)
 }
 
-// A word that has to be there.
+// An argument that has to be there.
 fn needed<'a>(alloc: Global, id: &'a str, value: &'a str, help: &'a str) -> Arg<'a>
     ensures rule { rule_of result ≡ needed_rule id.entry.now }
     ensures local { result.global ≡ false }
@@ -77,7 +77,7 @@ fn needed<'a>(alloc: Global, id: &'a str, value: &'a str, help: &'a str) -> Arg<
     word(alloc, id, value, help).required(true)
 }
 
-// Words that stand by themselves, as many as there are.
+// Arguments that are no options, as many as there are.
 fn words<'a>(alloc: Global, id: &'a str, value: &'a str, help: &'a str) -> Arg<'a>
     ensures rule { rule_of result ≡ words_rule id.entry.now }
     ensures local { result.global ≡ false }

@@ -1,10 +1,11 @@
-//! Words that give no options.
+//! Arguments that give no options.
 ghost use Rattle.clap.specs.Words.{HasKind, Kinds};
 ghost use Rattle.exec_options.specs.Faults.{HasFaultKind};
 
 use clap::error::ErrorKind;
 
-/// Why the words give no options. It has no text of its own but `clap`'s: what the program then says and ends with is the program's.
+/// Why the arguments give no options. It has no text of its own but `clap`'s: what the program then says and ends with is
+/// the program's.
 #[derive(Debug, Drop)]
 pub enum WordsFault {
     /// They ask for help or for the version: its text, for the standard output.

@@ -1,4 +1,4 @@
-//! The words of `ocfexec`'s command line, read by `clap`.
+//! The arguments of `ocfexec`'s command line, read by `clap`.
 #![tactic(auto)]
 
 mod app;

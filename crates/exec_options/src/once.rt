@@ -10,9 +10,9 @@ pub struct OnceOptions<'a> {
     pub parameters: Vec<&'a str>,
     /// How long it may take, in milliseconds: one at least.
     pub timeout: u32,
-    /// The id of the resource, as the agent is told it; whether it is one is not looked at here.
+    /// The id of the resource, as the agent is given it; whether it is a valid id is not checked here.
     pub id: &'a str,
-    /// The folder of the agents, an absolute path: an agent is the file `resource.d/PROVIDER/TYPE` in it.
+    /// The directory of the agents, an absolute path: an agent is the file `resource.d/PROVIDER/TYPE` in it.
     pub root: &'a str,
     /// The program that the agent is started through, or none.
     pub via: Option<&'a str>,

@@ -1,4 +1,4 @@
-//! What the words of the command line ask for.
+//! What the arguments of the command line ask for.
 ghost use Rattle.std.specs.Prelude.{◌≡◌, ◌≢◌, IfSome, IfNone};
 ghost use Rattle.exec_options.specs.declared.options.Subcommand.{Subcommand};
 ghost use Rattle.exec_options.specs.Subcommands.{is_look, subcommand_word};
@@ -60,14 +60,14 @@ pub enum JournalPlace<'a> {
     Memory,
 }
 
-/// What the words of the command line ask for.
+/// What the arguments of the command line ask for.
 #[derive(Clone, Copy, Debug, PartialEq, Eq)]
 pub struct Options<'a> {
     pub subcommand: Subcommand,
     pub journal: JournalPlace<'a>,
     /// Whether root opens a journal whose directory or files other users can write, too.
     pub any_owner: bool,
-    /// The folder of the agents, an absolute path: an agent is the file `resource.d/PROVIDER/TYPE` in it.
+    /// The directory of the agents, an absolute path: an agent is the file `resource.d/PROVIDER/TYPE` in it.
     pub root: &'a str,
     /// The program that each agent is started through, or none.
     pub via: Option<&'a str>,

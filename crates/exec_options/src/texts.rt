@@ -28,21 +28,21 @@ Example:
 
 Commands, replies, refusals, options and statuses: man ocfexec.";
 
-/// What stands behind the help of `run`.
+/// What follows the help of `run`.
 pub const RUN: &str = "Give exactly one of --journal and --memory. The commands: ocfexec --help.
 
 Examples:
   echo '{\"op\":\"list\"}' | ocfexec run --memory
   ocfexec run --journal /var/lib/ocfexec < commands";
 
-/// What stands behind the help of `serve`.
+/// What follows the help of `serve`.
 pub const SERVE: &str = "Give exactly one of --journal and --memory. The commands: ocfexec --help.
 Each result is a line of its own, and these alone have the key outcome; no drain or watch is needed.
 
 Example:
   ocfexec serve --journal /var/lib/ocfexec";
 
-/// What stands behind the help of `show`.
+/// What follows the help of `show`.
 pub const SHOW: &str = "The journal may be in use, and nothing is changed.
 Without --journal it is the journal in OCFEXEC_JOURNAL, or else in /var/lib/ocfexec.
 
@@ -50,7 +50,7 @@ Examples:
   ocfexec show
   ocfexec show --journal /srv/journal";
 
-/// What stands behind the help of `status`.
+/// What follows the help of `status`.
 pub const STATUS: &str =
     "The journal may be in use, and nothing is changed. Colours are for a terminal alone.
 Without --journal it is the journal in OCFEXEC_JOURNAL, or else in /var/lib/ocfexec.
@@ -61,7 +61,7 @@ Examples:
   ocfexec status web
   ocfexec status --journal /srv/journal --exit-code > /dev/null || echo look at it";
 
-/// What stands behind the help of `log`.
+/// What follows the help of `log`.
 pub const LOG: &str = "The journal may be in use, and nothing is changed.
 Without --journal it is the journal in OCFEXEC_JOURNAL, or else in /var/lib/ocfexec.
 Registrations, commands, begins, results and openings are printed, of both parts of the journal, so also what has left the history.
@@ -70,7 +70,7 @@ Examples:
   ocfexec log web --since 2026-11-27
   ocfexec log --journal /srv/journal --salvage";
 
-/// What stands behind the help of `metrics`.
+/// What follows the help of `metrics`.
 pub const METRICS: &str = "The journal may be in use, and nothing is changed.
 Without --journal it is the journal in OCFEXEC_JOURNAL, or else in /var/lib/ocfexec.
 The lines are those of the text format of Prometheus, for a textfile collector; ages are counted from the moment of the call.
@@ -79,7 +79,7 @@ Examples:
   ocfexec metrics
   ocfexec metrics > ocfexec.prom.new && mv ocfexec.prom.new ocfexec.prom";
 
-/// What stands behind the help of `once`.
+/// What follows the help of `once`.
 pub const ONCE: &str =
     "What the agent writes goes to the terminal. The status is the agent's own; 124 after its timeout, 125 where it was
 not run, and 128 plus the signal's number where one ended it. Nothing is recorded: give no resource that an executor runs.

@@ -1,4 +1,4 @@
-//! The options that the words give.
+//! The options that the arguments give.
 ghost use Rattle.std.specs.Prelude.{◌≡◌, ℕ, [], true, map, string_bytes, codes, option_map, unwrap_or, IfOk, IfErr, OnOk, IfSome, IfNone};
 ghost use Rattle.clap.specs.Words.{all_of, first_of, rows_of, found_of, fault_of};
 ghost use Rattle.exec_options.specs.App.{ocfexec_app};
@@ -16,7 +16,7 @@ use log_lines::moment_begun;
 use ocf_types::{ORPHANS_LIMIT, PART_LIMIT};
 use std::alloc::{AllocError, Global};
 
-/// What the words of the command line ask for.
+/// What the arguments of the command line ask for.
 #[derive(Debug, Drop)]
 pub enum Wanted<'a> {
     /// To do this with a journal.
@@ -110,7 +110,7 @@ fn orphans(matches: &ArgMatches<'_>) -> Result<u64, WordsFault>
     }
 }
 
-// Whether a path begins at the root folder.
+// Whether a path begins at the root directory.
 fn is_absolute(path: &str) -> bool
     ensures { result ≡ is_absolute path.now }
 {
@@ -168,7 +168,7 @@ fn timeout(matches: &ArgMatches<'_>) -> Result<u32, WordsFault>
     }
 }
 
-// All texts that the words give for this.
+// All texts that the arguments give for this.
 fn texts_of<'a, 'm>(matches: &'m ArgMatches<'a>, id: &str) -> Option<&'m [&'a str]>
     ensures { option_map (λ texts. map (λ s. s.now) texts.now) result
         ≡ all_of id.now (rows_of (found_of matches.now)) }
@@ -210,7 +210,7 @@ fn once_of<'a>(alloc: Global, matches: &ArgMatches<'a>) -> Result<Wanted<'a>, Wo
     }))
 }
 
-// The options that a subcommand's words give beside the place of its journal.
+// The options that a subcommand's arguments give besides the place of its journal.
 fn options_of<'a>(
     alloc: Global,
     subcommand: Subcommand,
@@ -247,7 +247,7 @@ fn options_of<'a>(
     })
 }
 
-// What a subcommand's words ask for that has a journal.
+// What the arguments of a subcommand with a journal ask for.
 fn journal_of<'a>(
     alloc: Global,
     subcommand: Subcommand,
@@ -270,8 +270,8 @@ fn journal_of<'a>(
     }
 }
 
-/// What these words ask for, the program's name first, where the environment names this directory for a journal. Each fault says
-/// why they ask for nothing.
+/// What these arguments ask for, the program's name first, where the environment names this directory for a journal. Each fault
+/// says why they ask for nothing.
 pub fn read_words<'a>(
     alloc: Global,
     named: Option<&'a str>,

@@ -1,4 +1,4 @@
-//! Which executor held a journal last: it leaves word of itself in the journal's folder.
+//! Which executor held a journal last: it leaves a record of itself in the journal's directory.
 use file_disk::OWNER_ONLY;
 use proc_files::{ProcFiles, read_head};
 use process_ends::System;
@@ -11,8 +11,8 @@ use std::str;
 // How many bytes are read of such a file, and of the system's own.
 const LIMIT: usize = 256;
 
-/// What an executor leaves word of: the session that its agents are in, and which moment of its clock was at which time after
-/// the system's boot. So a later executor knows the processes of its agents, and since when each of them runs.
+/// What an executor records of itself: the session that its agents are in, and which moment of its clock was at which time
+/// after the system's boot. So a later executor knows the processes of these agents, and since when each of them runs.
 #[derive(Clone, Copy)]
 pub struct Holder {
     /// POSIX, getsid.
@@ -72,7 +72,7 @@ fn holder_in(text: &str, boot: &str) -> Option<Holder> {
     })
 }
 
-/// What the last executor of this boot left in this folder, if it did.
+/// What the last executor of this boot left in this directory, if anything.
 pub fn read_holder(rt: &HostRuntime, folder: &str) -> Option<Holder> {
     let (mut room, mut name) = ([0u8; LIMIT], [0u8; LIMIT]);
     let path = format!(in rt.alloc(); "{folder}/executor").ok()?;
@@ -82,7 +82,7 @@ pub fn read_holder(rt: &HostRuntime, folder: &str) -> Option<Holder> {
     )
 }
 
-// Writes the file anew beside the old one, and puts it in its place.
+// Writes a new file beside the old one, and renames it over that.
 fn put(rt: &HostRuntime, folder: &str, moment: u64) -> io::Result<()> {
     let mut room = [0u8; LIMIT];
     let (Some(boot), Some(uptime)) = (boot_id(rt, &mut room), uptime(rt)) else {
@@ -103,7 +103,7 @@ fn put(rt: &HostRuntime, folder: &str, moment: u64) -> io::Result<()> {
     fs::rename(rt, new.as_str(), path.as_str())
 }
 
-/// Leaves word of this executor, whose clock shows this moment. What is not left is said on standard error.
+/// Records this executor, whose clock shows this moment. A failure is reported on standard error.
 pub fn leave_word(system: &System<'_>, folder: &str, moment: u64) {
     if let Err(error) = put(system.host(), folder, moment) {
         let _ = system.eprintln(format_args!(

@@ -1,5 +1,5 @@
-//! What is left of the actions of an executor that is gone: its word in the journal's folder, which processes are theirs, and how
-//! these are waited for and ended before their interruption is recorded.
+//! What is left of the actions of an executor that is gone: the record that it left in the journal's directory, which processes
+//! belong to these actions, and how these are waited for and ended before their interruption is recorded.
 #![tactic(auto)]
 
 mod holder;

@@ -4,11 +4,11 @@ use exec_lines::moment_now;
 use ocf_types::{Moment, Running};
 use process_ends::Deadline;
 
-// How many milliseconds a clock tick has, by which the system tells when a process started. Linux, proc(5), stat; sysconf(3),
-// _SC_CLK_TCK.
+// How many milliseconds a clock tick has, by which the system reports when a process started. Linux, proc(5), stat;
+// sysconf(3), _SC_CLK_TCK.
 const TICK: u64 = 10;
 
-/// How the moments of an executor that is gone stand to the system's clock.
+/// How the moments of an executor that is gone relate to the system's clock.
 #[derive(Clone, Copy)]
 pub struct Times<'a> {
     rt: &'a HostRuntime,
@@ -20,7 +20,7 @@ pub struct Times<'a> {
 }
 
 impl<'a> Times<'a> {
-    /// By what the executor left word of, and else by the system's clock.
+    /// By what the executor recorded of itself, and else by the system's clock.
     pub fn new(rt: &'a HostRuntime, holder: Option<Holder>, limit: u64) -> Times<'a> {
         let uptime = uptime(rt).unwrap_or(0);
         let now = match holder {

@@ -1,4 +1,4 @@
--- How a status ends that told a state.
+-- How a status ends that showed a state.
 use Rattle.std.proofs.Common.{◌≡◌, ℕ, ◌+◌, ◌<◌, ◌||◌, ◌&&◌, Bool, true, false, take, length, List, Option, Err, ap₂, ◌∙◌}
 use Rattle.std.proofs.lemmas.List.Folds.{list_any_at, list_any_more}
 use Rattle.std.specs.List.{list_any}
@@ -11,11 +11,11 @@ use Rattle.exec_output.specs.declared.look.Look.{Look}
 use Rattle.exec_output.specs.declared.fault.Fault.{Fault}
 use Rattle.exec_output.specs.declared.fault.Fault.TheVariants as fault
 
--- a resource is asked for and asks for a person
+-- a resource is asked for and needs attention
 abbrev pub asks : Look → List ℕ × Resource → Bool
 asks look e = is_asked_for look e.0 && is_bad (condition_of e.1.history)
 
--- one that asks for a person
+-- one that needs attention
 pub one_bad : (look : Look) (s : State) (i : ℕ) → i < length s.resources → asks look (entry_at s i) ≡ true → is_any_bad look s ≡ true
 one_bad look s i lt is = list_any_at (asks look) s.resources i no_entry lt is
 

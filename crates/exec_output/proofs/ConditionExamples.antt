@@ -66,13 +66,13 @@ cut_off : (ill started (result 2 action.Stop (Run TimedOut)) ≡ Unknown) × (il
 unfolding started
 cut_off = (refl, refl, refl)
 
--- what never began changes nothing, and a failure is over once something else is told behind it
+-- what never began changes nothing, and a failure is over once something else is shown after it
 over : (well (started ++ result 0 action.Stop Dropped ∷ []) ≡ Started)
     × (condition_of (history (result 1 action.Start (code 1) ∷ result 2 action.Start (code 0) ∷ []) (Some (result 1 action.Start (code 1)))) ≡ Started)
 unfolding started
 over = (refl, refl)
 
--- since the first result from which on all tell the same
+-- since the first result from which on all show the same
 since_first : known_of (started ++ result 2 action.Monitor (code 0) ∷ result 0 action.Stop Cancelled ∷ result 9 action.Monitor (code 0) ∷ [])
     ≡ Some (record { condition = Started; since = 1000; run = 9 })
 unfolding started

@@ -1,4 +1,4 @@
--- What is known of a resource behind one result more.
+-- What is known of a resource after one more result.
 use Rattle.std.proofs.Common.{◌≡◌, ℕ, ◌+◌, take, List, Option, Some, None, ap, sym, ◌∙◌, slice_get}
 use Rattle.std.proofs.lemmas.List.Sums.{fold_more}
 use Rattle.std.proofs.lemmas.Option.{get_or_from_slice_get, slice_get_within}

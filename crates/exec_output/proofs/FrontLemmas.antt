@@ -9,12 +9,12 @@ use Rattle.exec_lines.specs.Fronts.{AppendsFront}
 use Rattle.exec_output.specs.declared.send.IoFault.{IoFault}
 use Rattle.exec_output.specs.declared.send.IoFault.TheVariants.{Memory}
 
--- nothing is a front
+-- nothing is a prefix
 front_none : (a b : Option (List ℕ)) (bytes : List ℕ) → b ≡ a → AppendsFront a b bytes
 front_none a b bytes same =
     record { front = []; rest = bytes; parts = refl; written = subst (λ (o : Option (List ℕ)). Appends a o []) (sym same) (Appends-nil a) }
 
--- a front of a line that was made, or nothing where there was no memory for it
+-- a prefix of a line that was made, or nothing where there was no memory for it
 pub front_made : {T E V M : Type 0} (items : V → List ℕ) (line : Result V M) (r : Result T E) (a b : Option (List ℕ)) (bytes : List ℕ)
     → IfOk line (λ v. items v ≡ bytes) → IfOk line (λ v. OnErr r (AppendsFront a b (items v))) → IfErr line (λ _. b ≡ a)
     → OnErr r (AppendsFront a b bytes)
@@ -29,13 +29,13 @@ memory_of line (Ok done) X only refused = tt
 memory_of (Ok v) (Err f) X only refused = λ is. absurd (only is)
 memory_of (Err m) (Err f) X only refused = λ is. refused
 
--- all lines: those before one of them, its two parts, and those behind it
+-- all lines: those before one of them, its two parts, and those after it
 lines_part : (done line front rest later : List ℕ) → line ≡ front ++ rest → (done ++ line) ++ later ≡ (done ++ front) ++ (rest ++ later)
 lines_part done line front rest later parts =
     ap (λ (l : List ℕ). (done ++ l) ++ later) parts ∙ ap (λ (l : List ℕ). l ++ later) (sym (append_assoc done front rest))
     ∙ append_assoc (done ++ front) rest later
 
--- a front of the next line behind whole ones is a front of all
+-- a prefix of the next line after whole ones is a prefix of all
 pub front_more : {X : Type 0} (f : X → List ℕ) (xs : List X) (i : ℕ) (x : X) (a b c : Option (List ℕ)) → i < length xs → x ≡ get_or xs i x
     → Appends a b (flat_map f (take i xs)) → AppendsFront b c (f x) → AppendsFront a c (flat_map f xs)
 front_more f xs i x a b c lt is so_far part =

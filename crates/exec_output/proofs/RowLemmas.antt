@@ -18,7 +18,7 @@ use Rattle.exec_output.specs.Tables.{agent_text, AreRows, gap, IsRow, IsToldAs, 
 abbrev Entry : Type 0
 Entry = List ℕ × Resource
 
--- a row behind others
+-- a row after others
 pub and_row : (look : Look) (es : List Entry) (e : Entry) (text row : List ℕ) → AreRows look es text → IsRow look e row
     → AreRows look (es ++ e ∷ []) (text ++ row)
 and_row look [] e text row none is = (row, [], ap (λ t. t ++ row) none ∙ sym (append-nil row), is, refl)
@@ -106,7 +106,7 @@ no_rows look [] text empty rows = refl
 no_rows look (e ∷ es) [] empty rows = absurd (no_row look e rows.0 rows.1 rows.2 rows.3)
 no_rows look (e ∷ es) (b ∷ bs) empty rows = absurd (let bad : length (b ∷ bs) ≡ 0 = empty in cc)
 
--- what is told of a state that is found on these parts
+-- what is shown of a state that is found on these parts
 pub tells : {T : Type 0} (reads : Image) (look : Look) (old new : Option (List ℕ)) (s : State) (ended : Result T Fault)
     → FoundAs s reads → IsToldAs look s old new ended → TellsAs reads look old new ended
 tells reads look old new s (Ok done) found told = (s, found, told)

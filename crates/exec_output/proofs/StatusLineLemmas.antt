@@ -52,7 +52,7 @@ unwritten T look s old new fault.Disk told = absurd told
 unwritten T look s old new fault.Full told = absurd told
 unwritten T look s old new fault.ChildrenIgnored told = absurd told
 
--- what is told of a state that is found on these parts
+-- what is shown of a state that is found on these parts
 pub tells_lines : {T : Type 0} (reads : Image) (look : Look) (old new : Option (List ℕ)) (s : State) (ended : Result T Fault)
     → FoundAs s reads → IsLinesTold look s old new ended → TellsLinesAs reads look old new ended
 tells_lines reads look old new s (Ok done) found told = (s, found, told)

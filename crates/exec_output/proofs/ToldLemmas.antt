@@ -1,4 +1,4 @@
--- What is told of results and monitors, with one more of them.
+-- What is shown of results and monitors, with one more of them.
 use Rattle.std.proofs.Common.{◌≡◌, ℕ, ◌+◌, ◌++◌, Bool, true, false, take, List, [], ◌∷◌, Option, Some, None, Result, Ok, Err, OnOk, filter, refl, ap, sym, ◌∙◌, slice_get}
 use Rattle.std.proofs.lemmas.List.{append-nil, append_assoc, take_more}
 use Rattle.std.proofs.lemmas.List.Elements.{filter-append}
@@ -15,7 +15,7 @@ lines_more f xs i x front is =
     append_assoc front (flat_map f (take i xs)) (f x)
     ∙ ap (λ t. front ++ t) (sym (flat_more f xs i x (slice_get_within xs i x is) (sym (get_or_from_slice_get xs i x x is))))
 
--- a line, and those of the items behind it
+-- a line, and those of the items after it
 pub line_first : {X : Type 0} (f : X → List ℕ) (x : X) (xs : List X) (a b : List ℕ) → b ≡ a ++ f x
     → b ++ flat_map f xs ≡ a ++ flat_map f (x ∷ xs)
 line_first f x xs a b is = ap (λ t. t ++ flat_map f xs) is ∙ append_assoc a (f x) (flat_map f xs)

@@ -37,7 +37,7 @@ condition_tone NeverRun = Notable
 condition_tone Failed = Bad
 condition_tone Unknown = Bad
 
--- a condition asks for a person
+-- a condition needs attention
 abbrev pub is_bad : Condition → Bool
 is_bad Failed = true
 is_bad Unknown = true
@@ -62,13 +62,13 @@ left_by action.Stop = Some Stopped
 left_by action.ReloadAgent = None
 left_by action.ValidateAll = None
 
--- what an action tells by its exit code
+-- what an action shows by its exit code
 abbrev pub told_by_code : Action → Code → Option Condition
 told_by_code action.Monitor c = Some (found_by c)
 told_by_code a code.Success = left_by a
 told_by_code a _ = Some Failed
 
--- what a result tells: what was cut off may be done or not, and what never began tells nothing
+-- what a result shows: what was cut off may be done or not, and what never began shows nothing
 abbrev pub told_by : Action → Outcome → Option Condition
 told_by a (Run (Done n)) = told_by_code a (code_read n)
 told_by a (Run TimedOut) = Some Unknown
@@ -79,16 +79,16 @@ told_by a Interrupted = Some Unknown
 told_by a Dropped = None
 told_by a Cancelled = None
 
--- since when a condition is known that is told at a moment: where the results before it tell the same, since those do
+-- since when a condition is known that is shown at a moment: where the results before it show the same, since those do
 abbrev pub since_in : Option Known → Condition → ℕ → ℕ
 since_in None c at = at
 since_in (Some k) c at = if bytes_eq (condition_word k.condition) (condition_word c) then k.since else at
 
--- what is known behind one result more
+-- what is known after one more result
 abbrev pub after : Option Known → Ended → Option Known
 after k e = option_map_or (λ c. Some (record { condition = c; since = since_in k c e.at; run = e.run })) (told_by e.action e.outcome) k
 
--- what is known behind all results, oldest first
+-- what is known after all results, oldest first
 abbrev pub known_of : List Ended → Option Known
 known_of es = fold after None es
 
@@ -96,21 +96,21 @@ known_of es = fold after None es
 abbrev pub failed_by : ℕ → Option Ended → Bool
 failed_by run failed = option_map_or (λ e. e.run == run) failed false
 
--- a condition, where the result that tells it has failed: a service that is stopped and is to run has failed
+-- a condition, where the result that shows it has failed: a service that is stopped and is to run has failed
 abbrev pub worsened : Condition → Condition
 worsened Unknown = Unknown
 worsened _ = Failed
 
--- a condition, by whether the result that tells it has failed
+-- a condition, by whether the result that shows it has failed
 abbrev pub judged : Condition → Bool → Condition
 judged c has_failed = if has_failed then worsened c else c
 
--- how a resource is of which none of so many results tells anything: it never ran, unless there are so many that one may have been
--- pushed out
+-- how a resource is of which none of this many results shows anything: it never ran, unless there are enough that one may have
+-- been pushed out
 abbrev pub condition_untold : ℕ → Condition
 condition_untold n = if nat_lt n (kept_in First) then NeverRun else Unknown
 
--- how a resource is of which this is known, this failed last and so many results are kept
+-- how a resource is of which this is known, this failed last and this many results are kept
 abbrev pub condition_from : Option Known → Option Ended → ℕ → Condition
 condition_from (Some k) failed n = judged k.condition (failed_by k.run failed)
 condition_from None failed n = condition_untold n

@@ -1,4 +1,4 @@
--- The faults that end the program: their exit statuses, the words of their texts, and what can be done about them.
+-- The faults that end the program: their exit statuses, their texts, and what can be done about them.
 use Rattle.std.specs.Prelude.{ℕ, ⊤, Bool, IsTrue, List, Option, Some, None, Result, Ok, Err, codes}
 use Rattle.ocf_types.specs.declared.part.Part.{Part}
 use Rattle.ocf_types.specs.declared.part.Part.TheVariants.{A, B}
@@ -81,7 +81,8 @@ cause_word cause.Long = codes "long"
 cause_word cause.Event = codes "event"
 cause_word cause.Order = codes "order"
 
--- how a run and a show may end on a disk: well, or by a fault that is neither one of the words nor of the files of the journal and the log
+-- how a run and a show may end on a disk: well, or by a fault that is neither one of the arguments nor of the files of the
+-- journal and the log
 abbrev pub IsRunEnd : {T : Type 0} → Result T Fault → Type 0
 IsRunEnd (Ok done) = ⊤
 IsRunEnd (Err fault.Usage) = ⊥

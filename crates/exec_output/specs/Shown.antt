@@ -27,7 +27,7 @@ abbrev pub shown : State → List ℕ
 shown s = answer_line s question.List ++ flat_map (resource_lines s) (map (λ e. e.0) s.resources)
 
 -- what is written, by how it ended: all that the state holds that is found on these parts, or nothing where the pair is not
--- read; damage that is told is the one that is found
+-- read; damage that is reported is the one that is found
 abbrev pub ShowsAs : {T : Type 0} → Image → Option (List ℕ) → Option (List ℕ) → Result T Fault → Type 0
 ShowsAs reads old new (Ok done) = (s : State) × FoundAs s reads × Appends old new (shown s)
 ShowsAs reads old new (Err (fault.Damaged damage)) = IsFound reads (Damaged damage) × (new ≡ old)

@@ -1,4 +1,4 @@
--- What a status tells to a program: what show tells, and then a line of each resource, by keys.
+-- What a status shows to a program: what `show` prints, and then a line of each resource, by keys.
 use Rattle.std.specs.Prelude.{◌≡◌, ℕ, ⊤, true, false, List, [], ◌∷◌, ◌++◌, length, Option, Some, None, codes, Result, Ok, Err}
 use Rattle.std.specs.List.{flat_map}
 use Rattle.std.specs.Borrow.{Bor}
@@ -56,12 +56,12 @@ status_line e = compact_text (status_data e) ++ 10 ∷ []
 abbrev pub status_lines : Look → State → List ℕ
 status_lines look s = flat_map status_line (asked_entries look s.resources)
 
--- what show tells, of all resources or of the one that is asked for
+-- what `show` prints, of all resources or of the one that is asked for
 abbrev pub front_lines : State → Option (Bor (List ℕ)) → List ℕ
 front_lines s None = shown s
 front_lines s (Some id) = resource_lines s id.now
 
--- what is told to a program of a state: that, and then those lines
+-- what is shown to a program of a state: that, and then those lines
 abbrev pub told_lines : Look → State → List ℕ
 told_lines look s = front_lines s look.only ++ status_lines look s
 
@@ -91,7 +91,8 @@ IsLinesTold look s old new (Err fault.ReplyMemory) = ⊤
 IsLinesTold look s old new (Err fault.InputOrOutput) = ⊤
 IsLinesTold look s old new (Err _) = ⊥
 
--- the same of the state that is found on these parts, or nothing where the pair is not read; damage that is told is the one that is found
+-- the same of the state that is found on these parts, or nothing where the pair is not read; damage that is reported is the
+-- one that is found
 abbrev pub TellsLinesAs : {T : Type 0} → Image → Look → Option (List ℕ) → Option (List ℕ) → Result T Fault → Type 0
 TellsLinesAs reads look old new (Err (fault.Damaged damage)) = IsFound reads (Damaged damage) × (new ≡ old)
 TellsLinesAs reads look old new (Err fault.Disk) = new ≡ old

@@ -19,7 +19,7 @@ use Rattle.exec_output.specs.declared.fault.Fault.TheVariants as fault
 abbrev pub agent_text : Resource → List ℕ
 agent_text r = r.provider ++ 58 ∷ r.agent
 
--- how a resource is, as a look tells it
+-- how a resource is, as a look shows it
 abbrev pub state_text : Look → Resource → List ℕ
 state_text look r = condition_text look.moment look.colours r.history
 
@@ -35,7 +35,7 @@ asked_entries look es = filter (λ e. is_asked_for look e.0) es
 abbrev pub gap : ℕ → List ℕ
 gap n = replicate n 32 ++ codes "  "
 
--- a resource's row: its id, its agent and how it is, a gap behind each, and then what is told of it
+-- a resource's row: its id, its agent and how it is, a gap after each, and then what is shown of it
 abbrev pub IsRow : Look → List ℕ × Resource → List ℕ → Type 0
 IsRow look e row = (n : ℕ) × (m : ℕ) × (k : ℕ)
     × (row ≡ (((((e.0 ++ gap n) ++ agent_text e.1) ++ gap m) ++ state_text look e.1) ++ gap k) ++ told look e.1)
@@ -81,14 +81,14 @@ IsTableTold look s old new (Err fault.ReplyMemory) = new ≡ old
 IsTableTold look s old new (Err fault.InputOrOutput) = ⊤
 IsTableTold look s old new (Err _) = ⊥
 
--- what is told of a state, by how it ended: where its table is written, by whether a resource asks for a person
+-- what is shown of a state, by how it ended: where its table is written, by whether a resource needs attention
 abbrev pub IsToldAs : {T : Type 0} → Look → State → Option (List ℕ) → Option (List ℕ) → Result T Fault → Type 0
 IsToldAs look s old new (Ok done) = IsTableTold look s old new (Ok done) × (is_alarm look s ≡ false)
 IsToldAs look s old new (Err fault.NotWell) = IsTableTold {T = Unit {0}} look s old new (Ok tt) × (is_alarm look s ≡ true)
 IsToldAs {T} look s old new (Err f) = IsTableTold {T = T} look s old new (Err f)
 
--- what is written, by how it ended: what is told of the state that is found on these parts, or nothing where the pair is not
--- read; damage that is told is the one that is found
+-- what is written, by how it ended: what is shown of the state that is found on these parts, or nothing where the pair is
+-- not read; damage that is reported is the one that is found
 abbrev pub TellsAs : {T : Type 0} → Image → Look → Option (List ℕ) → Option (List ℕ) → Result T Fault → Type 0
 TellsAs reads look old new (Err (fault.Damaged damage)) = IsFound reads (Damaged damage) × (new ≡ old)
 TellsAs reads look old new (Err fault.Disk) = new ≡ old

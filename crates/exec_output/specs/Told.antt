@@ -1,4 +1,4 @@
--- What a table tells of a resource: what it does now, its last results, its monitors, what failed last and its history.
+-- What a table shows of a resource: what it does now, its last results, its monitors, what failed last and its history.
 use Rattle.std.specs.Prelude.{ℕ, ◌-◌, ◌==◌, Bool, ◌&&◌, not, if◌then◌else◌, List, [], ◌∷◌, ◌++◌, length, filter}
 use Rattle.std.specs.Prelude.{replicate, Option, Some, None, codes, decimal}
 use Rattle.std.specs.List.{flat_map, last_or}
@@ -33,7 +33,7 @@ now_text look h = running_text look.moment h.running ++ queued_text (length h.qu
 abbrev pub result_text : Look → Ended → List ℕ
 result_text look e = painted look.colours (tone_of e.outcome) (meaning e.action e.outcome) ++ codes ", " ++ ago_text look.moment e.at
 
--- a line's beginning: what it is of, set in, up to the column of what is told of it, and a space at least
+-- a line's beginning: what it is of, set in, up to the column of what is shown of it, and a space at least
 abbrev pub set_in : List ℕ → List ℕ
 set_in name = codes "\n  " ++ name ++ replicate (13 - length name) 32 ++ codes " "
 
@@ -48,7 +48,7 @@ is_run call e = (e.call == call) && not (e.interval == 0)
 abbrev pub last_of : (Ended → Bool) → List Ended → Option Ended
 last_of is es = last_or None (filter is es)
 
--- the actions, in the order in which they are told
+-- the actions, in the order in which they are shown
 abbrev pub told_actions : List Action
 told_actions =
     action.Monitor ∷ action.Start ∷ action.Promote ∷ action.Demote ∷ action.Stop ∷ action.ReloadAgent ∷ action.ValidateAll ∷ []
@@ -58,7 +58,7 @@ abbrev pub action_line : Look → List Ended → Action → List ℕ
 action_line look es what =
     option_map_or (λ e. set_in (action_word what) ++ result_text look e) (last_of (is_asked what) es) []
 
--- what is told of a recurring monitor: its last result, and when it is due again
+-- what is shown of a recurring monitor: its last result, and when it is due again
 abbrev pub monitor_text : Look → Recur → Option Ended → List ℕ
 monitor_text look m None = codes "no result yet"
 monitor_text look m (Some e) = result_text look e ++ codes "; " ++ due_text look.moment e.at m.interval
@@ -88,6 +88,6 @@ lines_text look r =
     flat_map (action_line look r.history.ended) told_actions ++ flat_map (monitor_line look r.history.ended) r.recurring
     ++ failure_line look r.history.failed ++ history_text look r.history.ended
 
--- all that is told of a resource behind its agent
+-- all that is shown of a resource after its agent
 abbrev pub told : Look → Resource → List ℕ
 told look r = now_text look r.history ++ lines_text look r ++ 10 ∷ []

@@ -1,4 +1,4 @@
-//! Whether a resource asks for a person.
+//! Whether a resource needs attention.
 ghost use Rattle.std.specs.Prelude.{◌≡◌, ◌<◌, ◌&&◌, length};
 ghost use Rattle.ocf_types.specs.Places.{at_place, id_at};
 ghost use Rattle.exec_output.specs.Conditions.{condition_of, is_bad};
@@ -9,7 +9,7 @@ use crate::look::Look;
 use exec_state::State;
 use ocf_types::StateView;
 
-// Whether a resource is asked for and asks for a person.
+// Whether a resource is asked for and needs attention.
 fn is_bad_at(look: &Look, state: &State, place: usize) -> bool
     requires { place < length state.now.state.resources }
     ensures { result
@@ -19,7 +19,7 @@ fn is_bad_at(look: &Look, state: &State, place: usize) -> bool
     look.asks_for(state.id_at(place)) && condition_of(state, place).is_bad()
 }
 
-// Whether one that is asked for asks for a person.
+// Whether one that is asked for needs attention.
 fn is_any_bad(look: &Look, state: &State) -> bool
     ensures { result ≡ is_any_bad look.now state.now.state }
 {
@@ -31,7 +31,7 @@ fn is_any_bad(look: &Look, state: &State) -> bool
     false
 }
 
-/// Whether a look is to end by a fault since one that it asks for asks for a person.
+/// Whether a look is to end by a fault since one that it asks for needs attention.
 pub fn is_alarm(look: &Look, state: &State) -> bool
     ensures { result ≡ is_alarm look.now state.now.state }
 {

@@ -12,7 +12,7 @@ use ocf_types::{Action, Ended, Layout, Moment, Outcome, RunEnd, StateView};
 /// How a resource is.
 #[derive(Clone, Copy, PartialEq, Eq)]
 pub enum Condition {
-    /// No result tells it, and none was pushed out of the history.
+    /// No result shows anything, and none was pushed out of the history.
     NeverRun,
     /// It runs.
     Started,
@@ -27,7 +27,7 @@ pub enum Condition {
 }
 
 impl Condition {
-    /// It in a word or two.
+    /// Its text, of a word or two.
     pub fn word(self) -> &'static str
         ensures { result.now ≡ condition_word self }
     {
@@ -52,14 +52,14 @@ impl Condition {
         }
     }
 
-    /// Whether it asks for a person.
+    /// Whether it needs attention.
     pub fn is_bad(self) -> bool
         ensures { result ≡ is_bad self }
     {
         matches!(self, Condition::Failed | Condition::Unknown)
     }
 
-    // It, where the result that tells it has failed.
+    // The condition, where the result that shows it has failed.
     fn worsened(self) -> Condition
         ensures { result ≡ worsened self }
     {
@@ -70,14 +70,14 @@ impl Condition {
     }
 }
 
-/// What the results tell of a resource, one behind the other.
+/// What the results show of a resource, one after the other.
 #[derive(Clone, Copy)]
 pub struct Known {
-    /// What the last one tells that tells anything.
+    /// What the last one shows that shows anything.
     pub condition: Condition,
-    /// When the first one ended from which on each that tells anything tells the same.
+    /// When the first one ended since which each that shows anything shows the same.
     pub since: Moment,
-    /// The run of the last one that tells anything.
+    /// The run of the last one that shows anything.
     pub run: u64,
 }
 
@@ -105,7 +105,7 @@ fn left_by(action: Action) -> Option<Condition>
     }
 }
 
-// What an action tells by its exit code.
+// What an action shows by its exit code.
 fn told_by_code(action: Action, code: Code) -> Option<Condition>
     ensures { result ≡ told_by_code action code }
 {
@@ -116,7 +116,7 @@ fn told_by_code(action: Action, code: Code) -> Option<Condition>
     }
 }
 
-// What a result tells.
+// What a result shows.
 fn told_by(action: Action, outcome: Outcome) -> Option<Condition>
     ensures { result ≡ told_by action outcome }
 {
@@ -130,7 +130,7 @@ fn told_by(action: Action, outcome: Outcome) -> Option<Condition>
     }
 }
 
-// Since when a condition is known that is told at this moment.
+// Since when a condition is known that is shown at this moment.
 fn since_in(known: Option<Known>, condition: Condition, at: Moment) -> Moment
     ensures { result ≡ since_in known condition at }
 {
@@ -144,7 +144,7 @@ fn since_in(known: Option<Known>, condition: Condition, at: Moment) -> Moment
     }
 }
 
-// What is known behind one result more.
+// What is known after one more result.
 fn after(known: Option<Known>, ended: &Ended) -> Option<Known>
     ensures { result ≡ after known ended.now }
 {
@@ -158,7 +158,7 @@ fn after(known: Option<Known>, ended: &Ended) -> Option<Known>
     }
 }
 
-/// What the results of a resource tell of it, and none where no result tells anything.
+/// What the results of a resource show of it, and none where no result shows anything.
 pub fn known_of(state: &State, place: usize) -> Option<Known>
     requires { place < length state.now.state.resources }
     ensures { result ≡ known_of (at_place state.now.state place).history.ended }
@@ -180,7 +180,7 @@ fn failed_by(run: u64, failed: Option<Ended>) -> bool
     }
 }
 
-// A condition, by whether the result that tells it has failed.
+// A condition, by whether the result that shows it has failed.
 fn judged(condition: Condition, has_failed: bool) -> Condition
     ensures { result ≡ judged condition has_failed }
 {
@@ -191,7 +191,7 @@ fn judged(condition: Condition, has_failed: bool) -> Condition
     }
 }
 
-// How a resource is of which none of so many results tells anything.
+// How a resource is of which none of this many results shows anything.
 fn condition_untold(results: usize) -> Condition
     ensures { result ≡ condition_untold results }
 {
@@ -202,7 +202,7 @@ fn condition_untold(results: usize) -> Condition
     }
 }
 
-// How a resource is of which this is known, this failed last and so many results are kept.
+// How a resource is of which this is known, this failed last and this many results are kept.
 fn condition_from(known: Option<Known>, failed: Option<Ended>, results: usize) -> Condition
     ensures { result ≡ condition_from known failed results }
 {

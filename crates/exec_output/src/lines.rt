@@ -1,4 +1,4 @@
-//! What stands below a resource's row: its last results, its monitors, what failed last and its history, a line each.
+//! The lines below a resource's row: its last results, its monitors, what failed last and its history.
 ghost use Rattle.std.specs.Prelude.{◌≡◌, ◌<◌, ◌-◌, ◌++◌, length, replicate, OnOk, IsTrue, OnErr};
 ghost use Rattle.std.specs.List.{flat_map};
 ghost use Rattle.ocf_types.specs.Places.{at_place};
@@ -15,10 +15,10 @@ use growth::{Grows, append, vec_of};
 use ocf_types::{Action, CallId, Ended, Recur, StateView};
 use std::alloc::{AllocError, Global};
 
-// The columns of what a line is of: those of the longest action, and one more. Behind them stands a space.
+// The columns of what a line is of: those of the longest action, and one more. A space follows them.
 const COLUMNS: usize = 13;
 
-/// Adds spaces up to a column, behind so many bytes that stand before it.
+/// Adds spaces up to a column, after this many bytes.
 pub fn pad(text: &mut Vec<u8>, taken: usize, columns: usize) -> Result<(), AllocError>
     ensures text { OnOk result (text.new.items ≡ text.old.items ++ replicate (columns - taken) 32) }
     ensures memory { OnErr result (IsTrue ⟦<Global as Grows>⟧.refuses) }
@@ -169,7 +169,7 @@ fn add_actions(
     add_action(text, look, state, place, Action::ValidateAll)
 }
 
-// What is told of a recurring monitor: its last result, and when it is due again.
+// What is shown of a recurring monitor: its last result, and when it is due again.
 fn add_last(
     text: &mut Vec<u8>,
     look: &Look,
@@ -301,7 +301,7 @@ fn add_history(
     }
 }
 
-/// Adds the lines below the row of a resource, each behind a newline.
+/// Adds the lines below the row of a resource, each after a newline.
 pub fn add_lines(
     alloc: Global,
     text: &mut Vec<u8>,

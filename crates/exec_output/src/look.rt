@@ -9,7 +9,7 @@ use ocf_types::{Moment, RscId};
 pub struct Look<'a> {
     /// The moment from which ages are counted.
     pub moment: Moment,
-    /// The id of the one resource that is asked for, whose history is told, too; none for all resources.
+    /// The id of the one resource that is asked for, whose history is shown, too; none for all resources.
     pub only: Option<&'a str>,
     /// Whether results are in colour, by the codes of terminals. ECMA-48, SGR.
     pub colours: bool,

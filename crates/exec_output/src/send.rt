@@ -13,7 +13,7 @@ use ocf_types::{Notice, Reply};
 use std::alloc::{AllocError, Global};
 use std::io::{self, Write};
 
-/// Why a run stops before its input ends.
+/// Why a run ends before its input does.
 #[derive(Drop)]
 pub enum IoFault {
     /// Standard input or output failed, or nobody reads what is written.
@@ -38,8 +38,8 @@ impl From<AllocError> for IoFault {
     }
 }
 
-// Writes a line that was made, and flushes it. After an error of the writer a front of it is written. Where memory for it was
-// refused nothing is written.
+// Writes a line that was made, and flushes it. After an error of the writer a prefix of it is written. Where memory for it
+// was refused nothing is written.
 fn send_line<W: Write>(writer: &mut W, line: Result<Vec<u8>, AllocError>) -> Result<(), IoFault>
     ensures sent { IfOk line
         (λ bytes. OnOk result
@@ -55,7 +55,7 @@ fn send_line<W: Write>(writer: &mut W, line: Result<Vec<u8>, AllocError>) -> Res
     Ok(())
 }
 
-/// Writes a reply's line, and flushes it. After an error a front of it is written.
+/// Writes a reply's line, and flushes it. After an error a prefix of it is written.
 pub fn send_reply<W: Write>(alloc: Global, writer: &mut W, reply: &LineReply) -> Result<(), IoFault>
     ensures sent { OnOk result
         (Appends (W.contents writer.old) (W.contents writer.new) (reply_line reply.now)) }
@@ -95,7 +95,7 @@ fn put_replies<W: Write>(alloc: Global, writer: &mut W, replies: &[Reply]) -> Re
     Ok(())
 }
 
-/// Writes replies to requests, a line each, and flushes them together. After an error a front of the lines is written.
+/// Writes replies to requests, a line each, and flushes them together. After an error a prefix of the lines is written.
 pub fn send_replies<W: Write>(
     alloc: Global,
     writer: &mut W,
@@ -115,7 +115,7 @@ pub fn send_replies<W: Write>(
 }
 
 /// Writes the line of a notice in this form, of an action whose agent this signal ended, if one did, and flushes it. After an error
-/// a front of it is written.
+/// a prefix of it is written.
 pub fn send_notice<W: Write>(
     alloc: Global,
     writer: &mut W,
@@ -134,8 +134,8 @@ pub fn send_notice<W: Write>(
     send_line(writer, write_notice(alloc, form, notice, signal))
 }
 
-/// Writes notices in this form, none of them with a signal, a line each, and flushes each line. After an error a front of the lines
-/// is written.
+/// Writes notices in this form, none of them with a signal, a line each, and flushes each line. After an error a prefix of the
+/// lines is written.
 pub fn send_notices<W: Write>(
     alloc: Global,
     writer: &mut W,

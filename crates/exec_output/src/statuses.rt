@@ -18,7 +18,7 @@ use growth::Grows;
 use std::alloc::{AllocError, Global};
 use std::io::Write;
 
-// Writes a table that was made, or tells why there is none: want of memory as that, and output that fails as that.
+// Writes a table that was made, or says why there is none: want of memory, or output that fails.
 fn write_made<W: Write>(
     writer: &mut W,
     made: Result<Option<Vec<u8>>, AllocError>,
@@ -56,7 +56,7 @@ fn write_table<W: Write>(
     write_made(writer, table_of(alloc, look, state))
 }
 
-// Writes the table of a state, and tells where a resource asks for a person.
+// Writes the table of a state, and says whether a resource needs attention.
 #[tactic(auto, using(crate::proofs::AlarmLemmas::untold))]
 fn tell<W: Write>(alloc: Global, writer: &mut W, look: &Look, state: &State) -> Result<(), Fault>
     ensures told { IsToldAs look.now state.now.state (W.contents writer.old)

@@ -15,7 +15,7 @@ use std::alloc::{AllocError, Global};
 use std::str::from_utf8;
 use unicode_width::UnicodeWidthStr;
 
-// How wide the columns of a table are, without the gap behind them.
+// How wide the columns of a table are, without the gap after them.
 #[derive(Clone, Copy)]
 struct Columns {
     id: usize,
@@ -78,7 +78,7 @@ fn columns_of(alloc: Global, look: &Look, state: &State) -> Result<Columns, Allo
     })
 }
 
-// The gap behind what stands in a column.
+// The gap after the text of a column.
 fn add_gap(text: &mut Vec<u8>, taken: usize, column: usize) -> Result<(), AllocError>
     ensures text { OnOk result (text.new.items ≡ text.old.items ++ gap (column - taken)) }
     ensures memory { OnErr result (IsTrue ⟦<Global as Grows>⟧.refuses) }
@@ -115,7 +115,7 @@ fn add_queued(text: &mut Vec<u8>, queued: usize) -> Result<(), AllocError>
     add(text, " queued")
 }
 
-// What stands behind the agent in a row, and the lines below it.
+// What follows the agent in a row, and the lines below it.
 fn add_told(
     alloc: Global,
     text: &mut Vec<u8>,

@@ -64,7 +64,7 @@ fn write_front<W: Write>(
     }
 }
 
-// Writes that and a line of each resource, and tells where one asks for a person.
+// Writes that and a line of each resource, and says whether one needs attention.
 #[tactic(auto, using(crate::proofs::StatusLineLemmas::unwritten))]
 fn tell_lines<W: Write>(
     alloc: Global,

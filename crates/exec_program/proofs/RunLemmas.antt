@@ -13,7 +13,7 @@ use Rattle.exec_session.specs.Rules.{Rules}
 use Rattle.exec_session.specs.Spots.{at_of}
 use Rattle.exec_trace.specs.Edges.{EdgeView}
 
--- an edge of which nothing was asked yet, and what a client has heard, by its parts
+-- an edge of which nothing was asked yet, and what a client has received, by its parts
 abbrev pub edge_with : {D : Type 0} → Option (List ℕ) → Heard D → EdgeView D
 edge_with left heard = record { left = left; heard = heard; events = [] }
 

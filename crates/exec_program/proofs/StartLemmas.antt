@@ -24,7 +24,7 @@ use Rattle.exec_session.specs.Ends.{Ended, EndsAs}
 use Rattle.journal_folder.specs.Ends.{IsFolderEnd}
 use Rattle.exec_program.specs.Starts.{EndsFor, IsEndOf, IsToldAs, StartEndsFor, opening_fault, with_status}
 
--- a run does not end by its words
+-- a run does not end by its arguments
 ends : {D N T : Type 0} (look : D → View) (source : Source) (rules : Rules) (report : Report N)
     (p q : Position D) (r : Result T Fault)
     → EndsAs look source rules report p q r → IsRunEnd r
@@ -54,7 +54,7 @@ pub run_ends : {D C N : Type 0} (look : D → View) (tend : C → ChildrenView) 
 run_ends look tend source rules report p edge ended disk children ends_so =
     ends look source rules report p (position (spot ends_so.last edge.heard edge.events) edge.left) ended ends_so.ends
 
--- a run that nobody reads the report of does not end by its words, and neither does one whose end is that of a run
+-- a run whose report nobody reads does not end by its arguments, and neither does one whose end is that of a run
 pub unheard_ends : (T : Type 0) (f : Fault) → f ≡ fault.InputOrOutput → IsRunEnd {T = T} (Err f)
 unheard_ends T f is = subst (λ x. IsRunEnd {T = T} (Err x)) (sym is) tt
 
@@ -73,7 +73,7 @@ pub opening_ends : {T : Type 0} (why : OpenError) (f : Fault) (r : Result T Faul
 opening_ends {T} why f r is same =
     subst IsRunEnd (sym same) (subst (λ (x : Fault). IsRunEnd {T = T} (Err x)) (sym is) (opening_end T why))
 
--- words that give no options
+-- arguments that give no options
 pub refused_ends : {T : Type 0} (named : Option (List ℕ)) (words : List (List ℕ)) (f : WordsFault) (r : Result T Fault) → IsFault named words f → IsToldAs f r
     → EndsFor named words r
 refused_ends named words (words_fault.Help text) (Ok done) is told = inl (text, is)
@@ -87,7 +87,7 @@ refused_ends named words words_fault.Since r is told = subst (λ x. EndsFor name
 refused_ends named words words_fault.Timeout r is told = subst (λ x. EndsFor named words x) (sym told) (inr (inr is))
 refused_ends named words words_fault.Memory r is told = subst (λ x. EndsFor named words x) (sym told) tt
 
--- words that ask for a journal
+-- arguments that ask for a journal
 pub journal_ends : {T : Type 0} (named : Option (List ℕ)) (words : List (List ℕ)) (o : Options) (r : Result T Fault) → Gives named words o → IsRunEnd r → EndsFor named words r
 journal_ends named words o (Ok done) gives ends = inr (o, gives)
 journal_ends named words o (Err fault.Usage) gives ends = absurd ends
@@ -109,21 +109,22 @@ journal_ends named words o (Err fault.InputOrOutput) gives ends = inr (o, gives)
 journal_ends named words o (Err fault.ReplyMemory) gives ends = (o, gives)
 journal_ends named words o (Err fault.ChildrenIgnored) gives ends = (o, gives)
 
--- words that ask for a journal in the files of a folder
+-- arguments that ask for a journal in the files of a directory
 pub folder_ends : {T : Type 0} (named : Option (List ℕ)) (words : List (List ℕ)) (o : Options) (r : Result T Fault) → Gives named words o
     → is_some (folder_of o.journal) ≡ true → IsFolderEnd r → EndsFor named words r
 folder_ends named words o r gives is_in =
     ⊎_elim (journal_ends named words o r gives)
     (⊎_elim (λ is. subst (λ x. EndsFor named words x) (sym is) (o, gives, is_in)) (λ is. subst (λ x. EndsFor named words x) (sym is) (o, gives, is_in)))
 
--- words that ask for what ends so
+-- arguments that ask for what ends so
 pub options_end : {T : Type 0} (home : Option (List ℕ)) (words : List (List ℕ)) (o : Options) (r : Result T Fault) → Gives home words o
     → IsEndOf o r → EndsFor home words r
 options_end {T} home words o r gives =
     ⊎_elim (journal_ends home words o r gives)
     (⊎_elim (λ is. subst (λ x. EndsFor home words x) (sym is.0) (o, gives, is.1)) (λ is. folder_ends home words o r gives is.0 is.1))
 
--- why a program ends as it does that is given these words: they ask for a journal, for an action that is run once, or for nothing
+-- why a program ends as it does that is given these arguments: they ask for a journal, for an action that is run once, or for
+-- nothing
 pub starts_journal : (home : Option (List ℕ)) (words : List (List ℕ)) (o : Options) (r : Result (Unit {0}) Fault) (ended : Result ℕ Fault)
     → Gives home words o → IsEndOf o r → ended ≡ with_status r → StartEndsFor home words ended
 starts_journal home words o r ended gives ends is = inr (r, is, options_end home words o r gives ends)
@@ -136,7 +137,7 @@ pub starts_nothing : (home : Option (List ℕ)) (words : List (List ℕ)) (f : W
     → IsFault home words f → IsToldAs f r → ended ≡ with_status r → StartEndsFor home words ended
 starts_nothing home words f r ended is told same = inr (r, same, refused_ends home words f r is told)
 
--- the same where it is known what the words ask for
+-- the same where it is known what the arguments ask for
 pub starts_asked_journal : (home : Option (List ℕ)) (words : List (List ℕ)) (w : Wanted) (o : Options) (r : Result (Unit {0}) Fault)
     (ended : Result ℕ Fault) → AsksFor home words w → w ≡ wanted.Journal o → IsEndOf o r → ended ≡ with_status r
     → StartEndsFor home words ended

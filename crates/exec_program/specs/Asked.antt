@@ -25,10 +25,10 @@ pub record Asked (Files Log Agents Source Reader Writer Watch : Type 0) : Type 1
   pub moment : ℕ → Type 0
   -- whether SIGCHLD is ignored. POSIX, sigaction
   pub ignored : Bool → Type 0
-  -- the wait for what is left of a state's actions: of the journal of a directory, for so long, leaving it alive or not, at a site; what
-  -- lives on, or that nobody hears of it
+  -- the wait for what is left of a state's actions: of the journal of a directory, for so long, leaving it alive or not, at
+  -- a site; what lives on, or that nobody reads of it
   pub orphans : List ℕ → ℕ → Bool → SiteView → State → Option (List Left) → Type 0
-  -- word of the executor in a directory
+  -- the record of an executor in a directory
   pub word : List ℕ → Type 0
   -- the paths of the journal of a directory, and that they lead elsewhere
   pub watch : Option (List ℕ) → Watch → Type 0
@@ -40,6 +40,6 @@ pub record Asked (Files Log Agents Source Reader Writer Watch : Type 0) : Type 1
   pub once : OnceOptions → ℕ → Type 0
   pub printed : Error → Type 0
 
--- agents of which none was started, with a book of so many answers, at any site
+-- agents of which none was started, with a book of this many answers, at any site
 abbrev pub fresh_agents : ℕ → ChildrenView
 fresh_agents book = record { book = []; log = []; room = book; last_run = 0; live = []; site = None }

@@ -53,14 +53,14 @@ DoesAs asked tend gives left contents look o subcommand.Run ended = RunsFor aske
 DoesAs asked tend gives left contents look o subcommand.Serve ended = RunsFor asked tend gives left contents look o ended
 DoesAs asked tend gives left contents look o _ ended = Looks asked o o.journal ended
 
--- the text is printed that words are answered with which give no options, where there is one
+-- the text is printed that answers arguments which give no options, where there is one
 abbrev pub Prints : {F L A S R W H : Type 0} → Asked F L A S R W H → WordsFault → Type 0
 Prints asked (words_fault.Help text) = asked.printed text
 Prints asked (words_fault.Usage text) = asked.printed text
 Prints asked _ = ⊤
 
--- The program does what its words ask for, where the environment names this directory for a journal, and ends so: with a journal; by an
--- action that is run once, whose status is its own; or with a text or a fault, where they give no options.
+-- The program does what its arguments ask for, where the environment names this directory for a journal, and ends so: with
+-- a journal; by an action that is run once, whose status is its own; or with a text or a fault, where they give no options.
 abbrev pub Does : {F L A S R W H : Type 0} → Asked F L A S R W H → (A → ChildrenView) → (S → Source)
     → (R → Option (List ℕ)) → (W → Option (List ℕ)) → (F → View) → Option (List ℕ) → List (List ℕ) → Result ℕ Fault → Type 0
 Does asked tend gives left contents look named words ended =

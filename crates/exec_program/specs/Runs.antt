@@ -47,7 +47,7 @@ abbrev pub named_in : NoticeForm → Option (List Left)
 named_in Short = None
 named_in (Timed left) = Some left.now
 
--- a client that is served is told which processes live on
+-- a client that is served is sent which processes live on
 abbrev pub told_of : Way → List Left → Option (List Left)
 told_of way.Run left = None
 told_of way.Serve left = Some left
@@ -59,7 +59,7 @@ pub record IsHeldTo (o : Options) (left : List Left) (rules : Rules) : Type 0 wh
   pub most_turns : rules.most_turns ≡ most_turns
   pub tidy_at : rules.tidy_at ≡ o.tidy_at
 
--- word is left of the executor of a journal in a directory
+-- the executor of a journal is recorded in a directory
 abbrev pub LeavesWord : {F L A S R W H : Type 0} → Asked F L A S R W H → JournalPlace → Type 0
 LeavesWord asked (Folder folder) = asked.word folder.now
 LeavesWord asked Memory = ⊤
@@ -74,8 +74,8 @@ EndsBy asked o watch ran ended =
     (ended ≡ ran)
     ⊎ ((ran ≡ Err fault.InputOrOutput) × (ended ≡ Err fault.Disk) × (is_some (served_folder o) ≡ true) × asked.moved watch × asked.line disk_line)
 
--- what a run stands on before its executor is opened: its agents, which write to this log, with a book as a turn wants; the wait for what
--- is left, over which its disk comes from one state to another; and the moment of the opening
+-- what a run is given before its executor is opened: its agents, which write to this log, with a book as a turn wants; the
+-- wait for what is left, over which its disk comes from one state to another; and the moment of the opening
 pub record Stands {F L A S R W H D : Type 0} (asked : Asked F L A S R W H) (tend : A → ChildrenView) (look : D → View) (o : Options)
     (log : L) (old new : D) (agents : A) (left : List Left) (now : ℕ) : Type 0 where
   pub logs : asked.agents log agents
@@ -83,8 +83,8 @@ pub record Stands {F L A S R W H D : Type 0} (asked : Asked F L A S R W H) (tend
   pub waited : WaitsFor asked look o old new left o.journal
   pub shown : asked.moment now
 
--- An executor was opened over this disk, at the site that the options name, and the run that was begun then ended so: its report is that
--- of the opening, and the first that standard output was told (`Ended`: `Runs`).
+-- An executor was opened over this disk, at the site that the options name, and the run that was begun then ended so: its
+-- report is that of the opening, and the first that standard output was sent (`Ended`: `Runs`).
 pub record Runs {F L A S R W H D : Type 0} (asked : Asked F L A S R W H) (tend : A → ChildrenView) (gives : S → Source)
     (left : R → Option (List ℕ)) (contents : W → Option (List ℕ)) (look : D → View) (o : Options) (log : L) (begun : D)
     (ended : Result Unit Fault) : Type 0 where
@@ -132,7 +132,7 @@ pub record RunsNot {F L A S R W H D : Type 0} (asked : Asked F L A S R W H) (ten
   pub ends : ended ≡ Err (opening_fault why)
 
 -- How the program ends over a disk: by a run; since no executor was opened; since there was no memory before its disk was asked for
--- anything; or since nobody hears what is left of interrupted actions.
+-- anything; or since nobody reads what is left of interrupted actions.
 abbrev pub RunsOn : {F L A S R W H D : Type 0} → Asked F L A S R W H → (A → ChildrenView) → (S → Source)
     → (R → Option (List ℕ)) → (W → Option (List ℕ)) → (D → View) → Options → L → D → Result Unit Fault → Type 0
 RunsOn asked tend gives left contents look o log begun ended =

@@ -1,4 +1,4 @@
--- From the words to a run.
+-- From the arguments to a run.
 use Rattle.std.specs.Prelude.{◌≡◌, ◌⊎◌, ◌||◌, ℕ, ⊤, true, List, Option, is_some, option_map, Result, Ok, Err}
 use Rattle.ocf_env.specs.Places.{SiteView}
 use Rattle.exec_options.specs.Faults.{AsksForText, IsFault, IsMisused}
@@ -39,7 +39,7 @@ opening_fault opening.Memory = fault.Memory
 opening_fault opening.Foreign = fault.Disk
 opening_fault opening.Full = fault.Full
 
--- how words end that give no options: a text that was asked for is written, or output fails
+-- how arguments end that give no options: a text that was asked for is written, or output fails
 abbrev pub IsToldAs : {T : Type 0} → WordsFault → Result T Fault → Type 0
 IsToldAs (words_fault.Help text) (Ok done) = ⊤
 IsToldAs (words_fault.Help text) (Err f) = f ≡ fault.InputOrOutput
@@ -52,15 +52,15 @@ IsToldAs words_fault.Since ended = ended ≡ Err fault.Usage
 IsToldAs words_fault.Timeout ended = ended ≡ Err fault.Usage
 IsToldAs words_fault.Memory ended = ended ≡ Err fault.Memory
 
--- the words ask to run or to show a journal, where the environment names this directory
+-- the arguments ask to run or to show a journal, where the environment names this directory
 abbrev pub AsksForJournal : Option (List ℕ) → List (List ℕ) → Type 0
 AsksForJournal named words = (o : Options) × Gives named words o
 
--- the words ask for a journal in the files of a directory
+-- the arguments ask for a journal in the files of a directory
 abbrev pub IsInFolder : Option (List ℕ) → List (List ℕ) → Type 0
 IsInFolder named words = (o : Options) × Gives named words o × (is_some (folder_of o.journal) ≡ true)
 
--- the words name a file or a directory for what agents write
+-- the arguments name a file or a directory for what agents write
 abbrev pub AsksForLog : Option (List ℕ) → List (List ℕ) → Type 0
 AsksForLog named words = (o : Options) × Gives named words o × ((is_some o.log || is_some o.logs) ≡ true)
 
@@ -71,7 +71,7 @@ IsEndOf o ended =
     IsRunEnd ended
     ⊎ (((ended ≡ Err fault.Log) × ((is_some o.log || is_some o.logs) ≡ true)) ⊎ ((is_some (folder_of o.journal) ≡ true) × IsFolderEnd ended))
 
--- why a program ends so whose words ask for a journal, or for nothing
+-- why a program ends so whose arguments ask for a journal, or for nothing
 abbrev pub EndsFor : {T : Type 0} → Option (List ℕ) → List (List ℕ) → Result T Fault → Type 0
 EndsFor named words (Ok done) = AsksForText named words ⊎ AsksForJournal named words
 EndsFor named words (Err fault.Usage) = IsMisused named words
@@ -87,7 +87,7 @@ EndsFor named words (Err fault.NoJournal) = IsInFolder named words
 EndsFor named words (Err fault.InputOrOutput) = AsksForText named words ⊎ AsksForJournal named words
 EndsFor named words (Err _) = AsksForJournal named words
 
--- why a program that is given these words ends so: an action that is run once ends with a status of its own
+-- why a program that is given these arguments ends so: an action that is run once ends with a status of its own
 abbrev pub StartEndsFor : Option (List ℕ) → List (List ℕ) → Result ℕ Fault → Type 0
 StartEndsFor named words ended =
     ((o : OnceOptions) × GivesOnce words o) ⊎ ((r : Result (Unit {0}) Fault) × (ended ≡ with_status r) × EndsFor named words r)

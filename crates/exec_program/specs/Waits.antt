@@ -12,8 +12,8 @@ use Rattle.exec_options.specs.declared.options.Options.{Options}
 use Rattle.exec_program.specs.Asked.{Asked}
 use Rattle.exec_program.specs.Starts.{site_of}
 
--- The journal of a directory was read, from one view of its disk to another, and what is left of the actions that run at its state was
--- waited for, as the options say: this lives on, or nobody hears of it.
+-- The journal of a directory was read, from one view of its disk to another, and what is left of the actions that run at
+-- its state was waited for, as the options say: this lives on, or nobody reads of it.
 pub record WaitsAt {F L A S R W H : Type 0} (asked : Asked F L A S R W H) (o : Options) (folder : List ℕ) (old new : View)
     (left : Option (List Left)) : Type 0 where
   pub place : Place
@@ -31,7 +31,7 @@ abbrev pub WaitsFor : {F L A S R W H D : Type 0} → Asked F L A S R W H → (D 
 WaitsFor asked look o old new left (Folder folder) = WaitsIn asked o folder.now (look old) (look new) left
 WaitsFor asked look o old new left Memory = (new ≡ old) × (left ≡ [])
 
--- it was waited for what is left in a directory, over this disk, and nobody hears of it
+-- it was waited for what is left in a directory, over this disk, and nobody reads of it
 abbrev pub IsUnheard : {F L A S R W H D : Type 0} → Asked F L A S R W H → (D → View) → Options → D → JournalPlace → Type 0
 IsUnheard {D = D} asked look o old (Folder folder) = (disk : D) × WaitsAt asked o folder.now (look old) (look disk) None
 IsUnheard asked look o old Memory = ⊥

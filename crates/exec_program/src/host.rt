@@ -81,7 +81,7 @@ pub trait Host {
         ensures fault { IfErr result
             (λ f. (f ≡ Fault.Log) × ((is_some log.entry || is_some logs.entry) ≡ true)) };
 
-    /// Agents, none yet, that write there, with a book of so many answers.
+    /// Agents, none yet, that write there, with a book of this many answers.
     fn agents(&self, log: Self::Log, book: usize) -> Result<Self::Agents, AllocError>
         ensures agents { IfOk result ((asked self.now).agents log) }
         ensures fresh { IfOk result (λ a. Self.Agents.view a ≡ fresh_agents book) };
@@ -127,7 +127,7 @@ pub trait Host {
         ensures { (asked self.now).orphans wait.entry.folder.now wait.entry.limit wait.entry.leave site.now
             state.now.state (option_map (λ v. v.items) result) };
 
-    /// Leaves word in this directory of the executor whose clock shows this moment.
+    /// Records in this directory the executor whose clock shows this moment.
     fn leave_word(&self, folder: &str, moment: u64)
         ensures { (asked self.now).word folder.now };
 
@@ -153,7 +153,7 @@ pub trait Host {
         ensures shown { (asked self.now).shown options.entry None result }
         ensures ends { IsRunEnd result };
 
-    /// Runs an action once; the exit status that tells how it ended.
+    /// Runs an action once; the exit status that says how it ended.
     fn once(&self, options: &OnceOptions<'_>) -> u8
         ensures { (asked self.now).once options.now result };
 
@@ -173,6 +173,6 @@ pub trait Host {
     /// Says that the journal's device failed, and what it answered.
     fn tell_device(&self, options: Options, met: Option<FileError>);
 
-    /// Says why a run stopped before its input ended, where standard input or output failed.
+    /// Says why a run ended before its input did, where standard input or output failed.
     fn tell_run(&self, ended: Result<(), Fault>);
 }

@@ -35,7 +35,7 @@ pub fn served_folder<'a>(options: Options<'a>) -> Option<&'a str>
     }
 }
 
-// What a notice tells: a client that is served need not ask when an action began and ended, and which process lives on of it.
+// What a notice says: a client that is served need not ask when an action began and ended, and which process lives on of it.
 fn form_of(way: Way, left: &[Left]) -> NoticeForm<'_>
     ensures { named_in result ≡ told_of way left.now }
 {
@@ -45,7 +45,7 @@ fn form_of(way: Way, left: &[Left]) -> NoticeForm<'_>
     }
 }
 
-/// What a run is given beside its executor and its edge, where these processes live on.
+/// What a run is given besides its executor and its edge, where these processes live on.
 pub fn context_of<'a, M>(
     alloc: Global,
     options: Options,

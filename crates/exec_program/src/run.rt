@@ -44,7 +44,7 @@ fn prepared<H: Host>(
     Ok((agents, own, site, room))
 }
 
-// Leaves word of this executor beside its journal, if that is in files, with the moment that its clock shows.
+// Records this executor beside its journal, if that is in files, with the moment that its clock shows.
 fn leave_own_word<H: Host>(host: &H, options: Options, clock: &impl Clock)
     ensures { LeavesWord (H.asked host.now) options.entry.journal }
 {

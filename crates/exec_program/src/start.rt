@@ -1,4 +1,4 @@
-//! From the words to a run.
+//! From the arguments to a run.
 ghost use Rattle.std.specs.Prelude.{◌≡◌, map, option_map, string_bytes};
 ghost use Rattle.exec_program.specs.Program.{Does, DoesAs, Looks, Prints, RunsFor};
 ghost use Rattle.exec_program.specs.Starts.{IsEndOf, IsToldAs, StartEndsFor, with_status};
@@ -20,7 +20,7 @@ fn with_status(ended: Result<(), Fault>) -> Result<u8, Fault>
     }
 }
 
-// What words end with that give no options. A text that was asked for is printed, and so is that of a usage fault.
+// How the program ends where its arguments give no options. A text that was asked for is printed, and so is that of a usage fault.
 fn refuse<H: Host>(host: &H, fault: &WordsFault) -> Result<(), Fault>
     ensures told { IsToldAs fault.now result }
     ensures prints { Prints (H.asked host.now) fault.now }
@@ -55,8 +55,8 @@ fn refuse<H: Host>(host: &H, fault: &WordsFault) -> Result<(), Fault>
     }
 }
 
-/// Does what these words ask for, the program's name first, where the environment names this directory for a journal; the exit
-/// status that it ends with.
+/// Does what these arguments ask for, the program's name first, where the environment names this directory for a journal; the
+/// exit status that it ends with.
 #[tactic(auto, using(crate::proofs::StartLemmas::starts_journal, crate::proofs::StartLemmas::starts_once, crate::proofs::StartLemmas::starts_nothing))]
 pub fn program<H: Host>(host: &H, named: Option<&str>, words: &[String]) -> Result<u8, Fault>
     ensures ends { StartEndsFor (option_map (λ s. s.now) named.entry) (map string_bytes words.now) result }

@@ -67,7 +67,7 @@ module _ {D : Type 0} (look : D → View) (source : Source) (rules : Rules) wher
           closes = closes;
         }) tells
 
-  -- the reply of a tell that was made, or broke off
+  -- the reply of a send that was made, or broke off
   pub answers_by : {T E : Type 0} (r : Result T E) (found : Result Line Refusal) (reply : LineReply) (p noticed q : Spot D)
       → ((tells_so : Telling D) → tells_so noticed q (Answered reply ∷ []) → AnswersSo tells_so look source rules found p q)
       → OnOk r (Tells rules.form noticed q (Answered reply ∷ [])) → OnOk r (Answers look source rules found p q)

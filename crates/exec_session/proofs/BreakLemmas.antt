@@ -21,7 +21,7 @@ ends_err look source rules p q (Ok x) bad breaks = let none : ⊥ = cc in absurd
 ends_err look source rules p q (Err e) bad breaks = breaks
 
 module _ {D : Type 0} (look : D → View) (source : Source) (rules : Rules) (p q : Position D) (m : Spot D) where
-  -- that a disk fault ends the run was told, or broke off
+  -- that a disk fault ends the run was sent, or its sending broke off
   pub fault_told : (r : Result Unit IoFault) → ReachesFault look source rules p m → OnOk r (Tells rules.form m q.at (ended Disk ∷ []))
       → OnErr r (TellsPart rules.form m q.at (ended Disk ∷ [])) → OnErr r (MayBreakOff q.at.events)
       → EndsOrBreaks look source rules p q r

@@ -16,7 +16,7 @@ use Rattle.exec_session.specs.Spots.{MayBreakOff, Pauses, Position, Spot, noted}
 use Rattle.exec_session.specs.declared.drain.Terms.{Terms}
 use Rattle.exec_session.proofs.EventLemmas.{longer, shown_last, unasked}
 
--- it does so behind a turn that is done
+-- it does so after a turn that is done
 done : (t : Terms) (turns now : ℕ) (end : TurnEnd) (idle : Bool) → end_behind t turns now end idle ≡ None → end ≡ turn_end.Done
 done t turns now turn_end.Done idle e = refl
 done t turns now turn_end.Closed idle e = absurd cc
@@ -42,7 +42,7 @@ closes {D} look rules now p q end made = by made.middle.is_open refl
     by true is_open = (made.takes is_open).closes
     by false closed = let fails = made.fails closed in (λ _. fails.0, λ _. ap (λ (s : Spot D). s.executor.is_open) fails.1 ∙ closed)
 
--- what was told of its end, of an executor that was asked whether it is idle
+-- what was sent of its end, of an executor that was asked whether it is idle
 pub told_end : (t : Terms) (turns now : ℕ) (end : TurnEnd) (idle asked : Bool) (told given : Option DrainEnd)
     → told ≡ end_behind t turns now end asked → asked ≡ idle → told ≡ given → end_behind t turns now end idle ≡ given
 told_end t turns now end idle asked told given is was same = ap (λ b. end_behind t turns now end b) (sym was) ∙ sym is ∙ same
@@ -60,7 +60,7 @@ module _ {D : Type 0} where
   pub at_moment : (since now now' : ℕ) (heard : Bool) (p q : Spot D) → now ≡ now' → Pauses since now heard p q → Pauses since now' heard p q
   at_moment since now now' heard p q same paused = subst (λ (n : ℕ). Pauses since n heard p q) same paused
 
-  -- a pause, somebody hears still, and a reading
+  -- a pause, somebody still reads, and a reading of the clock
   pub rests : (start since now : ℕ) (told : Spot D) (mid q : Position D) (heard : Bool) (after : ℕ) → start ≤ since → heard ≡ true
       → Pauses since now heard told mid.at → q ≡ noted mid (Shown after) → Rests start now told q.at after
   rests start since now told mid q heard after le hears paused is = (
@@ -85,7 +85,7 @@ module _ {D : Type 0} where
       subst (λ (s : Spot D). length p.events + 1 ≤ length s.events) (sym is)
       (let one = longer p.events (rest_events micros) in omega (arith, one, length-append (p.events ++ rest_events micros) (Asked heard ∷ [])))
 
-  -- where nobody hears any more, that is the last event
+  -- where nobody reads any more, that is the last event
   pub unheard_cause : (since now : ℕ) (heard : Bool) (p q : Spot D) → heard ≡ false → Pauses since now heard p q → MayBreakOff q.events
   unheard_cause since now heard p q gone (micros, short, is) =
       unasked (p.events ++ rest_events micros) q.events
@@ -101,7 +101,7 @@ module _ {D : Type 0} where
   heard_pause before since now heard p q le hears paused =
       earlier before since now true p q le (subst (λ (b : Bool). Pauses since now b p q) hears paused)
 
-  -- what was told of its end is that of the executor behind the turn
+  -- what was sent of its end is that of the executor after the turn
   pub told_end_at : (t : Terms) (turns now : ℕ) (end : TurnEnd) (told q : Spot D) (asked : Bool) (given found : Option DrainEnd)
       → q.executor ≡ told.executor → given ≡ end_behind t turns now end asked → asked ≡ not (any_busy q.executor.state) → given ≡ found
       → end_at t turns now end told.executor ≡ found

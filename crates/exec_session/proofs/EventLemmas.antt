@@ -83,7 +83,7 @@ module _ {D : Type 0} where
   pub part_lasts : (form : NoticeForm) (p q : Spot D) (said : List Said) → TellsPart form p q said → Lasts p q
   part_lasts form p q said tells = record { opened = tells.hears.told.0; later = Sent false ∷ []; grows = tells.events }
 
-  -- what a client is told by an edge, from where the executor is seen so
+  -- what a client is sent by an edge, from this view of the executor
   module _ (form : NoticeForm) (said : List Said) (x : Sight D) (e e' : EdgeView D) where
     abbrev Old : Spot D
     Old = spot x e.heard e.events

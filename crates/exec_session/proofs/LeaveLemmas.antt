@@ -11,14 +11,14 @@ use Rattle.exec_client.proofs.Growing.{both_stand, cleared_stands, finish_stands
 use Rattle.exec_session.specs.Leaving.{FinishHeard, WindsOne}
 use Rattle.exec_session.specs.Spots.{Spot, Telling}
 
--- what a turn that begins nothing told stands behind what it recorded
+-- what a turn that begins nothing sent is backed by what it recorded
 pub finish_told : {D : Type 0} (look : D → View) (now : ℕ) (x y z : Sight D) (end : TurnEnd) → y ≡ with_empty_book x → x.is_open ≡ true
     → FinishesTurn look now y z end → StandsBehind look x z (noticed z)
 finish_told look now x y z end cleared is_open takes =
     both_stand look x y z [] (noticed z) (cleared_stands look x y cleared)
     (finish_stands look now y z end (subst (λ (c : Sight _). c.is_open ≡ true) (sym cleared) is_open) takes)
 
--- a turn that begins nothing, behind an emptied book
+-- a turn that begins nothing, after the book was emptied
 pub finish_taken : {D : Type 0} (look : D → View) (now : ℕ) (x y z : Sight D) (end : TurnEnd) → y ≡ with_empty_book x
     → x.is_open ≡ true → FinishesWhile y.is_open look now y z end → FinishesTurn look now (with_empty_book x) z end
 finish_taken {D} look now x y z end cleared is_open does =

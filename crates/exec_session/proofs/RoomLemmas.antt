@@ -1,4 +1,4 @@
--- Whether a monitor is due within some time, as the first of them tells.
+-- Whether a monitor is due within some time, as the first of them shows.
 use Rattle.std.proofs.Common.{◌≡◌, ℕ, ◌-◌, ◌≤◌, ◌<◌, Bool, true, false, List, Some, sym, ap, ◌∙◌, arith, ⊎_elim}
 use Rattle.std.specs.Prelude.{nat_le}
 use Rattle.std.specs.List.{list_any}
@@ -10,7 +10,7 @@ use Rattle.recurring.specs.Monitors.{IsFirstMoment}
 le_false : (a b : ℕ) → b < a → nat_le a b ≡ false
 le_false a b lt = ⊎_elim (λ yes. absurd (omega (arith, lt, yes.1))) (λ no. no.0) (leb_tells a b)
 
--- the first one is due within the time just where one is
+-- the first one is due within the time exactly when one is
 pub first_within : (pairs : List (ℕ × ℕ)) (now lasts due : ℕ) → IsFirstMoment pairs (Some due)
     → nat_le (due - now) lasts ≡ list_any (λ p. nat_le (p.0 - now) lasts) pairs
 first_within pairs now lasts due (call, (k, lt, at), least) = ⊎_elim soon late (leb_tells (due - now) lasts)

@@ -111,7 +111,7 @@ pub due_none : {D : Type 0} (x : Sight D) (es : List IoEvent) (now micros : ℕ)
 due_none x es now micros idle shown brief none =
     record { idle = idle; moment = now; shown = shown; brief = brief; before = λ k d lt. omega (arith, ap length none, lt) }
 
--- waits, one behind the other
+-- waits, one after the other
 module _ {D : Type 0} (since now : ℕ) where
   abbrev Waited : Position D → Position D → Type 0
   Waited p q = Waits since now p q
@@ -407,13 +407,13 @@ pub round_err : {D : Type 0} (look : D → View) (source : Source) (rules : Rule
 round_err look source rules p quiet end s (Ok x) bad breaks = let none : ⊥ = cc in absurd none
 round_err look source rules p quiet end s (Err e) bad breaks = breaks
 
--- a round of a run that serves begins behind a turn
+-- a round of a run that serves begins after a turn
 pub round_begins : {D : Type 0} (look : D → View) (source : Source) (rules : Rules) (p : Position D) (quiet : ℕ) (end : TurnEnd)
     (s : Midway D) → rules.way ≡ Serve → (come : HasComeRound look source rules p quiet end s) → HasCome look source rules p come.own 0 s
 round_begins look source rules p quiet end s way come =
     subst (λ (n : ℕ). HasCome look source rules p come.own n s) (zero_round rules.way way come.most come.round) come.come
 
--- the next one begins behind one that ended so
+-- the next one begins after one that ended so
 pub round_again : {D : Type 0} (look : D → View) (source : Source) (rules : Rules) (p : Position D) (now quiet : ℕ) (end : TurnEnd)
     (q : Spot D) (s : Midway D) → Lasts q s.place.at → HasCome look source rules p (turned now quiet end (held_lines s.held) q) 0 s
     → HasComeRound look source rules p quiet end s

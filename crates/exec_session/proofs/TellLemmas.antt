@@ -1,4 +1,4 @@
--- What may be told of what a run did.
+-- What may be sent of what a run did.
 use Rattle.std.proofs.Common.{◌≡◌, ◌↔◌, ℕ, zero, suc, Bool, true, false, List, [], ◌∷◌, map, Result, Ok, Err, refl, sym, subst}
 use Rattle.std.specs.Prelude.{replicate}
 use Rattle.std.specs.List.{AllByRecursion}
@@ -55,11 +55,11 @@ closed_plain x source (Ok (line.Request request)) given is = is_plain x given _ 
 closed_plain x source (Err why) given is = is_plain x given _ is (refl, tt)
 
 module _ {D : Type 0} (look : D → View) where
-  -- one thing more is told, which says nothing of what is recorded
+  -- one more thing is sent, which says nothing of what is recorded
   pub one_more : (x y : Sight D) (s : Said) → claims s ≡ false → StandsBehind look x y [] → StandsBehind look x y (s ∷ [])
   one_more x y s none stands = both_stand look x y y [] (s ∷ []) stands (none_stands look y y (s ∷ []) refl (says_none s none))
 
-  -- a request, behind room that was made
+  -- a request, after room was made
   pub request_stands : (now : ℕ) (request : Request) (x m y : Sight D) (r : Reply) → StandsBehind look x m []
       → Serves look now request m y r → ((y.is_open ≡ false) ↔ (r ≡ Refused Disk)) → StandsBehind look x y (answered r ∷ [])
   request_stands now request x m y r room serves closes =
@@ -76,7 +76,7 @@ module _ {D : Type 0} (look : D → View) where
   request_says now request x y r is_open serves =
       open_says now request x y r is_open (subst (λ (b : Bool). ServesWhile b look now request x y r) is_open serves)
 
-  -- commands that arrived together, behind room that was made
+  -- commands that arrived together, after room was made
   pub together_stand : (now : ℕ) (commands : List Command) (x m y : Sight D) (rs : List Reply) → StandsBehind look x m []
       → TakesCommands look now commands m y rs → StandsBehind look x y (map answered rs)
   together_stand now commands x m y rs room takes =
@@ -97,7 +97,7 @@ module _ {D : Type 0} (look : D → View) where
   pub refused_say : (y : Sight D) (n : ℕ) (rs : List Reply) → rs ≡ replicate n (Refused Disk) → AllByRecursion (MayAnswer y) rs
   refused_say y n rs same = subst (λ (ts : List Reply). AllByRecursion (MayAnswer y) ts) (sym same) (refused_plain y n)
 
-  -- room that was made behind an emptied book, and a turn behind it
+  -- room that was made after the book was emptied, and a turn after that
   pub cleared_room : (x c m : Sight D) → c ≡ with_empty_book x → StandsBehind look c m [] → StandsBehind look x m []
   cleared_room x c m cleared room = both_stand look x c m [] [] (cleared_stands look x c cleared) room
 
@@ -106,13 +106,13 @@ module _ {D : Type 0} (look : D → View) where
   turn_behind_room now x m y end room is_open takes =
       both_stand look x m y [] (noticed y) room (turn_stands look now m y end is_open takes)
 
-  -- nothing was told yet
+  -- nothing was sent yet
   pub new_stands : (heard : Heard D) (x : Sight D) → IsNew heard x → AllStand look heard x
   new_stands heard x (opened, untold, is_open) =
       subst (λ (o : Sight D). StandsBehind look o x heard.told) (sym opened)
       (subst (λ (ss : List Said). StandsBehind look x x ss) (sym untold) (none_stands look x x [] refl nothing))
 
-  -- this was told of an executor that went on by calls
+  -- this was sent of an executor that went on by calls
   pub after_told : (heard heard' : Heard D) (x y : Sight D) (said : List Said) → AllStand look heard x → StandsBehind look x y said
       → IsTold heard heard' said → AllStand look heard' y
   after_told heard heard' x y said stands more told =

@@ -38,7 +38,7 @@ use Rattle.exec_session.specs.declared.lines.Taken.{Taken}
 use Rattle.exec_session.specs.declared.lines.Taken.TheVariants as taken
 use Rattle.exec_session.specs.declared.pending.Pending.{Pending}
 
--- a run by lines alone takes any line, one that serves 64 behind a turn
+-- a run by lines alone takes any line, one that serves 64 after a turn
 pub may_run : (way : Way) (most : ℕ) → way ≡ Run → MayTakeBehind way most
 may_run Run most is = λ n le. tt
 may_run Serve most is = absurd cc
@@ -228,7 +228,7 @@ module _ {D : Type 0} (look : D → View) (source : Source) (rules : Rules) (p :
     goes_on = subst (λ (s : Spot D). MayGoOn rules.way s.executor) (sym same) come.goes_on;
   }
 
-  -- what stands next was read
+  -- what comes next was read
   pub found_next : (most : ℕ) (commands : List Command) (held : Option Held) (kept : List ℕ) (place place' : Position D) (what : Found)
       → held ≡ None → (commands ≢ [] → IsThere place.at.events) → place'.at ≡ behind place.at (Read true)
       → (come : Come most place commands held kept) → ReadsInput rules.way come.left place'.left what → Finds most commands what place'
@@ -442,7 +442,7 @@ module _ {D : Type 0} (look : D → View) (source : Source) (rules : Rules) (p :
         is_closed = closed;
       }
 
-  -- a run that does not go on behind them ends where it is
+  -- a run that does not go on after them ends where it is
   pub step_ends : (most : ℕ) → ((n : ℕ) → n + 1 ≤ most → MayTake rules.way n) → (commands commands' : List Command) (held : Option Held)
       (kept : List ℕ) (what : Found) (q q' : Position D) (step : Taken) → (commands ≢ [] → q.at.executor.is_open ≡ true)
       → Finds most commands what q → AnswersAll look rules commands q.at q'.at → step ≢ taken.More
@@ -470,7 +470,7 @@ module _ {D : Type 0} (look : D → View) (source : Source) (rules : Rules) (p :
           ComesOrEnds look source rules p own (most + 1)
           (record { place = q'; commands = commands; held = held; kept = kept }) s
 
-      -- behind one line more
+      -- after one line more
       further : (left : Option (List ℕ)) (n : ℕ) → n ≤ most + 1 → left ≡ q'.left → At n [] (position q'.at left) → (s : Taken)
           → IsTaken rules.way q'.at.executor false s → Ends s
       further left n few now reached taken.More (not_ended, goes_on) = record {

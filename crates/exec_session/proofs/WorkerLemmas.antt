@@ -22,7 +22,7 @@ use Rattle.exec_session.specs.Together.{AnswersAll, ServesTogether, TogetherHear
 use Rattle.exec_session.specs.Broken.{RowBreaks}
 
 module _ {D : Type 0} where
-  -- where a worker stood, of which this is known, as its parts say it
+  -- where a worker was, of which this is known, as its parts say it
   pub parts : (P : Position D → Type 0) (x : Sight D) (e : EdgeView D) (p : Position D) → at_of x e ≡ p → P p → P (at_of x e)
   parts P x e p is known = subst P (sym is) known
 
@@ -35,7 +35,7 @@ module _ {D : Type 0} where
       → p.at.executor.is_open ≡ true → x.is_open ≡ true
   open_noted x e p m event is is_noted is_open = ap (λ (P : Position D). P.at.executor.is_open) (is ∙ is_noted) ∙ is_open
 
-  -- a pause, and the question whether the client hears
+  -- a pause, and the question whether the client still reads
   pub pauses : (since now : ℕ) (heard : Bool) (micros : ℕ) (x : Sight D) (e one two : EdgeView D) (p : Position D) → at_of x e ≡ p
       → IsShort since now micros → one ≡ rested e micros → two ≡ noting one (Asked heard)
       → Pauses since now heard p.at (at_of x two).at
@@ -47,7 +47,7 @@ module _ {D : Type 0} where
       )
 
   module _ (look : D → View) where
-    -- all that was told stands, also of what was told since
+    -- all that was sent is recorded, also what was sent since
     pub stands_part : (x : Sight D) (e : EdgeView D) (p : Position D) → at_of x e ≡ p → AllStand look e.heard x → AllStand look p.at.heard p.at.executor
     stands_part x e p is stands = whole (λ (P : Position D). AllStand look P.at.heard P.at.executor) x e p is stands
 

@@ -38,7 +38,7 @@ IsReadAs Serve bytes (Ok found) = (served_line_read bytes ≡ Ok found) × ¬ (H
 IsReadAs Serve bytes (Err why) =
     why ≢ refusal.Memory → (HasKeyTwice bytes → why ≡ refusal.Syntax) × (¬ (HasKeyTwice bytes) → served_line_read bytes ≡ Err why)
 
--- a source of metadata: what it may answer for the agent of a provider and a type that is given so many milliseconds, its
+-- a source of metadata: what it may answer for the agent of a provider and a type that is given this many milliseconds, its
 -- metadata or why it has none
 abbrev pub Source : Type 1
 Source = List ℕ → List ℕ → Option ℕ → Result (Vec ℕ) MetaFault → Type 0
@@ -68,14 +68,14 @@ IsClosedReply source (Ok line.Leave) reply = reply ≡ refused refusal.Closed
 IsClosedReply source (Ok (line.Request request)) reply = reply ≡ refused refusal.Closed
 IsClosedReply source (Err why) reply = reply ≡ refused refusal.Closed
 
--- a drain from the moment that the clock shows, for so many milliseconds and turns at most
+-- a drain from the moment that the clock shows, for at most this many milliseconds and turns
 abbrev pub DrainsFor : {D : Type 0} → (D → View) → Bool → ℕ → Rules → Spot D
     → Spot D → LineReply → Type 0
 DrainsFor look ends_idle limit rules p q reply =
     (now : ℕ) × (end : DrainEnd) × (reply ≡ answer.Drain end)
     × Drains look rules (record { ends_idle = ends_idle; until = now + limit; most = rules.most_turns }) now (behind p (Shown now)) q end
 
--- A drain, and then the client is told how it ended, which it is told so.
+-- A drain, and then the client is sent how it ended, which it receives so.
 pub record DrainTold {D : Type 0} (tells_so : Telling D) (look : D → View) (ends_idle : Bool) (limit : ℕ) (rules : Rules)
     (p q : Spot D) : Type 0 where
   pub reply : LineReply
@@ -102,7 +102,7 @@ abbrev pub TidiesNow : {D : Type 0} → (D → View) → Spot D → Spot D → L
 TidiesNow look p q reply =
     (end : TidyEnd) × (reply ≡ answer.Tidy end) × Tidies look p.executor q.executor end × (q ≡ moved p q.executor)
 
--- what an open executor answers to a line: from the spot of its start to that at which the reply is told
+-- what an open executor answers to a line: from the spot of its start to that at which the reply is sent
 abbrev pub IsOpenReply : {D : Type 0} → (D → View) → Source → Rules → Spot D
     → Spot D → Result Line Refusal → LineReply → Type 0
 IsOpenReply look source rules p q (Ok (line.Request request)) reply = ServesNow look rules request p q reply

@@ -1,4 +1,5 @@
--- Where a run breaks off: its input or its output failed, nobody hears what is told, or a reply or a notice found no memory.
+-- Where a run breaks off: its input or its output failed, nobody reads what is sent, or there was no memory for a reply or a
+-- notice.
 use Rattle.std.specs.Prelude.{◌≡◌, ℕ, true, false, List, [], ◌∷◌, ◌++◌, ◌⊎◌, map, Result, Ok, Err}
 use Rattle.ocf_types.specs.Kinds.{Command}
 use Rattle.ocf_types.specs.declared.refusal.Refusal.{Refusal}
@@ -23,7 +24,7 @@ use Rattle.exec_session.specs.Looks.{Lines}
 use Rattle.exec_session.specs.Runs.{Finishes, MakesTurns, MayGoOn, MayTurn, NewsSo, OwnTurn, Reaches, of_command}
 use Rattle.exec_session.specs.Spots.{MayBreakOff, Position, Spot, TellsPart, behind}
 
--- A run broke off in an own turn, of whose notices the client heard a front, or of the line that says how it ended.
+-- A run broke off in an own turn, of whose notices the client received a prefix, or of the line that says how it ended.
 pub data OwnTurnBreaks {D : Type 0} (look : D → View) (rules : Rules) (before : TurnEnd) (p q : Spot D) : Type 0 where
   in_notices : (now : ℕ) (end : TurnEnd) → TurnHeard (TellsPart rules.form) look rules now (behind p (Shown now)) q end
       → OwnTurnBreaks look rules before p q
@@ -36,9 +37,9 @@ AnswerBreaks look source rules found p q =
     AnswersSo (TellsPart rules.form) look source rules found p q
     ⊎ ((p.executor.is_open ≡ true) × ReplyBreaks look rules p q found)
 
--- Behind a place that a run has come to, with these lines unanswered, it did one thing more at most, of which the client heard a front: it
--- asked something that failed, or answered the next line, or a drain's turns up to one of them, or a row of commands, or it made a
--- turn, or told that a disk fault ends it, or made an orderly end.
+-- After a place that a run has come to, with these lines unanswered, it did at most one more thing, of which the client received a
+-- prefix: it asked something that failed, or answered the next line, or a drain's turns up to one of them, or a row of commands,
+-- or it made a turn, or sent that a disk fault ends it, or made an orderly end.
 pub data BreaksIn {D : Type 0} (look : D → View) (source : Source) (rules : Rules) (own : OwnTurn) (lines : Lines)
     (m : Position D) (q : Spot D) : Type 0 where
   at_once : q ≡ m.at → BreaksIn look source rules own lines m q
@@ -54,8 +55,8 @@ pub data BreaksIn {D : Type 0} (look : D → View) (source : Source) (rules : Ru
   in_leave : MakesTurns rules.way → lines ≡ Ok line.Leave ∷ [] → m.at.executor.is_open ≡ true → LeaveBreaks look rules m.at q
       → BreaksIn look source rules own lines m q
 
--- Line after line was answered as said, up to a place behind which the run broke off: what was asked last failed, or as much was asked
--- as its loops go round.
+-- Line after line was answered as said, up to a place after which the run broke off: what was asked last failed, or as much
+-- was asked as its loops go round.
 pub record BreaksOff {D : Type 0} (look : D → View) (source : Source) (rules : Rules) (p : Position D) (q : Spot D) : Type 0 where
   pub own : OwnTurn
   pub count : ℕ
@@ -70,7 +71,7 @@ abbrev pub EndsOrBreaks : {D : Type 0} → (D → View) → Source → Rules →
 EndsOrBreaks look source rules p q (Ok done) = Finishes look source rules p q
 EndsOrBreaks look source rules p q (Err fault) = BreaksOff look source rules p q.at
 
--- A run broke off in telling the report, or behind that.
+-- A run broke off while it sent the report, or after that.
 pub data RunBreaks {D N : Type 0} (look : D → View) (source : Source) (rules : Rules) (report : Report N)
     (p : Position D) (q : Spot D) : Type 0 where
   in_report : ReportBreaks rules.form report p.at q → RunBreaks look source rules report p q

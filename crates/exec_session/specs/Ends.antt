@@ -16,7 +16,7 @@ use Rattle.exec_session.specs.Rules.{Rules}
 use Rattle.exec_session.specs.Runs.{Finishes}
 use Rattle.exec_session.specs.Spots.{Position, Spot, position, spot}
 
--- the report is told first, and then all lines are answered, or a disk fault ends a run that serves
+-- the report is sent first, and then all lines are answered, or a disk fault ends a run that serves
 pub record Runs {D N : Type 0} (look : D → View) (source : Source) (rules : Rules) (report : Report N)
     (p q : Position D) : Type 0 where
   pub reported : Spot D
@@ -42,8 +42,8 @@ pub record Ended {D C N : Type 0} (look : D → View) (tend : C → ChildrenView
   pub disk_is : disk ≡ last.disk
   pub children_are : tend children ≡ given_up last.children
 
--- However a run ends, its executor did nothing but calls since it was opened, and is closed; and all that its client was told
--- stands behind what they recorded. This disk and these children are those that it handed back.
+-- However a run ends, its executor did nothing but calls since it was opened, and is closed; and all that its client was sent
+-- is backed by what they recorded. This disk and these children are those that it gave back.
 pub record ClosesByCalls {D : Type 0} (look : D → View) (opened : Sight D) (heard : Heard D) (disk : D) (children : ChildrenView) : Type 0 where
   pub last : Sight D
   pub stands : StandsBehind look opened last heard.told

@@ -34,7 +34,7 @@ MayAnswerAtOnce way (Ok (line.Meta provider agent limit)) = way ≡ Run
 MayAnswerAtOnce way (Ok line.Leave) = way ≡ Run
 MayAnswerAtOnce way _ = ⊤
 
--- the same of what stands next in the input
+-- the same of what comes next in the input
 abbrev pub MayTakeAtOnce : Way → Found → Type 0
 MayTakeAtOnce way (found.Line line) = MayAnswerAtOnce way line
 MayTakeAtOnce way _ = ⊤

@@ -13,15 +13,15 @@ use Rattle.exec_session.specs.Reports.{ended}
 use Rattle.exec_session.specs.Rules.{Rules}
 use Rattle.exec_session.specs.Spots.{Pauses, Spot, Telling, Tells, TellsPart, behind, moved}
 
--- The clock shows a moment, and a turn is made then that begins nothing: the book is emptied, the turn is made, and its notices are told,
--- which the client is told so.
+-- The clock shows a moment, and a turn is made then that begins nothing: the book is emptied, the turn is made, and its
+-- notices are sent, which the client receives so.
 pub record FinishHeard {D : Type 0} (tells_so : Telling D) (look : D → View) (p q : Spot D) : Type 0 where
   pub now : ℕ
   pub end : TurnEnd
   pub takes : FinishesTurn look now (with_empty_book p.executor) q.executor end
   pub tells : tells_so (behind (moved p q.executor) (Shown now)) q (noticed q.executor)
 
--- so while an action runs, which the client is told so
+-- so while an action runs, which the client receives so
 pub record WindsOne {D : Type 0} (tells_so : Telling D) (look : D → View) (p q : Spot D) : Type 0 where
   pub is_open : p.executor.is_open ≡ true
   pub runs : any_running p.executor.state ≡ true
@@ -33,20 +33,20 @@ pub data WindsDown {D : Type 0} (look : D → View) (rules : Rules) (p : Spot D)
   further : (now : ℕ) (m told q : Spot D) → WindsDown look rules p m → WindsOne (Tells rules.form) look m told
       → told.executor.is_open ≡ true → Pauses 0 now true told q → WindsDown look rules p q
 
--- An orderly end, from the spot at which it was asked for, of whose last line the client is told so: the reply once nothing runs, or the
--- line of the disk fault that closed the executor in the turn before.
+-- An orderly end, from the spot at which it was asked for, whose last line the client receives so: the reply once nothing
+-- runs, or the line of the disk fault that closed the executor in the turn before.
 pub data LeavesSo {D : Type 0} (tells_so : Telling D) (look : D → View) (rules : Rules) (p q : Spot D) : Type 0 where
   left : (m : Spot D) → WindsDown look rules p m → m.executor.is_open ≡ true → any_running m.executor.state ≡ false
       → tells_so m q (Answered Left ∷ []) → LeavesSo tells_so look rules p q
   fault : (m told : Spot D) → WindsDown look rules p m → WindsOne (Tells rules.form) look m told
       → told.executor.is_open ≡ false → tells_so told q (ended Disk ∷ []) → LeavesSo tells_so look rules p q
 
--- the client is told all of it
+-- the client receives all of it
 abbrev pub LeavesFrom : {D : Type 0} → (D → View) → Rules → Spot D → Spot D → Type 0
 LeavesFrom look rules p q = LeavesSo (Tells rules.form) look rules p q
 
--- One that broke off: in the notices of a turn, behind one, where nobody heard any more what was told, or in the last line; or it had
--- made as many turns as its loop goes round.
+-- One that broke off: in the notices of a turn, after one, where nobody read any more what was sent, or in the last line;
+-- or it had made as many turns as its loop goes round.
 pub data LeaveBreaks {D : Type 0} (look : D → View) (rules : Rules) (p q : Spot D) : Type 0 where
   in_turn : (m : Spot D) → WindsDown look rules p m → WindsOne (TellsPart rules.form) look m q → LeaveBreaks look rules p q
   unheard : (now : ℕ) (m told : Spot D) → WindsDown look rules p m → WindsOne (Tells rules.form) look m told → Pauses 0 now false told q

@@ -20,6 +20,6 @@ longest_pause = 50000
 abbrev pub short_pause : ℕ
 short_pause = 1000
 
--- how many milliseconds a run waits for input at most before it looks anew
+-- how many milliseconds a run waits for input at most before it looks again
 abbrev pub longest_wait : ℕ
 longest_wait = 1000

@@ -51,8 +51,8 @@ abbrev pub misses_in : List IoEvent → ℕ
 misses_in [] = 0
 misses_in (event ∷ events) = misses_of event + misses_in events
 
--- A run has looked for lines since so many reads were made and so many looks found nothing: a further one found nothing, or as many
--- reads more were made as are made between two turns. While one of these lines is unanswered it need not.
+-- A run has looked for lines since this many reads were made and this many looks found nothing: a further one found nothing, or as
+-- many reads more were made as are made between two turns. While one of these lines is unanswered it need not.
 abbrev pub HasLooked : ℕ → ℕ → Lines → List IoEvent → Type 0
 HasLooked reads misses [] events = (misses < misses_in events) ⊎ (reads + reads_a_turn ≤ reads_in events)
 HasLooked reads misses (line ∷ lines) events = ⊤

@@ -26,14 +26,14 @@ is_quiet book = list_all (λ e. still_runs e.answer) book
 abbrev pub IsQuietSince : List Entry → ℕ → ℕ → ℕ → Type 0
 IsQuietSince book now before since = (now ≤ since) ⊎ ((is_quiet book ≡ true) × (before ≤ since))
 
--- A pause of so many microseconds, after a turn at the second moment, where nothing has ended or begun since the first: a millisecond at
--- most; or a hundredth of the time between them, and 50 milliseconds at most. What runs then began at the first moment or before, so its
--- end is seen late by a hundredth of its time at most.
+-- A pause of this many microseconds, after a turn at the second moment, where nothing has ended or begun since the first: a
+-- millisecond at most; or a hundredth of the time between them, and 50 milliseconds at most. What runs then began at the
+-- first moment or before, so its end is seen late by a hundredth of its time at most.
 abbrev pub IsShort : ℕ → ℕ → ℕ → Type 0
 IsShort since now micros = (micros ≤ short_pause) ⊎ ((micros ≤ longest_pause) × (micros ≤ 10 * (now - since)))
 
--- Nothing is queued or runs, and no monitor is due within so many microseconds from the moment that the clock showed last: a second at
--- most.
+-- Nothing is queued or runs, and no monitor is due within this many microseconds from the moment that the clock showed
+-- last: a second at most.
 pub record IsUntilDue {D : Type 0} (x : Sight D) (events : List IoEvent) (micros : ℕ) : Type 0 where
   pub idle : any_busy x.state ≡ false
   pub moment : ℕ

@@ -14,23 +14,23 @@ use Rattle.exec_session.specs.Spots.{Spot, Telling, Tells}
 use Rattle.exec_session.specs.Rules.{Rules}
 use Rattle.exec_session.specs.declared.context.Way.{Way}
 
--- where it is known what a reader has left: the next line has no bytes, and what stands behind it is left
+-- where it is known what a reader has left: the next line has no bytes, and what comes after it is left
 abbrev pub PassesLine : Option (List ℕ) → Option (List ℕ) → Type 0
 PassesLine None new = ⊤
 PassesLine (Some xs) new = (0 < length xs) × (first_line xs ≡ []) × (new ≡ Some (after_first_line xs))
 
--- where it is known what a reader has left: the next line is read as this by a run that goes so, and what stands behind it is left
+-- where it is known what a reader has left: the next line is read as this by a run in this mode, and what comes after it is left
 abbrev pub ReadsLine : Way → Option (List ℕ) → Option (List ℕ) → Result Line Refusal → Type 0
 ReadsLine way None new found = ⊤
 ReadsLine way (Some xs) new found = (first_line xs ≢ []) × (new ≡ Some (after_first_line xs)) × IsReadAs way (first_line xs) found
 
--- what stands next in the input, from what a reader has left to what it has left then
+-- what comes next in the input, from what a reader has left to what it has left then
 abbrev pub ReadsInput : Way → Option (List ℕ) → Option (List ℕ) → Found → Type 0
 ReadsInput way old new found.End = IsAtEnd old
 ReadsInput way old new found.Empty = PassesLine old new
 ReadsInput way old new (found.Line line) = ReadsLine way old new line
 
--- A line that was read is answered: the client is told the notices of a drain, and then just the reply, which it is told so.
+-- A line that was read is answered: the client is sent the notices of a drain, and then just the reply, which it receives so.
 pub record AnswersSo {D : Type 0} (tells_so : Telling D) (look : D → View) (source : Source) (rules : Rules)
     (found : Result Line Refusal) (p q : Spot D) : Type 0 where
   pub reply : LineReply
@@ -38,6 +38,6 @@ pub record AnswersSo {D : Type 0} (tells_so : Telling D) (look : D → View) (so
   pub answered : IsReply look source rules p noticed found reply
   pub tells : tells_so noticed q (Answered reply ∷ [])
 
--- it is told all of it
+-- it receives all of it
 abbrev pub Answers : {D : Type 0} → (D → View) → Source → Rules → Result Line Refusal → Spot D → Spot D → Type 0
 Answers look source rules found p q = AnswersSo (Tells rules.form) look source rules found p q

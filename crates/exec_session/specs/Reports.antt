@@ -1,4 +1,4 @@
--- What is told of an opening's report, and of how a turn ended.
+-- What is sent of an opening's report, and of how a turn ended.
 use Rattle.std.specs.Prelude.{◌≡◌, ◌⊎◌, map}
 use Rattle.executor.specs.Reports.{report_of}
 use Rattle.executor.specs.Sights.{Sight}
@@ -14,7 +14,7 @@ use Rattle.exec_session.specs.Spots.{Spot, Tells, TellsPart}
 abbrev pub IsReportOf : {D M : Type 0} → Sight D → Report M → Type 0
 IsReportOf x r = x.reported ≡ report_of r
 
--- the report was told: what was interrupted, and then what was dropped
+-- the report was sent: what was interrupted, and then what was dropped
 abbrev pub TellsReport : {D M : Type 0} → NoticeForm → Report M → Spot D → Spot D → Type 0
 TellsReport {D} form r p q =
     (m : Spot D) × Tells form p m (map Reported r.interrupted.items) × Tells form m q (map Reported r.dropped.items)

@@ -13,8 +13,8 @@ use Rattle.exec_commands.specs.declared.notice.NoticeForm.{NoticeForm}
 use Rattle.exec_session.specs.declared.context.RunContext.{RunContext}
 use Rattle.exec_session.specs.declared.context.Way.{Way}
 
--- how a run goes, what its notices tell, how many turns a drain makes at most, and past which offset of its journal's tail, the
--- first mark, it tidies by itself; 0: past none
+-- the mode of a run, what its notices say, how many turns a drain makes at most, and past which offset of its journal's tail,
+-- the first mark, it tidies by itself; 0: past none
 pub record Rules : Type 0 where
   pub way : Way
   pub form : NoticeForm
@@ -29,8 +29,8 @@ rules_of context =
 abbrev pub worthwhile : ℕ
 worthwhile = 2097152
 
--- The second mark: behind it a part has room for its reserve and for seventy of the longest events. So neither the commands that are
--- answered together, sixty-four at most, nor a turn find the part full that begin up to here.
+-- The second mark: after it a part has room for its reserve and for seventy of the longest events. So neither the commands
+-- that are answered together, sixty-four at most, nor a turn find the part full that begin up to here.
 abbrev pub second_mark : ℕ
 second_mark = part_limit - (reserve + 70 * event_limit)
 
@@ -38,20 +38,20 @@ second_mark = part_limit - (reserve + 70 * event_limit)
 abbrev pub is_worthwhile : {D : Type 0} → Sight D → Bool
 is_worthwhile x = nat_le (tidied_tail x.state + worthwhile) x.place.tail
 
--- how long a tidy takes, in milliseconds, of which each piece of 4,096 bytes takes so many
+-- how long a tidy takes, in milliseconds, of which each piece of 4,096 bytes takes this many
 abbrev pub tidy_time : {D : Type 0} → Sight D → ℕ → ℕ
 tidy_time x pace = pace * (tidied_tail x.state / 4096 + 1)
 
--- a monitor is due within so many milliseconds from this moment, or was due before
+-- a monitor is due within this many milliseconds from this moment, or was due before
 abbrev pub is_monitor_due : {D : Type 0} → Sight D → ℕ → ℕ → Bool
 is_monitor_due x now lasts = list_any (λ p. nat_le (p.0 - now) lasts) (all_pairs x.monitors)
 
--- nothing would wait for so many milliseconds from this moment: nothing is queued or runs, and no monitor is due within them
+-- nothing would wait for this many milliseconds from this moment: nothing is queued or runs, and no monitor is due within them
 abbrev pub is_at_leisure : {D : Type 0} → Sight D → ℕ → ℕ → Bool
 is_at_leisure x now lasts = not (any_busy x.state) && not (is_monitor_due x now lasts)
 
--- A tidy is due at this moment, of which each piece takes so many milliseconds: the tail is past the first mark, and would fall by what
--- is worthwhile; and nothing would wait for the tidy, or the tail is past the second mark.
+-- A tidy is due at this moment, of which each piece takes this many milliseconds: the tail is past the first mark, and
+-- would fall by what is worthwhile; and nothing would wait for the tidy, or the tail is past the second mark.
 abbrev pub is_tidy_due : {D : Type 0} → Rules → Sight D → ℕ → ℕ → Bool
 is_tidy_due rules x now pace =
     nat_lt 0 rules.tidy_at && nat_lt rules.tidy_at x.place.tail && is_worthwhile x

@@ -29,11 +29,11 @@ use Rattle.exec_session.specs.Progress.{Answers, PassesLine, ReadsLine}
 use Rattle.exec_session.specs.Spots.{Position, Spot, Telling, Tells, behind, position}
 use Rattle.exec_session.specs.Together.{AnswersTogether}
 
--- a client of the executor that was just opened, and is open, who was told nothing yet
+-- a client of the executor that was just opened, and is open, which was sent nothing yet
 abbrev pub IsNew : {D : Type 0} → Heard D → Sight D → Type 0
 IsNew heard x = (heard.opened ≡ x) × (heard.told ≡ []) × (x.is_open ≡ true)
 
--- a run may take a line behind so many since its last turn
+-- a run may take a line after this many since its last turn
 abbrev pub MayTake : Way → ℕ → Type 0
 MayTake Run n = ⊤
 MayTake Serve n = n < lines_a_turn
@@ -48,18 +48,18 @@ abbrev pub MayGoOn : {D : Type 0} → Way → Sight D → Type 0
 MayGoOn Run x = ⊤
 MayGoOn Serve x = x.is_open ≡ true
 
--- How an own turn ended is news behind the own turn before, of which Done is told where there was none: it ended otherwise than that,
--- and is not done. A disk fault is told as the run ends.
+-- How an own turn ended is news after the own turn before, which counts as Done where there was none: it ended otherwise
+-- than that, and is not done. A disk fault is sent as the run ends.
 abbrev pub IsNews : TurnEnd → TurnEnd → Type 0
 IsNews before end = (end ≢ before) × (end ≢ Done) × (end ≢ Disk)
 
--- the client is told how an own turn ended, which it is told so, where that is news, and nothing where it is none
+-- the client is sent how an own turn ended, which it receives so, where that is news, and nothing where it is none
 pub data NewsSo {D : Type 0} (tells_so : Telling D) (before end : TurnEnd) (p q : Spot D) : Type 0 where
   news : IsNews before end → tells_so p q (ended end ∷ []) → NewsSo tells_so before end p q
   no_news : (IsNews before end → ⊥) → q ≡ p → NewsSo tells_so before end p q
 
--- A turn that a run makes by itself behind one that ended so, at this moment, which the clock shows as it begins: the client hears its
--- notices, and how it ended where that is news.
+-- A turn that a run makes by itself after one that ended so, at this moment, which the clock shows as it begins: the client
+-- receives its notices, and how it ended where that is news.
 pub record MakesOwnTurn {D : Type 0} (look : D → View) (rules : Rules) (before : TurnEnd) (now : ℕ) (p q : Spot D) (end : TurnEnd)
     : Type 0 where
   pub noticed : Spot D
@@ -70,7 +70,7 @@ pub record MakesOwnTurn {D : Type 0} (look : D → View) (rules : Rules) (before
 abbrev pub of_command : Command → Result Line Refusal
 of_command command = Ok (line.Request (asked.Command command))
 
--- the next line is read: what is left goes on behind it, and the log by that read
+-- the next line is read: what is left goes on after it, and the log by that read
 abbrev pub read_to : {D : Type 0} → Position D → Option (List ℕ) → Position D
 read_to p left = position (behind p.at (Read true)) left
 
@@ -82,8 +82,9 @@ IsLook way lines events (Peeked has_line) = FollowsRead events
 IsLook way lines events (Read done) = (done ≡ true) × MayRead lines events
 IsLook way lines events _ = ⊥
 
--- What is asked while a run waits after a turn at the second moment, where nothing has ended or begun since the first: for input, a short
--- time or until the first monitor is due, and a second at most; for such a pause; for a moment; and whether anybody hears what is told.
+-- What is asked while a run waits after a turn at the second moment, where nothing has ended or begun since the first: for
+-- input, a short time or until the first monitor is due, and a second at most; for such a pause; for a moment; and whether
+-- anybody still reads what is sent.
 abbrev pub IsWait : {D : Type 0} → ℕ → ℕ → Spot D → IoEvent → Type 0
 IsWait since now p (Looked millis ready) = MayPause since now p.executor p.events (millis * 1000)
 IsWait since now p (Rested micros) = MayPause since now p.executor p.events micros
@@ -127,11 +128,11 @@ pub record MayTurn {D : Type 0} (way : Way) (own : OwnTurn) (lines : Lines) (p :
   pub looked : HasLooked own.reads own.misses (own.lines ++ lines) p.events
 
 -- From a place a run has come to another: it read line after line, in their order, none of them left out, and has not answered
--- these yet; it answered the others in that order, commands that were read one behind the other in a row; a run that serves made turns
--- between them, after each of which it looked for lines before the next one. No command waits for a line that is not there. Each reading
--- of the clock that an answer or a turn goes by stands behind the read of the last line before it. Only a run that answers lines alone
--- goes on once its executor is closed. The turn is the last one that it made by itself, the number how many lines it answered or passed
--- over since then.
+-- these yet; it answered the others in that order, commands that were read one after the other in a row; a run that serves
+-- made turns between them, after each of which it looked for lines before the next one. No command waits for a line that is
+-- not there. Each reading of the clock that an answer or a turn uses comes after the read of the last line before it. Only a
+-- run that answers lines alone goes on once its executor is closed. The turn is the last one that it made by itself, the
+-- number how many lines it answered or passed over since then.
 pub data Reaches {D : Type 0} (look : D → View) (source : Source) (rules : Rules) (p : Position D)
     : OwnTurn → ℕ → Lines → Position D → Type 0 where
   here : Reaches look source rules p (turned 0 0 Done [] p.at) 0 [] p
@@ -186,8 +187,8 @@ pub record ReachesLeave {D : Type 0} (look : D → View) (source : Source) (rule
   pub reached : Reaches look source rules p own count (Ok line.Leave ∷ []) (position q left)
   pub is_open : q.executor.is_open ≡ true
 
--- A disk fault ended a run that serves: nothing more was done, no line answered, and the last that the client heard is the line of
--- the fault.
+-- A disk fault ended a run that serves: nothing more was done, no line answered, and the last that the client received is the line
+-- of the fault.
 pub record EndsByFault {D : Type 0} (look : D → View) (source : Source) (rules : Rules) (p : Position D) (q : Spot D) : Type 0 where
   pub last : Spot D
   pub fault : ReachesFault look source rules p last
@@ -205,7 +206,7 @@ Finishes look source rules p q =
     ReachesEnd look source rules p q.at
     ⊎ (EndsByFault look source rules p q.at ⊎ EndsInOrder look source rules p q.at)
 
--- Calls alone lead from one spot to another, with these exchanges, and what was told meanwhile stands behind what they recorded.
+-- Calls alone lead from one spot to another, with these exchanges, and what was sent meanwhile is backed by what they recorded.
 pub record GoesByCalls {D : Type 0} (look : D → View) (p q : Spot D) : Type 0 where
   pub said : List Said
   pub told : IsTold p.heard q.heard said

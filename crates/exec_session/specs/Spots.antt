@@ -1,4 +1,4 @@
--- Where a run is: its executor, what its client has heard, what was asked of the world around it, and what its reader has left.
+-- Where a run is: its executor, what its client has received, what was asked of the world around it, and what its reader has left.
 use Rattle.std.specs.Prelude.{◌≡◌, ◌≤◌, ◌⊎◌, ℕ, Bool, true, false, List, [], ◌∷◌, ◌++◌, length, Option}
 use Rattle.ocf_types.specs.Limits.{num_max}
 use Rattle.executor.specs.Sights.{Sight}
@@ -11,7 +11,7 @@ use Rattle.exec_trace.specs.declared.event.IoEvent.{IoEvent}
 use Rattle.exec_trace.specs.declared.event.IoEvent.TheVariants.{Asked, Sent}
 use Rattle.exec_session.specs.Pausing.{IsShort}
 
--- where an answer stands: its executor, what the client has heard, and all that was asked of reader, client and clock
+-- where an answer is: its executor, what the client has received, and all that was asked of reader, client and clock
 pub record Spot (D : Type 0) : Type 0 where
   pub executor : Sight D
   pub heard : Heard D
@@ -32,17 +32,17 @@ position at left = record { at = at; left = left }
 abbrev pub behind : {D : Type 0} → Spot D → IoEvent → Spot D
 behind p event = spot p.executor p.heard (p.events ++ event ∷ [])
 
--- how a client is told something: from one spot to another
+-- how a client is sent something: from one spot to another
 abbrev pub Telling : Type 0 → Type 1
 Telling D = Spot D → Spot D → List Said → Type 0
 
--- It was told, and hears all of it.
+-- It was sent, and the client receives all of it.
 pub record Tells {D : Type 0} (form : NoticeForm) (p q : Spot D) (said : List Said) : Type 0 where
   pub executor : q.executor ≡ p.executor
   pub hears : Hears form p.heard q.heard said
   pub events : q.events ≡ p.events ++ Sent true ∷ []
 
--- It was told, and a front of it was written: that broke off.
+-- It was sent, and a prefix of it was written: that broke off.
 pub record TellsPart {D : Type 0} (form : NoticeForm) (p q : Spot D) (said : List Said) : Type 0 where
   pub executor : q.executor ≡ p.executor
   pub hears : HearsPart form p.heard q.heard said
@@ -52,7 +52,8 @@ pub record TellsPart {D : Type 0} (form : NoticeForm) (p q : Spot D) (said : Lis
 abbrev pub MayBreakOff : List IoEvent → Type 0
 MayBreakOff events = EndsInFailure events ⊎ (num_max ≤ length events)
 
--- What stays while a run goes on: the executor as it was opened, of which is told; and what was asked, which more follows.
+-- What stays while a run goes on: the executor as it was opened, of which messages are sent; and what was asked, which more
+-- follows.
 pub record Lasts {D : Type 0} (p q : Spot D) : Type 0 where
   pub opened : q.heard.opened ≡ p.heard.opened
   pub later : List IoEvent
@@ -66,7 +67,7 @@ Keeps p q = Lasts p.at q.at × (q.left ≡ p.left)
 abbrev pub moved : {D : Type 0} → Spot D → Sight D → Spot D
 moved p executor = spot executor p.heard p.events
 
--- the same, and then it was paused for so many microseconds
+-- the same, and then it was paused for this many microseconds
 abbrev pub paused : {D : Type 0} → Spot D → ℕ → Spot D
 paused p micros = spot p.executor p.heard (p.events ++ rest_events micros)
 
@@ -74,8 +75,8 @@ paused p micros = spot p.executor p.heard (p.events ++ rest_events micros)
 abbrev pub noted : {D : Type 0} → Position D → IoEvent → Position D
 noted p event = position (behind p.at event) p.left
 
--- A short pause after a turn at the second moment, where nothing has ended or begun since the first, and then the client was asked whether
--- it hears still, and answered so.
+-- A short pause after a turn at the second moment, where nothing has ended or begun since the first, and then the client
+-- was asked whether it still reads, and answered so.
 abbrev pub Pauses : {D : Type 0} → ℕ → ℕ → Bool → Spot D → Spot D → Type 0
 Pauses since now heard p q = (micros : ℕ) × IsShort since now micros × (q ≡ behind (paused p micros) (Asked heard))
 

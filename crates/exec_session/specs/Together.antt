@@ -20,8 +20,8 @@ pub record ServesTogether {D : Type 0} (look : D → View) (rules : Rules) (now 
   pub takes : middle.is_open ≡ true → TakesCommands look now commands middle new given
   pub fails : middle.is_open ≡ false → (given ≡ replicate (length commands) (Refused Disk)) × (new ≡ middle)
 
--- The clock shows a moment, at which they are served; behind that the client is told just their replies, in their order, which it is
--- told so.
+-- The clock shows a moment, at which they are served; after that the client is sent just their replies, in their order,
+-- which it receives so.
 pub record TogetherHeard {D : Type 0} (tells_so : Telling D) (look : D → View) (rules : Rules) (commands : List Command)
     (p q : Spot D) : Type 0 where
   pub now : ℕ
@@ -29,7 +29,7 @@ pub record TogetherHeard {D : Type 0} (tells_so : Telling D) (look : D → View)
   pub serves : ServesTogether look rules now commands p.executor q.executor given
   pub tells : tells_so (behind (moved p q.executor) (Shown now)) q (map answered given)
 
--- it is told all of them
+-- it receives all of them
 abbrev pub AnswersTogether : {D : Type 0} → (D → View) → Rules → List Command → Spot D → Spot D → Type 0
 AnswersTogether look rules commands p q = TogetherHeard (Tells rules.form) look rules commands p q
 

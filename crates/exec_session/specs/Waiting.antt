@@ -36,7 +36,7 @@ pub record MayWait {D : Type 0} (way : Way) (x : Sight D) (pending : Pending) : 
   pub while_open : x.is_open ≡ false → waiting pending.gathered ≡ []
   pub free : way ≡ Run → pending.held ≡ None
 
--- where a session is: its position, the commands that wait, the line behind them where it is held, and what was read of the next
+-- where a session is: its position, the commands that wait, the line after them where it is held, and what was read of the next
 -- line
 pub record Midway (D : Type 0) : Type 0 where
   pub place : Position D
@@ -52,13 +52,13 @@ midway place pending = record {
   kept = line_bytes pending.buffer;
 }
 
--- Of what was left behind the last line a prefix of the next one was read, which the buffer keeps; while a line is held nothing was.
+-- Of what was left after the last line a prefix of the next one was read, which the buffer keeps; while a line is held nothing was.
 abbrev pub IsReadTo : Option Held → Option (List ℕ) → List ℕ → Option (List ℕ) → Type 0
 IsReadTo None left kept now = IsMidLine left kept now
 IsReadTo (Some held) left kept now = (now ≡ left) × (kept ≡ [])
 
 -- A run has come from a place so far: the commands that wait and the line that is held were read and are not answered, its last own
--- turn ended so, and of at most so many lines since then the others were answered.
+-- turn ended so, and of at most this many lines since then the others were answered.
 pub record HasCome {D : Type 0} (look : D → View) (source : Source) (rules : Rules)
     (p : Position D) (own : OwnTurn) (most : ℕ) (s : Midway D) : Type 0 where
   pub count : ℕ
@@ -73,7 +73,7 @@ pub record HasCome {D : Type 0} (look : D → View) (source : Source) (rules : R
 abbrev pub LooksOnce : {D : Type 0} → Position D → Position D → Type 0
 LooksOnce p q = (q ≡ p) ⊎ ((ready : Bool) × (q ≡ position (behind p.at (Looked 0 ready)) p.left))
 
--- A run waited after a turn at the second moment, where nothing has ended or begun since the first: one thing was asked behind the other.
+-- A run waited after a turn at the second moment, where nothing has ended or begun since the first: one thing was asked after the other.
 pub data Waits {D : Type 0} (since now : ℕ) (p : Position D) : Position D → Type 0 where
   still : Waits since now p p
   more : (m : Position D) (event : IoEvent) → Waits since now p m → IsWait since now m.at event
@@ -84,13 +84,13 @@ abbrev pub found_lines : Found → Lines
 found_lines (found.Line line) = line ∷ []
 found_lines _ = []
 
--- of what was left behind the last line this was found, and this is left: a line is behind by now, the other is not
+-- of what was left after the last line this was found, and this is left: one is past a line by now, the other is not
 abbrev pub IsFound : Found → Option (List ℕ) → Option (List ℕ) → Type 0
 IsFound (found.Line line) left now = left ≡ now
 IsFound found.Empty left now = PassesLine left now
 IsFound found.End left now = IsAtEnd left
 
--- A run has come so far that these commands wait, and has read what stands next, which is not answered.
+-- A run has come so far that these commands wait, and has read what comes next, which is not answered.
 pub record HasFound {D : Type 0} (look : D → View) (source : Source) (rules : Rules)
     (p : Position D) (own : OwnTurn) (most : ℕ) (commands : List Command) (found : Found) (q : Position D) : Type 0 where
   pub count : ℕ
@@ -100,7 +100,7 @@ pub record HasFound {D : Type 0} (look : D → View) (source : Source) (rules : 
   pub reached : Reaches look source rules p own count (map of_command commands ++ found_lines found) (position q.at left)
   pub goes_on : MayGoOn rules.way q.at.executor
 
--- What stands next in the input was answered, or passed over, or is its end, as is said; or an answer broke off.
+-- What comes next in the input was answered, or passed over, or is its end, as is said; or an answer broke off.
 abbrev pub TakesFound : {D : Type 0} → (D → View) → Source → Rules → Found → Spot D → Spot D → Result Bool IoFault → Type 0
 TakesFound look source rules (found.Line line) p q (Ok has_ended) = (has_ended ≡ false) × Answers look source rules line p q
 TakesFound look source rules found.Empty p q (Ok has_ended) = (has_ended ≡ false) × (q ≡ p)
@@ -137,7 +137,7 @@ pub record MayBegin {D : Type 0} (way : Way) (p : Spot D) (pending : Pending) : 
   pub there : WaitsForThere pending p.events
   pub serves : way ≡ Serve → (p.executor.is_open ≡ true) × (waiting pending.gathered ≡ [])
 
--- A round of a run that serves begins behind a turn, with no line behind that; one of a run by lines alone anywhere.
+-- A round of a run that serves begins after a turn, with no line after that; one of a run by lines alone anywhere.
 abbrev pub IsRound : Way → ℕ → Type 0
 IsRound Run most = ⊤
 IsRound Serve most = most ≡ 0
@@ -168,6 +168,6 @@ GoesRound look source rules p quiet own s (Ok Closed) = ReachesFault look source
 GoesRound look source rules p quiet own s (Ok Leaves) = ReachesLeave look source rules p s.place.at
 GoesRound look source rules p quiet own s (Err fault) = BreaksOff look source rules p s.place.at
 
--- a run may take a line behind at most so many since its last turn
+-- a run may take a line after at most this many since its last turn
 abbrev pub MayTakeBehind : Way → ℕ → Type 0
 MayTakeBehind way most = (n : ℕ) → n ≤ most → MayTake way n

@@ -86,7 +86,7 @@ fn closed_reply<M: Metadata>(context: &RunContext<M>, line: &Result<Line, Refusa
     }
 }
 
-// Does what a request asks at this moment, behind room that was made. Where the disk failed as room was made it is refused for that.
+// Does what a request asks at this moment, after room was made. Where the disk failed as room was made it is refused for that.
 fn request_reply<D: Disk + Drop, C: Children + Drop>(
     executor: &mut Executor<D, C>,
     request: Request,
@@ -114,7 +114,7 @@ impl<'a, R: Input, D: Disk + Drop, C: Children + Drop, T: Client<D, C>, K: Clock
     T,
     K,
 > {
-    /// Tells the client a reply that says nothing of what is recorded, and nothing of the state.
+    /// Sends the client a reply that says nothing of what is recorded, and nothing of the state.
     pub fn tell_reply<M>(
         &mut self,
         context: &RunContext<M>,
@@ -133,7 +133,7 @@ impl<'a, R: Input, D: Disk + Drop, C: Children + Drop, T: Client<D, C>, K: Clock
         self.tell(context.form, &Told::Reply(reply))
     }
 
-    // Drains from now on, for so many milliseconds at most.
+    // Drains from now on, for at most this many milliseconds.
     fn drain_reply<M>(
         &mut self,
         context: &RunContext<M>,
@@ -159,7 +159,7 @@ impl<'a, R: Input, D: Disk + Drop, C: Children + Drop, T: Client<D, C>, K: Clock
         Ok(LineReply::Drain(end))
     }
 
-    // Drains from now on, for so many milliseconds at most, and tells how that ended.
+    // Drains from now on, for at most this many milliseconds, and sends how that ended.
     fn answer_drain<M>(
         &mut self,
         context: &RunContext<M>,
@@ -190,7 +190,7 @@ impl<'a, R: Input, D: Disk + Drop, C: Children + Drop, T: Client<D, C>, K: Clock
         tidy_timed(context, self.edge.clock(), &mut self.executor)
     }
 
-    // Makes room at the moment that the clock shows, then does what a request asks, at that moment, and tells the reply.
+    // Makes room at the moment that the clock shows, then does what a request asks, at that moment, and sends the reply.
     fn answer_request<M: Metadata>(
         &mut self,
         context: &RunContext<M>,
@@ -250,7 +250,7 @@ impl<'a, R: Input, D: Disk + Drop, C: Children + Drop, T: Client<D, C>, K: Clock
         }
     }
 
-    /// Answers a line, as it was read: the client is told a drain's notices, and then the reply.
+    /// Answers a line, as it was read: the client is sent a drain's notices, and then the reply.
     pub fn answer_line<M: Metadata>(
         &mut self,
         context: &RunContext<M>,

@@ -1,4 +1,4 @@
-//! What a run stands on beside its executor, its input, its output and its clock.
+//! What a run is given besides its executor, its input, its output and its clock.
 use crate::pace::Pace;
 use exec_commands::NoticeForm;
 use std::alloc::Global;
@@ -8,17 +8,17 @@ use std::alloc::Global;
 pub enum Way {
     /// It answers lines; turns are made in drains and watches alone.
     Run,
-    /// It makes turns by itself, too: one behind at most 64 lines, and others while no line is there.
+    /// It makes turns by itself, too: one after at most 64 lines, and others while no line is there.
     Serve,
 }
 
-/// What a run is given beside its executor, its input, its output and its clock.
+/// What a run is given besides its executor, its input, its output and its clock.
 #[derive(Drop)]
 pub struct RunContext<'a, M> {
     pub alloc: Global,
     pub metadata: &'a M,
     pub way: Way,
-    /// What a notice tells.
+    /// What a notice says.
     pub form: NoticeForm<'a>,
     /// How many turns a drain makes at most. It makes one in any case.
     pub most_turns: u64,

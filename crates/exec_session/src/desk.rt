@@ -35,7 +35,7 @@ pub struct Desk<'a, R: Input, D: Disk + Drop, C: Children + Drop, T: Client<D, C
     pub pending: Pending,
 }
 
-// Answers what stands next in the input, behind which nothing was read. Whether it is the input's end.
+// Answers what comes next in the input, after which nothing was read. Whether it is the input's end.
 fn answer_found<
     R: Input,
     D: Disk + Drop,
@@ -112,7 +112,7 @@ impl<'a, R: Input, D: Disk + Drop, C: Children + Drop, T: Client<D, C>, K: Clock
         Ok(self.next_step(context, false))
     }
 
-    // Has a command wait behind the others, and answers all of them unless the next line is there already.
+    // Queues a command after the others, and answers all of them unless the next line is there already.
     fn take_command<M: Metadata>(
         &mut self,
         context: &RunContext<'_, M>,
@@ -142,7 +142,7 @@ impl<'a, R: Input, D: Disk + Drop, C: Children + Drop, T: Client<D, C>, K: Clock
         self.answer_rest(context)
     }
 
-    // Answers the commands that wait, and then what stands next in the input, unless the run ends before that.
+    // Answers the commands that wait, and then what comes next in the input, unless the run ends before that.
     fn take_other<M: Metadata>(
         &mut self,
         context: &RunContext<'_, M>,
@@ -173,8 +173,8 @@ impl<'a, R: Input, D: Disk + Drop, C: Children + Drop, T: Client<D, C>, K: Clock
         Ok(self.next_step(context, has_ended))
     }
 
-    // Takes what stands next in the input: a command waits while the next line is there already, and else all that wait are
-    // answered together; anything else is answered behind them.
+    // Takes what comes next in the input: a command waits while the next line is there already, and else all that wait are
+    // answered together; anything else is answered after them.
     fn take_found<M: Metadata>(
         &mut self,
         context: &RunContext<'_, M>,

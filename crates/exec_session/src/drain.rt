@@ -31,7 +31,7 @@ pub struct Terms {
 }
 
 impl Terms {
-    // How a drain ends behind its turn of this number, which ended so and left the executor idle or not; the clock shows
+    // How a drain ends after its turn of this number, which ended so and left the executor idle or not; the clock shows
     // this moment then. None: it goes on.
     fn end_behind(self, turns: u64, now: u64, end: TurnEnd, idle: bool) -> Option<DrainEnd>
         ensures { result ≡ end_behind self turns now end idle }
@@ -59,8 +59,8 @@ impl<'a, R: Input, D: Disk + Drop, C: Children + Drop, T: Client<D, C>, K: Clock
     T,
     K,
 > {
-    /// Makes turns up to the end of a drain that begins at this moment, which the clock showed last. Between two turns in which nothing
-    /// happened it pauses. It stops where nobody can hear any more what it tells.
+    /// Makes turns up to the end of a drain that begins at this moment, which the clock showed last. Between two turns in
+    /// which nothing happened it pauses. It ends where nobody reads its output any more.
     pub fn drain<M>(
         &mut self,
         context: &RunContext<M>,

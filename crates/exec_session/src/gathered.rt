@@ -53,7 +53,7 @@ impl Gathered {
         self.commands.len() == MOST
     }
 
-    /// Has a command wait behind the others.
+    /// Queues a command after the others.
     pub fn push(&mut self, command: Command)
         requires { length (waiting self.old) < most_together }
         ensures { waiting self.new ≡ waiting self.old ++ command ∷ [] }

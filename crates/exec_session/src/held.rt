@@ -32,7 +32,7 @@ pub enum Held {
     Leave,
 }
 
-/// What stands next, where it is a line that a run holds which goes so; anything else is handed back.
+/// What comes next, where it is a line that a run holds in this mode; anything else is given back.
 #[tactic(auto, using(crate::proofs::HeldLemmas::found_at_once))]
 pub fn held_in(way: Way, next: Found) -> Result<Held, Found>
     ensures held { IfOk result (λ held. next ≡ found.Line (Ok (asks held))) }

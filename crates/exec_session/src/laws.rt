@@ -12,15 +12,15 @@ use crate::metadata::Metadata;
 use disk_model::Disk;
 
 /// Whatever lines were answered, and whatever turns a run that serves made between them, the executor went on by calls alone,
-/// and all replies and notices that were told stand behind what these recorded: so the law of whole lives speaks of each run,
-/// stopped behind any of its replies.
+/// and every reply and notice that was sent is backed by what these recorded: so the law of whole lives holds of each run,
+/// with a crash after any of its replies.
 pub fn lines_are_calls<D: Disk, M: Metadata>(metadata: &M)
     ensures { (rules : Rules) (own : OwnTurn) (n : ℕ) (lines : Lines) (p q : Position D)
         → Reaches D.view (M.gives metadata.now) rules p own n lines q
         → GoesByCalls D.view p.at q.at }
 {}
 
-/// So does each drain and watch, turn by turn: so the law of whole lives speaks of one that is stopped behind any of its turns.
+/// So does each drain and watch, turn by turn: so the law of whole lives holds of one with a crash after any of its turns.
 pub fn turns_are_calls<D: Disk>()
     ensures { (rules : Rules) (terms : Terms) (start turns now : ℕ) (p q : Spot D)
         → p.executor.is_open ≡ true → GoesOn D.view rules terms start p turns now q

@@ -29,7 +29,7 @@ impl<'a, R: Input, D: Disk + Drop, C: Children + Drop, T: Client<D, C>, K: Clock
     T,
     K,
 > {
-    /// Tells that a turn ended so.
+    /// Sends the line that says how a turn ended.
     pub fn tell_end<M>(&mut self, context: &RunContext<M>, end: TurnEnd) -> Result<(), IoFault>
         ensures keeps { Keeps self.old self.new }
         ensures told { OnOk result
@@ -42,7 +42,7 @@ impl<'a, R: Input, D: Disk + Drop, C: Children + Drop, T: Client<D, C>, K: Clock
         self.tell_reply(context, &LineReply::Drain(DrainEnd::Turn(end)))
     }
 
-    // Makes a turn now that begins nothing, and tells its notices.
+    // Makes a turn now that begins nothing, and sends its notices.
     fn finish_turn<M>(&mut self, context: &RunContext<M>, pause: &mut Pause) -> Result<(), IoFault>
         requires open { self.old.at.executor.is_open ≡ true }
         ensures keeps { Keeps self.old self.new }
@@ -69,8 +69,9 @@ impl<'a, R: Input, D: Disk + Drop, C: Children + Drop, T: Client<D, C>, K: Clock
         self.executor.runs_any()
     }
 
-    /// Makes turns that begin nothing as long as anything runs, and tells their notices; then it tells that the run ends. Once a disk
-    /// fault has closed the executor it tells that in its place. It stops where nobody hears what is told.
+    /// Makes turns that begin nothing as long as anything runs, and sends their notices; then it sends the line that ends
+    /// the run. Once a disk fault has closed the executor it sends the line of that fault instead. It ends where nobody
+    /// reads what is sent.
     pub fn leave<M>(&mut self, context: &RunContext<M>) -> Result<(), IoFault>
         requires open { self.old.at.executor.is_open ≡ true }
         ensures keeps { Keeps self.old self.new }

@@ -1,4 +1,4 @@
-//! The next line of the input, and how a run goes on behind it.
+//! The next line of the input, and how a run goes on after it.
 ghost use Rattle.std.specs.Prelude.{◌≡◌, ℕ, List, Err, IfErr, IsTrue, Option};
 ghost use Rattle.exec_lines.specs.Buffer.{line_bytes};
 ghost use Rattle.exec_lines.specs.Pieces.{IsNext};
@@ -12,7 +12,7 @@ use growth::Grows;
 use ocf_types::Refusal;
 use std::alloc::Global;
 
-/// What stands next in the input.
+/// What comes next in the input.
 #[derive(Drop)]
 pub enum Found {
     /// A line of no bytes.
@@ -47,7 +47,7 @@ fn read_line(way: Way, alloc: Global, bytes: &[u8]) -> Result<Line, Refusal>
     }
 }
 
-/// What stands next in the input of a run that goes so, whose line is in the buffer.
+/// What comes next in the input of a run that goes so, whose line is in the buffer.
 pub fn found_in(way: Way, alloc: Global, buffer: &LineBuffer, next: Next) -> Found
     ensures found { (left now : Option (List ℕ)) → IsNext left next (line_bytes buffer.now) now
         → ReadsInput way left now result }

@@ -8,10 +8,10 @@ use std::alloc::Global;
 
 /// Where agents' metadata come from. OCF Resource Agent API 1.1, meta-data.
 pub trait Metadata {
-    /// What may be answered for the agent of a provider and a type that is given so many milliseconds, or as long as it takes.
+    /// What may be answered for the agent of a provider and a type that is given this many milliseconds, or as long as it takes.
     ghost gives: { Self → List ℕ → List ℕ → Option ℕ → Result (Vec ℕ) MetaFault → Type 0 };
 
-    /// The metadata of an agent, which is given so many milliseconds, or as long as it takes, or why it has none.
+    /// The metadata of an agent, which is given this many milliseconds, or as long as it takes, or why it has none.
     fn metadata(
         &self,
         alloc: Global,

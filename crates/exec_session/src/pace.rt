@@ -35,7 +35,7 @@ impl Pace {
         self.each.get().clamp(FASTEST, SLOWEST)
     }
 
-    /// A tidy of so many pieces took so many milliseconds.
+    /// A tidy of this many pieces took this many milliseconds.
     pub fn took(&self, millis: u64, pieces: u64) {
         self.each.set(millis / pieces.max(1));
     }

@@ -26,13 +26,13 @@ const LONGEST: u64 = 50_000;
 // The longest pause of a watch while nothing is, in microseconds.
 const LONGEST_IDLE: u64 = 10_000;
 
-/// How long a run pauses before its next turn: not behind a turn in which something happened, and then a tenth of the time since, up to a
-/// millisecond, and a hundredth of it from there on, up to 50.
+/// How long a run pauses before its next turn: not after a turn in which something happened, and then a tenth of the time
+/// since, up to a millisecond, and a hundredth of it from there on, up to 50.
 #[derive(Drop)]
 pub struct Pause {
     // When the turn began that was made last, where the clock showed it.
     began: Option<Instant>,
-    // When the turn began behind which nothing happened.
+    // When the turn began after which nothing happened.
     quiet: Option<Instant>,
     // Whether a line is held.
     holds: bool,
@@ -79,7 +79,7 @@ impl Pause {
         }
     }
 
-    /// Whether a line is held from now on: pauses begin anew where that changes.
+    /// Whether a line is held from now on: pauses start over where that changes.
     pub fn holds(&mut self, holds: bool)
         ensures moment { self.new.moment ≡ self.old.moment }
         ensures since { self.new.since ≡ self.old.since }
@@ -99,7 +99,7 @@ impl Pause {
         self.moment = now;
     }
 
-    // How long to pause behind a turn in which nothing happened, in microseconds.
+    // How long to pause after a turn in which nothing happened, in microseconds.
     fn length(&self, clock: &impl Clock, idle: bool) -> u64
         ensures short { IsShort self.now.since self.now.moment result }
     {
@@ -115,7 +115,7 @@ impl Pause {
         (micros_since(clock, self.quiet) / GROWTH).clamp(SHORTEST, SHORT)
     }
 
-    /// How long to pause behind the turn that was made, in microseconds.
+    /// How long to pause after the turn that was made, in microseconds.
     pub fn behind_turn<D: Disk + Drop, C: Children + Drop>(
         &mut self,
         clock: &impl Clock,

@@ -1,4 +1,4 @@
-//! What a run asks of its reader, its client and its clock, beside what it answers.
+//! What a run asks of its reader, its client and its clock, besides what it answers.
 ghost use Rattle.std.specs.Prelude.{◌≡◌, List, ℕ, Option, MatchOption, IfErr, IfOk, is_ok};
 ghost use Rattle.exec_client.specs.MayTell.{AllStand};
 ghost use Rattle.exec_lines.specs.Buffer.{line_bytes};
@@ -28,7 +28,7 @@ impl<'a, R: Input, D: Disk + Drop, C: Children + Drop, T: Client<D, C>, K: Clock
     T,
     K,
 > {
-    /// An executor that was just opened, of which its client was told nothing yet.
+    /// An executor that was just opened, of which its client was sent nothing yet.
     #[tactic(auto, using(crate::proofs::TellLemmas::new_stands))]
     pub fn new(edge: Edge<'a, R, D, C, T, K>, executor: Executor<D, C>) -> Worker<'a, R, D, C, T, K>
         requires fresh { IsNew edge.heard executor }
@@ -46,22 +46,22 @@ impl<'a, R: Input, D: Disk + Drop, C: Children + Drop, T: Client<D, C>, K: Clock
         (edge, executor)
     }
 
-    /// Waits for input for at most so many milliseconds, and says whether a read would not wait.
+    /// Waits for input for at most this many milliseconds, and says whether a read would not block.
     pub fn look(&mut self, millis: u32) -> bool
         ensures noted { self.new ≡ noted self.old (Looked millis result) }
     {
         self.edge.look(millis)
     }
 
-    /// Whether a whole line stands in what was read already.
+    /// Whether what was read already holds a whole line.
     pub fn has_line(&mut self) -> bool
         ensures noted { self.new ≡ noted self.old (Peeked result) }
     {
         self.edge.has_line()
     }
 
-    /// Reads once, and goes on with a line in the buffer. It gives what stands next in the input once that line is whole; none while
-    /// it goes on.
+    /// Reads once, and goes on with a line in the buffer. It gives what comes next in the input once that line is whole;
+    /// none while it goes on.
     pub fn read(&mut self, buffer: &mut LineBuffer) -> Result<Option<Next>, IoFault>
         ensures gathers { (left : Option (List ℕ))
             → IsMidLine left (line_bytes buffer.old) self.old.left
@@ -74,14 +74,14 @@ impl<'a, R: Input, D: Disk + Drop, C: Children + Drop, T: Client<D, C>, K: Clock
         self.edge.read(buffer)
     }
 
-    /// Pauses for so many microseconds: not at all for none.
+    /// Pauses for this many microseconds: not at all for none.
     pub fn rest(&mut self, micros: u64)
         ensures noted { self.new ≡ position (paused self.old.at micros) self.old.left }
     {
         self.edge.rest(micros);
     }
 
-    /// Whether what is told may still reach somebody.
+    /// Whether anybody may still read what is sent.
     pub fn is_heard(&mut self) -> bool
         ensures noted { self.new ≡ noted self.old (Asked result) }
     {

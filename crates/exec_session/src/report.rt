@@ -1,4 +1,4 @@
-//! What an opening reports, as it is told.
+//! What an opening reports, as it is sent.
 ghost use Rattle.std.specs.Prelude.{◌≡◌, IfErr, IsTrue, OnErr, OnOk};
 ghost use Rattle.exec_output.specs.declared.send.IoFault.TheVariants.{Memory};
 ghost use Rattle.exec_session.specs.Reports.{IsReportOf, ReportBreaks, TellsReport};
@@ -22,7 +22,7 @@ impl<'a, R: Input, D: Disk + Drop, C: Children + Drop, T: Client<D, C>, K: Clock
     T,
     K,
 > {
-    /// Tells what an opening reports: what was interrupted, and then what was dropped.
+    /// Sends what an opening reports: what was interrupted, and then what was dropped.
     pub fn tell_report<M>(
         &mut self,
         context: &RunContext<M>,

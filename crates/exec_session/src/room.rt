@@ -17,7 +17,7 @@ use std::time::Instant;
 // by that much.
 const WORTHWHILE: u64 = 2_097_152;
 
-// The second mark: past it a tidy is made though something waits for it. Behind it there is room for the reserve and for seventy of
+// The second mark: past it a tidy is made though something waits for it. After it there is room for the reserve and for seventy of
 // the longest events, more than the commands that are answered together and a turn need.
 const SECOND_MARK: u64 = PART_LIMIT - RESERVE - 70 * EVENT_LIMIT as u64;
 
@@ -32,7 +32,7 @@ fn pieces<D: Disk + Drop, C: Children + Drop>(executor: &Executor<D, C>) -> u64
     executor.tidied_tail() / PIECE + 1
 }
 
-// Whether a monitor is due within so many milliseconds from this moment, or was due before.
+// Whether a monitor is due within this many milliseconds from this moment, or was due before.
 fn is_monitor_due<D: Disk + Drop, C: Children + Drop>(
     executor: &Executor<D, C>,
     now: u64,
@@ -46,7 +46,7 @@ fn is_monitor_due<D: Disk + Drop, C: Children + Drop>(
     }
 }
 
-// Whether nothing would wait for so many milliseconds from this moment.
+// Whether nothing would wait for this many milliseconds from this moment.
 fn is_at_leisure<D: Disk + Drop, C: Children + Drop>(
     executor: &Executor<D, C>,
     now: u64,

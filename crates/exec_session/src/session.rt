@@ -60,7 +60,7 @@ fn is_news(before: TurnEnd, end: TurnEnd) -> bool
     end != before && end != TurnEnd::Done && end != TurnEnd::Disk
 }
 
-// Tells how an own turn ended, where that is news.
+// Sends how an own turn ended, where that is news.
 fn tell_news<R: Input, D: Disk + Drop, C: Children + Drop, T: Client<D, C>, K: Clock, M: Metadata>(
     worker: &mut Worker<'_, R, D, C, T, K>,
     context: &RunContext<'_, M>,
@@ -81,7 +81,7 @@ fn tell_news<R: Input, D: Disk + Drop, C: Children + Drop, T: Client<D, C>, K: C
     }
 }
 
-// Makes a turn now, behind an own one that ended so, and tells its end where that is news.
+// Makes a turn now, after an own one that ended so, and sends its end where that is news.
 fn make_own_turn<
     R: Input,
     D: Disk + Drop,
@@ -121,8 +121,8 @@ impl<'a, R: Input, D: Disk + Drop, C: Children + Drop, T: Client<D, C>, K: Clock
     T,
     K,
 > {
-    // Answers the lines that are there, and makes a turn behind at most 64 of them; where nothing happened in it, waits for the next
-    // line.
+    // Answers the lines that are there, and makes a turn after at most 64 of them; where nothing happened in it, waits for
+    // the next line.
     fn serve_round<M: Metadata>(&mut self, context: &RunContext<'_, M>) -> Result<Taken, IoFault>
         requires way { context.now.way ≡ Way.Serve }
         requires begins { MayBegin context.now.way self.old.desk.worker.at self.old.desk.pending }
@@ -215,8 +215,8 @@ impl<'a, R: Input, D: Disk + Drop, C: Children + Drop, T: Client<D, C>, K: Clock
         }
     }
 
-    // Answers the lines of the input up to its end, round by round. Once a disk fault has closed the executor a run that serves tells
-    // that, and ends; and so it does once a line has asked it to, when what runs has ended.
+    // Answers the lines of the input up to its end, round by round. Once a disk fault has closed the executor a run that
+    // serves sends that, and ends; it also ends once a line has asked it to, when what runs has ended.
     fn answer_all<M: Metadata>(&mut self, context: &RunContext<'_, M>) -> Result<(), IoFault>
         requires clear { IsClear self.old.desk.pending }
         requires none { self.old.own ≡ Done }
@@ -237,7 +237,7 @@ impl<'a, R: Input, D: Disk + Drop, C: Children + Drop, T: Client<D, C>, K: Clock
         Err(IoFault::InputOrOutput)
     }
 
-    // Tells the report, and then answers all lines.
+    // Sends the report, and then answers all lines.
     fn report_and_answer<M: Metadata>(
         &mut self,
         context: &RunContext<'_, M>,
@@ -259,7 +259,7 @@ impl<'a, R: Input, D: Disk + Drop, C: Children + Drop, T: Client<D, C>, K: Clock
         Ok(())
     }
 
-    // Tells the report, and then answers all lines; how the program ends behind that.
+    // Sends the report, and then answers all lines; how the program ends after that.
     fn answer_lines<M: Metadata>(
         &mut self,
         context: &RunContext<'_, M>,
@@ -283,12 +283,13 @@ impl<'a, R: Input, D: Disk + Drop, C: Children + Drop, T: Client<D, C>, K: Clock
     }
 }
 
-/// Tells a client what the opening reports, and then answers each line of the input, up to its end; a run that serves makes turns by
-/// itself, too, and tells how they ended. Commands that stand whole in what was read, one behind the other, are recorded together,
-/// and their replies flushed together; any other reply is flushed before the next line is answered, and a turn's notices before the
+/// Sends a client what the opening reports, and then answers each line of the input, up to its end; a run that serves makes turns
+/// by itself, too, and sends how they ended. Commands whose lines were read whole, one after the other, are recorded together, and
+/// their replies flushed together; any other reply is flushed before the next line is answered, and a turn's notices before the
 /// next turn. Where the disk failed the end of the input is a fault, and a run that serves ends at once by it, with the line of a
 /// turn that ended so; input or output that fails is another, and so is a reply that finds no memory. In any case all children are
-/// given up then, and the executor closed. The room for lines is handed in, so that none is refused between the opening and its report.
+/// given up then, and the executor closed. The buffer for lines is passed in, so that no memory is refused between the opening and
+/// its report.
 #[inline(never)]
 pub fn run_lines<
     'a,

@@ -25,7 +25,7 @@ use exec_output::IoFault;
 use executor::Executor;
 use std::rt::Clock;
 
-// Does what the commands ask at this moment, behind room that was made. Where the disk failed as room was made each is refused for that.
+// Does what the commands ask at this moment, after room was made. Where the disk failed as room was made each is refused for that.
 fn serve_gathered<D: Disk + Drop, C: Children + Drop>(
     executor: &mut Executor<D, C>,
     gathered: &mut Gathered,
@@ -56,7 +56,7 @@ impl<'a, R: Input, D: Disk + Drop, C: Children + Drop, T: Client<D, C>, K: Clock
     T,
     K,
 > {
-    /// Answers the commands that wait. They are recorded together, and no reply is told before that; the replies are told
+    /// Answers the commands that wait. They are recorded together, and no reply is sent before that; the replies are sent
     /// together.
     pub fn answer_gathered<M>(
         &mut self,

@@ -26,8 +26,8 @@ impl<'a, R: Input, D: Disk + Drop, C: Children + Drop, T: Client<D, C>, K: Clock
     T,
     K,
 > {
-    /// Makes room and then a turn at this moment, which the clock showed last, and tells its notices. Where the disk fails as room is
-    /// made there is no turn.
+    /// Makes room and then a turn at this moment, which the clock showed last, and sends its notices. Where the disk fails
+    /// as room is made there is no turn.
     pub fn make_turn<M>(&mut self, context: &RunContext<M>, now: u64) -> Result<TurnEnd, IoFault>
         requires open { self.old.at.executor.is_open ≡ true }
         requires shown { last_shown self.old.at.events ≡ Some now }

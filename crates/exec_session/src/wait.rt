@@ -1,4 +1,4 @@
-//! The wait behind a turn of a run that serves.
+//! The wait after a turn of a run that serves.
 ghost use Rattle.std.specs.Prelude.{◌≡◌, ◌≤◌, ◌*◌};
 ghost use Rattle.exec_session.specs.Pausing.{IsQuietSince, MayPause};
 ghost use Rattle.exec_session.specs.Spots.{Position, noted};
@@ -16,7 +16,7 @@ use std::rt::Clock;
 // The longest wait while nothing is queued or runs, in milliseconds.
 const LONGEST_IDLE: u32 = 1_000;
 
-// How long may be waited for a line behind a turn, in microseconds: not at all behind one in which something happened, and
+// How long may be waited for a line after a turn, in microseconds: not at all after one in which something happened, and
 // while nothing is queued or runs until the next monitor is due.
 #[tactic(auto, using(crate::proofs::RoundLemmas::waits_none, crate::proofs::RoundLemmas::waits_once))]
 fn wait_micros<R: Input, D: Disk + Drop, C: Children + Drop, T: Client<D, C>, K: Clock>(
@@ -42,7 +42,7 @@ fn wait_micros<R: Input, D: Disk + Drop, C: Children + Drop, T: Client<D, C>, K:
     }
 }
 
-// For so many microseconds may be waited: for how many milliseconds input is waited for.
+// For how many milliseconds input is waited for, where a wait may take this many microseconds.
 fn look_millis(micros: u64) -> u32
     ensures part { result * 1000 ≤ micros }
 {
@@ -68,8 +68,8 @@ fn wait_for_line<R: Input, D: Disk + Drop, C: Children + Drop, T: Client<D, C>, 
     }
 }
 
-/// Waits until a line is there, something may have ended, or a monitor is due; while a line is held, no longer than between two turns
-/// of a watch, and not at all before its agent was asked. Whether what is told may still reach somebody.
+/// Waits until a line is there, something may have ended, or a monitor is due; while a line is held, no longer than between
+/// two turns of a watch, and not at all before its agent was asked. Whether anybody may still read what is sent.
 pub fn wait<R: Input, D: Disk + Drop, C: Children + Drop, T: Client<D, C>, K: Clock>(
     worker: &mut Worker<'_, R, D, C, T, K>,
     pause: &mut Pause,

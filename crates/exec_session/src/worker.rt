@@ -21,8 +21,8 @@ use executor::Executor;
 use std::marker::Model;
 use std::rt::Clock;
 
-/// What a run works with: its executor, and the reader, the client and the clock. All that the client was told since the executor was
-/// opened stands behind what the executor recorded.
+/// What a run works with: its executor, and the reader, the client and the clock. All that the client was sent since the
+/// executor was opened is backed by what the executor recorded.
 #[derive(Drop)]
 pub struct Worker<'a, R: Input, D: Disk + Drop, C: Children + Drop, T: Client<D, C>, K: Clock> {
     pub(crate) edge: Edge<'a, R, D, C, T, K>,
@@ -76,7 +76,7 @@ impl<'a, R: Input, D: Disk + Drop, C: Children + Drop, T: Client<D, C>, K: Clock
         self.edge.now()
     }
 
-    /// Pauses behind a turn. Whether the client hears still.
+    /// Pauses after a turn. Whether the client still reads.
     pub fn pauses(&mut self, pause: &mut Pause) -> bool
         ensures left { self.new.left ≡ self.old.left }
         ensures moment { pause.new.moment ≡ pause.old.moment }
@@ -90,7 +90,7 @@ impl<'a, R: Input, D: Disk + Drop, C: Children + Drop, T: Client<D, C>, K: Clock
         self.edge.is_heard()
     }
 
-    /// Tells the client something that says nothing of what is recorded; notices in this form.
+    /// Sends the client something that says nothing of what is recorded; notices in this form.
     pub fn tell(&mut self, form: NoticeForm, what: &Told) -> Result<(), IoFault>
         requires stands { StandsBehind D.view self.old.at.executor self.old.at.executor
             (said_in what.now) }

@@ -28,7 +28,7 @@ greater_differs n k h = false_from_ne_true _ (λ e. omega (arith, h, (Decides-eq
 abbrev pub due_where : Option Recur → Option ℕ → Option ℕ
 due_where there due = cond (is_some there) due None
 
--- a call is due just where its monitor is
+-- a call is due exactly when its monitor is
 pub due_there : (ms : List Monitor) (call : ℕ) → due_in ms call ≡ due_where (of_call call (recurs ms)) (due_in ms call)
 due_there [] call = refl
 due_there (m ∷ ms) call = by (m.recur.call == call) (due_there ms call)

@@ -72,7 +72,7 @@ dues_without id es distinct =
     dues_seen (remove_entry (bytes_eq id) es) ∙ look_all-remove_entry pairs_in id es distinct
     ∙ ap (λ (xs : Dues). filter (λ e. not (bytes_eq id e.0)) xs) (sym (dues_seen es))
 
--- the monitors of the resource at a place, written anew
+-- the monitors of the resource at a place, written again
 pub dues_written_at : {H : Type 0} (es : List (List ℕ × Registered H)) (i : ℕ) (id : List ℕ) (u w : Registered H)
     → IsDistinct bytes_eq (keys_of es) → Some (id, u) ≡ slice_get (set_value_at es i w) i
     → dues_by_id (monitors_all (set_value_at es i w)) ≡ at_id id (λ ps. pairs u.monitors) (dues_by_id (monitors_all es))

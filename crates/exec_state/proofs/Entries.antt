@@ -29,7 +29,7 @@ IsAbsent id es = AllByRecursion (λ k. bytes_eq id k ≡ false) (keys_of es)
 abbrev pub on_value : {A : Type 0} → (A → A) → List ℕ × A → List ℕ × A
 on_value f e = (e.0, f e.1)
 
--- behind the entry of an id none has it
+-- after the entry of an id none has it
 pub absent_behind : {A : Type 0} (id : List ℕ) (e : List ℕ × A) (es : List (List ℕ × A)) → IsDistinct bytes_eq (keys_of (e ∷ es))
     → bytes_eq id e.0 ≡ true → IsAbsent id es
 absent_behind id e es distinct same =

@@ -10,7 +10,7 @@ use growth::Grows;
 use ocf_types::{Change, Event, EventOf, Moment};
 
 impl<A: Grows> State<A> {
-    /// The boot that an opening at that moment records: just where an action is queued or running.
+    /// The boot that an opening at that moment records: there is one exactly when an action is queued or running.
     pub fn boot(&self, now: u64) -> Option<Event<A>>
         ensures { result ≡ boot_event self.now.state (moment self.now.state now) }
     {

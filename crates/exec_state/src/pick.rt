@@ -43,7 +43,7 @@ impl<A: Grows> State<A> {
         self.registry.look();
     }
 
-    /// The least moment, in milliseconds, at which a recurring monitor is due: `None` just where there are no recurring
+    /// The least moment, in milliseconds, at which a recurring monitor is due: `None` exactly when there are no recurring
     /// monitors.
     pub fn first_due(&self) -> Option<u64>
         ensures { IsFirstMoment (all_pairs self.now.monitors) result }

@@ -219,7 +219,7 @@ impl<A: Grows> Registry<A> {
         insert(&mut self.resources, &mut self.dues, id, resource);
     }
 
-    /// Removes the resource of that id. Those behind it move up.
+    /// Removes the resource of that id. Those after it move up.
     #[tactic(auto, using(crate::proofs::Resting::rest_before_0))]
     pub(crate) fn remove(&mut self, id: &RscId)
         ensures resources { self.new.resources ≡ others id.now self.old.resources }

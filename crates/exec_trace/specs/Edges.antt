@@ -4,8 +4,8 @@ use Rattle.exec_client.specs.Heard.{Heard}
 use Rattle.exec_trace.specs.declared.event.IoEvent.{IoEvent}
 use Rattle.exec_trace.specs.declared.event.IoEvent.TheVariants.{Rested}
 
--- what the reader has left, where that is known, what the client has heard, and all that was asked of them and of the clock, with what
--- was answered
+-- what the reader has left, where that is known, what the client has received, and all that was asked of them and of the
+-- clock, with what was answered
 pub record EdgeView (D : Type 0) : Type 0 where
   pub left : Option (List ℕ)
   pub heard : Heard D
@@ -15,7 +15,7 @@ pub record EdgeView (D : Type 0) : Type 0 where
 abbrev pub noting : {D : Type 0} → EdgeView D → IoEvent → EdgeView D
 noting e event = record { left = e.left; heard = e.heard; events = e.events ++ event ∷ [] }
 
--- the events of a pause of so many microseconds: none is no event
+-- the events of a pause of this many microseconds: none is no event
 abbrev pub rest_events : ℕ → List IoEvent
 rest_events micros = if nat_lt 0 micros then Rested micros ∷ [] else []
 

@@ -14,7 +14,7 @@ last_shown [] = None
 last_shown (Shown moment ∷ events) = later_of moment (last_shown events)
 last_shown (e ∷ events) = last_shown events
 
--- a read or a send that failed, or nobody hears any more what is sent
+-- a read or a send that failed, or nobody reads any more what is sent
 abbrev pub is_failure : IoEvent → Bool
 is_failure (Read done) = not done
 is_failure (Sent done) = not done

@@ -69,7 +69,7 @@ impl<'a, R: Input, D: Disk + Drop, C: Children + Drop, T: Client<D, C>, K: Clock
         self.clock
     }
 
-    /// Waits for input for at most so many milliseconds, and says whether a read would not wait.
+    /// Waits for input for at most this many milliseconds, and says whether a read would not block.
     pub fn look(&mut self, millis: u32) -> bool
         ensures noted { self.new ≡ noting self.old (Looked millis result) }
     {
@@ -78,7 +78,7 @@ impl<'a, R: Input, D: Disk + Drop, C: Children + Drop, T: Client<D, C>, K: Clock
         ready
     }
 
-    /// Whether a whole line stands in what was read already.
+    /// Whether what was read already holds a whole line.
     pub fn has_line(&mut self) -> bool
         ensures noted { self.new ≡ noting self.old (Peeked result) }
     {
@@ -87,8 +87,8 @@ impl<'a, R: Input, D: Disk + Drop, C: Children + Drop, T: Client<D, C>, K: Clock
         has_line
     }
 
-    /// Reads once, and goes on with a line in the buffer. It gives what stands next in the input once that line is whole; none while
-    /// it goes on.
+    /// Reads once, and goes on with a line in the buffer. It gives what comes next in the input once that line is whole;
+    /// none while it goes on.
     pub fn read(&mut self, buffer: &mut LineBuffer) -> Result<Option<Next>, IoFault>
         ensures gathers { (left : Option (List ℕ))
             → IsMidLine left (line_bytes buffer.old) self.old.left
@@ -117,7 +117,7 @@ impl<'a, R: Input, D: Disk + Drop, C: Children + Drop, T: Client<D, C>, K: Clock
         moment
     }
 
-    /// Pauses for so many microseconds: not at all for none.
+    /// Pauses for this many microseconds: not at all for none.
     pub fn rest(&mut self, micros: u64)
         ensures noted { self.new ≡ rested self.old micros }
     {
@@ -127,8 +127,8 @@ impl<'a, R: Input, D: Disk + Drop, C: Children + Drop, T: Client<D, C>, K: Clock
         }
     }
 
-    /// Tells the client this, once it stands; notices in this form. After an error a front of it may be told, and of the line behind
-    /// that a part.
+    /// Sends the client this, once what it says is recorded; notices in this form. After an error a prefix of its lines may
+    /// have been sent, and a part of the next line.
     pub fn tell(
         &mut self,
         executor: &Executor<D, C>,
@@ -148,7 +148,7 @@ impl<'a, R: Input, D: Disk + Drop, C: Children + Drop, T: Client<D, C>, K: Clock
         told
     }
 
-    /// Whether what is told may still reach somebody.
+    /// Whether anybody may still read what is sent.
     pub fn is_heard(&mut self) -> bool
         ensures noted { self.new ≡ noting self.old (Asked result) }
     {

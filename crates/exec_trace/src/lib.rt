@@ -1,4 +1,4 @@
-//! The reader, the client and the clock of a run behind one door, and all that was asked of them, for contracts.
+//! The reader, the client and the clock of a run as one type, and all that was asked of them, for contracts.
 #![tactic(auto)]
 
 mod edge;

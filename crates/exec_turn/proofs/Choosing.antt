@@ -138,7 +138,7 @@ some_picks due at run (e ∷ es) =
     let rest = some_picks due at (run + length (begun_in at run e p.0)) es in
     (begun_in at run e p.0 ++ rest.0, (p.0, rest.0, p.1, rest.1, refl))
 
--- what two lists of resources pick, one behind the other
+-- what two lists of resources pick, one after the other
 pub picks_append : (due : Due) (at run : ℕ) (xs ys : Registry) (first bs : List Active) → ArePicks due at run xs first
     → ArePicks due at (run + length first) ys bs
     → ArePicks due at run (xs ++ ys) (first ++ bs)
@@ -172,7 +172,7 @@ picks_more due at run next rs place bs chosen lt before is now =
     let one = subst (λ n. ArePicks due at n (e ∷ []) (active_of e.0 chosen)) is (one_pick due at next e chosen now) in
     rw (take_more rs place no_entry lt) (picks_append due at run (take place rs) (e ∷ []) bs (active_of e.0 chosen) before one)
 
--- those up to a place that begin something, and all the others behind it
+-- those up to a place that begin something, and all the others after it
 pub picks_cut : (due : Due) (at run next : ℕ) (rs : Registry) (place : ℕ) (bs : List Active) (x : Running) → place < length rs
     → ArePicks due at run (take place rs) bs → next ≡ run + length bs → Chooses due at next (slice_index_or rs place no_entry) (Some x)
     → (later : List Active) × ArePicks due at run rs (bs ++ record { id = (slice_index_or rs place no_entry).0; running = x } ∷ later)

@@ -26,7 +26,7 @@ absent_kept id f [] absent = refl
 absent_kept id f (e ∷ es) absent =
     ap (λ (b : Bool). (e.0, cond b (f e.1) e.1) ∷ at_id id f es) absent.0 ∙ ap (λ (l : Registry). e ∷ l) (absent_kept id f es absent.1)
 
--- the entry of an id, with what stands before it and behind it, and what a change of it makes of all
+-- the entry of an id, with what comes before it and after it, and what a change of it makes of all
 pub record Between (id : List ℕ) (f : Resource → Resource) (r : Resource) (rs : Registry) : Type 0 where
   pub before : Registry
   pub behind : Registry

@@ -122,7 +122,7 @@ module _ {D : Type 0} (look : D → View) (at : ℕ) (k0 k1 : D) (s0 s1 : State)
       state2 : s2 ≡ after_all s1 (begins at begun)
       state2 = ap (λ (x : Scene). x.state) b.recorded.moves
 
-      -- what ended the picks is what is told
+      -- what ended the picks is what is reported
       picked : PickedAt end (scene s1 d1 p1 at a1) begun
       picked = subst (λ (e : TurnEnd). PickedAt e (scene s1 d1 p1 at a1) begun) (sym b.ended) b.picked
 

@@ -34,7 +34,7 @@ invoked site id r running call own provider agent params id_is provider_is agent
     λ k. record { id = sym id_is k; provider = provider_is k; agent = agent_is k; params = params_is k } in
     subst (λ (x : Registration). IsInvocation site x running call) same is
 
--- one more begin makes the row longer by its spelling
+-- one more begin makes the row longer by its encoding
 pub row_longer : (es : List Event) (e : Event) → length (spelled_row (es ++ e ∷ [])) ≡ length (spelled_row es) + length (spelled_event e)
 row_longer [] e = let size = length-append (spelled_event e) [] in omega (arith, size)
 row_longer (x ∷ xs) e =
@@ -54,7 +54,7 @@ kept : (at : ℕ) (bs : List Active) (a : Active) → kept_free (begins at (bs +
 kept at [] a = kept_behind at a []
 kept at (b ∷ bs) a = kept_behind at b (bs ++ a ∷ [])
 
--- the spelling of the row with one more begin
+-- the encoding of the row with one more begin
 pub spelled_more : (at len more : ℕ) (bs : List Active) (a : Active) (row : List Event) (e : Event) → row ≡ begins at bs → e ≡ begin_of at a
     → len ≡ length (spelled_row row) → more ≡ length (spelled_event e) → length (spelled_row (begins at (bs ++ a ∷ []))) ≡ len + more
 spelled_more at len more bs a row e row_is e_is len_is more_is =

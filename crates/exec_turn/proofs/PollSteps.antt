@@ -109,7 +109,7 @@ polls_more at xs ys v v1 v2 row more told later f g = record {
       ∙ sym (flat_map-append _ f.answers g.answers);
 }
 
--- who lives is found at the first place or behind it
+-- who lives is found at the first place or after it
 pub contains_one : (y r : ℕ) → Contains (y ∷ []) r → y ≡ r
 contains_one y r has = by has.0 has.1 has.2
   where
@@ -145,7 +145,7 @@ pub all_live_after : (end : Option RunEnd) (run : ℕ) (live runs : List ℕ) �
 all_live_after end run live [] apart has = tt
 all_live_after end run live (r ∷ rs) apart has = (lives_after end run r live apart.0 has.0, all_live_after end run live rs apart.1 has.1)
 
--- behind polls the other runs live on
+-- after polls the other runs live on
 live_on : (at : ℕ) (ps : List Polled) (v : ChildrenView) (runs : List ℕ) → IsDistinct nat_eq (runs_of (whos ps) ++ runs) → Live v.live runs
     → Live (after_polls at v ps).live runs
 live_on at [] v runs distinct has = has
@@ -194,7 +194,7 @@ pub active_rest : (s : State) (place : ℕ) → place < length s.resources
     → flat_map active_in (drop place s.resources) ≡ active_in (entry_at s place) ++ flat_map active_in (drop (place + 1) s.resources)
 active_rest s place within = ap (flat_map active_in) (drop_more s.resources place no_entry within)
 
--- the book's room behind polls
+-- the book's room after polls
 pub room_behind : (at : ℕ) (all : List Active) (old new : ChildrenView) (row : List Event) (told : List Notice)
     → Polls at all old new row told → old.room ≤ new.room + 2 * length all
 room_behind at all old new row told h =

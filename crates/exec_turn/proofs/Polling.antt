@@ -146,7 +146,7 @@ pub polls_ask_nothing : (at : ℕ) (ps : List Polled) (run clock : ℕ) → Aske
 polls_ask_nothing at ps run clock h =
     asked_polls (polls at ps) run clock (All-from_recursion IsUnasked (polls at ps) (polls_unasked at ps)) h
 
--- how a run ended has a spelling
+-- how a run ended has an encoding
 ending_lawful : (at : ℕ) (x : Running) (answer : Poll) (end : RunEnd) → ending at x answer ≡ Some end → IsPoll answer → IsRunEnd end
 ending_lawful at x poll.Running end is byte = by (is_late at x) is
   where
@@ -161,7 +161,7 @@ ending_lawful at x poll.Fault end is byte = let same : run_end.Lost ≡ end = cc
 abbrev results_of : ℕ → Active → Option RunEnd → List Event
 results_of at a end = map (result_of at a) (option_to_list end)
 
--- a result is spelled in so many bytes at most: the law `lengths` of ocf_types
+-- a result is encoded in this many bytes at most: the law `lengths` of ocf_types
 abbrev pub AreShort : Type 0
 AreShort =
     (at run : ℕ) (id : List ℕ) (end : RunEnd) → IsId id
@@ -343,7 +343,7 @@ agents_live_behind at s kept (p ∷ ps) v distinct is agents_live =
         more end (subst (AgentsLive (after s (result_of at p.who end))) (sym live)
         (agents_live_after_result at s kept p.who (whos ps) end v.live distinct is agents_live))
 
--- behind the row of results what still runs lives
+-- after the row of results what still runs lives
 pub agents_live_after_polls : (at : ℕ) (s : State) (v : ChildrenView) (ps : List Polled) → IsLawfulState s → whos ps ≡ active s → AgentsLive s v.live
     → AgentsLive (after_all s (results at ps)) (after_polls at v ps).live
 agents_live_after_polls at s v ps lawful each agents_live = agents_live_behind at s [] ps v lawful.ids (sym each) agents_live

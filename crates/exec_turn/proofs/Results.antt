@@ -140,7 +140,7 @@ middle_gone (x ∷ xs) a rest d =
     middle_of [] h = h.0
     middle_of (y ∷ ys) h = middle_of ys h.1
 
--- behind a result of what ran between others the others run
+-- after a result of what ran between others the others run
 pub others_run : (at : ℕ) (s : State) (kept : List Active) (a : Active) (rest : List Active) (end : RunEnd)
     → IsDistinct bytes_eq (keys_of s.resources) → active s ≡ kept ++ a ∷ rest
     → active (after s (result_of at a end)) ≡ kept ++ rest

@@ -106,7 +106,7 @@ pub runs_below : (s : State) (all : List Active) → IsLawfulState s → AllRun 
 runs_below s [] lawful run = tt
 runs_below s (a ∷ rest) lawful run = ((known s a lawful run.0).1, runs_below s rest lawful run.1)
 
--- the later ones run on behind the result of an earlier one
+-- the later ones run on after the result of an earlier one
 run_on : (s : State) (at : ℕ) (a : Active) (end : RunEnd) (low : ℕ) (rest : List Active) → RunsUnder s a.id a.running.call a.running.run
     → a.running.run ≤ low → Rising low rest → AllRun s rest
     → AllRun (after s (result_of at a end)) rest
@@ -318,7 +318,7 @@ all_agents_live s live agents_live = record {
   few = omega (arith, agents_live.few);
 }
 
--- behind the starts and the results of the refused ones the agent of each action that runs lives
+-- after the starts and the results of the refused ones the agent of each action that runs lives
 pub starts_tend : (s : State) (at clock last : ℕ) (v : ChildrenView) (xs : List Started) → IsDistinct bytes_eq (keys_of s.resources)
     → AllRun s (map (λ x. x.what) xs)
     → Rising last (map (λ x. x.what) xs) → AgentsLiveBut s v.live (map (λ x. x.what) xs)

@@ -1,4 +1,4 @@
--- Starts behind their begins.
+-- Starts after their begins.
 use Rattle.std.specs.Prelude.{◌≡◌, ℕ, List, [], ◌∷◌, ◌==◌, map}
 use Rattle.std.specs.List.{list_any}
 use Rattle.std.proofs.Common.{⊎_elim, refl, sym, ◌∙◌, ap, subst}
@@ -36,7 +36,7 @@ asked_starts at clock (x ∷ xs) run u asked = ⊎_elim
     (later.0, or_right (x.what.running.run == run) (list_any (λ e. is_begin run e.change) (begins at (map (λ x. x.what) xs))) later.1))
     (asked_in (starts clock (x ∷ [])) (starts clock xs) run u asked)
 
--- The starts behind their begins: none of what a stop leaves from then on lacks one.
+-- The starts after their begins: none of what a crash leaves from then on lacks one.
 pub then_started : {D : Type 0} (look : D → View) (old new : D) (s t : State) (at clock : ℕ) (bs : List Active) (xs : List Started)
     → ((look new).honest → Lawful (look new)) → clock ≡ (look new).clock → map (λ x. x.what) xs ≡ bs
     → Leaves look old new s t (record { entries = []; events = begins at bs; pending = [] })

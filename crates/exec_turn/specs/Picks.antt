@@ -32,7 +32,7 @@ begin_of at a = record { at = at; change = change.Step a.id (step.Begin a.runnin
 abbrev pub begins : ℕ → List Active → List Event
 begins at begun = map (begin_of at) begun
 
--- At this state, and with the journal's last gate at this offset, so many begins find a run number each and leave the
+-- At this state, and with the journal's last gate at this offset, this many begins find a run number each and leave the
 -- reserve free; none is always possible.
 pub record MayBegin (s : State) (tail at : ℕ) (begun : List Active) : Type 0 where
   pub runs : s.next_run + length begun ≤ num_max

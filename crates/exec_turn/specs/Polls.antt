@@ -62,7 +62,7 @@ polls at ps = flat_map (λ p. entries_of at p.who.running p.poll p.kill) ps
 abbrev pub after_polls : ℕ → ChildrenView → List Polled → ChildrenView
 after_polls at v ps = fold (λ w p. polled_on at p.who.running p.poll p.kill w) v ps
 
--- the row of results that they make, and what is told of it
+-- the row of results that they make, and its notices
 abbrev pub results : ℕ → List Polled → List Event
 results at ps = flat_map (λ p. map (result_of at p.who) (ends_of at p)) ps
 

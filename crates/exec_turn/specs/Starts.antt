@@ -23,14 +23,14 @@ abbrev pub refused_end : Result Unit StartFault → List RunEnd
 refused_end (Ok x) = []
 refused_end (Err fault) = NotStarted fault ∷ []
 
--- the entries of these starts, asked when the journal's disk had had so many device calls, and the children after them
+-- the entries of these starts, asked when the journal's disk had had this many device calls, and the children after them
 abbrev pub starts : ℕ → List Started → List Entry
 starts clock xs = map (λ x. record { run = x.what.running.run; at = clock; answer = start_answer x.answer }) xs
 
 abbrev pub after_starts : ℕ → ChildrenView → List Started → ChildrenView
 after_starts clock v xs = fold (λ w x. after_start w x.what.running.run clock x.answer) v xs
 
--- the row of results of those that were refused, and what is told of it
+-- the row of results of those that were refused, and its notices
 abbrev pub refusals : ℕ → List Started → List Event
 refusals at xs = flat_map (λ x. map (result_of at x.what) (refused_end x.answer)) xs
 

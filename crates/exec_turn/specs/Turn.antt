@@ -1,4 +1,4 @@
--- A turn, and one that begins nothing: from what the children answered, what it did, and what is told.
+-- A turn, and one that begins nothing: from what the children answered, what it did, and its notices.
 use Rattle.std.specs.Prelude.{◌≡◌, ◌⊎◌, ℕ, List, [], ◌++◌, map, IsTrue}
 use Rattle.std.specs.List.{AllByRecursion}
 use Rattle.ocf_types.specs.declared.reply.TurnEnd.{TurnEnd}
@@ -11,7 +11,7 @@ use Rattle.exec_turn.specs.Picks.{Picked, begins}
 use Rattle.exec_turn.specs.Polls.{IsPoll, Polled, polls, result_notices, results}
 use Rattle.exec_turn.specs.Starts.{Started, refusal_notices, refusals, starts}
 
--- what a turn of a kind did, by its end: from what it found, what it did, and what is told
+-- what a turn of a kind did, by its end: from what it found, what it did, and its notices
 abbrev pub TurnKind : Type 1
 TurnKind = TurnEnd → Scene → Effects → List Notice → Type 0
 
@@ -24,8 +24,8 @@ pub record EachPolled (x : Scene) (ps : List Polled) : Type 0 where
 abbrev pub PickedAt : TurnEnd → Scene → List Active → Type 0
 PickedAt end x bs = Picked end x.state x.due x.place.tail x.at bs × (end ≡ turn_end.Memory → IsTrue x.refuses)
 
--- What a turn was told: a poll of each action that runs, what is begun behind their results, and a start of each of
--- these, all in order of registration, when the journal's disk had had so many device calls.
+-- What a turn was answered: a poll of each action that runs, what is begun after their results, and a start of each of
+-- these, all in order of registration, when the journal's disk had had this many device calls.
 pub record Told (end : TurnEnd) (x : Scene) : Type 0 where
   pub polled : List Polled
   pub begun : List Active
@@ -35,7 +35,7 @@ pub record Told (end : TurnEnd) (x : Scene) : Type 0 where
   pub picked : PickedAt end (behind x (results x.at polled)) begun
   pub each_started : map (λ a. a.what) started ≡ begun
 
--- a turn that was told so, with nothing pending
+-- a turn that was answered so, with nothing pending
 abbrev pub Whole : TurnEnd → Scene → Effects → List Notice → Type 0
 Whole end x did told = (t : Told end x)
     × (did ≡ record {

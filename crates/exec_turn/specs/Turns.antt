@@ -75,7 +75,7 @@ abbrev pub end_of : Result TurnEnd DiskFault → TurnEnd
 end_of (Ok end) = end
 end_of (Err fault) = turn_end.Disk
 
--- A turn of a kind, of an open executor: from what it finds to a state, due moments and children, with what is told.
+-- A turn of a kind, of an open executor: from what it finds to a state, due moments and children, with its notices.
 pub record TurnsAs {D : Type 0} (kind : TurnKind) (look : D → View) (old new : D) (x : Scene) (t : State) (due : Due) (from to : ChildrenView)
     (told : List Notice) (end : TurnEnd) : Type 0 where
   pub effects : Effects
@@ -85,7 +85,7 @@ pub record TurnsAs {D : Type 0} (kind : TurnKind) (look : D → View) (old new :
   -- the site that its children insist on stays
   pub site : to.site ≡ from.site
   pub does : kind end x effects told
-  -- what it recorded, what a stop at any moment of it leaves, and that no agent was started without its synced begin
+  -- what it recorded, what a crash at any moment of it leaves, and that no agent was started without its synced begin
   pub crash : Leaves look old new x.state t effects
   pub due_is : due ≡ due_after_all x.state x.due effects.events
   -- nothing is pending but after a disk fault, which has a cause
@@ -99,6 +99,6 @@ Turns look old new x t due from to told end = TurnsAs IsTurn look old new x t du
 abbrev pub Finishes : {D : Type 0} → (D → View) → D → D → Scene → State → Due → ChildrenView → ChildrenView → List Notice → TurnEnd → Type 0
 Finishes look old new x t due from to told end = TurnsAs IsFinish look old new x t due from to told end
 
--- what is told of the last turn
+-- the notices of the last turn
 abbrev pub told_of : {M : Type 0} → TurnBuffers M → List Notice
 told_of rows = rows.notices.items

@@ -31,9 +31,9 @@ pub fn runs_any<A: Grows>(state: &State<A>) -> bool
 /// A turn over an open ledger at a moment in milliseconds since 1970 that begins nothing: every action that runs is polled, in
 /// order of registration, and killed where it runs past its timeout. What is queued stays queued, and what is due stays due.
 ///
-/// What ends is recorded before it is told. It ends with `BookFull`, having done nothing, where the children's book takes less
-/// than two entries a resource; with `Disk` where the journal's device failed, which closes the ledger; and else with `Done`. It
-/// takes no memory.
+/// What ends is recorded before it is reported. It ends with `BookFull`, having done nothing, where the children's book takes
+/// less than two entries a resource; with `Disk` where the journal's device failed, which closes the ledger; and else with
+/// `Done`. It takes no memory.
 pub fn finish_turn<D: Disk + Drop, C: Children, A: Grows>(
     ledger: &mut Ledger<D, A>,
     children: &mut C,

@@ -49,8 +49,8 @@ fn ask<C: Children>(children: &mut C, running: &Running, at: Moment) -> Option<R
     }
 }
 
-// Polls what runs in the resource at a place: its result, where it has ended, goes to the end of the row, and what is told
-// of it to the end of the notices.
+// Polls what runs in the resource at a place: its result, where it has ended, goes to the end of the row, and its notice to
+// the end of the notices.
 fn poll_at<C: Children, A: Grows>(
     state: &State<A>,
     place: usize,
@@ -89,8 +89,8 @@ fn poll_at<C: Children, A: Grows>(
     notices.push_reserved(Notice { id, result });
 }
 
-/// Polls every action that runs, in order of registration: the row of their results, and what is told of them. What was
-/// killed has ended when it returns.
+/// Polls every action that runs, in order of registration: the row of their results, and their notices. What was killed has
+/// ended when it returns.
 pub(crate) fn poll_all<C: Children, A: Grows>(
     state: &State<A>,
     children: &mut C,

@@ -21,7 +21,7 @@ use growth::Grows;
 use ocf_types::{Change, Event, EventOf, Moment, Notice, Outcome, RunEnd, Step};
 use op_history::ended_of;
 
-// Starts one of them: where that is refused, its result is in the row, and what is told of it among the notices.
+// Starts one of them: where that is refused, its result is in the row, and its notice among the notices.
 fn start_one<D: Disk + Drop, C: Children, A: Grows>(
     state: &State<A>,
     journal: &Journal<D, A>,
@@ -64,7 +64,7 @@ fn start_one<D: Disk + Drop, C: Children, A: Grows>(
 }
 
 /// Starts each of these, in order, where the journal is settled at a state in which all of them run: the row of results of
-/// those that were refused, and what is told of them.
+/// those that were refused, and their notices.
 pub(crate) fn start_all<D: Disk + Drop, C: Children, A: Grows>(
     state: &State<A>,
     journal: &Journal<D, A>,

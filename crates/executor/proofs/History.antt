@@ -1,4 +1,4 @@
--- What stands, as a list of events: begins, ends and what boots tell.
+-- What remains, as a list of events: begins, ends and what boots report.
 pub mod Events
 pub mod Runs
 pub mod Told

@@ -29,7 +29,7 @@ kept_matched s t v keeps matched =
       rising = omega (arith, next, low);
     }
 
--- so what stands beside a ledger is kept with it
+-- so what is beside a ledger is kept with it
 pub kept_tends : {D : Type 0} (h k : Held D) (v : ChildrenView) (w : SiteView) (n m : List Notice) (r : ReportView)
     → KeepsRuns h.state k.state → Tends (sight h v w n r) → Tends (sight k v w m r)
 kept_tends h k v w n m r keeps tends = record { matched = kept_matched h.state k.state v keeps tends.matched; admits = tends.admits }

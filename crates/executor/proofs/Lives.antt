@@ -1,4 +1,4 @@
--- Openings and stops, one after the other.
+-- Openings and crashes, one after the other.
 pub mod Calls
 pub mod Fronts
 pub mod Services

@@ -1,4 +1,4 @@
--- Want of memory is told only where the allocator refuses growths, and no call changes whether it does.
+-- Want of memory is reported only where the allocator refuses memory, and no call changes whether it does.
 use Rattle.std.proofs.Common.{◌≡◌, ℕ, Bool, true, false, List, [], ◌∷◌, Result, Ok, Err, Contains, IsTrue, refl, sym, ap, subst, ◌∙◌}
 use Rattle.std.specs.List.{AllByRecursion}
 use Rattle.std.proofs.lemmas.List.Elements.{All-from_recursion}
@@ -132,7 +132,7 @@ module _ {D : Type 0} (look : D → View) where
   done_on Cleared x y d does = ap (λ (z : Sight D). z.refuses) does.0
   done_on Abandoned x y d does = ap (λ (z : Sight D). z.refuses) does.0
 
-  -- so where none is refused no call tells of want of memory
+  -- so where none is refused no call reports want of memory
   pub memory_there : (x y : Sight D) (es : List Exchange) (d : Effects) → Calls look x es y d → x.refuses ≡ false
       → AllByRecursion (λ e. LacksMemory e → ⊥) es
   memory_there x y [] d calls none = tt

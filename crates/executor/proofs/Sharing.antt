@@ -35,7 +35,7 @@ module _ {D : Type 0} (look : D → View) (now : ℕ) where
       → h.is_open ≡ true
   commands_open cs rs h k takes is = shares_open takes.shares h k takes.takes is
 
--- a tidy of a ledger is one of its executor, and keeps what stands beside it
+-- a tidy of a ledger is one of its executor, and keeps what is beside it
 pub tidy_taken : {D : Type 0} (look : D → View) (b : Bool) (x : Sight D) (h : Held D) (end : TidyEnd)
     → While b (LedgerTidies look (ledger_of x) h end) ((end ≡ Closed) × (h ≡ ledger_of x)) → TidiesWhile b look x (with_ledger x h) end
 tidy_taken look true x h end tidies = (tidies, still_beside x h)

@@ -16,7 +16,7 @@ use Rattle.executor.specs.Sights.{Beside, Sight, ledger_of, sight}
 use Rattle.executor.specs.TurnCalls.{TurnsWhile}
 use Rattle.executor.specs.declared.session.InputOf.TheVariants as input
 
--- an executor whose ledger holds the same, and all that stands beside it, is the same
+-- an executor whose ledger holds the same, and all that is beside it, is the same
 pub same_sight : {D : Type 0} (x y : Sight D) → ledger_of y ≡ ledger_of x → Beside x y → y ≡ x
 same_sight x y same beside =
     λ i. sight (same i) (beside.children i) (beside.site i) (beside.told i) (beside.reported i)
@@ -35,7 +35,7 @@ pub turn_taken : {D : Type 0} (b : Bool) (look : D → View) (now : ℕ) (x y : 
 turn_taken true look now x y end turns = (turns.turns.effects, record { end = end; takes = turns; replies = refl; does = refl })
 turn_taken false look now x y end turns = (no_effects, (ap (λ (e : TurnEnd). Turn e) turns.0, turns.1, refl))
 
--- effects behind others
+-- effects after others
 pub followed_by_assoc : (a b c : Effects) → followed_by a (followed_by b c) ≡ followed_by (followed_by a b) c
 followed_by_assoc a b c =
     let f : List Entry → List Event → List Event → Effects = λ x y z. record { entries = x; events = y; pending = z } in
@@ -53,7 +53,7 @@ followed_by_none a =
     ∙ ap (λ (es : List Event). record { entries = a.entries; events = a.events; pending = es }) (append-nil a.pending)
 
 module _ {D : Type 0} (look : D → View) where
-  -- calls behind others
+  -- calls after others
   pub calls_behind : (x y z : Sight D) (es fs : List Exchange) (a b : Effects) → Calls look x es y a → Calls look y fs z b
       → Calls look x (es ++ fs) z (followed_by a b)
   calls_behind x y z [] fs a b (same, none) later =

@@ -1,4 +1,4 @@
--- What stands of an executor's life, as an administrator asks of it: runs, calls, results and boots in a list of events.
+-- What remains of an executor's life, as an administrator asks of it: runs, calls, results and boots in a list of events.
 use Rattle.std.specs.Prelude.{◌≡◌, ◌⊎◌, ℕ, ◌≤◌, ◌==◌, ◌&&◌, Bool, true, false, not, List, [], ◌∷◌, ◌++◌, map, filter, nat_eq, if◌then◌else◌, ⊤}
 use Rattle.std.specs.List.{AllByRecursion, flat_map, list_any}
 use Rattle.std.specs.Option.{option_map_or}
@@ -13,7 +13,7 @@ use Rattle.ocf_types.specs.declared.operation.Running.{Running}
 use Rattle.ocf_types.specs.declared.reply.Notice.{Notice}
 use Rattle.executor.specs.Interruptions.{interrupted, interruption}
 
--- each change applies behind those before it
+-- each change applies after those before it
 abbrev pub Follow : State → List Event → Type 0
 Follow s [] = ⊤
 Follow s (e ∷ es) = ChangeApplies s e.change × Follow (after s e) es
@@ -45,7 +45,7 @@ EndsBetween es = (before between later : List Event) (first second : Event) (id 
     → es ≡ before ++ first ∷ (between ++ second ∷ later) → first.change ≡ change.Step id (step.Begin call run)
     → second.change ≡ change.Step id (step.Begin next_call next_run) → has_end id run between ≡ true
 
--- what boots tell as interrupted, each of the state before it
+-- what boots report as interrupted, each of the state before it
 abbrev pub told_by : State → ℕ → Change → List Notice
 told_by s at change.Boot = interrupted s at
 told_by s at _ = []
@@ -58,7 +58,7 @@ interruptions s (e ∷ es) = told_by s e.at e.change ++ interruptions (after s e
 abbrev pub is_of : List ℕ → ℕ → Notice → Bool
 is_of id run n = bytes_eq id n.id && (n.result.run == run)
 
--- a run that has no end before a boot is told as interrupted by that boot, and by no other
+-- a run that has no end before a boot is reported as interrupted by that boot, and by no other
 abbrev pub InterruptedOnce : State → List Event → Type 0
 InterruptedOnce s es = (before between later : List Event) (begin boot : Event) (id : List ℕ) (call run : ℕ)
     → es ≡ before ++ begin ∷ (between ++ boot ∷ later) → begin.change ≡ change.Step id (step.Begin call run)
@@ -101,7 +101,7 @@ BeginInOrder s id es =
     IsWithin (filter (λ call. not (list_any (nat_eq call) (monitored s id es))) (flat_map (λ e. call_begun id e.change) es))
     (queue_at s id ++ flat_map (λ e. call_queued id e.change) es)
 
--- All that is asked of what stands.
+-- All that is asked of what remains.
 pub record IsInOrder (s : State) (es : List Event) : Type 0 where
   pub runs : RunsAscend s es
   pub ends : EndsBetween es

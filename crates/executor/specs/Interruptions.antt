@@ -1,4 +1,4 @@
--- What becomes of the actions that a stopped executor left, as an opening tells it.
+-- What becomes of the actions that a crashed executor left, as an opening reports it.
 use Rattle.std.specs.Prelude.{ℕ, List, map, option_to_list}
 use Rattle.std.specs.List.{flat_map}
 use Rattle.ocf_types.specs.Resource.{Resource, dropped_of, ended_of}

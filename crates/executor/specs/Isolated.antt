@@ -40,7 +40,7 @@ pub record Isolated : Type 0 where
   pub next_call : ℕ
   pub next_run : ℕ
 
--- it as it stands in an executor
+-- it as it is in an executor
 abbrev pub isolated_of : {D : Type 0} → Sight D → List ℕ → Isolated
 isolated_of x id = record { resource = resource_at x.state id; due = due_in x id; next_call = x.state.next_call; next_run = x.state.next_run }
 

@@ -28,8 +28,8 @@ use Rattle.executor.specs.TidyCalls.{TidiesWhile}
 use Rattle.executor.specs.TurnCalls.{abandoned, with_empty_book}
 
 -- what an executor was asked and what it answered: an input with its reply, commands in a row at one moment with their
--- replies, a turn that begins nothing at a moment with its end, or a tidy with its end; or it was told to empty its children's
--- book, or to give up its children
+-- replies, a turn that begins nothing at a moment with its end, or a tidy with its end; or it was asked to empty its
+-- children's book, or to give up its children
 pub data Exchange : Type 0 where
   Took : Input → Reply → Exchange
   Row : ℕ → List Command → List Reply → Exchange
@@ -38,7 +38,7 @@ pub data Exchange : Type 0 where
   Cleared : Exchange
   Abandoned : Exchange
 
--- what a call does, from one sight of the executor to another
+-- what a call does, from one view of the executor to another
 abbrev pub Does : {D : Type 0} → (D → View) → Exchange → Sight D → Sight D → Effects → Type 0
 Does look (Took i reply) old new effects = Takes look i old new reply effects
 Does look (Row now commands replies) old new effects = TakesRow look now commands old new replies effects
@@ -67,7 +67,7 @@ pub record Service (D : Type 0) : Type 0 where
   pub under_way : Effects
   pub stop : ℕ
 
--- It was opened, calls returned, others were begun, and it was stopped at some moment behind the last return.
+-- It was opened, calls returned, others were begun, and it crashed at some moment after the last return.
 pub record Serves {D : Type 0} (look : D → View) (x : Service D) : Type 0 where
   pub children : ChildrenView
   pub was_running : List Notice
@@ -79,12 +79,12 @@ pub record Serves {D : Type 0} (look : D → View) (x : Service D) : Type 0 wher
   pub goes_on : Calls look x.returned begun x.last x.under_way
   pub behind : (look x.returned.disk).clock ≤ x.stop
 
--- a sitting: an opening that was refused for a fault, or in which the stop came, from one disk to another; or a service
+-- an incarnation: an opening that was refused for a fault, or in which the crash came, from one disk to another; or a service
 pub data Sitting (D : Type 0) : Type 0 where
   InOpening : D → D → ℕ → Option OpenError → Sitting D
   InService : Service D → Sitting D
 
--- an opening that ended so may have recorded its boot: the stop came in it, or the device failed
+-- an opening that ended so may have recorded its boot: the crash came in it, or the device failed
 abbrev pub MayBoot : Option OpenError → Type 0
 MayBoot None = ⊤
 MayBoot (Some Disk) = ⊤
@@ -109,7 +109,7 @@ abbrev pub Sat : {D : Type 0} → (D → View) → Sitting D → Type 0
 Sat look (InOpening old new now end) = EndsOpening (look old) (look new) now end
 Sat look (InService x) = Serves look x
 
--- what its stop may have left
+-- what its crash may have left
 abbrev pub StopLeaves : {D : Type 0} → (D → View) → Sitting D → Image → Type 0
 StopLeaves look (InOpening old new now end) c = (look new).since (look old).clock c
 StopLeaves look (InService x) c = (look x.last.disk).since x.stop c
@@ -118,7 +118,7 @@ StopLeaves look (InService x) c = (look x.last.disk).since x.stop c
 abbrev pub BeginsAs : State → Image → Type 0
 BeginsAs start c = FoundAs start c × Roomy c
 
--- What a life that begins with this state leaves, the last sitting first.
+-- What a life that begins with this state leaves, the last incarnation first.
 abbrev pub LifeLeaves : {D : Type 0} → (D → View) → State → List (Sitting D) → Image → Type 0
 LifeLeaves look start [] c = BeginsAs start c
 LifeLeaves look start (x ∷ older) c = StopLeaves look x c
@@ -127,7 +127,7 @@ LifeLeaves look start (x ∷ older) c = StopLeaves look x c
 abbrev pub GoesOnFrom : {D : Type 0} → (D → View) → State → List (Sitting D) → D → Type 0
 GoesOnFrom look start older disk = (c : Image) → (look disk).now c → LifeLeaves look start older c
 
--- A life, the last sitting first: each begins with nothing but what the one before left, on a disk that is honest throughout.
+-- A life, the last incarnation first: each begins with nothing but what the one before left, on a disk that is honest throughout.
 abbrev pub IsLife : {D : Type 0} → (D → View) → State → List (Sitting D) → Type 0
 IsLife look start [] = ⊤
 IsLife look start (x ∷ older) =
@@ -137,8 +137,8 @@ IsLife look start (x ∷ older) =
 abbrev pub boots : State → ℕ → List Event
 boots s now = option_to_list (boot_event s (moment s now))
 
--- So much of what a service did stands after its stop: a front part of its events that holds all that the returned calls
--- recorded, and the begin of each start that was asked before the stop.
+-- What remains of what a service did after its crash: a prefix of its events that holds all that the returned calls
+-- recorded, and the begin of each start that was asked before the crash.
 pub record Stands {D : Type 0} (x : Service D) (p : List Event) : Type 0 where
   pub others : List Event
   pub front : p ++ others ≡ (followed_by x.done x.under_way).events ++ (followed_by x.done x.under_way).pending
@@ -146,8 +146,8 @@ pub record Stands {D : Type 0} (x : Service D) (p : List Event) : Type 0 where
   pub acknowledged : p ≡ x.done.events ++ later
   pub begins : (run clock : ℕ) → Asked (followed_by x.done x.under_way).entries run clock → clock ≤ x.stop → HasBegin run p
 
--- The events of a life that stand, from the state on with which it began: of each sitting its boot, which stands once the
--- opening was done and may where it was stopped or its device failed, and so much of what its calls did.
+-- The events of a life that remain, from the state with which it began: of each incarnation its boot, which remains once
+-- the opening was done and may remain where it crashed or its device failed, and that much of what its calls did.
 abbrev pub Lived : {D : Type 0} → State → List (Sitting D) → List Event → Type 0
 Lived start [] zs = zs ≡ []
 Lived {D} start (InOpening old new now end ∷ older) zs =
@@ -155,8 +155,8 @@ Lived {D} start (InOpening old new now end ∷ older) zs =
 Lived {D} start (InService x ∷ older) zs =
     (ys : List Event) × (p : List Event) × Lived start older ys × Stands x p × (zs ≡ ys ++ (boots (after_all start ys) x.now ++ p))
 
--- An opening behind a life gives this state and this report: what stands of the life, after its boot; what ran in it told as
--- interrupted, what was queued as dropped.
+-- An opening after a life gives this state and this report: what remains of the life, after its boot; what ran in it is
+-- reported as interrupted, what was queued as dropped.
 pub record OpensBehind {D : Type 0} (start : State) (life : List (Sitting D)) (now : ℕ) (t : State) (was_running was_queued : List Notice) : Type 0 where
   pub stands : List Event
   pub lived : Lived start life stands

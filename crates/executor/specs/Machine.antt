@@ -47,8 +47,8 @@ pub record Label : Type 0 where
   pub faults : ℕ × ℕ
 
 -- One thing a machine does not know is what memory there is: a question or a registration may be refused for want of it
--- (`IsReplyOrMemory`, `Adds`), and a turn that says so begins fewer of the actions that come next, the first of them (`PickedAt`). A call
--- that tells of it:
+-- (`IsReplyOrMemory`, `Adds`), and a turn that says so begins fewer of the actions that come next, the first of them
+-- (`PickedAt`). A call that reports it:
 abbrev pub LacksMemory : Exchange → Type 0
 LacksMemory (Took (input.Request now request) reply) = reply ≡ Refused Memory
 LacksMemory (Took (input.Turn now) reply) = reply ≡ Turn turn_end.Memory
@@ -79,7 +79,7 @@ abbrev pub TakesOne : Label → ℕ → Command → Reply → Machine → Machin
 TakesOne l now c r m n did = TakesAll l now (c ∷ []) (r ∷ []) m n did
     ⊎ ((e : Event) × (event_of m.state now c ≡ Ok e) × (r ≡ Refused JournalFull) × IsTooLong l.place.tail (e ∷ []) × GoesOn [] m n did)
 
--- A turn of a kind at a moment, for which the book has to take so many answers for each resource.
+-- A turn of a kind at a moment, for which the book has to take this many answers for each resource.
 pub record MovesTurn (kind : TurnKind) (each : ℕ) (end : TurnEnd) (at : ℕ) (l : Label) (m n : Machine) (did : Effects) : Type 0 where
   -- what agent processes answered makes its events and its notices
   pub turns : kind end (scene m.state m.due l.place at m.refuses) did l.notices
@@ -121,7 +121,7 @@ AnswersClosed (Finished now end) = end ≡ turn_end.Closed
 AnswersClosed (Tidied end) = end ≡ tidy.Closed
 AnswersClosed _ = ⊤
 
--- the same while it is open or closed: of want of memory a call tells only where the allocator refuses growths
+-- the same while it is open or closed: a call reports want of memory only where the allocator refuses memory
 abbrev pub MovesWhile : Bool → Label → Machine → Machine → Effects → Type 0
 MovesWhile is_open l m n did =
     While is_open (MovesOpen l.exchange l m n did × (LacksMemory l.exchange → IsTrue m.refuses)) (IsQuiet l × AnswersClosed l.exchange × Closes [] n did)

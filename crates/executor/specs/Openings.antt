@@ -34,11 +34,11 @@ pub record Starts (c : Image) (now : ℕ) (t : State) (due : Due) (was_running w
   pub ran : was_running ≡ interrupted state (moment state now)
   pub queued : was_queued ≡ dropped state (moment state now)
 
--- a stop might have left the pair before the opening, or it is found as the parts read at its start, or as the boot of that
+-- a crash might have left the pair before the opening, or it is found as the parts read at its start, or as the boot of that
 abbrev pub StartsLike : View → ℕ → Image → Type 0
 StartsLike old now c = OpensLike old c ⊎ ((s : State) × FoundAs s old.reads × BootsFrom s now c)
 
--- on these parts something is queued or running, and behind the last record is too little room for a boot
+-- on these parts something is queued or running, and after the last record is too little room for a boot
 pub record LacksRoom (c : Image) : Type 0 where
   pub place : Place
   pub state : State
@@ -51,9 +51,9 @@ IsQuiet c = (IsToWrite c → ⊥) × ((s : State) → FoundAs s c → any_busy s
 
 -- What an opening does to the disk, done or failed.
 pub record OpensDisk (old new : View) (now : ℕ) : Type 0 where
-  -- at any moment a stop leaves what it might have left before, what is found as the parts read, or the boot of that
+  -- at any moment a crash leaves what it might have left before, what is found as the parts read, or the boot of that
   pub crash : CrashesTo old new (StartsLike old now)
-  -- where all that a stop might have left before has room for its boot, all that it leaves has
+  -- where all that a crash might have left before has room for its boot, all that it leaves has
   pub roomy : (old.honest → AllRoomy old) → CrashesTo old new Roomy
   -- nothing is written on a journal of the second layout in which nothing is queued or running, nor on a damaged pair
   pub unwritten : (old.honest → IsQuiet old.reads) → Unwritten old new
@@ -111,24 +111,24 @@ pub record NotOpened (old new : View) (from to : ChildrenView) (now : ℕ) (faul
   -- damage is what was found, and a disk fault has a cause
   pub damaged : new.honest → (d : Damage) → fault ≡ why.Damaged d → IsFound old.reads (Damaged d)
   pub cause : fault ≡ why.Disk → Increased old.failures new.failures
-  -- full where a boot is needed and does not fit, and the children are this journal's: never where all that a stop might have
-  -- left before has room
+  -- full where a boot is needed and does not fit, and the children are this journal's: never where all that a crash might
+  -- have left before has room
   pub full : new.honest → fault ≡ why.Full → LacksRoom old.reads
   pub not_foreign : new.honest → fault ≡ why.Full → IsForeign old.reads from → ⊥
   pub never_full : (old.honest → AllRoomy old) → new.honest → fault ≡ why.Full → ⊥
   -- a boot may be recorded only where the device failed, and not before foreign children are refused
   pub unbooted : (fault ≡ why.Disk → ⊥) → CrashesTo old new (OpensLike old)
   pub foreign_unbooted : (new.honest → IsForeign old.reads from) → CrashesTo old new (OpensLike old)
-  -- else nothing is written but where a journal is made, or one of the first layout laid anew
+  -- else nothing is written except where a journal is made, or one of the first layout is migrated
   pub unwritten : (fault ≡ why.Disk → ⊥) → (old.honest → IsToWrite old.reads → ⊥) → Unwritten old new
 
--- why the journal was not opened, as the executor tells it
+-- why the journal was not opened, as the executor reports it
 abbrev pub told_fault : JournalFault → OpenError
 told_fault journal.Disk = why.Disk
 told_fault (journal.Damaged damage) = why.Damaged damage
 told_fault journal.Memory = why.Memory
 
--- why the boot was not recorded, as the executor tells it
+-- why the boot was not recorded, as the executor reports it
 abbrev pub told_slot : SlotFault → OpenError
 told_slot slot.Disk = why.Disk
 told_slot slot.Full = why.Full

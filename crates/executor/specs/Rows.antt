@@ -10,7 +10,7 @@ use Rattle.exec_ledger.specs.Shares.{TakesCommands as LedgerTakesCommands}
 use Rattle.executor.specs.Sights.{Beside, Sight, ledger_of}
 use Rattle.executor.specs.declared.session.InputOf.TheVariants as input
 
--- An executor takes commands one behind the other at this moment, none left out, each with one reply: those that stand in a
+-- An executor takes commands one after the other at this moment, none left out, each with one reply: those that are in a
 -- row have one record.
 abbrev pub TakesCommands : {D : Type 0} → (D → View) → ℕ → List Command → Sight D → Sight D → List Reply → Type 0
 TakesCommands look now commands old new given = LedgerTakesCommands look now commands (ledger_of old) (ledger_of new) given × Beside old new

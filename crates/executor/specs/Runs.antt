@@ -49,7 +49,7 @@ answers_in x = flat_map (λ l. l.answers) (x.calls ++ x.begun)
 abbrev pub HasBegins : SeenService → List Event → Type 0
 HasBegins x es = (run clock : ℕ) → Asked (answers_in x) run clock → clock ≤ x.stop → HasBegin run es
 
--- What remains of a service behind its boot: a prefix of what its calls left, with the begin of each start.
+-- What remains of a service after its boot: a prefix of what its calls left, with the begin of each start.
 pub record Remains (x : SeenService) (s : State) (p : List Event) : Type 0 where
   pub ran : x.ran ≡ interrupted s (moment s x.now)
   pub queued : x.queued ≡ dropped s (moment s x.now)

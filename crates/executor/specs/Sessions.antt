@@ -34,7 +34,7 @@ abbrev pub request_effects : State → ℕ → Request → Reply → Effects
 request_effects s now (asked.Question question) reply = no_effects
 request_effects s now (asked.Command command) reply = command_effects (event_of s now command) reply
 
--- an open executor takes a request: from one sight of it to another
+-- an open executor takes a request: from one view of it to another
 pub record TakesRequest {D : Type 0} (look : D → View) (now : ℕ) (request : Request) (old new : Sight D) (reply : Reply)
     (effects : Effects) : Type 0 where
   pub serves : ServesOpen look now request old new reply
@@ -66,7 +66,7 @@ abbrev pub Takes : {D : Type 0} → (D → View) → Input → Sight D → Sight
 Takes look i old new reply effects =
     While old.is_open (TakesOpen look i old new reply effects) ((reply ≡ closed_reply i) × (new ≡ old) × (effects ≡ no_effects))
 
--- one input after the other, none left out, each with one reply: from one sight of the executor to another
+-- one input after the other, none left out, each with one reply: from one view of the executor to another
 abbrev pub Session : {D : Type 0} → (D → View) → Sight D → List Input → List Reply → Sight D → Effects → Type 0
 Session look old [] [] new effects = (new ≡ old) × (effects ≡ no_effects)
 Session {D} look old (i ∷ is) (r ∷ rs) new effects =
@@ -75,9 +75,9 @@ Session {D} look old (i ∷ is) (r ∷ rs) new effects =
 Session look old [] (r ∷ rs) new effects = ⊥
 Session look old (i ∷ is) [] new effects = ⊥
 
--- What an open executor leaves that has done this: from one sight of it to another.
+-- What an open executor leaves that has done this: from one view of it to another.
 pub record Leads {D : Type 0} (look : D → View) (old new : Sight D) (effects : Effects) : Type 0 where
-  -- the state, what a stop at any moment leaves, and that no agent was started without its synced begin
+  -- the state, what a crash at any moment leaves, and that no agent was started without its synced begin
   pub crash : Leaves look old.disk new.disk old.state new.state effects
   pub book : new.children.book ≡ old.children.book ++ effects.entries
   -- these are all that its children were asked

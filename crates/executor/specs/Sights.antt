@@ -15,8 +15,8 @@ use Rattle.exec_ledger.specs.Held.{Held}
 use Rattle.executor.specs.Reports.{ReportView}
 
 -- whether it takes requests, its state, its recurring monitors with their due moments, the disk that it works on, where the
--- journal's next record goes, its children, the site at which it starts agents, what the last turn told, what its opening
--- reported, and whether its allocator refuses growths
+-- journal's next record goes, its children, the site at which it starts agents, the notices of the last turn, what its
+-- opening reported, and whether its allocator refuses memory
 pub record Sight (D : Type 0) : Type 0 where
   pub is_open : Bool
   pub state : State
@@ -54,7 +54,7 @@ ledger_of x = record {
   refuses = x.refuses;
 }
 
--- all that stands beside the ledger is as it was
+-- all that is beside the ledger is as it was
 pub record Beside {D : Type 0} (old new : Sight D) : Type 0 where
   pub children : new.children ≡ old.children
   pub site : new.site ≡ old.site

@@ -7,7 +7,7 @@ use Rattle.exec_ledger.specs.Held.{While}
 use Rattle.exec_ledger.specs.Tidying.{Tidies as LedgerTidies}
 use Rattle.executor.specs.Sights.{Beside, Sight, ledger_of}
 
--- An open executor tidies its journal: from one sight of it to another.
+-- An open executor tidies its journal: from one view of it to another.
 abbrev pub Tidies : {D : Type 0} → (D → View) → Sight D → Sight D → TidyEnd → Type 0
 Tidies look old new end = LedgerTidies look (ledger_of old) (ledger_of new) end × Beside old new
 

@@ -11,8 +11,8 @@ use Rattle.exec_turn.specs.Turn.{IsFinish, IsTurn, TurnKind}
 use Rattle.exec_turn.specs.Turns.{TurnsAs}
 use Rattle.executor.specs.Sights.{Sight, due_in}
 
--- An open executor makes a turn of a kind at this moment, for which the book needs room for so many entries a resource: from one
--- sight of it to another.
+-- An open executor makes a turn of a kind at this moment, for which the book needs room for this many entries a resource: from
+-- one view of it to another.
 pub record MakesTurn {D : Type 0} (kind : TurnKind) (entries : ℕ) (look : D → View) (now : ℕ) (old new : Sight D) (end : TurnEnd) : Type 0 where
   pub turns : TurnsAs kind look old.disk new.disk
       (scene old.state (due_in old) old.place (moment old.state now) old.refuses) new.state (due_in new) old.children new.children new.told end
@@ -20,7 +20,7 @@ pub record MakesTurn {D : Type 0} (kind : TurnKind) (entries : ℕ) (look : D �
   pub site : new.site ≡ old.site
   pub allocator : new.refuses ≡ old.refuses
   pub reported : new.reported ≡ old.reported
-  -- nothing is done just where the book takes less than these entries
+  -- nothing is done exactly when the book takes less than these entries
   pub full : (end ≡ BookFull) ↔ (old.children.room < entries * length old.state.resources)
   pub unchanged : end ≡ BookFull → new ≡ record old { told = [] }
   -- a disk fault closes it, and nothing else

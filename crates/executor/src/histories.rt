@@ -1,22 +1,22 @@
-//! Laws of all lists of events that apply one behind the other, each the contract of a function that does nothing: what an
-//! administrator asks of what stands of an executor's life.
+//! Laws of all lists of events that apply one after the other, each the contract of a function that does nothing: what an
+//! administrator asks of what remains of an executor's life.
 ghost use Rattle.std.specs.Prelude.{ℕ, List};
 ghost use Rattle.ocf_types.specs.Kinds.{Event};
 ghost use Rattle.ocf_types.specs.LawfulState.{IsLawfulState};
 ghost use Rattle.ocf_types.specs.State.{State};
 ghost use Rattle.executor.specs.Histories.{BeginInOrder, EndsBetween, Follow, InterruptedOnce, RunsAscend};
 
-/// No run number is begun twice: each is above all that began before it, also behind an opening.
+/// No run number is begun twice: each is above all that began before it, also after an opening.
 pub fn runs_ascend()
     ensures { (s : State) (es : List Event) → Follow s es → RunsAscend s es }
 {}
 
-/// Between two begins of a resource the first one's run ends: its result stands, or a boot, which tells it as interrupted.
+/// Between two begins of a resource the first one's run ends: there is its result, or a boot, which reports it as interrupted.
 pub fn ends_between()
     ensures { (s : State) (es : List Event) → Follow s es → EndsBetween es }
 {}
 
-/// A run that has no end before a boot is told as interrupted by that boot, once and with its call, and by no other boot.
+/// A run that has no end before a boot is reported as interrupted by that boot, once and with its call, and by no other boot.
 pub fn interrupted_once()
     ensures { (s : State) (es : List Event) → IsLawfulState s → Follow s es → InterruptedOnce s es }
 {}

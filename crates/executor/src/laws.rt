@@ -34,11 +34,11 @@ use disk_model::Disk;
 use exec_journal::laws::{found_once, what_stands};
 use ocf_types::laws::{lawful_states, layouts};
 
-/// Each resource's part of a session is a run of the machine that has this resource alone, whatever the children answered
-/// and however the others' actions ran between its own: its inputs and all turns with their replies, the entries of its
-/// runs, and its events. It begins with the resource's own history, monitors and due moments; call and run numbers are handed
-/// in. So it holds while none of its replies tells of a want that resources share, each turn ends done, and moments do not go
-/// back; what the others are told does not matter.
+/// Each resource's part of a session is a run of the machine that has this resource alone, whatever the children answered and
+/// however the others' actions ran between its own: its inputs and all turns with their replies, the entries of its runs, and
+/// its events. It begins with the resource's own history, monitors and due moments; call and run numbers are handed in. So it
+/// holds while none of its replies reports a shortage that resources share, each turn ends done, and moments do not go back;
+/// what the others are sent does not matter.
 pub fn each_alone<D: Disk>()
     ensures alone { (x z : Sight D) (inputs : List Input) (replies : List Reply) (d : Effects)
         (id : List ℕ)
@@ -48,7 +48,7 @@ pub fn each_alone<D: Disk>()
         → Alone id (isolated_of x id) (part id inputs replies)
         (entries_of_runs (own_runs id x.state d.events) d.entries)
         (events_of id d.events) }
-    // it stands then where the session ends
+    // it is then where the session ends
     ensures ends { (x z : Sight D) (inputs : List Input) (replies : List Reply) (d : Effects)
         (id : List ℕ)
         → Session D.view x inputs replies z d
@@ -95,7 +95,7 @@ pub fn report_stays<D: Disk>()
         → y.reported ≡ x.reported }
 {}
 
-/// Want of memory is told only where the executor's allocator refuses growths: with one that refuses none no call tells of it.
+/// Want of memory is reported only where the executor's allocator refuses memory: with one that refuses none, no call reports it.
 pub fn memory_is_there<D: Disk>()
     ensures told { (x y : Sight D) (call : Exchange) (d : Effects) → Does D.view call x y d
         → LacksMemory call → IsTrue x.refuses }
@@ -128,15 +128,15 @@ pub fn promise<D: Disk>()
     layouts();
 }
 
-/// Behind a whole life, of openings, calls and stops at any moment, every pair that may be left is found as the state after
-/// what stands of each sitting, one behind the other: its boot, and a front part of its events that holds all that a call
-/// had recorded when it returned, and the begin of each start that was asked before the stop. It has room for its boot. So an
-/// opening behind a life gives the state after what stands, with what ran told as interrupted, and is never told of damage or
-/// of a full journal.
+/// After a whole life, of openings, calls and crashes at any moment, every pair that may be left is found as the state after
+/// what remains of each incarnation, one after the other: its boot, and a prefix of its events that holds all that a call had
+/// recorded when it returned, and the begin of each start that was asked before the crash. It has room for its boot. So an
+/// opening after a life gives the state after what remains, with what ran reported as interrupted, and never reports damage
+/// or a full journal.
 ///
-/// An opening that was refused is such a sitting. Its boot may stand only where the device failed: want of memory, foreign
-/// children, a full journal and damage come before it. And where the journal was opened alone, for a look, that is a sitting
-/// without a boot, however it ended.
+/// An opening that was refused is such an incarnation. Its boot may remain only where the device failed: want of memory,
+/// foreign children, a full journal and damage come before it. Where the journal alone was opened, for a look, that is an
+/// incarnation without a boot, however it ended.
 ///
 /// A life begins on any pair that is found as a state and has room for its boot: so does a fresh pair, with the empty state,
 /// and a journal of the first layout, with what it leads to.

@@ -1,4 +1,4 @@
-//! A local executor of OCF resource agents: what is acknowledged outlasts a stop at any moment.
+//! A local executor of OCF resource agents: what is acknowledged survives a crash at any moment.
 #![tactic(auto)]
 
 mod commands;

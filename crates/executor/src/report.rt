@@ -1,4 +1,4 @@
-//! What an opening says of the actions that a stopped executor left.
+//! What an opening reports of the actions that a crashed executor left.
 ghost use Rattle.std.specs.Prelude.{◌≡◌, ◌++◌, ◌<◌, IfOk, IsTrue, OnErr, OnOk, length};
 ghost use Rattle.ocf_types.specs.Places.{entry_at};
 ghost use Rattle.executor.specs.Interruptions.{dropped, dropped_in, interrupted, interrupted_in};
@@ -10,7 +10,7 @@ use op_history::{dropped_of, ended_of};
 use past::Past;
 use std::alloc::{AllocError, Allocator, Global};
 
-/// The actions that a stopped executor left: those that ran, and those that were queued, each by registration and then by
+/// The actions that a crashed executor left: those that ran, and those that were queued, each by registration and then by
 /// call.
 #[derive(Drop)]
 pub struct Report<A: Allocator = Global> {

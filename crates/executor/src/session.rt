@@ -35,10 +35,10 @@ impl<D: Disk + Drop, C: Children + Drop, A: Grows> Executor<D, C, A> {
         }
     }
 
-    /// Takes inputs one after the other, and puts one reply to each behind the replies that are there: that of a turn is
-    /// how it ended. The notices are those of the last turn.
+    /// Takes inputs one after the other, and puts one reply to each after the replies that are there: that of a turn is how
+    /// it ended. The notices are those of the last turn.
     ///
-    /// Where a growth for the replies is refused nothing is done, and the inputs are handed back.
+    /// Where an allocation for the replies is refused nothing is done, and the inputs are handed back.
     pub fn session(
         &mut self,
         inputs: Vec<Input<A>, A>,

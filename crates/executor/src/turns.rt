@@ -13,8 +13,8 @@ use ocf_types::{Notice, TurnEnd};
 impl<D: Disk + Drop, C: Children + Drop, A: Grows> Executor<D, C, A> {
     /// A turn at a moment in milliseconds since 1970: polls what runs, begins what has to begin, and starts it.
     ///
-    /// What ends is recorded before it is told, and what begins before it is started. A disk fault closes the executor. A
-    /// closed one does nothing.
+    /// What ends is recorded before it is reported, and what begins before it is started. A disk fault closes the executor.
+    /// A closed one does nothing.
     pub fn turn(&mut self, now: u64) -> TurnEnd
         ensures turns { TurnsWhile self.old.is_open D.view now self.old self.new result }
     {
@@ -36,7 +36,7 @@ impl<D: Disk + Drop, C: Children + Drop, A: Grows> Executor<D, C, A> {
     /// A turn that begins nothing, at a moment in milliseconds since 1970: polls what runs, kills what runs past its timeout, and
     /// records what ended. What is queued stays queued, and what is due stays due.
     ///
-    /// What ends is recorded before it is told. A disk fault closes the executor. A closed one does nothing.
+    /// What ends is recorded before it is reported. A disk fault closes the executor. A closed one does nothing.
     pub fn finish(&mut self, now: u64) -> TurnEnd
         ensures finishes { FinishesWhile self.old.is_open D.view now self.old self.new result }
     {

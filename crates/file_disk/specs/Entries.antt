@@ -1,4 +1,4 @@
--- What a folder has under the names of both parts.
+-- What a directory has under the names of both parts.
 use Rattle.std.specs.Prelude.{ℕ, Bool, List, Result, Ok, Err, if◌then◌else◌}
 use Rattle.std.specs.Str.{bytes_eq}
 use Rattle.ocf_types.specs.declared.part.Part.TheVariants.{A, B}
@@ -15,11 +15,11 @@ loss_of Missing Filled = Err (Gone A)
 loss_of Filled Missing = Err (Gone B)
 loss_of _ _ = Ok tt
 
--- the file begins as each part of a journal does: behind its first gate, open or not, stand the magic bytes
+-- the file begins as each part of a journal does: after its first gate, open or not, come the magic bytes
 abbrev pub holds_journal : List ℕ → Bool
 holds_journal text = bytes_eq (bytes_at 1 4 text) magic
 
--- a loss as it is told where the file that is there begins so: no part is gone beside a file that holds no journal
+-- a loss as it is reported where the file that is there begins so: no part is gone beside a file that holds no journal
 abbrev pub told_loss : List ℕ → OpenFault → OpenFault
 told_loss text (Gone part) = if holds_journal text then Gone part else NoJournal (other part)
 told_loss text fault = fault

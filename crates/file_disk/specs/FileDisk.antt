@@ -24,7 +24,7 @@ module _ {R M D : Type 0} where
   abbrev pub IsStopped : FileDisk R M D → Type 0
   IsStopped d = (0 < (view_of d).failures) ⊎ (LAST ≤ (view_of d).clock)
 
-  -- a disk that was just opened: it is honest, all is synced, a stop at any moment leaves what reads, and no call was made
+  -- a disk that was just opened: it is honest, all is synced, a crash at any moment leaves what reads, and no call was made
   pub record IsFresh (d : FileDisk R M D) : Type 0 where
     pub honest : (view_of d).honest
     pub synced : AllSynced (view_of d)

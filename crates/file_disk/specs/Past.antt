@@ -22,7 +22,7 @@ abbrev pub read_after : Call → List ℕ → Image → Image
 read_after (Wrote part at) bytes d = put part (take at (bytes_of part d) ++ bytes ++ drop (at + length bytes) (bytes_of part d)) d
 read_after _ bytes d = d
 
--- what a stop after the call may leave, by what it might leave before it and what reading gave
+-- what a crash after the call may leave, by what it might leave before it and what reading gave
 abbrev pub left_after : Call → List ℕ → (Image → Type 0) → Image → Image → Type 0
 left_after (Wrote part at) bytes old reads c = (d : Image) × old d × Torn part at (length bytes) d c
 left_after (Tried part at) bytes old reads c = (d : Image) × old d × Torn part at (length bytes) d c
@@ -46,7 +46,7 @@ abbrev pub honest_of : Image → List Event → Type 0
 honest_of first [] = Unit {0}
 honest_of first (e ∷ older) = honest_of first older × agrees e.call e.bytes (reads_of first older)
 
--- what a stop may leave
+-- what a crash may leave
 abbrev pub now_of : Image → List Event → Image → Type 0
 now_of first [] c = c ≡ first
 now_of first (e ∷ older) c = left_after e.call e.bytes (now_of first older) (reads_of first older) c
@@ -60,7 +60,7 @@ abbrev pub failures_of : List Event → ℕ
 failures_of [] = 0
 failures_of (e ∷ older) = failures_after e.call (failures_of older)
 
--- what a stop at some moment from t on may have left
+-- what a crash at some moment from t on may have left
 abbrev pub since_of : Image → List Event → ℕ → Image → Type 0
 since_of first [] t c = c ≡ first
 since_of first (e ∷ older) t c = now_of first (e ∷ older) c ⊎ ((t < clock_of (e ∷ older)) × since_of first older t c)

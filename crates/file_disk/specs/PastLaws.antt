@@ -21,12 +21,12 @@ left_step (Synced part) bytes old d h = (h, refl)
 left_step Failed bytes old d h = h
 left_step Refused bytes old d h = h
 
--- what reads is among what a stop may leave
+-- what reads is among what a crash may leave
 reads_left : (first : Image) (past : List Event) → now_of first past (reads_of first past)
 reads_left first [] = refl
 reads_left first (e ∷ older) = left_step e.call e.bytes (now_of first older) (reads_of first older) (reads_left first older)
 
--- a stop now counts for every earlier moment
+-- a crash now counts for every earlier moment
 counts : (first : Image) (past : List Event) (t : ℕ) (c : Image) → now_of first past c → since_of first past t c
 counts first [] t c now = now
 counts first (e ∷ older) t c now = inl now
@@ -37,7 +37,7 @@ only first [] t c le left = left
 only first (e ∷ older) t c le (inl now) = now
 only first (e ∷ older) t c le (inr was) = let before : t < clock_of (e ∷ older) = was.0 in absurd (omega (arith, le, before))
 
--- what a stop from some moment on may have left, a stop from an earlier one on may have left
+-- what a crash from some moment on may have left, a crash from an earlier one on may have left
 since_earlier : (first : Image) (past : List Event) (t u : ℕ) (c : Image) → u ≤ t → since_of first past t c → since_of first past u c
 since_earlier first [] t u c le left = left
 since_earlier first (e ∷ older) t u c le (inl now) = inl now

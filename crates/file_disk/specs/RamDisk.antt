@@ -15,7 +15,7 @@ module _ {M : Type 0} where
   abbrev pub IsStopped : RamDisk M → Type 0
   IsStopped d = (0 < (view_of d).failures) ⊎ (LAST ≤ (view_of d).clock)
 
-  -- a disk that was just made: it reads as this pair, all is synced, a stop at any moment leaves it, and no call was made
+  -- a disk that was just made: it reads as this pair, all is synced, a crash at any moment leaves it, and no call was made
   pub record IsFresh (pair : Image) (d : RamDisk M) : Type 0 where
     pub reads : (view_of d).reads ≡ pair
     pub synced : AllSynced (view_of d)

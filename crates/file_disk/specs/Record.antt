@@ -14,7 +14,7 @@ Begins a b r = (r.first ≡ record { a = a; b = b }) × (r.events ≡ [])
 abbrev pub Noted : Call → List ℕ → Record → Record → Type 0
 Noted call bytes old new = (new.first ≡ old.first) × (new.events ≡ record { call = call; bytes = bytes } ∷ old.events)
 
--- the disk that the record tells of
+-- the disk that the record describes
 abbrev pub view_by : Record → View
 view_by r = past_view r.first r.events
 

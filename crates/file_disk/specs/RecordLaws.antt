@@ -1,4 +1,4 @@
--- What one call more does to the disk that a record tells of.
+-- What one more call does to the disk that a record describes.
 use Rattle.std.specs.Prelude.{◌≡◌, ℕ, ◌+◌, ◌<◌, ◌≤◌, max, min, List, [], ◌∷◌, length, take, drop, Ok, Err}
 use Rattle.std.proofs.Common.{arith, refl, sym, subst, ap, ◌∙◌}
 use Rattle.ocf_types.specs.declared.part.Part.{Part}

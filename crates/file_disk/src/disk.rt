@@ -38,7 +38,7 @@ fn open_files<R: Files<File = File>, A: Allocator + Copy>(
     Ok((a, b))
 }
 
-/// The files `part-a` and `part-b` of one folder, into which only this value writes.
+/// The files `part-a` and `part-b` of one directory, into which only this value writes.
 ///
 /// It is honest as long as each length and all bytes that the files answered are those that they held when they were
 /// opened, changed by the writes since. A read, a write and a sync are one call of the system each, gone on with where it
@@ -60,12 +60,13 @@ impl<R: Files<File = File> + Copy, A: Allocator + Copy> FileDisk<R, A> {
     ghost use Rattle.file_disk.specs.FileDisk.{IsFresh, Notes, first_part};
     ghost use Rattle.file_disk.specs.Record.{IsFault};
 
-    /// Opens both files of a folder, and makes those that are missing, for their owner alone. It is refused as `Gone` where
-    /// one is missing while the other holds a journal, as `NoJournal` where the other holds something else; nothing is made then. The folder and both files are locked for as long as
-    /// this value lives, so that a second opening is answered `InUse`. All are synced, and then both files are read whole.
-    /// An owner or a mode that is not accepted is refused: that of the directory before anything is made or locked.
+    /// Opens both files of a directory, and makes those that are missing, for their owner alone. It is refused as `Gone`
+    /// where one is missing while the other holds a journal, as `NoJournal` where the other holds something else; nothing
+    /// is made then. The directory and both files are locked for as long as this value lives, so that a second opening is
+    /// answered `InUse`. All are synced, and then both files are read whole. An owner or a mode that is not accepted is
+    /// refused: that of the directory before anything is made or locked.
     ///
-    /// The path is that of a folder, by way of links or not. A failed opening may leave empty files.
+    /// The path is that of a directory, by way of links or not. A failed opening may leave empty files.
     pub fn open(rt: &R, alloc: A, dir: &str, owners: Owners) -> Result<FileDisk<R, A>, OpenFault>
         ensures fresh { IfOk result IsFresh }
         ensures no_name { dir.now ≡ [] → IsErr result }

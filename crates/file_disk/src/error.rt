@@ -11,13 +11,13 @@ pub struct FileError {
 }
 
 impl FileError {
-    /// The error with its path, in the folder that is the journal's.
+    /// The error with its path, in the directory that is the journal's.
     pub fn located(self, dir: &str) -> Located<'_> {
         OpenFault::File(self.part, self.error).located(dir)
     }
 }
 
-/// A disk that may tell what its device answered to the call that failed.
+/// A disk that may say what its device answered to the call that failed.
 pub trait TellsError {
     /// The first error that was met. `None` where no call of the system failed, or the disk makes none.
     fn first_error(&self) -> Option<FileError>;

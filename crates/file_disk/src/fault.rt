@@ -14,13 +14,13 @@ use thiserror::Error;
 /// Why the files of a journal were not opened. What is displayed is the reason alone: `located` says where as well.
 #[derive(Clone, Copy, Debug, Error)]
 pub enum OpenFault {
-    /// The folder has no name, is not there, is no folder, or can't be read or synced.
+    /// The directory has no name, is not there, is no directory, or can't be read or synced.
     #[error("{0}")]
     Folder(io::Error),
     /// The file of the part can't be made, opened, locked, synced or read.
     #[error("{1}")]
     File(Part, io::Error),
-    /// A folder, a symbolic link or a device has the name of the part's file.
+    /// A directory, a symbolic link or a device has the name of the part's file.
     #[error("not a plain file")]
     NotPlain(Part),
     /// The executor runs as root, and another user may write the directory.
@@ -32,7 +32,7 @@ pub enum OpenFault {
     /// The part's file is open as a journal's already.
     #[error("in use by another executor")]
     Locked(Part),
-    /// The folder is open as a journal's already.
+    /// The directory is open as a journal's already.
     #[error("in use by another executor")]
     InUse,
     /// The part's file is gone, while the other one holds a journal: no crash leaves that.
@@ -47,7 +47,7 @@ pub enum OpenFault {
     /// The journal was tidied each time that it was read.
     #[error("changes faster than it can be read")]
     Changing,
-    /// A growth was refused.
+    /// An allocation was refused.
     #[error("memory")]
     Memory,
 }
@@ -60,7 +60,7 @@ impl From<AllocError> for OpenFault {
     }
 }
 
-/// The name of a part's file in the folder.
+/// The name of a part's file in the directory.
 pub(crate) fn file_name(part: Part) -> &'static str {
     match part {
         Part::A => "part-a",
@@ -85,7 +85,7 @@ pub(crate) fn of_part<T>(part: Part, found: io::Result<T>) -> Result<T, OpenFaul
 }
 
 impl OpenFault {
-    // A fault of the folder.
+    // A fault of the directory.
     pub(crate) fn folder(error: io::Error) -> OpenFault {
         if error.kind() == io::ErrorKind::OutOfMemory {
             OpenFault::Memory
@@ -131,7 +131,7 @@ impl OpenFault {
         )
     }
 
-    /// The fault with the path that it speaks of, in the folder that was to be opened.
+    /// The fault with the path that it speaks of, in the directory that was to be opened.
     pub fn located(self, dir: &str) -> Located<'_>
         ensures folder { result.dir.now ≡ dir.now }
         ensures fault { result.fault ≡ self }

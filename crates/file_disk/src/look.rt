@@ -50,8 +50,8 @@ fn fill(file: &File, at: u64, buf: &mut [u8]) -> io::Result<usize>
     Ok(filled)
 }
 
-// The bytes of a file, piece by piece up to its end, or to a part's. A record is whole before its gate is opened, and so
-// is the file behind it. So it is read front to back: behind a gate that reads open stands a body that reads whole.
+// The bytes of a file, piece by piece up to its end, or to a part's. A record is whole before its gate is opened, and so is
+// the file after it. So it is read from front to back: after a gate that reads as open comes a body that reads whole.
 fn read_whole<A: Allocator>(alloc: A, file: &File) -> io::Result<Vec<u8, A>> {
     let mut bytes = Vec::new(alloc);
     let mut piece = [0; PIECE];
@@ -88,7 +88,7 @@ impl<A: Allocator + Copy> Sight<A> {
         })
     }
 
-    // Whether the file begins as it did when it was read: then no tidy has made the part anew meanwhile.
+    // Whether the file begins as it did when it was read: then no tidy has renewed the part meanwhile.
     fn stands(&self) -> io::Result<bool> {
         let Some(file) = &self.file else {
             return Ok(true);
@@ -106,7 +106,7 @@ impl<A: Allocator + Copy> Sight<A> {
     }
 }
 
-/// A loss in this folder as it is told, which depends on whether the file that is there holds a journal.
+/// A loss in this directory as it is reported, which depends on whether the file that is there holds a journal.
 pub(crate) fn examined<R: Files<File = File>, A: Allocator + Copy>(
     rt: &R,
     alloc: A,
@@ -131,7 +131,7 @@ fn refuse_lost<A: Allocator + Copy>(a: &Sight<A>, b: &Sight<A>) -> Result<(), Op
     }
 }
 
-// Both parts as a stop might have left them, or `None` where a tidy came between.
+// Both parts as a crash might have left them, or `None` where a tidy came between.
 fn look<R: Files<File = File>, A: Allocator + Copy>(
     rt: &R,
     alloc: A,
@@ -151,9 +151,9 @@ fn look<R: Files<File = File>, A: Allocator + Copy>(
     Ok(Some(RamDisk::from_parts(a.bytes, b.bytes)))
 }
 
-/// Both parts of a folder's files as a disk in memory, whoever may be writing the files. They are opened for reading alone:
-/// nothing is made, written or locked. A missing file is an empty part; it is refused as `Gone` beside one that is not
-/// empty (or as `NoJournal`, where that is none), and where tidies come between again and again as `Changing`.
+/// Both parts of a directory's files as a disk in memory, whoever may be writing the files. They are opened for reading
+/// alone: nothing is made, written or locked. A missing file is an empty part; it is refused as `Gone` beside one that is
+/// not empty (or as `NoJournal`, where that is none), and where tidies come between again and again as `Changing`.
 pub fn read_parts<R: Files<File = File>, A: Allocator + Copy>(
     rt: &R,
     alloc: A,

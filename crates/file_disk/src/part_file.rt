@@ -23,7 +23,7 @@ pub struct PartFile<A: Allocator = Global> {
     path: KnownPath<A>,
 }
 
-// The file of this path, which is made where nothing is there; `None` where a folder, a link or a device is.
+// The file of this path, which is made where nothing is there; `None` where a directory, a link or a device is.
 fn open_file<R: Files<File = File>>(rt: &R, path: &str) -> io::Result<Option<File>> {
     let mut options = OpenOptions::new();
     options.read(true).write(true).mode(OWNER_ONLY);
@@ -47,8 +47,8 @@ pub fn above_streams(file: File) -> io::Result<File> {
     }
 }
 
-// Advises the system to read the file anew from the device: after a sync that failed in an earlier process, it may
-// still have in memory what the device does not hold.
+// Advises the system to read the file again from the device: after a sync that failed in an earlier process, it may still
+// have in memory what the device does not hold.
 fn forget_cached(file: &File) -> io::Result<()> {
     match libc::posix_fadvise(file.as_raw_fd(), 0, 0, libc::POSIX_FADV_DONTNEED) {
         0 => Ok(()),

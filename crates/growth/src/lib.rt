@@ -1,5 +1,5 @@
 //! Growths of vectors, strings, maps and rings that an allocator may refuse. Contracts see that it did, so that a function can
-//! promise to answer want of memory only where a growth was refused.
+//! promise to answer want of memory only where an allocation was refused.
 #![tactic(auto)]
 
 mod growth;

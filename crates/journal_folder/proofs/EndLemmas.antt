@@ -1,11 +1,11 @@
--- Why a program that is asked for the journal of a folder ends as it does.
+-- Why a program that is asked for the journal of a directory ends as it does.
 use Rattle.std.proofs.Common.{inl, inr, ap, ⊎_elim, ◌⊎◌, Result, Err, subst, sym, ◌≡◌}
 use Rattle.exec_output.specs.Faults.{IsRunEnd}
 use Rattle.exec_output.specs.declared.fault.Fault.{Fault}
 use Rattle.exec_output.specs.declared.fault.Fault.TheVariants as fault
 use Rattle.journal_folder.specs.Ends.{IsFolderEnd}
 
--- a journal in files that was opened, one that was not, and a folder that has none
+-- a journal in files that was opened, one that was not, and a directory that has none
 pub opened_ends : {T : Type 0} (r : Result T Fault) → IsRunEnd r → IsFolderEnd r
 opened_ends r ends = inl ends
 

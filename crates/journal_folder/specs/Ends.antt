@@ -1,4 +1,4 @@
--- How a program ends that is asked for the journal of a folder.
+-- How a program ends that is asked for the journal of a directory.
 use Rattle.std.specs.Prelude.{◌≡◌, ◌⊎◌, IfErr, Result, Err}
 use Rattle.exec_output.specs.Faults.{IsRunEnd}
 use Rattle.exec_output.specs.declared.fault.Fault.{Fault}

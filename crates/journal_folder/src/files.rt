@@ -25,7 +25,7 @@ const PERMISSION_ADVICE: &str =
 const IN_USE_ADVICE: &str =
     "In use: one executor at a time holds a journal; show, status, log and metrics look at it meanwhile.";
 
-// What can be done about a fault that the system told so.
+// What can be done about a fault that the system reported so.
 fn advice_of_kind(kind: ErrorKind) -> Option<&'static str> {
     match kind {
         ErrorKind::NotFound => Some(MISSING_ADVICE),

@@ -1,4 +1,4 @@
-//! The journal of a folder, as far as no agent runs: how its files are opened or refused, and how it is shown.
+//! The journal of a directory, as far as no agent runs: how its files are opened or refused, and how it is shown.
 #![tactic(auto)]
 
 mod emptied;

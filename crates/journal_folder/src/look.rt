@@ -6,7 +6,7 @@ use exec_output::Look;
 use ocf_types::Moment;
 use std::path::Path;
 
-// The moment now by the clock of the executor that opened the journal in this folder last, where that was in this boot.
+// The moment now by the clock of the executor that opened the journal in this directory last, where that was in this boot.
 fn executor_moment(rt: &HostRuntime, folder: &str) -> Option<Moment> {
     let holder = read_holder(rt, folder)?;
     Some(Moment::cut(holder.moment_at(uptime(rt)?)))

@@ -17,7 +17,7 @@ use ocf_types::Part;
 use process_ends::System;
 use std::io::{self, Write};
 
-// How often the files of a journal that reads as damaged are read, before that is told.
+// How often the files of a journal that reads as damaged are read, before that is reported.
 const LOOKS: usize = 4;
 
 // Writes what the journal on this disk holds, as lines of JSON, as a table, as its records or as metrics, of all resources or of one.
@@ -45,8 +45,8 @@ fn show_to<D: Disk + Drop, W: Write>(
     }
 }
 
-// How a look ends whose output may be that of a pipe that was closed: well then, since who asked has read enough. Where the status is to
-// tell whether a resource has failed, that is not known.
+// How a look ends whose output may be a closed pipe: well, since whoever asked has read enough. Where the status is to tell
+// whether a resource has failed, that is not known.
 fn enough(options: Options, unwritten: &FirstError, ended: Result<(), Fault>) -> Result<(), Fault>
     ensures { IsRunEnd ended → IsRunEnd result }
 {
@@ -107,8 +107,8 @@ fn show_once(system: &System<'_>, options: Options, folder: &str) -> Result<(), 
     show_on(system, options, disk)
 }
 
-/// Shows the journal in this directory, which another program may be writing. Damage is told where it is found each time that
-/// the files are read.
+/// Shows the journal in this directory, which another program may be writing. Damage is reported where it is found each time
+/// that the files are read.
 pub fn show_files(system: &System<'_>, options: Options, folder: &str) -> Result<(), Fault>
     ensures { IsFolderEnd result }
 {

@@ -1,4 +1,4 @@
--- How a history grows by a sitting.
+-- How a history grows by an incarnation.
 use Rattle.std.proofs.Common.{◌≡◌, ℕ, ◌+◌, ◌-◌, List, [], ◌∷◌, ◌++◌, Some, refl, sym, ap, ap₂, subst, ◌∙◌, arith}
 use Rattle.std.proofs.lemmas.List.{append-nil}
 use Rattle.ocf_types.specs.Kinds.{Event}
@@ -82,7 +82,7 @@ module _ {M : Type 0} where
     goes_on = λ c now. law c (subst IsFreshPair (sym (fresh.now c now)) refl);
   }
 
-  -- and goes on by a sitting on it, and a pair that its stop left
+  -- and goes on by an incarnation on it, and a pair that its crash left
   pub goes_on : (calls : List Exchange) (older : List (List Exchange)) (old planned new left : MemDisk M) (call : ℕ) → IsSame old planned
       → IsSitting (λ (x : MemDisk M). view_of x) calls planned new → call ≡ (view_of new).clock + 1
       → (view_of new).since (call - 1) (view_of left).reads → IsFresh (view_of left).reads left

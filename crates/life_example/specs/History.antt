@@ -10,17 +10,17 @@ use Rattle.executor.specs.Promise.{IsKept}
 use Rattle.executor.specs.Runs.{Runs}
 use Rattle.executor.specs.SeenLives.{seen}
 
--- the calls of a sitting: none where it was not opened
+-- the calls of an incarnation: none where it was not opened
 abbrev pub calls_of : {D : Type 0} → (look : D → View) → (x : Sitting D) → Sat look x → List Exchange
 calls_of look (InOpening old new now end) sat = []
 calls_of look (InService x) sat = sat.calls ++ sat.begun
 
--- the calls of each sitting of a life, the last sitting first
+-- the calls of each incarnation of a life, the last one first
 abbrev pub calls_in : {D : Type 0} → (look : D → View) → (start : State) → (life : List (Sitting D)) → IsLife look start life → List (List Exchange)
 calls_in look start [] is = []
 calls_in look start (x ∷ older) is = calls_of look x is.2 ∷ calls_in look start older is.0
 
--- A sitting with these calls, from one disk to another, at whose last moment it was stopped.
+-- An incarnation with these calls, from one disk to another, which crashed at its last moment.
 pub record IsSitting {D : Type 0} (look : D → View) (calls : List Exchange) (old new : D) : Type 0 where
   pub sitting : Sitting D
   pub sat : Sat look sitting
@@ -29,7 +29,7 @@ pub record IsSitting {D : Type 0} (look : D → View) (calls : List Exchange) (o
   pub last : last_disk sitting ≡ new
   pub leaves : (look new).honest → (c : Image) → (look new).since (look new).clock c → StopLeaves look sitting c
 
--- A history that begins without a journal, whose sittings made these calls, the last sitting first; the disk holds nothing but
+-- A history that begins without a journal, whose incarnations made these calls, the last one first; the disk holds nothing but
 -- what it left.
 pub record IsHistory {D : Type 0} (look : D → View) (calls : List (List Exchange)) (disk : D) : Type 0 where
   pub life : List (Sitting D)

@@ -1,5 +1,5 @@
-//! An example of the promise: what an executor does over a disk in memory, through stops, is a history of incarnations of which
-//! `executor::laws::promise` speaks. Nothing here is part of the product.
+//! An example of the promise: what an executor does over a disk in memory, through crashes, is a history of incarnations of
+//! which `executor::laws::promise` speaks. Nothing here is part of the product.
 #![tactic(auto)]
 
 ghost use Rattle.std.specs.Prelude.{◌∷◌, [], IfNone, IfSome, IsTrue, List};
@@ -18,8 +18,8 @@ use ocf_env::Site;
 use ocf_types::Reply;
 use std::alloc::Global;
 
-/// A machine: its agent processes and where agents are, the moment at which its executor is opened, in milliseconds since 1970, what
-/// the executor is handed, and the device call in which the machine stops, counted from 1.
+/// A machine: its agent processes and where agents are, the moment at which its executor is opened, in milliseconds since
+/// 1970, what the executor is handed, and the device call in which the machine crashes, counted from 1.
 #[derive(Drop)]
 pub struct Machine<C: Children + Drop, A: Grows = Global> {
     pub children: C,
@@ -65,8 +65,9 @@ fn sit<D: Disk + Drop, C: Children + Drop, A: Grows>(
     }
 }
 
-/// One incarnation more: a machine on this disk, which fails each device call from the machine's stop on; then a pair that the stop
-/// may leave, with this fill where bytes were not synced. It is nothing where memory is refused, and behind 2 ^ 64 device calls.
+/// One more incarnation: a machine on this disk, which fails each device call from the machine's crash on; then a pair that the
+/// crash may leave, with this fill where bytes were not synced. It is nothing where memory is refused, and after 2 ^ 64 device
+/// calls.
 pub fn live<C: Children + Drop, A: Grows>(
     alloc: A,
     mut disk: MemDisk<A>,
@@ -89,7 +90,7 @@ pub fn live<C: Children + Drop, A: Grows>(
     })
 }
 
-/// Two machines, one behind the other, the first one on a disk without a byte; with the replies of each.
+/// Two machines, one after the other, the first one on a disk without a byte; with the replies of each.
 pub fn live_twice<C: Children + Drop, A: Grows>(
     alloc: A,
     first: Machine<C, A>,

@@ -8,8 +8,8 @@ use crate::table::{Held, Role};
 use ocf_codes::Code;
 use ocf_types::Action;
 
-/// What a monitor says after another action: a start of what did not run leaves it running and unpromoted, a stop leaves it
-/// not running, and a promotion or a demotion of what runs leaves it in that role.
+/// What a monitor says after another action: a start of what did not run leaves it running and unpromoted, the action stop
+/// leaves it not running, and a promotion or a demotion of what runs leaves it in that role.
 pub fn monitor_follows(agent: Agent, held: Held)
     ensures start { code_for agent Action.Monitor (held_by agent Action.Start Held.Absent)
         ≡ Code.Success }

@@ -21,7 +21,7 @@ pub fn run<R: Env + Files + Print + AllocGlobal>(rt: &R) -> Code {
     }
 }
 
-// The exit code, or that of words which ask for nothing.
+// The exit code, or that of arguments which ask for nothing.
 fn answer<R: Env + Files + Print + AllocGlobal>(rt: &R) -> Result<Code, Code> {
     let word = last_word(rt)?;
     let kind = variable(rt, "OCF_RESOURCE_TYPE")?;
@@ -37,7 +37,7 @@ fn answer<R: Env + Files + Print + AllocGlobal>(rt: &R) -> Result<Code, Code> {
     })
 }
 
-// The last argument behind the program's name. Arguments that are not UTF-8 are OCF_ERR_ARGS.
+// The last argument after the program's name. Arguments that are not UTF-8 are OCF_ERR_ARGS.
 fn last_word<R: Env + AllocGlobal>(rt: &R) -> Result<Option<String>, Code> {
     match env::args(rt) {
         Ok(words) => Ok(words.skip(1).last()),

@@ -4,7 +4,7 @@ use std::fs::{self, OpenOptions};
 use std::io::{self, ErrorKind, Write};
 use std::rt::Files;
 
-/// What stands at this path. Its content is read only where a role is asked for. What is there and is no file is a fault, so
+/// What is at this path. Its content is read only where a role is asked for. Anything there that is no file is a fault, so
 /// that no agent waits for a pipe.
 pub fn look<R: Files + Alloc>(rt: &R, path: &str, asks_role: bool) -> io::Result<Held> {
     let found = match fs::metadata(rt, path) {

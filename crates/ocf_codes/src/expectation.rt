@@ -4,9 +4,8 @@ ghost use Rattle.ocf_types.specs.Expected.{has_failed, is_expected};
 
 use ocf_types::{Action, Expect, Outcome, RunEnd};
 
-/// Whether an action of which this is expected may end with this exit code. A monitor may also tell that what is
-/// expected is degraded; every other action is to succeed. OCF Resource Agent API 1.1 and Pacemaker Administration, exit
-/// codes.
+/// Whether an action of which this is expected may end with this exit code. A monitor may also report that what is expected
+/// is degraded; every other action is to succeed. OCF Resource Agent API 1.1 and Pacemaker Administration, exit codes.
 pub fn expected(action: Action, expect: Expect, code: u8) -> bool
     ensures { result ≡ is_expected action expect code }
 {

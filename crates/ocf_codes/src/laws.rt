@@ -22,7 +22,7 @@ pub fn one_expectation()
         → is_expected Monitor y code ≡ true → x ≡ y }
 {}
 
-/// A run has failed just where the code that stands for its end is not expected: one that gave no code by itself, too.
+/// A run has failed exactly when the code that stands for its end is not expected: also one that gave no code by itself.
 pub fn failures_by_code()
     ensures { (action : Action) (x : Expect) (end : RunEnd)
         → has_failed action x (Run end) ≡ not (is_expected action x (outcome_code (Run end))) }

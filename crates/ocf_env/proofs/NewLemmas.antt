@@ -105,7 +105,7 @@ new_here p xs h = subst (λ b. Among p (if b then xs else insert xs (lesser p.0 
 lesser_more : (name : List ℕ) (x : Pair) (xs : List Pair) → lesser name (x ∷ xs) ≡ cond (is_before x.0 name) 1 0 + lesser name xs
 lesser_more name x xs = sum_by-cons (λ y. cond (is_before y.0 name) 1 0) x xs
 
--- behind a name that comes later none is lesser
+-- after a name that comes later none is lesser
 none_lesser : (name last : List ℕ) (xs : List Pair) → is_before name last ≡ true → are_ascending_after (Some last) xs ≡ true
     → lesser name xs ≡ 0
 none_lesser name last [] h s = refl

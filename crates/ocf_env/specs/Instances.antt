@@ -5,10 +5,10 @@ use Rattle.ocf_types.specs.Kinds.{Registration}
 use Rattle.ocf_types.specs.Resource.{Resource}
 use Rattle.ocf_env.specs.declared.launches.Instance.{Instance}
 
--- an instance with its names and parameters, wherever they stand
+-- an instance with its names and parameters, wherever they are
 abbrev pub registered : Instance ParamList → Registration
 registered i = record { id = i.id.now; provider = i.provider.now; agent = i.agent.now; params = i.params.now }
 
--- the registration of a resource as it stands now
+-- the registration of a resource as it is now
 abbrev pub registration_of : List ℕ → Resource → Registration
 registration_of id r = record { id = id; provider = r.provider; agent = r.agent; params = r.params }

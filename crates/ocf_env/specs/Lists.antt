@@ -39,7 +39,7 @@ site_pairs site = (codes "OCF_ROOT", site.root) ∷ (codes "PATH", site.path) �
 abbrev pub last_pairs : SiteView → List ℕ → List ℕ → List Pair
 last_pairs site provider agent = agent_pairs provider agent ++ site_pairs site
 
--- the parameters and what comes behind them
+-- the parameters and what comes after them
 abbrev pub instance_pairs : SiteView → Registration → List Pair
 instance_pairs site r = param_pairs r.params ++ instance_pair r.id ∷ last_pairs site r.provider r.agent
 

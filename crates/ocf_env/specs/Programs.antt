@@ -10,7 +10,7 @@ abbrev pub program_at : Option (List ℕ) → List ℕ → List ℕ
 program_at None file = file
 program_at (Some via) file = via
 
--- the action, behind the agent where it is run through a program: OCF Resource Agent API 1.1, actions
+-- the action, after the agent where it is run through a program: OCF Resource Agent API 1.1, actions
 abbrev pub arguments_at : Option (List ℕ) → List ℕ → List ℕ → List (List ℕ)
 arguments_at None file action = action ∷ []
 arguments_at (Some via) file action = file ∷ action ∷ []

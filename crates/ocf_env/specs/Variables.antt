@@ -33,6 +33,6 @@ abbrev pub are_ascending_after : Option (List ℕ) → List Pair → Bool
 are_ascending_after last [] = true
 are_ascending_after last (x ∷ xs) = is_after last x.0 && are_ascending_after (Some x.0) xs
 
--- sorted by name, so no name stands twice
+-- sorted by name, so no name is there twice
 abbrev pub are_ascending : List Pair → Bool
 are_ascending = are_ascending_after None

@@ -14,8 +14,8 @@ use growth::Grows;
 use ocf_types::{AgentType, CallId, Params, Provider, RscId, RunId, Running, Task};
 use std::alloc::{AllocError, Allocator, Global};
 
-/// An instance of an agent: its id, provider, type and parameters, which stand elsewhere. `P` is the type of
-/// parameters. OCF Resource Agent API 1.1, OCF_RESOURCE_INSTANCE.
+/// An instance of an agent: its id, provider, type and parameters, which are elsewhere. `P` is the type of parameters. OCF
+/// Resource Agent API 1.1, OCF_RESOURCE_INSTANCE.
 #[derive(Drop)]
 pub struct Instance<'a, P> {
     pub id: &'a RscId,

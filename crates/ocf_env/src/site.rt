@@ -5,8 +5,8 @@ use crate::text::Text;
 use std::alloc::{Allocator, Global};
 use std::marker::Model;
 
-/// Where agents are and what they are run with: the folder above `resource.d`, the search path that they get, and
-/// a program to run them through, if there is one; and whether they get Pacemaker's own variables. OCF Resource Agent API
+/// Where agents are and what they are run with: the directory above `resource.d`, the search path that they get, and a
+/// program to run them through, if there is one; and whether they get Pacemaker's own variables. OCF Resource Agent API
 /// 1.1, OCF_ROOT.
 #[derive(Drop)]
 pub struct Site<A: Allocator = Global> {
@@ -45,7 +45,7 @@ impl<A: Allocator> Site<A> {
         Site { meta, ..self }
     }
 
-    /// The folder above `resource.d`. OCF Resource Agent API 1.1, OCF_ROOT.
+    /// The directory above `resource.d`. OCF Resource Agent API 1.1, OCF_ROOT.
     pub fn root(&self) -> &str
         ensures { result.now ≡ self.now.root }
     {

@@ -53,7 +53,7 @@ module _ {A : Type 0} where
 pub moment_is : (s : State) (now : ℕ) → IsLawfulState s → IsMoment (moment s now)
 moment_is s now h = omega (arith, h.clock)
 
--- an event at that moment applies where its change is lawful and applies, and its spelling is not too long
+-- an event at that moment applies where its change is lawful and applies, and its encoding is not too long
 applies_now : (s : State) (now : ℕ) (c : Change) → IsLawfulState s → IsLawfulChange c
     → length (spelled_event (record { at = moment s now; change = c })) ≤ 16384 → ChangeApplies s c
     → Applies s (record { at = moment s now; change = c })

@@ -50,7 +50,7 @@ degraded_start = refl
 late_start : (ends task.Start (Run TimedOut) no_history).failed ≡ Some (result action.Start (Run TimedOut))
 late_start = refl
 
--- what failed is remembered behind what succeeds and through a boot, until it is forgotten; the first layout does not know it
+-- what failed is remembered after what succeeds and through a boot, until it is forgotten; the first layout does not know it
 failure : History
 failure = ends task.Start (code 1) no_history
 

@@ -1,4 +1,4 @@
--- Parameters with one more, or with another value of one: where it stands, and how many there are.
+-- Parameters with one more, or with another value of one: where it is, and how many there are.
 use Rattle.std.proofs.Common.{◌≡◌, inl, inr, ℕ, zero, suc, ◌+◌, ◌<◌, Bool, true, false, List, [], ◌∷◌, ◌++◌, length, Some, None, refl, sym}
 use Rattle.std.proofs.Common.{◌∙◌, ap, subst, arith, length-append}
 use Rattle.std.specs.Prelude.{count_by, slice_get, insert, slice_set}
@@ -17,7 +17,7 @@ use Rattle.ocf_types.proofs.SortedLemmas.{with_sorted}
 count_is : (name : List ℕ) (ps : ParamList) → count_by (λ p. is_before p.0 name) ps ≡ length (lesser name ps)
 count_is name ps = sym (length-filter (λ (p : List ℕ × List ℕ). is_before p.0 name) ps)
 
--- what stands at the place of a name, among parameters in order
+-- what is at the index of a name, among parameters in order
 get_seam : (xs ys : ParamList) → slice_get (xs ++ ys) (length xs) ≡ slice_get ys 0
 get_seam [] ys = refl
 get_seam (x ∷ xs) ys = get_seam xs ys
@@ -39,7 +39,7 @@ module _ (name : List ℕ) (ps : ParamList) (sorted : are_params_after None ps �
   place_of b =
       ap (λ (xs : ParamList). slice_get xs (length (lesser name ps))) b.whole ∙ get_seam (lesser name ps) (b.entry ∷ greater name ps)
 
-  -- the parameter at the place of a name has this name just where the name is there
+  -- the parameter at the place of a name has this name exactly when the name is there
   pub there_at : (e : List ℕ × List ℕ) (n : ℕ) → n ≡ count_by (λ p. is_before p.0 name) ps → slice_get ps n ≡ Some e
       → bytes_eq e.0 name ≡ has_param name ps
   there_at e n is g =

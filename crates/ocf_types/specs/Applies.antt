@@ -42,7 +42,7 @@ ChangeApplies s (change.Unregister id) = IsSomeAnd (resource_at s id) (λ r. is_
 ChangeApplies s (change.Step id what) = IsSomeAnd (resource_at s id) (StepApplies s.next_call s.next_run what)
 ChangeApplies s change.Boot = IsTrue (any_busy s)
 
--- where an event applies: it has a spelling in the layout, its moment is not before the clock, and its change applies
+-- where an event applies: it has an encoding in the layout, its moment is not before the clock, and its change applies
 pub record AppliesIn (layout : Layout) (s : State) (e : Event) : Type 0 where
   pub spelled : HasSpellingIn layout e
   pub later : s.clock ≤ e.at

@@ -76,7 +76,7 @@ pub record IsLawfulEventIn (layout : Layout) (e : Event) : Type 0 where
 abbrev pub IsLawfulEvent : Event → Type 0
 IsLawfulEvent e = IsLawfulEventIn Second e
 
--- what has a spelling in a layout: a lawful event of at most 16,384 bytes
+-- what has an encoding in a layout: a lawful event of at most 16,384 bytes
 pub record HasSpellingIn (layout : Layout) (e : Event) : Type 0 where
   pub lawful : IsLawfulEventIn layout e
   pub short : length (spelled_event_in layout e) ≤ event_limit
@@ -84,7 +84,7 @@ pub record HasSpellingIn (layout : Layout) (e : Event) : Type 0 where
 abbrev pub HasSpelling : Event → Type 0
 HasSpelling e = HasSpellingIn Second e
 
--- the spelling of this event in a layout begins these bytes
+-- the encoding of this event in a layout begins these bytes
 pub record BeginsIn (layout : Layout) (bytes : List ℕ) (e : Event) : Type 0 where
   pub spelled : HasSpellingIn layout e
   pub rest : List ℕ

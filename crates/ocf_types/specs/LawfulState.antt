@@ -1,4 +1,4 @@
--- Lawful states: those that have a spelling, and all that events lead to.
+-- Lawful states: those that have an encoding, and all that events lead to.
 use Rattle.std.specs.Prelude.{◌≡◌, ◌↔◌, ℕ, ◌<◌, ◌≤◌, ◌^◌, nat_eq, IsTrue, List, [], ◌∷◌, map, length, Option, Some, None, ⊤}
 use Rattle.std.specs.List.{AllByRecursion, IsDistinct}
 use Rattle.std.specs.Map.{keys_of}
@@ -52,7 +52,7 @@ NeverBegan Dropped = ⊤
 NeverBegan Cancelled = ⊤
 NeverBegan _ = ⊥
 
--- a result, below the next numbers and not after the clock, that the layout can say; its run is 0 just where it never began
+-- a result, below the next numbers and not after the clock, that the layout can say; its run is 0 exactly when it never began
 pub record IsLawfulEndedIn (layout : Layout) (next_call next_run clock : ℕ) (e : Ended) : Type 0 where
   pub drawn : IsDrawn e.call
   pub call : e.call < next_call
@@ -99,7 +99,7 @@ pub record IsLawfulResourceIn (layout : Layout) (next_call next_run clock : ℕ)
 abbrev pub IsLawfulResource : ℕ → ℕ → ℕ → Resource → Type 0
 IsLawfulResource next_call next_run clock r = IsLawfulResourceIn Second next_call next_run clock r
 
--- a state: what the conditions of its spelling in a layout ask for
+-- a state: what the conditions of its encoding in a layout ask for
 pub record IsLawfulStateIn (layout : Layout) (s : State) : Type 0 where
   pub next_call : IsDrawn s.next_call
   pub next_run : IsDrawn s.next_run
@@ -112,7 +112,7 @@ pub record IsLawfulStateIn (layout : Layout) (s : State) : Type 0 where
 abbrev pub IsLawfulState : State → Type 0
 IsLawfulState s = IsLawfulStateIn Second s
 
--- the bytes are the spelling of a lawful state in a layout
+-- the bytes are the encoding of a lawful state in a layout
 pub record SpellsIn (layout : Layout) (bytes : List ℕ) (s : State) : Type 0 where
   pub lawful : IsLawfulStateIn layout s
   pub whole : bytes ≡ spelled_state_in layout s

@@ -59,7 +59,7 @@ flat_more f xs i x lt is =
     let one : flat_map f (x ∷ []) ≡ f x = flat_map-cons f x [] ∙ append-nil (f x) in
     ap (flat_map f) more ∙ flat_map-append f (take i xs) (x ∷ []) ∙ ap (λ t. flat_map f (take i xs) ++ t) one
 
--- the state after events behind others
+-- the state after events after others
 pub after_all-append : (s : State) (es fs : List Event) → after_all s (es ++ fs) ≡ after_all (after_all s es) fs
 after_all-append s es fs = fold-append after s es fs
 

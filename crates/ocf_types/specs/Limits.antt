@@ -1,4 +1,4 @@
--- The limits by name: those of the code, and how long spellings are.
+-- The limits by name: those of the code, and how long encodings are.
 use Rattle.std.specs.Prelude.{ℕ, ◌+◌, ◌*◌}
 use Rattle.ocf_types.specs.declared.limits.TheConstants.{NUM_MAX, NAME_LIMIT, VALUE_LIMIT, PARAMS_LIMIT, RESOURCES_LIMIT, QUEUE_LIMIT}
 use Rattle.ocf_types.specs.declared.limits.TheConstants.{RECURRING_LIMIT, ENDED_KEPT, KEY_LIMIT, EVENT_LIMIT, BODY_LIMIT, PART_LIMIT}
@@ -36,7 +36,7 @@ recurring_limit = RECURRING_LIMIT
 abbrev pub ended_kept : ℕ
 ended_kept = ENDED_KEPT
 
--- the longest spelling of an event, or of a resource's parameters, in bytes
+-- the longest encoding of an event, or of a resource's parameters, in bytes
 abbrev pub event_limit : ℕ
 event_limit = EVENT_LIMIT
 
@@ -79,7 +79,7 @@ slot_frame = SLOT_FRAME
 abbrev pub event_frame : ℕ
 event_frame = EVENT_FRAME
 
--- the spellings of an accepted action, a recurring monitor, what runs, and a result that is kept, in bytes
+-- the encodings of an accepted action, a recurring monitor, what runs, and a result that is kept, in bytes
 abbrev pub operation_len : ℕ
 operation_len = OPERATION_LEN
 
@@ -92,7 +92,7 @@ running_len = RUNNING_LEN
 abbrev pub ended_len : ℕ
 ended_len = ENDED_LEN
 
--- the spelling of a boot, and the longest ones of a result, of a begin, and of an event without parameters, in bytes
+-- the encoding of a boot, and the longest ones of a result, of a begin, and of an event without parameters, in bytes
 abbrev pub boot_len : ℕ
 boot_len = event_frame
 
@@ -109,28 +109,28 @@ longest_small = 92
 abbrev pub result_room : ℕ
 result_room = slot_frame + longest_result
 
--- the slot of a boot, and the gate behind it: 15 bytes
+-- the slot of a boot, and the gate after it: 15 bytes
 abbrev pub boot_room : ℕ
 boot_room = slot_frame + boot_len + 1
 
--- the longest spelling of one parameter, and of as many as there may be
+-- the longest encoding of one parameter, and of as many as there may be
 abbrev pub longest_param : ℕ
 longest_param = 3 + name_limit + value_limit
 
 abbrev pub longest_params : ℕ
 longest_params = 1 + params_limit * longest_param
 
--- the spelling of a state without its resources: 26 bytes
+-- the encoding of a state without its resources: 26 bytes
 abbrev pub bare_state : ℕ
 bare_state = BARE_STATE
 
--- the longest spelling of a resource: names, parameters, queue, what runs, recurring monitors, results and what
--- failed last; 19,778 bytes
+-- the longest encoding of a resource: names, parameters, queue, what runs, recurring monitors, results and what failed
+-- last; 19,778 bytes
 abbrev pub longest_resource : ℕ
 longest_resource =
     3 * (1 + name_limit) + event_limit + (1 + operation_len * queue_limit) + running_len + (1 + monitor_len * recurring_limit)
     + (1 + ended_len * ended_kept) + (1 + ended_len)
 
--- the longest spelling of a state: 5,063,194 bytes
+-- the longest encoding of a state: 5,063,194 bytes
 abbrev pub longest_state : ℕ
 longest_state = bare_state + longest_resource * resources_limit

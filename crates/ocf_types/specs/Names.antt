@@ -46,6 +46,6 @@ is_first_byte b = is_ascii_alphabetic b || b == 95
 abbrev pub is_word_byte : ℕ → Bool
 is_word_byte b = is_ascii_alphanumeric b || b == 95
 
--- what may stand behind OCF_RESKEY_: OCF Resource Agent API 1.1, OCF_RESKEY_
+-- what may follow OCF_RESKEY_: OCF Resource Agent API 1.1, OCF_RESKEY_
 abbrev pub is_param_name : List ℕ → Bool
 is_param_name name = has_name_length name && is_first_byte (slice_index name 0) && list_all is_word_byte name

@@ -12,11 +12,11 @@ use Rattle.ocf_types.specs.Values.{is_param_value}
 abbrev pub ParamList : Type 0
 ParamList = List (List ℕ × List ℕ)
 
--- one name stands before another, by their bytes
+-- one name comes before another, by their bytes
 abbrev pub is_before : List ℕ → List ℕ → Bool
 is_before a b = is_lt (slice_cmp nat_cmp a b)
 
--- a name stands after the last one, if there is one
+-- a name comes after the last one, if there is one
 abbrev pub is_after : Option (List ℕ) → List ℕ → Bool
 is_after None name = true
 is_after (Some last) name = is_before last name

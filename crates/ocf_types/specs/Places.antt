@@ -3,7 +3,7 @@ use Rattle.std.specs.Prelude.{ℕ, List, [], slice_index_or}
 use Rattle.ocf_types.specs.Resource.{Resource, no_history}
 use Rattle.ocf_types.specs.State.{State}
 
--- what stands at no place
+-- what is at no index
 abbrev pub no_entry : List ℕ × Resource
 no_entry = ([], record { provider = []; agent = []; params = []; history = no_history; recurring = [] })
 

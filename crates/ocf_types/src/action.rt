@@ -126,7 +126,7 @@ pub enum Task {
 }
 
 impl Task {
-    /// The task of an action and a check: `None` just where another action than a monitor has a level other than 0, or is
+    /// The task of an action and a check: `None` exactly when another action than a monitor has a level other than 0, or is
     /// expected to end with another code than 0.
     pub fn new(action: Action, check: Check) -> Option<Task>
         ensures { result ≡ task_of action check }

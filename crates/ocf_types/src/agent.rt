@@ -7,8 +7,8 @@ use crate::names::{BadName, is_agent_type, is_provider};
 use arrayvec::ArrayVec;
 use std::marker::Model;
 
-/// The provider of an agent, a folder below `resource.d`: 1 to 64 bytes of ASCII letters, digits, `_`, `-`
-/// and `.`, but neither `.` nor `..`. OCF Resource Agent API 1.1, provider.
+/// The provider of an agent, a directory below `resource.d`: 1 to 64 bytes of ASCII letters, digits, `_`, `-` and `.`, but
+/// neither `.` nor `..`. OCF Resource Agent API 1.1, provider.
 #[derive(Drop)]
 pub struct Provider {
     bytes: ArrayVec<u8, { NAME_LIMIT }>,
@@ -62,8 +62,8 @@ impl Provider {
     }
 }
 
-/// The type of an agent, a file in its provider's folder: a name of the same form as a provider's. OCF
-/// Resource Agent API 1.1, OCF_RESOURCE_TYPE.
+/// The type of an agent, a file in its provider's directory: a name of the same form as a provider's. OCF Resource Agent
+/// API 1.1, OCF_RESOURCE_TYPE.
 #[derive(Drop)]
 pub struct AgentType {
     bytes: ArrayVec<u8, { NAME_LIMIT }>,

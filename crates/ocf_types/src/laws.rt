@@ -35,7 +35,7 @@ pub fn what_ran_is_interrupted()
 {}
 
 /// The empty state is lawful, and an event that applies in a lawful state leaves a lawful one: all that events lead to
-/// keeps the limits and conditions of a spelled state.
+/// keeps the limits and conditions of an encoded state.
 pub fn lawful_states()
     ensures empty { IsLawfulState empty }
     ensures after { (s : State) (e : Event) → IsLawfulState s → Applies s e
@@ -63,8 +63,8 @@ pub fn what_applies()
         → IsRegistration e.change → IsRegister c }
 {}
 
-/// How long spellings are at most, in bytes: so a begin and the results of all that runs fit the reserve, and a snapshot
-/// of any lawful state fits a part.
+/// How long encodings are at most, in bytes: so a begin and the results of all that runs fit the reserve, and a snapshot of
+/// any lawful state fits a part.
 pub fn lengths()
     ensures result { (at run : ℕ) (id : List ℕ) (end : RunEnd) → IsId id
         → length (spelled_event (record { at = at; change = change.Step id (step.Result run end) }))
@@ -79,8 +79,8 @@ pub fn lengths()
     ensures state { (s : State) → IsLawfulState s → length (spelled_state s) ≤ longest_state }
 {}
 
-/// What the first layout has, the second has too, with the same meaning: so what stands in a part of the first is a state
-/// of today's, and today's events on a state, without what the first layout does not know, are those of the first. Such an
+/// What the first layout has, the second has too, with the same meaning: so what a part of the first holds is a state of
+/// today's, and today's events on a state, without what the first layout does not know, are those of the first. Such an
 /// event leaves what is lawful in the first layout so.
 pub fn layouts()
     ensures lawful { (s : State) → IsLawfulStateIn First s → IsLawfulState s }

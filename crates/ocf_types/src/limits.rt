@@ -30,7 +30,7 @@ pub const ENDED_KEPT: usize = 64;
 /// The greatest length of an operation's key, in bytes.
 pub const KEY_LIMIT: usize = 88;
 
-/// The greatest length of an event's spelling, and of a resource's spelled parameters, in bytes.
+/// The greatest length of an event's encoding, and of a resource's encoded parameters, in bytes.
 pub const EVENT_LIMIT: usize = 16_384;
 
 /// The greatest length of a slot's body, in bytes.
@@ -54,21 +54,21 @@ pub const SLOT_FRAME: u64 = 5;
 /// What an event adds to its fields, in bytes: a kind and a moment. A boot is no more than that.
 pub const EVENT_FRAME: usize = 9;
 
-/// The length of an accepted action's spelling, in bytes: its call, its action, its check and its timeout.
+/// The length of an accepted action's encoding, in bytes: its call, its action, its check and its timeout.
 pub const OPERATION_LEN: usize = 15;
 
-/// The length of a recurring monitor's spelling, in bytes: its call, its interval, its timeout and its check.
+/// The length of a recurring monitor's encoding, in bytes: its call, its interval, its timeout and its check.
 pub const MONITOR_LEN: usize = 18;
 
-/// The length of the spelling of what runs, in bytes: a flag, its call, its run, its action, its check, its timeout, its
+/// The length of the encoding of what runs, in bytes: a flag, its call, its run, its action, its check, its timeout, its
 /// interval, and since when it runs.
 pub const RUNNING_LEN: usize = 36;
 
-/// The length of a kept result's spelling, in bytes: its call, its run, its action, its interval, two moments, and how it
+/// The length of a kept result's encoding, in bytes: its call, its run, its action, its interval, two moments, and how it
 /// ended.
 pub const ENDED_LEN: usize = 39;
 
-/// The length of a state's spelling without its resources, in bytes: the next numbers, the clock and a count.
+/// The length of a state's encoding without its resources, in bytes: the next numbers, the clock and a count.
 pub const BARE_STATE: usize = 26;
 
 /// The length of a part as a creation leaves it, in bytes: the head, the empty state and a gate.

@@ -26,7 +26,7 @@ impl Model for Moment {
 }
 
 impl Moment {
-    /// The moment of this number of milliseconds: `None` just where it is above [`NUM_MAX`].
+    /// The moment of this number of milliseconds: `None` exactly when it is above [`NUM_MAX`].
     pub fn new(number: u64) -> Option<Moment>
         ensures lawful { IsSome result ↔ IsMoment number }
         ensures value { IfSome result (λ n. n ≡ number) }
@@ -76,7 +76,7 @@ impl Model for CallId {
 }
 
 impl CallId {
-    /// The call id of this number: `None` just where the number is 0 or above [`NUM_MAX`].
+    /// The call id of this number: `None` exactly when the number is 0 or above [`NUM_MAX`].
     pub fn new(number: u64) -> Option<CallId>
         ensures lawful { IsSome result ↔ IsDrawn number }
         ensures value { IfSome result (λ n. n ≡ number) }
@@ -96,7 +96,7 @@ impl CallId {
     }
 }
 
-/// Stands in an unused place of a list of fixed room, where nobody sees it.
+/// Fills an unused index of a list of fixed capacity, where nobody sees it.
 impl MadeWith<()> for CallId {
     fn made_with(_: ()) -> CallId {
         CallId { number: 1 }
@@ -123,7 +123,7 @@ impl Model for RunId {
 }
 
 impl RunId {
-    /// The run number of this number: `None` just where the number is 0 or above [`NUM_MAX`].
+    /// The run number of this number: `None` exactly when the number is 0 or above [`NUM_MAX`].
     pub fn new(number: u64) -> Option<RunId>
         ensures lawful { IsSome result ↔ IsDrawn number }
         ensures value { IfSome result (λ n. n ≡ number) }
@@ -162,7 +162,7 @@ impl Model for Millis {
 }
 
 impl Millis {
-    /// The length of this many milliseconds: `None` just where it is 0.
+    /// The length of this many milliseconds: `None` exactly when it is 0.
     pub fn new(number: u32) -> Option<Millis>
         ensures lawful { IsSome result ↔ (1 ≤ number) }
         ensures value { IfSome result (λ n. n ≡ number) }

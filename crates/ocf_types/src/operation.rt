@@ -21,7 +21,7 @@ pub struct Recur {
     pub check: Check,
 }
 
-/// Stands in an unused place of a list of fixed room, where nobody sees it.
+/// Fills an unused index of a list of fixed capacity, where nobody sees it.
 impl MadeWith<()> for Recur {
     fn made_with(_: ()) -> Recur {
         let (Some(call), Some(interval)) = (CallId::new(1), Millis::new(1)) else {
@@ -53,7 +53,7 @@ pub struct Running {
 #[derive(Clone, Copy, PartialEq, Eq)]
 pub struct Ended {
     pub call: CallId,
-    /// The run number; 0 just where the action was dropped or cancelled: it never began.
+    /// The run number; 0 exactly when the action was dropped or cancelled: it never began.
     pub run: u64,
     pub action: Action,
     /// In milliseconds; 0 for a one-time action.

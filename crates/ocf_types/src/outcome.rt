@@ -26,7 +26,7 @@ pub enum MetaFault {
     TooLong,
     /// It, or what it left behind with its output, took longer than it was given.
     Limit,
-    /// A growth was refused.
+    /// An allocation was refused.
     Memory,
 }
 

@@ -100,8 +100,8 @@ impl<A: Grows> Params<A> {
         Ok(())
     }
 
-    /// Sets a parameter: one of the same name gets the new value, another comes in its place by name. It is
-    /// `BadValue` just where it would be the 65th. One that is there takes no memory.
+    /// Sets a parameter: one of the same name gets the new value, another comes in its place by name. It is `BadValue`
+    /// exactly when it would be the 65th. One that is there takes no memory.
     pub fn insert(&mut self, name: ParamName, value: ParamValue<A>) -> Result<(), ValueError>
         ensures ok { OnOk result (self.new ≡ with_param name value self.old) }
         ensures full { result ≡ Err ValueError.BadValue

@@ -16,7 +16,7 @@ pub enum ValueError {
     /// The text is no value, or there are 64 parameters of other names already.
     #[error("not a value: at most 1,024 bytes of UTF-8 without NUL, in at most 64 parameters")]
     BadValue,
-    /// A growth was refused.
+    /// An allocation was refused.
     #[error("out of memory")]
     Memory,
 }

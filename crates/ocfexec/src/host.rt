@@ -185,7 +185,7 @@ impl<'a> Host for SystemHost<'a> {
         await_orphans(self.system, how, site, state)
     }
 
-    // TRUSTED: the word stands in this directory.
+    // TRUSTED: the record is in this directory.
     fn leave_word(&self, folder: &str, moment: u64) {
         leave_word(self.system, folder, moment);
     }

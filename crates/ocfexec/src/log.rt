@@ -39,7 +39,7 @@ fn opened(rt: &HostRuntime, name: &str) -> io::Result<Log> {
     Log::to_file(rt.alloc(), &options.open(rt, name)?)
 }
 
-/// Where agents write: in the logs of a directory, if one is named, else in one log. Why a file was not opened is told here.
+/// Where agents write: in the logs of a directory, if one is named, else in one log. Why a file was not opened is reported here.
 pub fn log_of(system: &System<'_>, log: Option<&str>, logs: Option<&str>) -> Result<Log, Fault>
     ensures { IfErr result
         (λ f. (f ≡ Fault.Log)

@@ -30,7 +30,7 @@ fn main(rt: HostRuntime) -> ExitCode {
     exit_code(ended)
 }
 
-// Does what the words of the command line ask for; the exit status that it ends with.
+// Does what the arguments of the command line ask for; the exit status that it ends with.
 fn start(system: &System<'_>) -> Result<u8, Fault> {
     let words = words_of(system.host())?;
     let named = named_journal(system.host())?;
@@ -49,7 +49,7 @@ fn start(system: &System<'_>) -> Result<u8, Fault> {
 // Says on standard error what ended the program.
 fn tell(system: &System<'_>, fault: Fault) {
     match fault {
-        // it was told where it happened, and what is not well by the status itself
+        // it was reported where it happened, and what is wrong by the status itself
         Fault::Usage
         | Fault::Log
         | Fault::NotOpened

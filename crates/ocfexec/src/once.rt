@@ -41,7 +41,7 @@ fn not_run(system: &System<'_>, why: &str) -> u8 {
     OnceEnd::NotStarted.status()
 }
 
-/// Runs an action once; the exit status that tells how it ended.
+/// Runs an action once; the exit status that says how it ended.
 pub fn once(system: &System<'_>, options: &OnceOptions<'_>) -> u8 {
     let rt = system.host();
     let alloc = rt.alloc();

@@ -1,4 +1,4 @@
-//! The words of the command line, and what the environment names.
+//! The arguments of the command line, and what the environment names.
 use exec_output::Fault;
 use std::env::{self, VarError};
 use std::io::ErrorKind;
@@ -6,8 +6,8 @@ use std::io::ErrorKind;
 // The variable that names the directory of the journal where a look is given none.
 const JOURNAL: &str = "OCFEXEC_JOURNAL";
 
-// TRUSTED: they are the words of the command line.
-/// The words of the command line, the program's name first.
+// TRUSTED: they are the arguments of the command line.
+/// The arguments of the command line, the program's name first.
 pub fn words_of(rt: &HostRuntime) -> Result<Vec<String>, Fault> {
     match env::args(rt) {
         Ok(words) => words.collect(rt.alloc()).map_err(|_| Fault::Memory),

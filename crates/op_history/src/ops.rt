@@ -179,7 +179,7 @@ impl<A: Allocator> Ops<A> {
         }
     }
 
-    /// Puts what runs behind the results: it ended so at that moment, and where that is a failure it is what failed last.
+    /// Appends what runs to the results: it ended so at that moment, and where that is a failure it is what failed last.
     /// Where nothing runs, nothing changes.
     pub fn end(&mut self, run_end: RunEnd, at: Moment)
         ensures { self.new ≡ ended (Outcome.Run run_end) at self.old }
@@ -200,7 +200,7 @@ impl<A: Allocator> Ops<A> {
         failed_of(running, outcome, at).or(self.failed)
     }
 
-    /// Takes the queued action of that call out of the queue, whose order stays, and puts it behind the results as
+    /// Takes the queued action of that call out of the queue, whose order stays, and appends it to the results as
     /// cancelled. Where no queued action has that call, nothing changes.
     pub fn withdraw(&mut self, call: CallId, at: Moment) -> Result<(), NotQueued>
         ensures refused { IsErr result ↔ (queued_of call self.old.queue ≡ None) }

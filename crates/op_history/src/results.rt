@@ -60,7 +60,7 @@ impl<A: Allocator> Results<A> {
         }
     }
 
-    /// Puts the result of what ran, if anything did, behind the others. Where there is no room the oldest goes.
+    /// Appends the result of what ran, if anything did. Where there is no room the oldest goes.
     pub(crate) fn push_run(&mut self, running: Option<Running>, outcome: Outcome, at: Moment)
         ensures { self.new ≡ last_ended
             (self.old ++ map (ended_of outcome at) (option_to_list running)) }
@@ -71,7 +71,7 @@ impl<A: Allocator> Results<A> {
         }
     }
 
-    /// Puts queued actions behind the others, in order, as dropped. Where there is no room the oldest goes.
+    /// Appends queued actions, in order, as dropped. Where there is no room the oldest goes.
     pub(crate) fn push_dropped(&mut self, queue: &[Queued], at: Moment)
         ensures { self.new ≡ last_ended (self.old ++ map (dropped_of at) queue.now) }
     {
@@ -81,7 +81,7 @@ impl<A: Allocator> Results<A> {
         }
     }
 
-    /// Puts results behind the others, in order. Where there is no room the oldest goes.
+    /// Appends results, in order. Where there is no room the oldest goes.
     pub(crate) fn push_all(&mut self, results: &[Ended])
         ensures { self.new ≡ last_ended (self.old ++ results.now) }
     {
@@ -91,7 +91,7 @@ impl<A: Allocator> Results<A> {
         }
     }
 
-    /// Puts a result behind the others. Where there is no room the oldest goes.
+    /// Appends a result. Where there is no room the oldest goes.
     pub(crate) fn push(&mut self, ended: Ended)
         ensures { self.new ≡ last_ended (self.old ++ ended ∷ []) }
     {

@@ -1,4 +1,4 @@
--- Texts that are pieces with a byte behind each.
+-- Texts that are pieces with a byte after each.
 use Rattle.std.proofs.Common.{◌≡◌, ◌≢◌, ◌⊎◌, ◌∙◌, inl, inr, ℕ, ◌<◌, List, [], ◌∷◌, ◌++◌, length, take, drop}
 use Rattle.std.proofs.Common.{refl, ap, sym, append_assoc, subst, arith}
 use Rattle.std.specs.Prelude.{Option, Some, None, MatchOption, IfSome, IfNone, Bool, true, ◌==◌, ◌↔◌, IsTrue}
@@ -24,19 +24,19 @@ no_piece end text none (pieces, is) = elim (pieces_end end pieces) [
   | inr h ↦ absurd (none h.0 (is ∙ h.1))
 ]
 
--- pieces, and pieces behind them
+-- pieces, and pieces after them
 pub joined_append : (end : ℕ) (ps qs : List (List ℕ)) → joined end (ps ++ qs) ≡ joined end ps ++ joined end qs
 joined_append end [] qs = refl
 joined_append end (p ∷ ps) qs =
     ap (λ l. p ++ end ∷ l) (joined_append end ps qs) ∙ sym (append_assoc p (end ∷ joined end ps) (joined end qs))
 
--- what stands at a place, where pieces end
+-- what is at an offset, where pieces end
 pub behind_at : (end : ℕ) (P : List ℕ → Type 0) (text : List ℕ) (at : ℕ) → IsPieces end (take at text) → P (drop at text)
     → Behind end P text
 behind_at end P text at (pieces, is) has =
     (pieces, drop at text, sym (take-append-drop at text) ∙ ap (λ l. l ++ drop at text) is, has)
 
--- what stands at no place, and is not nothing, stands nowhere
+-- what is at no offset, and is not nothing, is nowhere
 pub behind_none : (end : ℕ) (P : List ℕ → Type 0) (text : List ℕ) → (P [] → ⊥)
     → ((at : ℕ) → at < length text → IsPieces end (take at text) → P (drop at text) → ⊥) → Behind end P text → ⊥
 behind_none end P text full none (pieces, rest, is, has) = by rest is has

@@ -10,7 +10,7 @@ use Rattle.std.proofs.lemmas.Str.{IsUtf8-from_ascii}
 use Rattle.std.proofs.Math.Seq.{take-append_seam}
 use Rattle.proc_files.specs.Signals.{BeginsWithBit, IsMaskLine}
 
--- the digits of such a line are the first sixteen behind its key
+-- the digits of such a line are the first sixteen after its key
 pub line_digits : (text value : List ℕ) (mask : ℕ) → text ≡ codes "SigIgn:\t" ++ value → (line : IsMaskLine text mask)
     → take 16 value ≡ line.digits
 line_digits text value mask is line =

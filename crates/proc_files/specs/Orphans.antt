@@ -1,9 +1,9 @@
 -- What is left of an action whose executor was killed, by the files of a process: proc(5), cmdline and environ, where a NUL
--- stands behind each word.
+-- follows each text.
 use Rattle.std.specs.Prelude.{◌≡◌, ℕ, List, [], ◌∷◌, ◌++◌, codes}
 use Rattle.proc_files.specs.Pieces.{Behind, joined}
 
--- the last words of a command line are the agent's file and, behind it, the action
+-- the last arguments of a command line are the agent's file and, after it, the action
 abbrev pub Calls : List ℕ → List ℕ → List ℕ → Type 0
 Calls cmdline agent_file action = (before : List (List ℕ)) × (cmdline ≡ joined 0 (before ++ agent_file ∷ action ∷ []))
 
@@ -11,7 +11,7 @@ Calls cmdline agent_file action = (before : List (List ℕ)) × (cmdline ≡ joi
 abbrev pub BeginsWithInstance : List ℕ → List ℕ → Type 0
 BeginsWithInstance instance text = (rest : List ℕ) × (text ≡ codes "OCF_RESOURCE_INSTANCE=" ++ instance ++ 0 ∷ rest)
 
--- one word of an environment names the instance
+-- one text of an environment names the instance
 abbrev pub HasInstance : List ℕ → List ℕ → Type 0
 HasInstance environ instance = Behind 0 (BeginsWithInstance instance) environ
 

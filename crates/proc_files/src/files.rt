@@ -1,4 +1,4 @@
-//! What the system tells of its processes, in the files of `/proc`.
+//! What the system says of its processes, in the files of `/proc`.
 ghost use Rattle.std.specs.Prelude.{◌≡◌, ◌≤◌, length};
 
 use crate::process::Process;
@@ -31,7 +31,7 @@ impl PidFile {
     }
 }
 
-/// What the system tells of its processes. Linux, proc(5).
+/// What the system says of its processes. Linux, proc(5).
 pub trait ProcFiles {
     /// This process.
     fn own(&self) -> io::Result<Process>;

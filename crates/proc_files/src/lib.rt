@@ -1,4 +1,4 @@
-//! What the system tells of processes in the files of `/proc`. Linux, proc(5).
+//! What the system says of processes in the files of `/proc`. Linux, proc(5).
 #![tactic(auto)]
 
 mod descendants;

@@ -22,7 +22,7 @@ pub fn read_head<R: Files>(files: &R, path: &str, room: &mut [u8]) -> io::Result
     Ok(read)
 }
 
-/// The numbers of the processes that a folder such as `/proc` lists.
+/// The numbers of the processes that a directory such as `/proc` lists.
 pub fn pids<R: Files + Alloc + Clone + Drop>(rt: &R, path: &str) -> io::Result<Vec<u32, R::A>> {
     let mut found = Vec::new(rt.alloc());
     for entry in fs::read_dir(rt, path)? {

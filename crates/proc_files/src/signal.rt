@@ -6,7 +6,7 @@ ghost use Rattle.proc_files.specs.Signals.{BeginsWithBit, HasBit, IsIgnored, IsM
 use crate::pieces::{after, is_pieces};
 use std::str;
 
-// What stands before the mask of ignored signals.
+// What comes before the mask of ignored signals.
 const IGNORED: &[u8] = b"SigIgn:\t";
 
 // How many digits a mask has: one for four of 64 signals.
@@ -58,8 +58,8 @@ fn begins_with_bit(text: &[u8], signal: u8) -> bool
     }
 }
 
-/// Whether a process ignores a signal, from 1 to 64: its bit is set in the mask that stands in the line SigIgn of this
-/// text, the bytes of `/proc/PID/status`.
+/// Whether a process ignores a signal, from 1 to 64: its bit is set in the mask of the line SigIgn of this text, the bytes
+/// of `/proc/PID/status`.
 pub fn is_ignored(status: &[u8], signal: u8) -> bool
     ensures { IsTrue result ↔ IsIgnored status.now signal }
 {

@@ -35,7 +35,7 @@ impl ErrorLines {
         }
     }
 
-    // A text, behind how many lines were left out before it.
+    // A text, after the number of lines that were left out before it.
     fn spelled<D: Display + Drop>(&self, value: D) -> BoundedLine {
         let mut line = BoundedLine::new();
         let count = self.left_out.get();

@@ -3,8 +3,8 @@ ghost use Rattle.std.specs.Prelude.{◌≡◌, ◌-◌, ◌≤◌, Some, length,
 
 use std::io::{self, Write};
 
-// How many bytes it has at most, with its newline: where a pipe can be written at all, a write of so many does not wait. Linux,
-// pipe(7), PIPE_BUF.
+// How many bytes it has at most, with its newline: where a pipe can be written at all, a write of this many does not block.
+// Linux, pipe(7), PIPE_BUF.
 const LIMIT: usize = 4_096;
 
 /// A text that is cut at 4,096 bytes.

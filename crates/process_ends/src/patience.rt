@@ -26,7 +26,7 @@ pub struct Pauses {
 }
 
 impl Pauses {
-    /// Pauses of so many microseconds together.
+    /// Pauses of this many microseconds altogether.
     fn of(micros: u64) -> Pauses
         ensures left { result.left ≡ micros }
     {
@@ -43,7 +43,7 @@ impl Pauses {
         Pauses::of(PATIENCE)
     }
 
-    /// Those of so many milliseconds together.
+    /// Those of this many milliseconds together.
     pub fn within(millis: u32) -> Pauses
         ensures left { result.left ≡ millis * 1000 }
     {
@@ -111,7 +111,7 @@ pub struct Deadline {
 }
 
 impl Deadline {
-    /// So many milliseconds from now on.
+    /// This many milliseconds from now on.
     pub fn after(clock: &impl Clock, millis: u32) -> Deadline {
         Deadline {
             began: Instant::now(clock).ok(),

@@ -8,7 +8,7 @@ use std::process::{Child, Command, Processes, Stdio, SystemProcess};
 use std::rt::Clock;
 use std::time::Duration;
 
-/// The system as an executor uses it: its processes, its clocks, what `/proc` tells, and its standard error, on which nothing
+/// The system as an executor uses it: its processes, its clocks, what `/proc` says, and its standard error, on which nothing
 /// waits.
 #[derive(Drop)]
 pub struct System<'a> {

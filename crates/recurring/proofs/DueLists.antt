@@ -29,11 +29,11 @@ pairs_of-settled call due (d ∷ ds) =
 pub map_over_all : {A : Type 0} (f : A → A) (xs ys : List A) (i : ℕ) → length xs ≤ i → ys ≡ map f (take i xs) ++ drop i xs → ys ≡ map f xs
 map_over_all f xs ys i le h = h ∙ rw (take_all i xs le, drop_of_length-le xs le) (append-nil (map f xs))
 
--- an element behind the last one
+-- an element after the last one
 pub put_behind : {A : Type 0} (xs : List A) (i : ℕ) (x : A) → length xs ≤ i → xs ++ x ∷ [] ≡ take i xs ++ x ∷ drop (i + 1) xs
 put_behind xs i x le = rw (take_all i xs le, drop_of_length-le xs (let more : length xs ≤ i + 1 = omega (arith, le) in more)) refl
 
--- one more of the front is made, and what was there behind it stays
+-- one more of the prefix is made, and what was there after it stays
 pub front_more : {A B : Type 0} (f : A → B) (ms : List A) (was now : List B) (i : ℕ) (d : A) → i < length ms → now ≡ map f (take i ms) ++ drop i was
     → take i now ++ f (get_or ms i d) ∷ drop (i + 1) now ≡ map f (take (i + 1) ms) ++ drop (i + 1) was
 front_more f ms was now i d lt is =
@@ -41,7 +41,7 @@ front_more f ms was now i d lt is =
     rw (is, take_at (map f (take i ms)) (drop i was) i front, drop-append-drop i was (map f (take i ms)) (i + 1) (omega arith) front, map_more f ms i d lt)
     (sym (append_assoc (map f (take i ms)) (f (get_or ms i d) ∷ []) (drop (i + 1) was)))
 
--- a front that is all leaves nothing behind it
+-- a prefix that is all leaves nothing after it
 pub front_all : {A B : Type 0} (f : A → B) (ms : List A) (was now : List B) (i : ℕ) → length ms ≤ i → length was ≤ i
     → now ≡ map f (take i ms) ++ drop i was → now ≡ map f ms
 front_all f ms was now i le short is = is ∙ rw (take_all i ms le, drop_of_length-le was short) (append-nil (map f ms))

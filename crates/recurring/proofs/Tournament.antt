@@ -13,7 +13,7 @@ use Rattle.recurring.specs.FirstMoments.{earlier, IsFirstOf, IsNotAfter, IsWon, 
 abbrev pub played : List (Option ℕ) → ℕ → List (Option ℕ)
 played xs p = set xs p (earlier (get_or xs (2 * p) None) (get_or xs (2 * p + 1) None))
 
--- it is won, and no node stops being won but the one above it
+-- it is won, and no node ceases to be won but the one above it
 won-played_here : (xs : List (Option ℕ)) (p : ℕ) → 1 ≤ p → p < length xs → IsWon (played xs p) p
 won-played_here xs p low high =
     let v = earlier (get_or xs (2 * p) None) (get_or xs (2 * p + 1) None) in

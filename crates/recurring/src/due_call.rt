@@ -90,7 +90,7 @@ impl DueCall {
     }
 }
 
-/// Stands in an unused place of the list, where nobody sees it.
+/// Fills an unused index of the list, where nobody sees it.
 impl MadeWith<()> for DueCall {
     fn made_with(_: ()) -> DueCall {
         DueCall {

@@ -36,7 +36,7 @@ impl DueCalls {
         }
     }
 
-    /// Takes the calls of these monitors in place of its own, and gives the least of their due moments: `None` just where
+    /// Takes the calls of these monitors in place of its own, and gives the least of their due moments: `None` exactly when
     /// there are no monitors.
     pub(crate) fn renew(&mut self, monitors: &Recurrings) -> Option<u64>
         ensures calls { self.new ≡ pairs monitors.now }
@@ -78,7 +78,7 @@ impl DueCalls {
         }
     }
 
-    /// The call that is due first, and the lowest among those that are due then: `None` just where none is due.
+    /// The call that is due first, and the lowest among those that are due then: `None` exactly when none is due.
     pub(crate) fn due(&self, now: Moment) -> Option<CallId>
         ensures { IsLeastDue self.now now result }
     {
@@ -89,7 +89,7 @@ impl DueCalls {
         first.map(|d| d.call)
     }
 
-    /// The least due moment: `None` just where there are no calls.
+    /// The least due moment: `None` exactly when there are no calls.
     pub(crate) fn first_moment(&self) -> Option<u64>
         ensures { IsFirstMoment self.now result }
     {
@@ -101,7 +101,7 @@ impl DueCalls {
     }
 }
 
-/// Puts a call at a place: in place of the one that is there, or behind the last one.
+/// Puts a call at an index: in place of the one that is there, or after the last one.
 fn put(calls: &mut ArrayVec<DueCall, { RECURRING_LIMIT }>, place: usize, call: DueCall)
     requires place { place ≤ length calls.old.items }
     requires room { place < RECURRING_LIMIT }

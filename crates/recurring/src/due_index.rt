@@ -87,7 +87,7 @@ impl<A: Grows> DueIndex<A> {
         };
     }
 
-    /// Keeps the resource no longer, and none of its monitors. Those behind it move up.
+    /// Removes the resource, and all of its monitors. Those after it move up.
     pub fn forget(&mut self, id: &RscId)
         ensures dues { self.new.dues ≡ filter (λ e. not (bytes_eq id.now e.0)) self.old.dues }
     {
@@ -98,7 +98,7 @@ impl<A: Grows> DueIndex<A> {
         self.firsts.remove(place);
     }
 
-    /// Puts a monitor of the resource behind its others: its call, due at that moment.
+    /// Adds a monitor of the resource after its others: its call, due at that moment.
     pub fn add(&mut self, id: &RscId, call: CallId, due: u64)
         requires kept { IsSomeAnd (lookup (bytes_eq id.now) self.old.dues)
             (λ ps. length ps < RECURRING_LIMIT) }
@@ -168,7 +168,7 @@ impl<A: Grows> DueIndex<A> {
     }
 
     /// The call of the resource's monitor that is due first, and of the lowest call among those that are due then: `None`
-    /// just where none is due.
+    /// exactly when none is due.
     pub fn due_of(&self, id: &RscId, now: Moment) -> Option<CallId>
         ensures { IsLeastDue (pairs_at self.now.dues id.now) now result }
     {
@@ -178,7 +178,7 @@ impl<A: Grows> DueIndex<A> {
         }
     }
 
-    /// The least moment, in milliseconds, at which a monitor of a resource is due: `None` just where there are no
+    /// The least moment, in milliseconds, at which a monitor of a resource is due: `None` exactly when there are no
     /// monitors.
     pub fn first_due(&self) -> Option<u64>
         ensures { IsFirstMoment (pairs_of_all self.now.dues) result }

@@ -72,7 +72,7 @@ impl<A: Grows> FirstMoments<A> {
         climb(self.nodes.as_mut_slice(), self.places, node);
     }
 
-    /// Takes a place away. Those behind it move up.
+    /// Removes an index. Those after it move up.
     pub(crate) fn remove(&mut self, place: usize)
         requires { place < length self.old }
         ensures { self.new ≡ remove self.old place }
@@ -84,7 +84,7 @@ impl<A: Grows> FirstMoments<A> {
         lay(self.nodes.as_mut_slice(), self.places);
     }
 
-    /// The first moment of all places: `None` just where none has one.
+    /// The first moment of all places: `None` exactly when none has one.
     pub(crate) fn first(&self) -> Option<u64>
         ensures { IsFirstOf self.now result }
     {

@@ -34,7 +34,7 @@ impl Monitor {
     }
 }
 
-/// Stands in an unused place of the list, where nobody sees it.
+/// Fills an unused index of the list, where nobody sees it.
 impl MadeWith<()> for Monitor {
     fn made_with(_: ()) -> Monitor {
         let (Some(call), Some(interval)) = (CallId::new(1), Millis::new(1)) else {

@@ -84,7 +84,7 @@ impl Recurrings {
         self.monitors.as_slice()
     }
 
-    /// A monitor. They stand in order of acceptance, from 0.
+    /// A monitor. They are in order of acceptance, from 0.
     pub fn monitor_at(&self, at: usize) -> Monitor
         requires { at < length self.now }
         ensures { slice_get self.now at ≡ Some result }
@@ -184,8 +184,8 @@ impl Recurrings {
         }
     }
 
-    /// The call of the monitor that is due first, and of the lowest call among those that are due then: `None` just
-    /// where none is due.
+    /// The call of the monitor that is due first, and of the lowest call among those that are due then: `None` exactly when
+    /// none is due.
     pub fn due(&self, now: Moment) -> Option<CallId>
         ensures { IsLeastDue (pairs self.now) now result }
     {
@@ -196,7 +196,7 @@ impl Recurrings {
         first.map(|d| d.call)
     }
 
-    /// The least moment, in milliseconds, at which a monitor is due: `None` just where there are no monitors.
+    /// The least moment, in milliseconds, at which a monitor is due: `None` exactly when there are no monitors.
     pub fn first_due(&self) -> Option<u64>
         ensures { IsFirstMoment (pairs self.now) result }
     {

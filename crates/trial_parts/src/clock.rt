@@ -27,7 +27,7 @@ impl MovedClock {
         self.passed.get()
     }
 
-    /// So many microseconds pass.
+    /// This many microseconds pass.
     pub fn pass(&self, micros: u64) {
         self.passed.set(self.passed().saturating_add(micros));
     }

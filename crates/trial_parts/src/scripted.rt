@@ -7,7 +7,7 @@ use ocf_types::StartFault;
 use std::alloc::Global;
 use std::collections::VecDeque;
 
-// How many answers are drawn. Behind them every start is done, and every agent runs on.
+// How many answers are drawn. After them every start succeeds, and every agent runs on.
 const DRAWS: usize = 16_384;
 
 // How often an agent that takes its time is asked in vain.

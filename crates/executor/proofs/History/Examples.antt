@@ -42,6 +42,6 @@ overtaken (inl h) = let same = h.0 in omega (arith, same)
 overtaken (inr (inl h)) = h.1
 overtaken (inr (inr h)) = h
 
--- a stop while the first runs: the boot tells it, and what is asked and begun behind the boot is told by none
+-- a crash while the first runs: the boot reports it, and what is asked and begun after the boot is reported by none
 told : length (filter (is_of r1 1) (interruptions empty (registered ∷ asked 1 ∷ begins 1 1 ∷ boot ∷ asked 2 ∷ begins 2 2 ∷ []))) ≡ 1
 told = refl

@@ -1,4 +1,4 @@
--- What runs in a resource, as events that apply change it: ends between begins, and what boots tell.
+-- What runs in a resource, as events that apply change it: ends between begins, and what boots report.
 use Rattle.std.proofs.Common.{◌≡◌, ℕ, ◌==◌, ◌&&◌, ◌||◌, nat_lt, length, Bool, true, false, cond, List, [], ◌∷◌, ◌++◌, Option, Some, None, option_map, option_and_then, refl, sym, ap, subst, ◌∙◌}
 use Rattle.std.specs.Prelude.{IsSome, IsSomeAnd}
 use Rattle.std.specs.Map.{lookup}

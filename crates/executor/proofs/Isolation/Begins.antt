@@ -64,7 +64,7 @@ begins_it y id at clock n c r bs (z ∷ []) x is le pick one call run each =
           ∙ ap (λ (k : ℕ). begun_events id at k x.run ends) call ∙ ap (λ (k : ℕ). begun_events id at c k ends) run;
     }
 
--- what is begun of it behind the results, where it stands there with these due moments
+-- what is begun of it after the results, where it is there with these due moments
 pub isolated_begins : (y : Isolated) (id : List ℕ) (at clock run : ℕ) (moments : Due) (o : Option Resource) (bs : List Active)
     (zs : List Started) → y.resource ≡ o
     → ((call : ℕ) → has_monitor o call ≡ true → y.due call ≡ moments id call) → y.next_run ≤ run → IsChosen moments at run id o bs

@@ -132,8 +132,8 @@ monitor_before at (change.Step i what) None call h none = h
 monitor_before at (change.Step i what) (Some r) call h none = monitor_stepped at what r call h none
 monitor_before at change.Boot was call h none = h
 
--- The machine as it stands for a resource in a state with these due moments: what it has of the resource, the moments of
--- the monitors that are there, and numbers that are not above the next ones.
+-- The machine as it is for a resource in a state with these due moments: what it has of the resource, the moments of the
+-- monitors that are there, and numbers that are not above the next ones.
 pub record Stands (y : Isolated) (s : State) (moments : Due) (id : List ℕ) : Type 0 where
   pub resource : y.resource ≡ resource_at s id
   pub due : (call : ℕ) → has_monitor (resource_at s id) call ≡ true → y.due call ≡ moments id call

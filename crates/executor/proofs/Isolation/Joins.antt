@@ -14,7 +14,7 @@ use Rattle.executor.specs.declared.session.InputOf.TheVariants as input
 use Rattle.executor.proofs.Isolation.Changes.{monitor_before, or_else_alike, single-append}
 use Rattle.executor.proofs.Isolation.Picks.{pick_same}
 
--- a machine that stands where another does goes on to stand there
+-- a machine that is where another is stays there
 above_call_kept : (c : Change) (m n : ℕ) → m ≤ n → above_call c m ≤ above_call c n
 above_call_kept (change.Step id (step.Exec o)) m n le = le_refl _
 above_call_kept (change.Step id (step.Recur r)) m n le = le_refl _

@@ -36,7 +36,7 @@ pub record Seen : Type 0 where
 abbrev pub seen : {D : Type 0} → Sight D → Seen
 seen x = record { state = x.state; due = due_in x }
 
--- the same behind these events
+-- the same after these events
 abbrev pub seen_behind : Seen → List Event → Seen
 seen_behind x es = record { state = after_all x.state es; due = due_after_all x.state x.due es }
 
@@ -92,7 +92,7 @@ asked_names call _ = refl
 abbrev pub AllName : List ℕ → List Event → Type 0
 AllName id es = AllByRecursion (λ e. named e.change ≡ Some id) es
 
--- the event that a command is names its resource, is new, and stands at the moment that is handed in
+-- the event that a command is names its resource, is new, and has the moment that is passed in
 one_names : (s : State) (now : ℕ) (c : Command) (e : Event) → event_of s now c ≡ Ok e → AllName (commanded c) (e ∷ [])
 one_names s now c e is =
     let went = passed (tests s c (length (spelled_event (asked_event s now c)))) (asked_event s now c) e is in

@@ -31,7 +31,7 @@ use Rattle.executor.proofs.Isolation.Lists.{each_flat_map, each_map, each_of_all
 abbrev pub names_it : List ℕ → Event → Bool
 names_it id e = option_map_or (bytes_eq id) (named e.change) false
 
--- runs are this resource's just where their actions are
+-- runs are this resource's exactly when their actions are
 abbrev pub AreOwn : (ℕ → Bool) → List ℕ → List Active → Type 0
 AreOwn mine id all = AllByRecursion (λ a. mine a.running.run ≡ bytes_eq id a.id) all
 

@@ -181,7 +181,7 @@ own_changed mine id at (change.Step other what) s fresh own h =
     by e false differs h = h
 own_changed mine id at change.Boot s fresh own h = absurd fresh
 
--- what runs stays told after new events
+-- what runs stays known after new events
 pub own_stays : (mine : ℕ → Bool) (id : List ℕ) (s : State) (es : List Event) → AreFresh s es → AllBeginOwn mine id es
     → AreOwn mine id (active s) → AreOwn mine id (active (after_all s es))
 own_stays mine id s [] fresh own h = h

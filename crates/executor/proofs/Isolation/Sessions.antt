@@ -243,7 +243,7 @@ module _ {D : Type 0} (look : D → View) (mine : ℕ → Bool) (id : List ℕ) 
       (sym (filter-append (names_it id) first later))
       (crash (bytes_eq id (commanded c)) y i r (part id (inputs_at now cs) rs) [] [] (events_of id first) (events_of id later) one later_alone))
 
--- each resource by itself, as it stands in an executor
+-- each resource by itself, as it is in an executor
 here : {D : Type 0} (x : Sight D) (id : List ℕ) → Stands (isolated_of x id) x.state (due_in x) id
 here x id = record { resource = refl; due = λ call there. refl; calls = le_refl x.state.next_call; runs = le_refl x.state.next_run }
 
@@ -267,7 +267,7 @@ each_alone look x z inputs replies d id apart session plain rises =
     alone look mine id x.state.clock (isolated_of x id) x z inputs replies d
     (le_refl x.state.clock) rises plain (here x id) apart.ids own.0 own.1 session
 
--- and it stands where the session ends
+-- and it is where the session ends
 pub alone_ends : {D : Type 0} (look : D → View) (x z : Sight D) (inputs : List Input) (replies : List Reply) (d : Effects) (id : List ℕ)
     → Session look x inputs replies z d → AllByRecursion (λ p. IsPlain p.1) (part id inputs replies) → AreRising x.state.clock inputs
     → StandsAt (isolated_after_all (isolated_of x id) (events_of id d.events)) (isolated_of z id)

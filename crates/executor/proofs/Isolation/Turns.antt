@@ -41,7 +41,7 @@ use Rattle.executor.proofs.Isolation.Picks.{begins_fresh, chosen, own_of}
 use Rattle.executor.proofs.Isolation.Requests.{Does, moment_is, seen}
 use Rattle.executor.proofs.Isolation.Rows.{AreOwn, IsEnd, begins_kept, ends_fresh, names_it, own_active, polls_kept, refusals_end, refusals_kept, results_end, results_kept, isolated_poll, starts_kept}
 
--- new events behind new events
+-- new events after new events
 pub fresh-append : (s : State) (es fs : List Event) → AreFresh s es → AreFresh (after_all s es) fs → AreFresh s (es ++ fs)
 fresh-append s [] fs h k = k
 fresh-append s (e ∷ es) fs h k = (h.0, fresh-append (after s e) es fs h.1 k)
@@ -67,7 +67,7 @@ clock_behind : (s : State) (at last : ℕ) (es : List Event) → AllByRecursion 
 clock_behind s at last [] h le clock = clock
 clock_behind s at last (e ∷ es) h le clock = clock_behind (after s e) at last es h.1 le (omega (arith, h.0, le))
 
--- a begin draws a run of the resource just where it names it
+-- a begin draws a run of the resource exactly when it names it
 abbrev pub BeginsOwn : (ℕ → Bool) → List ℕ → Change → Type 0
 BeginsOwn mine id (change.Step other (step.Begin call run)) = mine run ≡ bytes_eq id other
 BeginsOwn mine id _ = ⊤
@@ -111,7 +111,7 @@ module _ {D : Type 0} (now : ℕ) (old new : Sight D) (given : Reply) (effects :
   at : ℕ
   at = cut now
 
-  -- its state and due moments behind the results, the events after these, and what it picks there
+  -- its state and due moments after the results, the events after these, and what it picks there
   mid : State
   mid = after_all old.state (results at turn.t.polled)
 

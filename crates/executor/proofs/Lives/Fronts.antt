@@ -1,4 +1,4 @@
--- Front parts of a list of events as which a pair is found, and the longest of them.
+-- Prefixes of a list of events as which a pair is found, and the longest of them.
 use Rattle.std.proofs.Common.{◌≡◌, ◌⊎◌, inl, inr, ⊎_elim, ◌≤◌, ◌<◌, ℕ, Bool, List, [], ◌∷◌, ◌++◌, length, refl, sym, ap, subst, ◌∙◌, append_assoc, arith}
 use Rattle.std.specs.List.{list_any}
 use Rattle.std.proofs.lemmas.Bool.{cases_lt, or_left}
@@ -23,7 +23,7 @@ GoesOn p q = (more : List Event) × (q ≡ p ++ more)
 goes_on_self : (p : List Event) → GoesOn p p
 goes_on_self p = ([], sym (append-nil p))
 
--- of two front parts the longer one goes on from the other
+-- of two prefixes the longer one goes on from the other
 shorter : (p q r t : List Event) → p ++ r ≡ q ++ t → length p ≤ length q → GoesOn p q
 shorter [] q r t same le = (q, refl)
 shorter (x ∷ p) [] r t same le = absurd (omega (arith, le))
@@ -54,14 +54,14 @@ asked_here e xs start = (e.answer, start, Contains-append_left (e ∷ []) xs e (
 asked_later : (e : Entry) (xs : List Entry) (run clock : ℕ) → Asked xs run clock → Asked (e ∷ xs) run clock
 asked_later e xs run clock h = (h.0, h.1, Contains-append_right (e ∷ []) xs (record { run = run; at = clock; answer = h.0 }) h.2)
 
--- the pair is found as the state after a front part of these events
+-- the pair is found as the state after a prefix of these events
 pub record FrontOf (s : State) (all : List Event) (c : Image) (p : List Event) : Type 0 where
   pub others : List Event
   pub front : p ++ others ≡ all
   pub found : FoundAs (after_all s p) c
 
 module _ (s : State) (all : List Event) (c : Image) (stop : ℕ) where
-  -- of two front parts one goes on from both
+  -- of two prefixes one goes on from both
   longer : (p q : List Event) → FrontOf s all c p → FrontOf s all c q
       → (r : List Event) × FrontOf s all c r × GoesOn p r × GoesOn q r
   longer p q f g = ⊎_elim
@@ -73,11 +73,11 @@ module _ (s : State) (all : List Event) (c : Image) (stop : ℕ) where
   abbrev pub AllBegun : List Entry → List Event → Type 0
   AllBegun xs p = (run clock : ℕ) → Asked xs run clock → clock ≤ stop → HasBegin run p
 
-  -- for each start that was asked up to a moment there is a front part with its begin
+  -- for each start that was asked up to a moment there is a prefix with its begin
   abbrev pub EachBegun : List Entry → Type 0
   EachBegun xs = (run clock : ℕ) → Asked xs run clock → clock ≤ stop → (q : List Event) × FrontOf s all c q × HasBegin run q
 
-  -- then one front part has all of them, and goes on from any given one
+  -- then one prefix has all of them, and goes on from any given one
   pub all_begun : (xs : List Entry) → EachBegun xs → (p : List Event) → FrontOf s all c p
       → (r : List Event) × FrontOf s all c r × GoesOn p r × AllBegun xs r
   all_begun [] each p f = (p, f, goes_on_self p, λ run clock asked le. absurd (asked_none run clock asked))

@@ -1,4 +1,4 @@
--- What a service leaves, stopped at any moment behind the last return.
+-- What a service leaves, crashed at any moment after the last return.
 use Rattle.std.proofs.Common.{◌≡◌, inl, inr, ◌≤◌, ℕ, Bool, true, false, List, [], ◌++◌, refl, sym, ap, subst, ◌∙◌, arith, append_assoc}
 use Rattle.std.proofs.lemmas.List.{append-nil}
 use Rattle.ocf_types.specs.Kinds.{Event}
@@ -16,7 +16,7 @@ use Rattle.executor.proofs.Lives.Calls.{calls_closed, calls_more}
 use Rattle.executor.proofs.Lives.Fronts.{EachBegun, FrontOf, GoesOn, all_begun, begin_among}
 use Rattle.executor.proofs.Sessions.Growing.{Onward, leads_start, leads_still, onward}
 
--- the events of some effects, those that are pending behind them
+-- the events of some effects, those that are pending after them
 abbrev all_of : Effects → List Event
 all_of d = d.events ++ d.pending
 
@@ -44,7 +44,7 @@ module _ {D : Type 0} (look : D → View) (law : WhatStands) (lawful : (d : D) �
       abbrev Base : Type 0
       Base = (p : List Event) × FrontOf x.opened.state (all_of (followed_by x.done x.under_way)) c p × GoesOn x.done.events p
 
-      -- where the executor was open behind the last return, the pair is found behind some of what was under way
+      -- where the executor was open after the last return, the pair is found after some of what was under way
       base_open : x.returned.is_open ≡ true → Base
       base_open is_open =
           let going : Onward look x.returned x.last x.under_way =
@@ -69,7 +69,7 @@ module _ {D : Type 0} (look : D → View) (law : WhatStands) (lawful : (d : D) �
             (q, refl),
           )
 
-      -- where a disk fault had closed it, nothing was under way: the pair is found behind all that was recorded, or behind
+      -- where a disk fault had closed it, nothing was under way: the pair is found after all that was recorded, or after
       -- what the fault left pending too
       base_closed : x.returned.is_open ≡ false → Base
       base_closed closed =
@@ -114,7 +114,7 @@ module _ {D : Type 0} (look : D → View) (law : WhatStands) (lawful : (d : D) �
       base_of true is_open = base_open is_open
       base_of false closed = base_closed closed
 
-      -- behind a start that was asked before the stop the pair is found with its begin
+      -- after a start that was asked before the crash the pair is found with its begin
       each_begun : EachBegun x.opened.state (all_of (followed_by x.done x.under_way)) c x.stop (followed_by x.done x.under_way).entries
       each_begun run clock asked le =
           let begun = whole_leads.crash.starts run clock asked in
@@ -132,7 +132,7 @@ module _ {D : Type 0} (look : D → View) (law : WhatStands) (lawful : (d : D) �
             begin_among run begun.first (begun.first ++ q) (q, refl) begun.begins,
           )
 
-      -- what stands of it
+      -- what remains of it
       pub service_stands : (p : List Event) × Stands x p × FoundAs (after_all x.opened.state p) c
       service_stands =
           let base = base_of x.returned.is_open refl in

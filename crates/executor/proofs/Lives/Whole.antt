@@ -1,4 +1,4 @@
--- Whole lives: what is found behind them.
+-- Whole lives: what is found after them.
 use Rattle.std.proofs.Common.{◌≡◌, inl, inr, ℕ, Bool, true, false, List, [], ◌∷◌, ◌++◌, Option, Some, None, refl, sym, ap, subst, ◌∙◌, append_assoc}
 use Rattle.std.specs.Prelude.{if◌then◌else◌, option_to_list}
 use Rattle.ocf_types.specs.Answer.{moment}
@@ -61,18 +61,18 @@ module _ {D : Type 0} (look : D → View) (law : WhatStands) (once : OneFinding)
   pub one_state : (s t : State) (c : Image) → FoundAs s c → FoundAs t c → s ≡ t
   one_state s t c here there = same_whole s t (once c (Whole s) (Whole t) here there)
 
-  -- the state behind some events and the boot that it needs
+  -- the state after some events and the boot that it needs
   pub behind_boots : (ys : List Event) (s : State) (now : ℕ) → s ≡ after_all start ys
       → after_all start (ys ++ boots (after_all start ys) now) ≡ booted s now
   behind_boots ys s now same =
       after_all-append start ys (boots (after_all start ys) now) ∙ boots_is (after_all start ys) now
       ∙ ap (λ (t : State). booted t now) (sym same)
 
-  -- what is found behind a life
+  -- what is found after a life
   abbrev Behind : List (Sitting D) → Image → Type 0
   Behind life c = (zs : List Event) × Lived start life zs × FoundAs (after_all start zs) c
 
-  -- behind an opening that was refused or stopped: as before it
+  -- after an opening that was refused or crashed: as before it
   unbooted : (old new : D) (now : ℕ) (end : Option OpenError) (older : List (Sitting D)) → ((d : Image) → (look old).now d → Behind older d)
       → (look old).honest → (c : Image) → OpensLike (look old) c → Behind (InOpening old new now end ∷ older) c
   unbooted old new now end older from honest c (inl was) =
@@ -141,7 +141,7 @@ module _ {D : Type 0} (look : D → View) (law : WhatStands) (once : OneFinding)
         service_roomy look law lawful x serves honest c left,
       )
 
-  -- so an opening behind a life gives what stands of it, and reports what ran
+  -- so an opening after a life gives what remains of it, and reports what ran
   pub opened_behind : (life : List (Sitting D)) (old : D) (from : ChildrenView) (now : ℕ) (x : Sight D) (ran queued : List Notice)
       → IsLife look start life → GoesOnFrom look start life old → Opened look (look old) from now x ran queued → (look x.disk).honest
       → OpensBehind start life now x.state ran queued
@@ -171,7 +171,7 @@ module _ {D : Type 0} (look : D → View) (law : WhatStands) (once : OneFinding)
             let none : ⊥ = cc in absurd none,
       )
 
--- an opening that was refused is a sitting
+-- an opening that was refused is an incarnation
 pub refused_sits : {D : Type 0} (look : D → View) (old new : D) (from to : ChildrenView) (now : ℕ) (fault : OpenError)
     → NotOpened (look old) (look new) from to now fault → Sat look (InOpening old new now (Some fault))
 refused_sits look old new from to now fault fails = record {

@@ -226,7 +226,7 @@ all_closed (l ∷ ls) m n did shut (mid, first, later, moves, rest, is) =
     ap (λ (cs : List Claim). cs ++ flat_map claims_of ls) (closed_claims l.exchange l.notices here.1 here.0.1)
     ∙ all_closed ls mid n later here.2.0 rest
 
--- the claims of steps behind one that left the machine open or closed
+-- the claims of steps after one that left the machine open or closed
 later_claims : (o : Bool) (l : Label) (ls : List Label) (m mid n : Machine) (first later : Effects) → mid.is_open ≡ o
     → MovesWhile m.is_open l m mid first → MovesAll ls mid n later → AllRecorded mid.state (flat_map claims_of ls) later.events
     → AllRecorded (after_all m.state first.events) (flat_map claims_of ls) later.events

@@ -66,7 +66,7 @@ turned end answers room notices =
 abbrev waiting : Machine
 waiting = record { is_open = true; state = after_all empty (registered ∷ asked 1 ∷ []); due = λ id call. None; refuses = false }
 
--- what a turn that ends done was told
+-- what a turn that ends done was answered
 done_so : (answers : List Entry) (room : ℕ) (notices : List Notice) (m n : Machine) (did : Effects)
     → MovesWhile true (turned turn_end.Done answers room notices) m n did
     → (x : Scene) × (x.state ≡ m.state) × (answers ≡ did.entries) × Whole turn_end.Done x did notices
@@ -104,7 +104,7 @@ unbegun e room notices n did none moves =
     let bad : e ∷ [] ≡ [] = entries ∙ (λ i. polls x.at (no_ps i) ++ starts t.clock (no_xs i)) in
     cc
 
--- the book told as full where it takes three answers for each resource
+-- the book reported as full where it takes three answers for each resource
 full_with_room : (answers : List Entry) (notices : List Notice) (n : Machine) (did : Effects)
     → MovesWhile true (turned turn_end.BookFull answers 3 notices) waiting n did → ⊥
 full_with_room answers notices n did ((end, is, t), memory) =

@@ -1,4 +1,4 @@
--- What the machine's calls leave applies, each change behind those before it.
+-- What the machine's calls leave applies, each change after those before it.
 use Rattle.std.proofs.Common.{◌≡◌, ◌⊎◌, inl, inr, ℕ, ◌+◌, ◌≤◌, ◌<◌, Bool, true, false, List, [], ◌∷◌, ◌++◌, length, map, flat_map, Option, Some, None, Ok, option_map, is_none, is_some, leb, IsSome, IsSomeAnd, refl, sym, ap, subst, ◌∙◌, arith}
 use Rattle.std.specs.List.{AllByRecursion, IsDistinct}
 use Rattle.std.specs.Map.{keys_of, lookup}
@@ -32,7 +32,7 @@ use Rattle.executor.proofs.Isolation.Picks.{begun_one, picks_ready}
 use Rattle.executor.proofs.History.Events.{lookup-own}
 use Rattle.executor.proofs.History.Runs.{running_at, runs_in}
 
--- events behind others
+-- events after others
 pub follow_both : (s : State) (es fs : List Event) → Follow s es → Follow (after_all s es) fs → Follow s (es ++ fs)
 follow_both s [] fs h k = k
 follow_both s (e ∷ es) fs h k = (h.0, follow_both (after s e) es fs h.1 k)

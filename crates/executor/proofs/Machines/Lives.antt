@@ -31,14 +31,14 @@ use Rattle.executor.proofs.Machines.Calls.{labels_answers, machine_of, moves_all
 
 module _ {D : Type 0} (look : D → View) (law : WhatStands) (once : OneFinding) (lawful : (d : D) → (look d).honest → Lawful (look d))
     (start : State) where
-  -- what is found behind a run
+  -- what is found after a run
   abbrev Behind : List (Sitting D) → List Seen → Image → Type 0
   Behind life xs c = (zs : List Event) × Runs start xs zs × Lived start life zs × FoundAs (after_all start zs) c
 
   same_state : (s t : State) (c : Image) → FoundAs s c → FoundAs t c → s ≡ t
   same_state s t c here there = one_state look law once lawful start s t c here there
 
-  -- behind an opening that was refused or stopped: as before it
+  -- after an opening that was refused or crashed: as before it
   unbooted : (old new : D) (now : ℕ) (end : Option OpenError) (older : List (Sitting D)) (xs : List Seen)
       → ((d : Image) → (look old).now d → Behind older xs d) → (look old).honest
       → (c : Image) → OpensLike (look old) c → Behind (InOpening old new now end ∷ older) (Opening now end ∷ xs) c

@@ -1,4 +1,4 @@
--- What stands of a run of the machine applies.
+-- What remains of a run of the machine applies.
 use Rattle.std.proofs.Common.{◌≡◌, inl, inr, ℕ, ◌+◌, ◌≤◌, Bool, true, false, List, [], ◌∷◌, ◌++◌, length, map, Option, Some, None, Result, Ok, Err, option_to_list, refl, sym, ap, subst, ◌∙◌, append_assoc}
 use Rattle.std.specs.Prelude.{if◌then◌else◌}
 use Rattle.std.specs.List.{AllByRecursion, IsDistinct}
@@ -198,7 +198,7 @@ finish_follows turn_end.RunsSpent x did told bad = absurd bad
 finish_follows turn_end.Full x did told bad = absurd bad
 finish_follows turn_end.Memory x did told bad = absurd bad
 
--- What calls leave, from one machine to another: it applies, and an open machine stands behind it.
+-- What calls leave, from one machine to another: it applies, and it leads to an open machine.
 pub record Went (m n : Machine) (did : Effects) : Type 0 where
   pub follow : m.is_open ≡ true → Fine m.state → Follow m.state (did.events ++ did.pending)
   pub onward : n.is_open ≡ true → (m.is_open ≡ true) × (n.state ≡ after_all m.state did.events) × (did.pending ≡ [])
@@ -273,7 +273,7 @@ moves_so false l m n did shut h = subst (Went m n) (sym h.2.1) (record {
   closed = λ o. (refl, h.2.0);
 })
 
--- one part behind another
+-- one part after another
 went_both : (m k n : Machine) (a b : Effects) → Went m k a → Went k n b → Went m n (followed_by a b)
 went_both m k n a b one two = record {
   follow = λ o fine. by k.is_open refl (one.follow o fine) fine;
@@ -324,7 +324,7 @@ boots_follow s now = by (any_busy s) refl
     by true busy = (busy, tt)
     by false quiet = tt
 
--- so does what stands of a sitting, and of a run
+-- so does what remains of an incarnation, and of a run
 sits_follow : (x : Seen) (s : State) (zs : List Event) → Fine s → Sits x s zs → Follow s zs
 sits_follow (Opening now end) s zs fine (inl none) = subst (Follow s) (sym none) tt
 sits_follow (Opening now end) s zs fine (inr (may, is)) = subst (Follow s) (sym is) (boots_follow s now)

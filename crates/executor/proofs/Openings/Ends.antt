@@ -196,7 +196,7 @@ module _ {D : Type 0} (look : D → View) (law : WhatStands) (once : (c : Image)
               since = λ h. absurd (never h);
             }
 
-    -- where nothing was written, it stands where it was found
+    -- where nothing was written, it is held where it was found
     stands_before : (look mid.disk).honest → (IsToWrite old.reads → ⊥) → StandsAt mid.place mid.state old.reads
     stands_before h unwritten =
         subst (λ (c : Image). StandsAt mid.place mid.state c) ((opens.opens.unwritten (λ _. unwritten)).same h) (opens.settled h).stands

@@ -17,7 +17,7 @@ entry_there : (s : State) (i : ℕ) → i < length s.resources → entry_at s i 
 entry_there s i lt =
     sym (get_or_from_slice_get s.resources i (entry_at s i) (entry_at s i) (slice_get-get_or s.resources i no_entry lt))
 
--- the notices of one resource more, whatever is told of each
+-- the notices of one more resource, whatever is reported of each
 pub told_more : (tells : List ℕ × Resource → List Notice) (s : State) (i : ℕ) (out new : List Notice) → i < length s.resources
     → out ≡ flat_map tells (take i s.resources) → new ≡ out ++ tells (entry_at s i)
     → new ≡ flat_map tells (take (i + 1) s.resources)

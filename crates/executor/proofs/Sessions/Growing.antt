@@ -67,7 +67,7 @@ leads_start look law x lawful keeps = record {
   whole = λ is_open. refl;
 }
 
--- What calls leave, whatever became of the children's book: from one sight of an executor to another. What a disk fault closed may
+-- What calls leave, whatever became of the children's book: from one view of an executor to another. What a disk fault closed may
 -- have gone on to a state that is not recorded.
 pub record Onward {D : Type 0} (look : D → View) (old new : Sight D) (effects : Effects) : Type 0 where
   pub crash : Leaves look old.disk new.disk old.state (after_all old.state effects.events) effects
@@ -151,7 +151,7 @@ leads_open look (input.Request now request) x y reply d still takes =
 leads_open look (input.Turn now) x y reply d still takes =
     subst (λ (e : Effects). Leads look x y e) (sym takes.does) (leads_turn look now x y takes.end takes.takes)
 
--- calls behind others
+-- calls after others
 pub onward_joined : {D : Type 0} (look : D → View) (x y z : Sight D) (a b : Effects) → y.is_open ≡ true → Onward look x y a
     → Onward look y z b → Onward look x z (followed_by a b)
 onward_joined look x y z a b is_open one two =

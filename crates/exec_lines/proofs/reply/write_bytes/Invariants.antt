@@ -1,4 +1,4 @@
--- A front of the bytes is written.
+-- A prefix of the bytes is written.
 use Rattle.std.proofs.Common.{◌≤◌, length, take}
 use Rattle.std.specs.Io.KnownBytes.{Appends}
 use Rattle.exec_lines.proofs.reply.write_bytes.Given as goal

@@ -1,4 +1,4 @@
--- `new` makes a value of no bytes, at nothing told.
+-- `new` makes a value of no bytes, at nothing sent.
 use Rattle.std.proofs.Common.{[], ◌∷◌, refl}
 use Rattle.std.proofs.raw_atomic.Walks.{proved}
 use mir.Val.{Val, vstruct, vnil}

@@ -1,4 +1,4 @@
--- `with` makes a value of no bytes, at what was told and then this.
+-- `with` makes a value of no bytes, at what was sent and then this.
 use Rattle.std.proofs.Common.{List, [], ◌∷◌, ◌++◌, refl}
 use Rattle.std.proofs.raw_atomic.Walks.{proved}
 use mir.Syntax.{named}
