@@ -1,4 +1,4 @@
--- One resource by itself, in changes, turns and sessions of many.
+-- One resource by itself, in changes, turns and calls of many.
 pub mod Lists
 pub mod Changes
 pub mod Requests
@@ -8,5 +8,9 @@ pub mod Rows
 pub mod Begins
 pub mod Turns
 pub mod Runs
-pub mod Sessions
 pub mod Joins
+pub mod Batches
+pub mod Finishes
+pub mod Went
+pub mod Calls
+pub mod Examples

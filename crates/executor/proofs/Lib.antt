@@ -6,5 +6,5 @@ pub mod Lives
 pub mod History
 pub mod Machines
 pub mod Sharing
-pub mod Reports
+pub mod Lasting
 pub mod Memory

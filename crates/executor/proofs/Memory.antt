@@ -1,4 +1,4 @@
--- Want of memory is reported only where the allocator refuses memory, and no call changes whether it does.
+-- Want of memory is reported only where the allocator refuses memory.
 use Rattle.std.proofs.Common.{◌≡◌, ℕ, Bool, true, false, List, [], ◌∷◌, Result, Ok, Err, Contains, IsTrue, refl, sym, ap, subst, ◌∙◌}
 use Rattle.std.specs.List.{AllByRecursion}
 use Rattle.std.proofs.lemmas.List.Elements.{All-from_recursion}
@@ -6,28 +6,25 @@ use Rattle.ocf_types.specs.Answer.{event_of, moment}
 use Rattle.ocf_types.specs.Kinds.{Command, Event, Reply, Request}
 use Rattle.ocf_types.specs.declared.command.RequestOf.TheVariants as asked
 use Rattle.ocf_types.specs.declared.refusal.Refusal.{Refusal}
-use Rattle.ocf_types.specs.declared.refusal.Refusal.TheVariants.{Closed, Disk, Memory}
+use Rattle.ocf_types.specs.declared.refusal.Refusal.TheVariants.{Closed, Memory}
 use Rattle.ocf_types.specs.declared.reply.ReplyOf.TheVariants as reply
-use Rattle.ocf_types.specs.declared.reply.TidyEnd.{TidyEnd}
 use Rattle.ocf_types.specs.declared.reply.TurnEnd.{TurnEnd}
 use Rattle.ocf_types.specs.declared.reply.TurnEnd.TheVariants as turn_end
 use Rattle.disk_model.specs.View.{View}
 use Rattle.exec_ledger.specs.Commands.{Obeys}
-use Rattle.exec_ledger.specs.Held.{Held}
 use Rattle.exec_ledger.specs.Replies.{MemoryOnlyIf}
 use Rattle.exec_ledger.specs.Scenes.{scene}
 use Rattle.exec_ledger.specs.Together.{disk_each, failed, row_replies}
 use Rattle.exec_ledger.proofs.Recording.{no_memory}
 use Rattle.exec_turn.specs.Turn.{IsTurn}
 use Rattle.executor.specs.Commands.{ServesOpen}
-use Rattle.executor.specs.FinishCalls.{FinishedWhile}
 use Rattle.executor.specs.Lives.{Abandoned, Calls, Cleared, Does, Exchange, Finished, Row, Tidied, Took}
 use Rattle.executor.specs.Machine.{LacksMemory}
 use Rattle.exec_ledger.specs.Pieces.{Effects}
 use Rattle.executor.specs.Sessions.{Input, TakesATurn, TakesWhile}
 use Rattle.executor.specs.Sights.{Sight, due_in, ledger_of}
-use Rattle.executor.specs.TidyCalls.{TidiesWhile}
 use Rattle.executor.specs.declared.session.InputOf.TheVariants as input
+use Rattle.executor.proofs.Lasting.{call_lasts}
 
 -- replies of a row that failed
 disk_keeps : (b : Bool) (rs : List Reply) → AllByRecursion (MemoryOnlyIf b) (disk_each rs)
@@ -37,12 +34,7 @@ disk_keeps b (r ∷ rs) = ((λ bad. let no : ⊥ = cc in absurd no), disk_keeps 
 failed_keeps : (b : Bool) (rs : List Reply) → AllByRecursion (MemoryOnlyIf b) rs → AllByRecursion (MemoryOnlyIf b) (failed rs)
 failed_keeps b [] all = tt
 failed_keeps b (reply.Refused refusal ∷ rs) all = (all.0, failed_keeps b rs all.1)
-failed_keeps b (reply.Done ∷ rs) all = ((λ bad. let no : ⊥ = cc in absurd no), disk_keeps b rs)
-failed_keeps b (reply.Accepted call key ∷ rs) all = ((λ bad. let no : ⊥ = cc in absurd no), disk_keeps b rs)
-failed_keeps b (reply.List ids ∷ rs) all = ((λ bad. let no : ⊥ = cc in absurd no), disk_keeps b rs)
-failed_keeps b (reply.Info info ∷ rs) all = ((λ bad. let no : ⊥ = cc in absurd no), disk_keeps b rs)
-failed_keeps b (reply.History results ∷ rs) all = ((λ bad. let no : ⊥ = cc in absurd no), disk_keeps b rs)
-failed_keeps b (reply.Turn end ∷ rs) all = ((λ bad. let no : ⊥ = cc in absurd no), disk_keeps b rs)
+failed_keeps b (r ∷ rs) all = ((λ bad. let no : ⊥ = cc in absurd no), disk_keeps b rs)
 
 row_keeps : (b o : Bool) (rs : List Reply) → AllByRecursion (MemoryOnlyIf b) rs → AllByRecursion (MemoryOnlyIf b) (row_replies o rs)
 row_keeps b true rs all = all
@@ -98,45 +90,11 @@ module _ {D : Type 0} (look : D → View) where
   memory_told Cleared x y d does lacks = absurd lacks
   memory_told Abandoned x y d does lacks = absurd lacks
 
-  -- whether growths are refused stays
-  same_allocator : (x y : Sight D) → y ≡ x → y.refuses ≡ x.refuses
-  same_allocator x y same = ap (λ (z : Sight D). z.refuses) same
-
-  obeyed : (v : Result Event Refusal) (x y : Sight D) (r : Reply) → Obeys look v (ledger_of x) (ledger_of y) r → y.refuses ≡ x.refuses
-  obeyed (Err refusal) x y r obeys = ap (λ (h : Held D). h.refuses) obeys.1
-  obeyed (Ok e) x y r obeys = obeys.allocator
-
-  served_on : (now : ℕ) (request : Request) (x y : Sight D) (r : Reply) → ServesOpen look now request x y r → y.refuses ≡ x.refuses
-  served_on now (asked.Question q) x y r serves = same_allocator x y serves.1
-  served_on now (asked.Command c) x y r serves = obeyed (event_of x.state now c) x y r serves.0
-
-  taken_on : (b : Bool) (i : Input) (x y : Sight D) (r : Reply) (d : Effects) → TakesWhile b look i x y r d → y.refuses ≡ x.refuses
-  taken_on true (input.Request now request) x y r d takes = served_on now request x y r takes.serves
-  taken_on true (input.Turn now) x y r d takes = takes.takes.allocator
-  taken_on false i x y r d takes = same_allocator x y takes.1
-
-  finished_on : (b : Bool) (now : ℕ) (x y : Sight D) (end : TurnEnd) (d : Effects) → FinishedWhile b look now x y end d
-      → y.refuses ≡ x.refuses
-  finished_on true now x y end d (takes, does) = takes.allocator
-  finished_on false now x y end d takes = same_allocator x y takes.1
-
-  tidied_on : (b : Bool) (x y : Sight D) (end : TidyEnd) → TidiesWhile b look x y end → y.refuses ≡ x.refuses
-  tidied_on true x y end tidies = ap (λ (h : Held D). h.refuses) tidies.0.same
-  tidied_on false x y end tidies = same_allocator x y tidies.1
-
-  done_on : (e : Exchange) (x y : Sight D) (d : Effects) → Does look e x y d → y.refuses ≡ x.refuses
-  done_on (Took i r) x y d does = taken_on x.is_open i x y r d does
-  done_on (Row now cs rs) x y d does = ap (λ (h : Held D). h.refuses) does.takes.records.went.same
-  done_on (Finished now end) x y d does = finished_on x.is_open now x y end d does
-  done_on (Tidied end) x y d does = tidied_on x.is_open x y end does.0
-  done_on Cleared x y d does = ap (λ (z : Sight D). z.refuses) does.0
-  done_on Abandoned x y d does = ap (λ (z : Sight D). z.refuses) does.0
-
   -- so where none is refused no call reports want of memory
   pub memory_there : (x y : Sight D) (es : List Exchange) (d : Effects) → Calls look x es y d → x.refuses ≡ false
       → AllByRecursion (λ e. LacksMemory e → ⊥) es
   memory_there x y [] d calls none = tt
   memory_there x y (e ∷ es) d (mid, first, later, does, calls, is) none = (
     (λ lacks. let bad : true ≡ false = sym (memory_told e x mid first does lacks) ∙ none in let no : ⊥ = cc in absurd no),
-    memory_there mid y es later calls (done_on e x mid first does ∙ none),
+    memory_there mid y es later calls ((call_lasts look e x mid first does).refuses ∙ none),
   )

@@ -1,9 +1,18 @@
 -- What a ledger did is what its executor does.
-use Rattle.std.proofs.Common.{◌≡◌, ℕ, Bool, true, false, true≢false, List, [], ◌∷◌, refl, sym, ap, ◌∙◌}
+use Rattle.std.proofs.Common.{◌≡◌, inl, inr, ℕ, Bool, true, false, true≢false, List, [], ◌∷◌, Option, Some, None, refl, sym, ap, ◌∙◌}
+use Rattle.std.specs.Option.{option_map_or}
+use Rattle.ocf_types.specs.Answer.{reply_to}
 use Rattle.ocf_types.specs.Kinds.{Command, Reply}
+use Rattle.ocf_types.specs.Resource.{Resource}
+use Rattle.ocf_types.specs.State.{State, resource_at}
+use Rattle.ocf_types.specs.declared.command.Question.{Question}
+use Rattle.ocf_types.specs.declared.command.Question.TheVariants as question
+use Rattle.ocf_types.specs.declared.refusal.Refusal.TheVariants.{Disk, Memory, UnknownResource}
+use Rattle.ocf_types.specs.declared.reply.ReplyOf.TheVariants.{Refused}
 use Rattle.ocf_types.specs.declared.reply.TidyEnd.{TidyEnd}
 use Rattle.ocf_types.specs.declared.reply.TidyEnd.TheVariants.{Closed}
 use Rattle.disk_model.specs.View.{View}
+use Rattle.exec_state.specs.Answers.{IsReplyOrMemory}
 use Rattle.exec_ledger.specs.Commands.{TakesCommand}
 use Rattle.exec_ledger.specs.Held.{Held, While}
 use Rattle.exec_ledger.specs.Laws.{of_closed}
@@ -18,7 +27,7 @@ use Rattle.executor.proofs.Keeping.{kept_tends}
 
 module _ {D : Type 0} (look : D → View) (now : ℕ) where
   -- what ended open began open
-  command_open : (b : Bool) (c : Command) (r : Reply) (h k : Held D) → TakesCommand look now c h k r → k.is_open ≡ true → h.is_open ≡ b
+  pub command_open : (b : Bool) (c : Command) (r : Reply) (h k : Held D) → TakesCommand look now c h k r → k.is_open ≡ true → h.is_open ≡ b
       → h.is_open ≡ true
   command_open true c r h k takes is was = was
   command_open false c r h k takes is was = sym (ap (λ (x : Held D). x.is_open) (of_closed _ _ was takes).1) ∙ is
@@ -34,6 +43,25 @@ module _ {D : Type 0} (look : D → View) (now : ℕ) where
   pub commands_open : (cs : List Command) (rs : List Reply) (h k : Held D) → LedgerTakesCommands look now cs h k rs → k.is_open ≡ true
       → h.is_open ≡ true
   commands_open cs rs h k takes is = shares_open takes.shares h k takes.takes is
+
+-- no answer to a question is a refusal for the disk
+given_kept : (a r : Reply) → (a ≡ Refused Disk → ⊥) → IsReplyOrMemory a r → r ≡ Refused Disk → ⊥
+given_kept (Refused refusal) r kept given disk = kept (sym given ∙ disk)
+given_kept a r kept (inl is) disk = kept (sym is ∙ disk)
+given_kept a r kept (inr memory) disk = let bad : Refused Memory ≡ Refused Disk = sym memory ∙ disk in cc
+
+said_kept : (o : Option Resource) (say : Resource → Reply) → ((r : Resource) → say r ≡ Refused Disk → ⊥)
+    → option_map_or say o (Refused UnknownResource) ≡ Refused Disk → ⊥
+said_kept None say kept is = cc
+said_kept (Some r) say kept is = kept r is
+
+pub question_kept : (s : State) (q : Question) (r : Reply) → IsReplyOrMemory (reply_to s q) r → r ≡ Refused Disk → ⊥
+question_kept s q r answers = given_kept (reply_to s q) r (by q) answers
+  where
+    by : (asked : Question) → reply_to s asked ≡ Refused Disk → ⊥
+    by question.List is = cc
+    by (question.Info id) is = said_kept (resource_at s id) _ (λ x bad. cc) is
+    by (question.History id) is = said_kept (resource_at s id) _ (λ x bad. cc) is
 
 -- a tidy of a ledger is one of its executor, and keeps what is beside it
 pub tidy_taken : {D : Type 0} (look : D → View) (b : Bool) (x : Sight D) (h : Held D) (end : TidyEnd)

@@ -29,7 +29,7 @@ use Rattle.exec_turn.specs.Actives.{result_of}
 use Rattle.exec_turn.specs.Polls.{IsPoll, ending, entries_of}
 use Rattle.exec_turn.specs.Starts.{refused_end}
 use Rattle.exec_ledger.specs.Replies.{acknowledged}
-use Rattle.executor.specs.Sessions.{Input}
+use Rattle.executor.specs.Lives.{Exchange, Finished, Took}
 use Rattle.executor.specs.Sights.{Sight, due_in}
 use Rattle.executor.specs.declared.session.InputOf.TheVariants as input
 
@@ -179,17 +179,20 @@ pub record IsolatedTurn (id : List ℕ) (at : ℕ) (x : Isolated) (answer : Repl
 abbrev pub cut : ℕ → ℕ
 cut now = min now num_max
 
--- the machine takes an input
-abbrev pub IsolatedTakes : List ℕ → Isolated → Input → Reply → List Entry → List Event → Type 0
-IsolatedTakes id x (input.Request now (asked.Command c)) answer entries events = (entries ≡ []) × IsolatedCommand (cut now) x c answer events
-IsolatedTakes id x (input.Request now (asked.Question q)) answer entries events =
+-- the machine takes a call: a command, a question, a turn, or a turn that begins nothing
+abbrev pub IsolatedTakes : List ℕ → Isolated → Exchange → List Entry → List Event → Type 0
+IsolatedTakes id x (Took (input.Request now (asked.Command c)) answer) entries events =
+    (entries ≡ []) × IsolatedCommand (cut now) x c answer events
+IsolatedTakes id x (Took (input.Request now (asked.Question q)) answer) entries events =
     (entries ≡ []) × (events ≡ []) × (answer ≡ isolated_answer x.resource q)
-IsolatedTakes id x (input.Turn now) answer entries events = IsolatedTurn id (cut now) x answer entries events
+IsolatedTakes id x (Took (input.Turn now) answer) entries events = IsolatedTurn id (cut now) x answer entries events
+IsolatedTakes id x (Finished now end) entries events = (end ≡ Done) × IsolatedPoll id (cut now) (running_in x) entries events
+IsolatedTakes id x _ entries events = ⊥
 
--- it takes inputs, one after the other, with their replies
-abbrev pub Alone : List ℕ → Isolated → List (Input × Reply) → List Entry → List Event → Type 0
+-- it takes calls, one after the other, with their replies
+abbrev pub Alone : List ℕ → Isolated → List Exchange → List Entry → List Event → Type 0
 Alone id x [] entries events = (entries ≡ []) × (events ≡ [])
-Alone id x (i ∷ is) entries events =
+Alone id x (e ∷ es) entries events =
     (first_entries : List Entry) × (later_entries : List Entry) × (first_events : List Event) × (later_events : List Event)
     × (entries ≡ first_entries ++ later_entries) × (events ≡ first_events ++ later_events)
-    × IsolatedTakes id x i.0 i.1 first_entries first_events × Alone id (isolated_after_all x first_events) is later_entries later_events
+    × IsolatedTakes id x e first_entries first_events × Alone id (isolated_after_all x first_events) es later_entries later_events

@@ -1,4 +1,4 @@
--- Sessions as calls, and where the machine of one resource is after one.
+-- Sessions as calls, and where the machine of one resource is after calls.
 use Rattle.std.specs.Prelude.{◌≡◌, ℕ, ◌≤◌, true, List, [], ◌∷◌}
 use Rattle.ocf_types.specs.Kinds.{Reply}
 use Rattle.executor.specs.Lives.{Exchange, Took}

@@ -8,9 +8,9 @@ pub mod TidyCalls
 pub mod Sessions
 pub mod RowCalls
 pub mod FinishCalls
+pub mod Lives
 pub mod Isolated
 pub mod Parts
-pub mod Lives
 pub mod Rows
 pub mod CallLaws
 pub mod RowLaws

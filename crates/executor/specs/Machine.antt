@@ -1,6 +1,6 @@
 -- The machine of an executor, a labelled transition system: each call is a step, whose label says what was asked and answered, the
 -- answers of agent processes in it, and the notices of a turn. It knows no disk and no journal. `Runs` says what crashes and openings do.
-use Rattle.std.specs.Prelude.{◌≡◌, ◌≢◌, ◌⊎◌, ◌↔◌, ◌*◌, ◌<◌, ℕ, Bool, true, false, List, [], ◌∷◌, ◌++◌, length, Ok, Contains, IsTrue, ⊤}
+use Rattle.std.specs.Prelude.{◌≡◌, ◌≢◌, ◌⊎◌, ◌↔◌, ◌*◌, ◌<◌, ℕ, Bool, true, false, List, [], ◌∷◌, length, Ok, Contains, IsTrue, ⊤}
 use Rattle.ocf_types.specs.Answer.{event_of, moment, reply_to}
 use Rattle.ocf_types.specs.Due.{Due}
 use Rattle.ocf_types.specs.Kinds.{Command, Event, Reply}
@@ -46,21 +46,36 @@ pub record Label : Type 0 where
   pub place : Place
   pub faults : ℕ × ℕ
 
--- One thing a machine does not know is what memory there is: a question or a registration may be refused for want of it
--- (`IsReplyOrMemory`, `Adds`), and a turn that says so begins fewer of the actions that come next, the first of them
--- (`PickedAt`). A call that reports it:
+-- What a machine leaves open is here, each with the condition under which a call may say so.
+--
+-- Memory. A question or a registration may be refused for want of it (`IsReplyOrMemory`, `Adds`), and a turn that says so begins fewer of
+-- the actions that come next, the first of them (`PickedAt`): a call that tells of it, which it may only where the allocator refuses growths.
 abbrev pub LacksMemory : Exchange → Type 0
 LacksMemory (Took (input.Request now request) reply) = reply ≡ Refused Memory
 LacksMemory (Took (input.Turn now) reply) = reply ≡ Turn turn_end.Memory
 LacksMemory (Row now commands replies) = Contains replies (Refused Memory)
 LacksMemory _ = ⊥
 
--- The other is what a device that failed a call has done of it: the machine is closed, and these events are pending.
+abbrev pub LacksOnlyIf : Exchange → Machine → Type 0
+LacksOnlyIf e m = LacksMemory e → IsTrue m.refuses
+
+-- The journal's room. A command by itself may be refused for it only where its event does not fit.
+abbrev pub LacksRoom : Label → Event → Type 0
+LacksRoom l e = IsTooLong l.place.tail (e ∷ [])
+
+-- The book's room. A turn does nothing exactly where the book takes fewer answers than this many for each resource.
+abbrev pub LacksBook : Label → ℕ → Machine → Type 0
+LacksBook l each m = l.room < each * length m.state.resources
+
+-- The device. Where it failed a call the machine may be closed, and these events are pending: recorded, or not.
 abbrev pub Closes : List Event → Machine → Effects → Type 0
 Closes es n did = (n.is_open ≡ false) × (did ≡ row_effects false es)
 
+abbrev pub HasFailed : Label → Type 0
+HasFailed l = Increased l.faults.0 l.faults.1
+
 abbrev pub Fails : Label → List Event → Machine → Effects → Type 0
-Fails l es n did = Increased l.faults.0 l.faults.1 × Closes es n did
+Fails l es n did = HasFailed l × Closes es n did
 
 -- the machine after events, which are recorded
 abbrev pub after_events : Machine → List Event → Machine
@@ -77,7 +92,7 @@ TakesAll l now cs rs m n did = (meant : List Reply) × (es : List Event) × Answ
 -- one command, for whose event the journal may have no room
 abbrev pub TakesOne : Label → ℕ → Command → Reply → Machine → Machine → Effects → Type 0
 TakesOne l now c r m n did = TakesAll l now (c ∷ []) (r ∷ []) m n did
-    ⊎ ((e : Event) × (event_of m.state now c ≡ Ok e) × (r ≡ Refused JournalFull) × IsTooLong l.place.tail (e ∷ []) × GoesOn [] m n did)
+    ⊎ ((e : Event) × (event_of m.state now c ≡ Ok e) × (r ≡ Refused JournalFull) × LacksRoom l e × GoesOn [] m n did)
 
 -- A turn of a kind at a moment, for which the book has to take this many answers for each resource.
 pub record MovesTurn (kind : TurnKind) (each : ℕ) (end : TurnEnd) (at : ℕ) (l : Label) (m n : Machine) (did : Effects) : Type 0 where
@@ -85,10 +100,10 @@ pub record MovesTurn (kind : TurnKind) (each : ℕ) (end : TurnEnd) (at : ℕ) (
   pub turns : kind end (scene m.state m.due l.place at m.refuses) did l.notices
   pub answers : l.answers ≡ did.entries
   pub goes_on : n ≡ record (after_events m did.events) { is_open = n.is_open }
-  -- nothing is done exactly when the book takes less, and a fault of the disk closes the machine, and nothing else
-  pub full : (end ≡ turn_end.BookFull) ↔ (l.room < each * length m.state.resources)
+  -- nothing is done exactly when the book lacks room, and a fault of the disk closes the machine, and nothing else
+  pub full : (end ≡ turn_end.BookFull) ↔ LacksBook l each m
   pub closes : (n.is_open ≡ false) ↔ (end ≡ turn_end.Disk)
-  pub cause : end ≡ turn_end.Disk → Increased l.faults.0 l.faults.1
+  pub cause : end ≡ turn_end.Disk → HasFailed l
 
 -- a tidy, by its end: it records nothing
 abbrev pub TidyEnds : TidyEnd → Label → Machine → Machine → Effects → Type 0
@@ -121,10 +136,10 @@ AnswersClosed (Finished now end) = end ≡ turn_end.Closed
 AnswersClosed (Tidied end) = end ≡ tidy.Closed
 AnswersClosed _ = ⊤
 
--- the same while it is open or closed: a call reports want of memory only where the allocator refuses memory
+-- the same while it is open or closed
 abbrev pub MovesWhile : Bool → Label → Machine → Machine → Effects → Type 0
 MovesWhile is_open l m n did =
-    While is_open (MovesOpen l.exchange l m n did × (LacksMemory l.exchange → IsTrue m.refuses)) (IsQuiet l × AnswersClosed l.exchange × Closes [] n did)
+    While is_open (MovesOpen l.exchange l m n did × LacksOnlyIf l.exchange m) (IsQuiet l × AnswersClosed l.exchange × Closes [] n did)
 
 -- one call after the other
 abbrev pub MovesAll : List Label → Machine → Machine → Effects → Type 0

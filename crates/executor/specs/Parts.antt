@@ -1,5 +1,5 @@
--- Each resource's part of a session.
-use Rattle.std.specs.Prelude.{◌≡◌, ℕ, ◌<◌, ◌≤◌, Bool, true, false, List, [], ◌∷◌, ◌++◌, filter, map, nat_eq, if◌then◌else◌, ⊤}
+-- Each resource's part of calls.
+use Rattle.std.specs.Prelude.{◌≡◌, ℕ, ◌<◌, ◌≤◌, Bool, true, false, List, [], ◌∷◌, ◌++◌, filter, nat_eq, if◌then◌else◌, ⊤}
 use Rattle.std.specs.List.{AllByRecursion, IsDistinct, flat_map, list_any}
 use Rattle.std.specs.Option.{option_map_or}
 use Rattle.std.specs.Map.{keys_of}
@@ -16,7 +16,7 @@ use Rattle.ocf_types.specs.declared.reply.ReplyOf.TheVariants as reply
 use Rattle.ocf_types.specs.declared.reply.TurnEnd.TheVariants.{Done}
 use Rattle.child_model.specs.declared.answer.Entry.{Entry}
 use Rattle.exec_ledger.specs.Actives.{active, runs_of}
-use Rattle.executor.specs.Sessions.{Input}
+use Rattle.executor.specs.Lives.{Exchange, Finished, Row, Took}
 use Rattle.executor.specs.Isolated.{cut}
 use Rattle.executor.specs.declared.session.InputOf.TheVariants as input
 
@@ -37,19 +37,29 @@ is_about id (asked.Question question.List) = false
 is_about id (asked.Question (question.Info other)) = bytes_eq id other
 is_about id (asked.Question (question.History other)) = bytes_eq id other
 
--- an input concerns a resource: a request that is about it, and each turn
-abbrev pub concerns : List ℕ → Input → Bool
-concerns id (input.Request now request) = is_about id request
-concerns id (input.Turn now) = true
+-- a call concerns a resource: a request that is about it, and each turn of either kind. A tidy concerns none, and neither does what
+-- becomes of the children's book, or that the executor gives its children up.
+abbrev pub concerns : List ℕ → Exchange → Bool
+concerns id (Took (input.Request now request) reply) = is_about id request
+concerns id (Took (input.Turn now) reply) = true
+concerns id (Finished now end) = true
+concerns id _ = false
 
--- the inputs that concern it, with their replies
-abbrev pub part : List ℕ → List Input → List Reply → List (Input × Reply)
-part id (i ∷ is) (r ∷ rs) = if concerns id i then (i, r) ∷ part id is rs else part id is rs
-part id _ _ = []
+-- commands at one moment with their replies, each as a call of its own
+abbrev pub one_by_one : ℕ → List Command → List Reply → List Exchange
+one_by_one now (c ∷ cs) (r ∷ rs) = Took (input.Request now (asked.Command c)) r ∷ one_by_one now cs rs
+one_by_one now _ _ = []
 
--- commands at one moment, as inputs
-abbrev pub inputs_at : ℕ → List Command → List Input
-inputs_at now cs = map (λ c. input.Request now (asked.Command c)) cs
+abbrev pub unrolled : Exchange → List Exchange
+unrolled (Row now commands replies) = one_by_one now commands replies
+unrolled e = e ∷ []
+
+-- a resource's part of a call, and of calls: of commands in a row those that concern it
+abbrev pub part_of : List ℕ → Exchange → List Exchange
+part_of id e = filter (concerns id) (unrolled e)
+
+abbrev pub part : List ℕ → List Exchange → List Exchange
+part id es = flat_map (part_of id) es
 
 -- the events that name it
 abbrev pub events_of : List ℕ → List Event → List Event
@@ -67,11 +77,18 @@ own_runs id s es = runs_of (filter (λ a. bytes_eq id a.id) (active s)) ++ flat_
 abbrev pub entries_of_runs : List ℕ → List Entry → List Entry
 entries_of_runs runs entries = filter (λ e. list_any (nat_eq e.run) runs) entries
 
+-- the moment of a call, after this one: that which is handed in, where one is
+abbrev pub moment_in : ℕ → Exchange → ℕ
+moment_in from (Took (input.Request now request) reply) = cut now
+moment_in from (Took (input.Turn now) reply) = cut now
+moment_in from (Row now commands replies) = cut now
+moment_in from (Finished now end) = cut now
+moment_in from _ = from
+
 -- moments that do not go back, from this one on
-abbrev pub AreRising : ℕ → List Input → Type 0
+abbrev pub AreRising : ℕ → List Exchange → Type 0
 AreRising from [] = ⊤
-AreRising from (input.Request now request ∷ is) = (from ≤ cut now) × AreRising (cut now) is
-AreRising from (input.Turn now ∷ is) = (from ≤ cut now) × AreRising (cut now) is
+AreRising from (e ∷ es) = (from ≤ moment_in from e) × AreRising (moment_in from e) es
 
 -- a reply for no want that resources share, of room, numbers, memory or the disk; a turn ended done
 abbrev pub IsPlain : Reply → Type 0
@@ -83,6 +100,12 @@ IsPlain (reply.Refused Disk) = ⊥
 IsPlain (reply.Refused Closed) = ⊥
 IsPlain (reply.Turn end) = end ≡ Done
 IsPlain _ = ⊤
+
+-- the same of a call: a turn that begins nothing ended done, too
+abbrev pub IsAnswered : Exchange → Type 0
+IsAnswered (Took i reply) = IsPlain reply
+IsAnswered (Finished now end) = end ≡ Done
+IsAnswered _ = ⊤
 
 -- in a state ids differ, and what runs differs in its runs, which are below the next one
 pub record DistinctKeys (s : State) : Type 0 where

@@ -7,11 +7,12 @@ use Rattle.ocf_types.specs.declared.command.RequestOf.TheVariants as asked
 use Rattle.disk_model.specs.View.{View}
 use Rattle.exec_ledger.specs.Commands.{TakesCommand}
 use Rattle.exec_ledger.specs.Held.{Held}
-use Rattle.exec_ledger.specs.Laws.{of_closed, of_open}
+use Rattle.exec_ledger.specs.Laws.{of_closed, of_open, while_closed, while_open}
 use Rattle.exec_ledger.specs.Pieces.{Effects, followed_by, no_effects, row_effects}
 use Rattle.exec_ledger.specs.Shares.{Share, Single, TakesShare, TakesShares, commands_of as shared_commands, replies_of as shared_replies}
 use Rattle.exec_ledger.specs.Shares.{Row as SharedRow}
 use Rattle.executor.specs.CallLaws.{request_taken, same_sight}
+use Rattle.executor.specs.Commands.{Serves}
 use Rattle.executor.specs.Lives.{Calls, Does, Exchange, Row, Took}
 use Rattle.executor.specs.Rows.{CallsCommands, IsAt, TakesCommands, commands_of, replies_of}
 use Rattle.executor.specs.Sessions.{TakesWhile}
@@ -46,6 +47,13 @@ at_once now (Single c r ∷ ss) = (refl, at_once now ss)
 at_once now (SharedRow cs rs ∷ ss) = (refl, at_once now ss)
 
 module _ {D : Type 0} (look : D → View) (now : ℕ) where
+  pub command_served : (b : Bool) (c : Command) (r : Reply) (x : Sight D) (h : Held D) → x.is_open ≡ b
+      → TakesCommand look now c (ledger_of x) h r → Serves look now (asked.Command c) x (with_ledger x h) r
+  command_served true c r x h was does = while_open _ was ((of_open _ _ was does).0, still_beside x h)
+  command_served false c r x h was does =
+      let rests = of_closed _ _ was does in
+      while_closed _ was (rests.0, same_sight x (with_ledger x h) rests.1 (still_beside x h))
+
   command_taken : (b : Bool) (c : Command) (r : Reply) (x : Sight D) (h : Held D) → x.is_open ≡ b
       → TakesCommand look now c (ledger_of x) h r
       → (d : Effects) × TakesWhile b look (input.Request now (asked.Command c)) x (with_ledger x h) r d

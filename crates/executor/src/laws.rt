@@ -14,14 +14,14 @@ ghost use Rattle.exec_journal.specs.Opening.{Opens};
 ghost use Rattle.exec_journal.specs.Room.{Roomy};
 ghost use Rattle.exec_turn.specs.AgentsLive.{AgentsLive};
 ghost use Rattle.executor.specs.Joins.{StandsAt, as_calls};
-ghost use Rattle.executor.specs.Lives.{BeginsAs, Calls, Does, Exchange, GoesOnFrom, InOpening, IsLife, LifeLeaves, Lived, OpensBehind, Sat, Sitting};
+ghost use Rattle.executor.specs.Lives.{BeginsAs, Calls, Does, Exchange, GoesOnFrom, InOpening, IsLife, LifeLeaves, Lived, OpensBehind, Row, Sat, Sitting};
 ghost use Rattle.executor.specs.Machine.{LacksMemory};
 ghost use Rattle.executor.specs.Openings.{NotOpened, Opened};
 ghost use Rattle.executor.specs.Promise.{IsKept};
 ghost use Rattle.executor.specs.Rows.{CallsCommands, TakesCommands};
 ghost use Rattle.executor.specs.Runs.{Runs};
 ghost use Rattle.executor.specs.SeenLives.{seen};
-ghost use Rattle.executor.specs.Parts.{DistinctKeys, AreRising, IsPlain, entries_of_runs, events_of, inputs_at, own_runs, part};
+ghost use Rattle.executor.specs.Parts.{AreRising, DistinctKeys, IsAnswered, entries_of_runs, events_of, own_runs, part, part_of};
 ghost use Rattle.exec_ledger.specs.Together.{Answered};
 ghost use Rattle.exec_ledger.specs.Pieces.{Effects};
 ghost use Rattle.executor.specs.Sessions.{Input, Session};
@@ -34,43 +34,48 @@ use disk_model::Disk;
 use exec_journal::laws::{found_once, what_stands};
 use ocf_types::laws::{lawful_states, layouts};
 
-/// Each resource's part of a session is a run of the machine that has this resource alone, whatever the children answered and
-/// however the others' actions ran between its own: its inputs and all turns with their replies, the entries of its runs, and
-/// its events. It begins with the resource's own history, monitors and due moments; call and run numbers are handed in. So it
-/// holds while none of its replies reports a shortage that resources share, each turn ends done, and moments do not go back;
-/// what the others are sent does not matter.
+/// Each resource's part of any calls is a behaviour of the machine that has this resource alone, whatever the children answered
+/// and however the others' actions ran between its own: the commands and questions that are about it, each turn, the entries of
+/// its runs, and its events. Commands that arrived together are for it those that are about it, one by one; tidies are nothing.
+/// It begins with the resource's own history, monitors and due moments; call and run numbers are handed in. So it holds while
+/// none of its replies reports a shortage that resources share, each turn ends done, and moments do not go back; what the others
+/// are sent does not matter.
 pub fn each_alone<D: Disk>()
-    ensures alone { (x z : Sight D) (inputs : List Input) (replies : List Reply) (d : Effects)
-        (id : List ℕ)
-        → DistinctKeys x.state → Session D.view x inputs replies z d
-        → AllByRecursion (λ p. IsPlain p.1) (part id inputs replies)
-        → AreRising x.state.clock inputs
-        → Alone id (isolated_of x id) (part id inputs replies)
+    ensures alone { (x z : Sight D) (calls : List Exchange) (d : Effects) (id : List ℕ)
+        → DistinctKeys x.state → Calls D.view x calls z d
+        → AllByRecursion IsAnswered (part id calls) → AreRising x.state.clock calls
+        → Alone id (isolated_of x id) (part id calls)
         (entries_of_runs (own_runs id x.state d.events) d.entries)
         (events_of id d.events) }
-    // it is then where the session ends
-    ensures ends { (x z : Sight D) (inputs : List Input) (replies : List Reply) (d : Effects)
-        (id : List ℕ)
-        → Session D.view x inputs replies z d
-        → AllByRecursion (λ p. IsPlain p.1) (part id inputs replies)
-        → AreRising x.state.clock inputs
+    // it is then where the calls end
+    ensures ends { (x z : Sight D) (calls : List Exchange) (d : Effects) (id : List ℕ)
+        → Calls D.view x calls z d
+        → AllByRecursion IsAnswered (part id calls) → AreRising x.state.clock calls
         → StandsAt (isolated_after_all (isolated_of x id) (events_of id d.events))
         (isolated_of z id) }
-    // and so of commands in a row
+    // of a session its calls are the inputs with their replies
+    ensures session { (x z : Sight D) (inputs : List Input) (replies : List Reply) (d : Effects)
+        (id : List ℕ)
+        → DistinctKeys x.state → Session D.view x inputs replies z d
+        → AllByRecursion IsAnswered (part id (as_calls inputs replies))
+        → AreRising x.state.clock (as_calls inputs replies)
+        → Alone id (isolated_of x id) (part id (as_calls inputs replies))
+        (entries_of_runs (own_runs id x.state d.events) d.entries)
+        (events_of id d.events) }
+    // and commands in a row are so whatever becomes of their record
     ensures row { (now : ℕ) (x : Sight D) (commands : List Command) (replies : List Reply)
         (es : List Event) (id : List ℕ)
         → Answered now x.state commands replies es
-        → AllByRecursion (λ p. IsPlain p.1) (part id (inputs_at now commands) replies)
+        → AllByRecursion IsAnswered (part_of id (Row now commands replies))
         → x.state.clock ≤ cut now
-        → Alone id (isolated_of x id) (part id (inputs_at now commands) replies) []
+        → Alone id (isolated_of x id) (part_of id (Row now commands replies)) []
         (events_of id es) }
 {}
 
-/// A resource's part of one session and its part of another, which begins where the first one ends, are one run of the machine
+/// A resource's part of some calls and its part of others, which begin where the first ones end, are one behaviour of the machine
 /// that has this resource alone.
 pub fn parts_join()
-    ensures { (id : List ℕ) (x y : Isolated) (is js : List (Input
-        × Reply)) (es fs : List Entry) (vs us : List Event) → Alone id x is es vs
+    ensures { (id : List ℕ) (x y : Isolated) (is js : List Exchange) (es fs : List Entry) (vs us : List Event) → Alone id x is es vs
         → StandsAt (isolated_after_all x vs) y → Alone id y js fs us
         → Alone id x (is ++ js) (es ++ fs) (vs ++ us) }
 {}

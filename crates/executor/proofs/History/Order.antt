@@ -127,23 +127,11 @@ module _ (is_monitor : ℕ → Bool) (id : List ℕ) where
 
   not_begun : (other : List ℕ) (what : Step) → bytes_eq id other ≡ false → call_begun id (change.Step other what) ≡ []
   not_begun other (step.Begin call run) apart = rw apart refl
-  not_begun other (step.SetParams ps) apart = refl
-  not_begun other (step.Exec o) apart = refl
-  not_begun other (step.Recur m) apart = refl
-  not_begun other (step.Cancel interval) apart = refl
-  not_begun other step.Forget apart = refl
-  not_begun other (step.Result run end) apart = refl
-  not_begun other (step.Withdraw call) apart = refl
+  not_begun other _ apart = refl
 
   not_queued : (other : List ℕ) (what : Step) → bytes_eq id other ≡ false → call_queued id (change.Step other what) ≡ []
   not_queued other (step.Exec o) apart = rw apart refl
-  not_queued other (step.SetParams ps) apart = refl
-  not_queued other (step.Begin call run) apart = refl
-  not_queued other (step.Recur m) apart = refl
-  not_queued other (step.Cancel interval) apart = refl
-  not_queued other step.Forget apart = refl
-  not_queued other (step.Result run end) apart = refl
-  not_queued other (step.Withdraw call) apart = refl
+  not_queued other _ apart = refl
 
   keeps : (s : State) (at : ℕ) (c : Change) (was now : Option Resource) → Turned s id at c was now → AreMonitors (monitors_of was)
       → AreMonitors (call_monitored id c) → Keeps c was now

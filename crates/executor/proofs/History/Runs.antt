@@ -66,23 +66,13 @@ module _ (s : State) (id : List ℕ) (at : ℕ) where
   own_step (step.Result run end) r was now is applies is_now other own =
       let f = found r.history.running (λ x. x.run ≡ run) applies in
       rw own (f.0, ap runs_in is ∙ f.1, f.2, ap runs_in is_now)
-  own_step (step.SetParams ps) r was now is applies is_now other own = ap runs_in is_now ∙ sym (ap runs_in is)
-  own_step (step.Exec o) r was now is applies is_now other own = ap runs_in is_now ∙ sym (ap runs_in is)
-  own_step (step.Recur m) r was now is applies is_now other own = ap runs_in is_now ∙ sym (ap runs_in is)
-  own_step (step.Cancel interval) r was now is applies is_now other own = ap runs_in is_now ∙ sym (ap runs_in is)
-  own_step step.Forget r was now is applies is_now other own = ap runs_in is_now ∙ sym (ap runs_in is)
-  own_step (step.Withdraw call) r was now is applies is_now other own = ap runs_in is_now ∙ sym (ap runs_in is)
+  own_step _ r was now is applies is_now other own = ap runs_in is_now ∙ sym (ap runs_in is)
 
   other_step : (what : Step) (was now : Option Resource) → now ≡ was → (other : List ℕ) → bytes_eq id other ≡ false
       → Ran s id (change.Step other what) (runs_in was) (runs_in now)
   other_step (step.Begin call run) was now same other apart = rw apart (ap runs_in same)
   other_step (step.Result run end) was now same other apart = rw apart (ap runs_in same)
-  other_step (step.SetParams ps) was now same other apart = ap runs_in same
-  other_step (step.Exec o) was now same other apart = ap runs_in same
-  other_step (step.Recur m) was now same other apart = ap runs_in same
-  other_step (step.Cancel interval) was now same other apart = ap runs_in same
-  other_step step.Forget was now same other apart = ap runs_in same
-  other_step (step.Withdraw call) was now same other apart = ap runs_in same
+  other_step _ was now same other apart = ap runs_in same
 
   ran_so : (c : Change) (was now : Option Resource) → Turned s id at c was now → Ran s id c (runs_in was) (runs_in now)
   ran_so (change.Register r) was now so = by (bytes_eq id r.id) so
@@ -148,14 +138,7 @@ module _ (id : List ℕ) (run : ℕ) where
           absurd (both_ways (n == run) differs (same_number n run number))
       by false differs h = h
   stays_one s change.Boot x now so is none = absurd (false≢true (sym none))
-  stays_one s (change.Register r) x now so is none = so
-  stays_one s (change.Unregister other) x now so is none = so
-  stays_one s (change.Step other (step.SetParams ps)) x now so is none = so
-  stays_one s (change.Step other (step.Exec o)) x now so is none = so
-  stays_one s (change.Step other (step.Recur m)) x now so is none = so
-  stays_one s (change.Step other (step.Cancel interval)) x now so is none = so
-  stays_one s (change.Step other step.Forget) x now so is none = so
-  stays_one s (change.Step other (step.Withdraw call)) x now so is none = so
+  stays_one s _ x now so is none = so
 
   pub stays : (s : State) (es : List Event) (x : Running) → Follow s es → running_at s id ≡ Some x → x.run ≡ run → has_end id run es ≡ false
       → running_at (after_all s es) id ≡ Some x

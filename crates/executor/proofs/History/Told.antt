@@ -94,9 +94,7 @@ module _ (id : List ℕ) (run : ℕ) where
 
   pub quiet : (s : State) (at : ℕ) (c : Change) → AreApart s → NotRuns s id run → filter (is_of id run) (told_by s at c) ≡ []
   quiet s at change.Boot apart h = told_of_it id run at s.resources apart ∙ told_none at (running_at s id) h
-  quiet s at (change.Register r) apart h = refl
-  quiet s at (change.Unregister other) apart h = refl
-  quiet s at (change.Step other what) apart h = refl
+  quiet s at _ apart h = refl
 
   told_once : (at : ℕ) (x : Running) → x.run ≡ run → told_one id run at (Some x) ≡ interruption id at x ∷ []
   told_once at x is = rw (same_id id, same_number x.run run is) refl
@@ -124,14 +122,7 @@ module _ (id : List ℕ) (run : ℕ) where
       by true h = absurd (let bad : None ≡ Some x = sym h.3 ∙ is in cc)
       by false h = let lt = below x (sym h ∙ is) in omega (arith, lt)
   below_kept s change.Boot now below so x is = absurd (let bad : None ≡ Some x = sym so ∙ is in cc)
-  below_kept s (change.Register r) now below so x is = let lt = below x (sym so ∙ is) in omega (arith, lt)
-  below_kept s (change.Unregister other) now below so x is = let lt = below x (sym so ∙ is) in omega (arith, lt)
-  below_kept s (change.Step other (step.SetParams ps)) now below so x is = let lt = below x (sym so ∙ is) in omega (arith, lt)
-  below_kept s (change.Step other (step.Exec o)) now below so x is = let lt = below x (sym so ∙ is) in omega (arith, lt)
-  below_kept s (change.Step other (step.Recur m)) now below so x is = let lt = below x (sym so ∙ is) in omega (arith, lt)
-  below_kept s (change.Step other (step.Cancel interval)) now below so x is = let lt = below x (sym so ∙ is) in omega (arith, lt)
-  below_kept s (change.Step other step.Forget) now below so x is = let lt = below x (sym so ∙ is) in omega (arith, lt)
-  below_kept s (change.Step other (step.Withdraw call)) now below so x is = let lt = below x (sym so ∙ is) in omega (arith, lt)
+  below_kept s _ now below so x is = let lt = below x (sym so ∙ is) in omega (arith, lt)
 
   pub none_before : (s : State) (es : List Event) → AreApart s → IsBelow s id → Follow s es → (after_all s es).next_run ≤ run
       → filter (is_of id run) (interruptions s es) ≡ []
@@ -166,14 +157,7 @@ module _ (id : List ℕ) (run : ℕ) where
       by true h = absurd (let bad : None ≡ Some x = sym h.3 ∙ is in cc)
       by false h = out x (sym h ∙ is)
   gone s change.Boot now out low so x is = absurd (let bad : None ≡ Some x = sym so ∙ is in cc)
-  gone s (change.Register r) now out low so x is = out x (sym so ∙ is)
-  gone s (change.Unregister other) now out low so x is = out x (sym so ∙ is)
-  gone s (change.Step other (step.SetParams ps)) now out low so x is = out x (sym so ∙ is)
-  gone s (change.Step other (step.Exec o)) now out low so x is = out x (sym so ∙ is)
-  gone s (change.Step other (step.Recur m)) now out low so x is = out x (sym so ∙ is)
-  gone s (change.Step other (step.Cancel interval)) now out low so x is = out x (sym so ∙ is)
-  gone s (change.Step other step.Forget) now out low so x is = out x (sym so ∙ is)
-  gone s (change.Step other (step.Withdraw call)) now out low so x is = out x (sym so ∙ is)
+  gone s _ now out low so x is = out x (sym so ∙ is)
 
   pub none_behind : (s : State) (es : List Event) → AreApart s → NotRuns s id run → run < s.next_run → Follow s es
       → filter (is_of id run) (interruptions s es) ≡ []
@@ -187,9 +171,7 @@ module _ (id : List ℕ) (run : ℕ) where
   -- events without an end of it hold no boot
   no_boot : (s : State) (at : ℕ) (c : Change) → ends_run id run c ≡ false → told_by s at c ≡ []
   no_boot s at change.Boot none = absurd (false≢true (sym none))
-  no_boot s at (change.Register r) none = refl
-  no_boot s at (change.Unregister other) none = refl
-  no_boot s at (change.Step other what) none = refl
+  no_boot s at _ none = refl
 
   pub none_between : (s : State) (es : List Event) → has_end id run es ≡ false → interruptions s es ≡ []
   none_between s [] none = refl

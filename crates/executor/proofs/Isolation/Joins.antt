@@ -1,14 +1,14 @@
--- Parts of two sessions join to one run of the machine of one resource.
-use Rattle.std.proofs.Common.{◌≡◌, ◌⊎◌, inl, inr, ℕ, ◌≤◌, true, List, [], ◌∷◌, ◌++◌, Option, Some, sym, ap, subst, ◌∙◌, append_assoc, le_refl, le_trans}
+-- Parts of calls join to one behaviour of the machine of one resource.
+use Rattle.std.proofs.Common.{◌≡◌, ◌⊎◌, inl, inr, ℕ, ◌≤◌, true, List, [], ◌∷◌, ◌++◌, Option, Some, refl, sym, ap, subst, ◌∙◌, append_assoc, le_refl, le_trans}
 use Rattle.ocf_types.specs.Due.{IsPick}
-use Rattle.ocf_types.specs.Kinds.{Change, Event, Reply}
+use Rattle.ocf_types.specs.Kinds.{Change, Event}
 use Rattle.ocf_types.specs.Resource.{Resource}
 use Rattle.ocf_types.specs.declared.command.RequestOf.TheVariants as asked
 use Rattle.ocf_types.specs.declared.event.Change.TheVariants as change
 use Rattle.ocf_types.specs.declared.event.Step.TheVariants as step
 use Rattle.child_model.specs.declared.answer.Entry.{Entry}
 use Rattle.executor.specs.Joins.{StandsAt}
-use Rattle.executor.specs.Sessions.{Input}
+use Rattle.executor.specs.Lives.{Abandoned, Cleared, Exchange, Finished, Row, Tidied, Took}
 use Rattle.executor.specs.Isolated.{Alone, Isolated, IsolatedBegin, IsolatedRest, IsolatedTakes, above_call, above_run, cut, has_monitor, isolated_after, isolated_after_all, isolated_answer, isolated_changed, isolated_sets}
 use Rattle.executor.specs.declared.session.InputOf.TheVariants as input
 use Rattle.executor.proofs.Isolation.Changes.{monitor_before, or_else_alike, single-append}
@@ -64,9 +64,9 @@ goes_there id at x y entries events s (inr b) = inr (record {
   begins = b.begins;
 })
 
-takes_there : (id : List ℕ) (x y : Isolated) (i : Input) (r : Reply) (entries : List Entry) (events : List Event) → StandsAt x y
-    → IsolatedTakes id y i r entries events → IsolatedTakes id x i r entries events
-takes_there id x y (input.Request now (asked.Command c)) r entries events s (none, c_takes) = (
+takes_there : (id : List ℕ) (x y : Isolated) (e : Exchange) (entries : List Entry) (events : List Event) → StandsAt x y
+    → IsolatedTakes id y e entries events → IsolatedTakes id x e entries events
+takes_there id x y (Took (input.Request now (asked.Command c)) r) entries events s (none, c_takes) = (
   none,
   record {
     call = c_takes.call;
@@ -74,9 +74,9 @@ takes_there id x y (input.Request now (asked.Command c)) r entries events s (non
     follows = rw s.resource c_takes.follows;
   },
 )
-takes_there id x y (input.Request now (asked.Question q)) r entries events s (none, no_events, answers) =
+takes_there id x y (Took (input.Request now (asked.Question q)) r) entries events s (none, no_events, answers) =
     (none, no_events, answers ∙ ap (λ (o : Option Resource). isolated_answer o q) (sym s.resource))
-takes_there id x y (input.Turn now) r entries events s t = record {
+takes_there id x y (Took (input.Turn now) r) entries events s t = record {
   done = t.done;
   polled = t.polled;
   started = t.started;
@@ -88,8 +88,13 @@ takes_there id x y (input.Turn now) r entries events s t = record {
   goes_on =
       goes_there id (cut now) (isolated_after_all x t.results) (isolated_after_all y t.results) t.started t.begins (stands_on x y t.results s) t.goes_on;
 }
+takes_there id x y (Finished now end) entries events s (done, polls) = (done, rw s.resource polls)
+takes_there id x y (Row now commands replies) entries events s bad = absurd bad
+takes_there id x y (Tidied end) entries events s bad = absurd bad
+takes_there id x y Cleared entries events s bad = absurd bad
+takes_there id x y Abandoned entries events s bad = absurd bad
 
-alone_there : (id : List ℕ) (x y : Isolated) (is : List (Input × Reply)) (entries : List Entry) (events : List Event) → StandsAt x y
+alone_there : (id : List ℕ) (x y : Isolated) (is : List Exchange) (entries : List Entry) (events : List Event) → StandsAt x y
     → Alone id y is entries events → Alone id x is entries events
 alone_there id x y [] entries events s h = h
 alone_there id x y (i ∷ is) entries events s (es, fs, vs, us, entries_are, events_are, takes, rest) = (
@@ -99,12 +104,16 @@ alone_there id x y (i ∷ is) entries events s (es, fs, vs, us, entries_are, eve
   us,
   entries_are,
   events_are,
-  takes_there id x y i.0 i.1 es vs s takes,
+  takes_there id x y i es vs s takes,
   alone_there id (isolated_after_all x vs) (isolated_after_all y vs) is fs us (stands_on x y vs s) rest,
 )
 
+-- a machine is where it is
+pub stands_self : (x : Isolated) → StandsAt x x
+stands_self x = record { resource = refl; due = λ call there. refl; calls = le_refl x.next_call; runs = le_refl x.next_run }
+
 -- one part, and another from where it ended
-pub parts_join : (id : List ℕ) (x y : Isolated) (is js : List (Input × Reply)) (es fs : List Entry) (vs us : List Event) → Alone id x is es vs
+pub parts_join : (id : List ℕ) (x y : Isolated) (is js : List Exchange) (es fs : List Entry) (vs us : List Event) → Alone id x is es vs
     → StandsAt (isolated_after_all x vs) y → Alone id y js fs us → Alone id x (is ++ js) (es ++ fs) (vs ++ us)
 parts_join id x y [] js es fs vs us (no_entries, no_events) s h =
     subst (λ (l : List Entry). Alone id x js (l ++ fs) (vs ++ us)) (sym no_entries)

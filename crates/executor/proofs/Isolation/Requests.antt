@@ -3,7 +3,7 @@ use Rattle.std.proofs.Common.{◌≡◌, ◌⊎◌, inl, inr, ℕ, ◌≤◌, tr
 use Rattle.std.proofs.Math.Nat.{max-eq_right}
 use Rattle.std.specs.List.{AllByRecursion}
 use Rattle.ocf_types.specs.Answer.{asked_event, change_of, event_of, moment, tests}
-use Rattle.ocf_types.specs.Due.{Due, due_after}
+use Rattle.ocf_types.specs.Due.{Due}
 use Rattle.ocf_types.specs.Kinds.{Change, Command, Event, Reply}
 use Rattle.ocf_types.specs.Spelling.{spelled_event}
 use Rattle.ocf_types.specs.State.{State, after, after_all, named, resource_at}
@@ -19,7 +19,7 @@ use Rattle.disk_model.specs.View.{View}
 use Rattle.exec_ledger.specs.Scenes.{due_after_all}
 use Rattle.exec_ledger.specs.Commands.{Obeys, Records}
 use Rattle.executor.specs.Parts.{IsPlain, commanded}
-use Rattle.exec_ledger.specs.Replies.{IsReplyTo, acknowledged, recorded}
+use Rattle.exec_ledger.specs.Replies.{IsReplyTo, KeepsRunning, acknowledged, recorded}
 use Rattle.exec_ledger.specs.Together.{Adds}
 use Rattle.exec_ledger.specs.Pieces.{Effects, row_effects}
 use Rattle.executor.specs.Sessions.{TakesRequest, command_effects}
@@ -40,24 +40,24 @@ seen x = record { state = x.state; due = due_in x }
 abbrev pub seen_behind : Seen → List Event → Seen
 seen_behind x es = record { state = after_all x.state es; due = due_after_all x.state x.due es }
 
--- what a call did: the state and the due moments after its events, which are new
-pub record Does (now : ℕ) (old new : Seen) (es : List Event) : Type 0 where
+-- what a call did: the state and the due moments after its events, which are new, and no later than this moment
+pub record Does (at : ℕ) (old new : Seen) (es : List Event) : Type 0 where
   pub state : new.state ≡ after_all old.state es
   pub due : new.due ≡ due_after_all old.state old.due es
   pub next : AreFresh old.state es
-  pub clock : new.state.clock ≤ cut now
+  pub clock : new.state.clock ≤ at
 
 -- where moments do not go back, a moment is the one that is handed in
 pub moment_is : (s : State) (now : ℕ) → s.clock ≤ cut now → moment s now ≡ cut now
 moment_is s now h = max-eq_right h
 
 -- a call that left the executor as it was
-pub rested : (now : ℕ) (old new : Seen) → old.state.clock ≤ cut now → new ≡ old → Does now old new []
-rested now old new clock same = record {
+pub rested : (at : ℕ) (old new : Seen) → old.state.clock ≤ at → new ≡ old → Does at old new []
+rested at old new clock same = record {
   state = ap (λ (x : Seen). x.state) same;
   due = ap (λ (x : Seen). x.due) same;
   next = tt;
-  clock = subst (λ (x : Seen). x.state.clock ≤ cut now) (sym same) clock;
+  clock = subst (λ (x : Seen). x.state.clock ≤ at) (sym same) clock;
 }
 
 -- the event is acknowledged, or refused for a want that resources share
@@ -84,6 +84,14 @@ asked_fresh s (command.Exec i task timeout) size h = refl
 asked_fresh s (command.Recur i interval timeout level) size h = refl
 asked_fresh s _ size h = tt
 
+-- and begins and ends nothing
+asked_keeps : (call : ℕ) (c : Command) → KeepsRunning (change_of call c)
+asked_keeps call (command.Register r) = tt
+asked_keeps call _ = tt
+
+abbrev pub AllKeep : List Event → Type 0
+AllKeep es = AllByRecursion (λ e. KeepsRunning e.change) es
+
 asked_names : (call : ℕ) (c : Command) → named (change_of call c) ≡ Some (commanded c)
 asked_names call (command.Register r) = refl
 asked_names call _ = refl
@@ -97,6 +105,11 @@ one_names : (s : State) (now : ℕ) (c : Command) (e : Event) → event_of s now
 one_names s now c e is =
     let went = passed (tests s c (length (spelled_event (asked_event s now c)))) (asked_event s now c) e is in
     subst (λ (f : Event). AllName (commanded c) (f ∷ [])) went.0 (asked_names s.next_call c, tt)
+
+one_keeps : (s : State) (now : ℕ) (c : Command) (e : Event) → event_of s now c ≡ Ok e → AllKeep (e ∷ [])
+one_keeps s now c e is =
+    let went = passed (tests s c (length (spelled_event (asked_event s now c)))) (asked_event s now c) e is in
+    subst (λ (f : Event). AllKeep (f ∷ [])) went.0 (asked_keeps s.next_call c, tt)
 
 one_fresh : (s : State) (now : ℕ) (c : Command) (e : Event) → event_of s now c ≡ Ok e → AreFresh s (e ∷ [])
 one_fresh s now c e is =
@@ -113,7 +126,8 @@ one_clock s now c e is clock =
 pub record Commands (now : ℕ) (c : Command) (old new : Seen) (reply : Reply) (effects : Effects) : Type 0 where
   pub no_entries : effects.entries ≡ []
   pub names : AllName (commanded c) effects.events
-  pub does : Does now old new effects.events
+  pub does : Does (cut now) old new effects.events
+  pub keep : AllByRecursion (λ e. KeepsRunning e.change) effects.events
   pub follows : IsPlain reply → Follows (event_of old.state now c) reply effects.events
 
 pub commands : {D : Type 0} (look : D → View) (now : ℕ) (c : Command) (old new : Sight D) (reply : Reply) (effects : Effects)
@@ -135,6 +149,7 @@ commands {D} look now c old new reply effects clock takes =
             next = subst (AreFresh old.state) (sym row) (one_fresh old.state now c e is);
             clock = subst (λ (x : State). x.clock ≤ cut now) (sym after_one) (one_clock old.state now c e is clock);
           };
+          keep = subst AllKeep (sym row) (one_keeps old.state now c e is);
           follows = λ plain. subst (λ (w : Result Event Refusal). Follows w reply (recorded e reply)) (sym is) (told, row);
         }
     by_reply e is serves (inr (why, refused, shared)) =
@@ -148,6 +163,7 @@ commands {D} look now c old new reply effects clock takes =
             next = subst (AreFresh old.state) (sym row) tt;
             clock = subst (λ (x : State). x.clock ≤ cut now) (sym still) clock;
           };
+          keep = subst AllKeep (sym row) tt;
           follows = λ plain. absurd (shared (subst IsPlain refused plain));
         }
 
@@ -156,7 +172,8 @@ commands {D} look now c old new reply effects clock takes =
     by (Err why) is serves = record {
       no_entries = refl;
       names = tt;
-      does = rested now (seen old) (seen new) clock (ap seen (same_sight old new serves.1 takes.serves.1));
+      does = rested (cut now) (seen old) (seen new) clock (ap seen (same_sight old new serves.1 takes.serves.1));
+      keep = tt;
       follows = λ plain. subst (λ (w : Result Event Refusal). Follows w reply []) (sym is) (serves.0, refl);
     }
     by (Ok e) is serves = by_reply e is serves (told_or_refused e reply serves.told)
@@ -177,6 +194,7 @@ added now c old reply first clock adds = by (event_of old.state now c) refl adds
         next = subst (AreFresh old.state) (sym none) tt;
         clock = subst (λ (es : List Event). (after_all old.state es).clock ≤ cut now) (sym none) clock;
       };
+      keep = subst AllKeep (sym none) tt;
       follows = λ plain. subst (λ (w : Result Event Refusal). Follows w reply first) (sym is) (follows plain);
     }
 
@@ -194,5 +212,6 @@ added now c old reply first clock adds = by (event_of old.state now c) refl adds
         clock =
             subst (λ (es : List Event). (after_all old.state es).clock ≤ cut now) (sym told.1) (one_clock old.state now c e is clock);
       };
+      keep = subst AllKeep (sym told.1) (one_keeps old.state now c e is);
       follows = λ plain. subst (λ (w : Result Event Refusal). Follows w reply first) (sym is) told;
     }

@@ -33,7 +33,7 @@ use Rattle.exec_ledger.specs.Laws.{same_entries, same_events}
 use Rattle.exec_ledger.specs.Pieces.{Effects}
 use Rattle.executor.specs.Sessions.{TakesATurn}
 use Rattle.executor.specs.Sights.{Sight, due_in}
-use Rattle.executor.specs.Isolated.{Isolated, IsolatedTurn, cut, running_in, isolated_after_all}
+use Rattle.executor.specs.Isolated.{Isolated, IsolatedPoll, IsolatedTurn, cut, running_in, isolated_after_all}
 use Rattle.executor.proofs.Isolation.Changes.{AreFresh, IsFresh, Stands, stands_all}
 use Rattle.executor.proofs.Isolation.Lists.{each_first, each_last, each_map, each_of_all, each_unmap, filter-map}
 use Rattle.executor.proofs.Isolation.Begins.{isolated_begins}
@@ -62,10 +62,13 @@ pub ids_stay : (s : State) (es : List Event) → AreFresh s es → AreApart s �
 ids_stay s [] h apart = apart
 ids_stay s (e ∷ es) h apart = ids_stay (after s e) es h.1 (ids_kept e.at e.change s h.0 apart)
 
-clock_behind : (s : State) (at last : ℕ) (es : List Event) → AllByRecursion (λ e. e.at ≡ at) es → at ≤ last → s.clock ≤ last
+pub clock_behind : (s : State) (at last : ℕ) (es : List Event) → AllByRecursion (λ e. e.at ≡ at) es → at ≤ last → s.clock ≤ last
     → (after_all s es).clock ≤ last
 clock_behind s at last [] h le clock = clock
 clock_behind s at last (e ∷ es) h le clock = clock_behind (after s e) at last es h.1 le (omega (arith, h.0, le))
+
+pub ends_at : (at : ℕ) (es : List Event) → AllByRecursion (IsEnd at) es → AllByRecursion (λ e. e.at ≡ at) es
+ends_at at es h = each_weaken (IsEnd at) (λ e. e.at ≡ at) (λ e end. end.now) es h
 
 -- a begin draws a run of the resource exactly when it names it
 abbrev pub BeginsOwn : (ℕ → Bool) → List ℕ → Change → Type 0
@@ -74,6 +77,20 @@ BeginsOwn mine id _ = ⊤
 
 abbrev pub AllBeginOwn : (ℕ → Bool) → List ℕ → List Event → Type 0
 AllBeginOwn mine id es = AllByRecursion (λ e. BeginsOwn mine id e.change) es
+
+-- of the polls of all that runs, one resource's are its own machine's, and so are their results
+pub own_polls : (mine : ℕ → Bool) (id : List ℕ) (at : ℕ) (y : Isolated) (s : State) (ps : List Polled) → map (λ p. p.who) ps ≡ active s
+    → AllByRecursion (λ p. IsPoll p.poll) ps → AreApart s → AreOwn mine id (active s) → y.resource ≡ resource_at s id
+    → IsolatedPoll id at (running_in y) (filter (λ e. mine e.run) (polls at ps)) (events_of id (results at ps))
+own_polls mine id at y s ps each bytes apart runs resource =
+    let own : List Polled = filter (λ p. bytes_eq id p.who.id) ps in
+    let who : map (λ p. p.who) own ≡ active_of id (running_in y) = sym (filter-map (λ a. bytes_eq id a.id) (λ p. p.who) ps)
+    ∙ ap (own_of id) each ∙ own_active s id apart
+    ∙ ap (λ (o : Option Resource). active_of id (option_and_then (λ r. r.history.running) o)) (sym resource) in
+    subst (λ (l : List Entry). IsolatedPoll id at (running_in y) l (events_of id (results at ps)))
+    (sym (polls_kept mine id at ps (subst (AreOwn mine id) (sym each) runs)))
+    (subst (λ (l : List Event). IsolatedPoll id at (running_in y) (polls at own) l) (sym (results_kept id at ps))
+    (isolated_poll id at (running_in y) own (each_filter (λ p. IsPoll p.poll) (λ p. bytes_eq id p.who.id) ps bytes) who))
 
 -- A turn that ended done, at the moment that was handed in.
 pub record TurnDone {D : Type 0} (now : ℕ) (old new : Sight D) (given : Reply) (effects : Effects) : Type 0 where
@@ -137,16 +154,13 @@ module _ {D : Type 0} (now : ℕ) (old new : Sight D) (given : Reply) (effects :
   unfolding behind
   now_all =
       each_append (λ e. e.at ≡ at) (results at turn.t.polled) (begins at turn.t.begun ++ refusals at turn.t.started)
-      (ended (results at turn.t.polled) (results_end at turn.t.polled))
+      (ends_at at (results at turn.t.polled) (results_end at turn.t.polled))
       (each_append (λ e. e.at ≡ at) (begins at turn.t.begun) (refusals at turn.t.started)
       (each_map (λ e. e.at ≡ at) (begin_of at) turn.t.begun (each_of_all (λ (a : Active). at ≡ at) (λ a. refl) turn.t.begun))
-      (ended (refusals at turn.t.started) (refusals_end at turn.t.started)))
-    where
-      ended : (es : List Event) → AllByRecursion (IsEnd at) es → AllByRecursion (λ e. e.at ≡ at) es
-      ended es h = each_weaken (IsEnd at) (λ e. e.at ≡ at) (λ e end. end.now) es h
+      (ends_at at (refusals at turn.t.started) (refusals_end at turn.t.started)))
 
   -- it leaves what its events make of what it finds
-  pub turn_does : old.state.clock ≤ cut now → Does now (seen old) (seen new) effects.events
+  pub turn_does : old.state.clock ≤ cut now → Does (cut now) (seen old) (seen new) effects.events
   unfolding at mid behind
   turn_does clock = record {
     state = turn.state;
@@ -158,10 +172,7 @@ module _ {D : Type 0} (now : ℕ) (old new : Sight D) (given : Reply) (effects :
   }
 
   module _ (mine : ℕ → Bool) (id : List ℕ) (y : Isolated) where
-    -- its own polls, begins and starts
-    own_polled : List Polled
-    own_polled = filter (λ p. bytes_eq id p.who.id) turn.t.polled
-
+    -- its own begins and starts
     own_begun : List Active
     own_begun = own_of id turn.t.begun
 
@@ -172,47 +183,35 @@ module _ {D : Type 0} (now : ℕ) (old new : Sight D) (given : Reply) (effects :
     pub turn_isolated : Stands y old.state (due_in old) id → AreApart old.state → AreOwn mine id (active old.state)
         → AllBeginOwn mine id effects.events
         → IsolatedTurn id (cut now) y given (filter (λ e. mine e.run) effects.entries) (events_of id effects.events)
-    unfolding at mid moments behind own_polled own_begun own_started
+    unfolding at mid moments behind own_begun own_started
     turn_isolated stands apart runs own =
         let test : Entry → Bool = λ e. mine e.run in
-        let polled_own : AreOwn mine id (map (λ p. p.who) turn.t.polled) = subst (AreOwn mine id) (sym turn.t.each_polled.each) runs in
-        let all_own : AllBeginOwn mine id (results at turn.t.polled ++ (begins at turn.t.begun ++ refusals at turn.t.started)) = subst
-        (AllBeginOwn mine id) turn.events own in
+        let polled : List Entry = polls at turn.t.polled in
+        let row : List Event = results at turn.t.polled in
+        let later : List Event = begins at turn.t.begun ++ refusals at turn.t.started in
+        let all_own : AllBeginOwn mine id (row ++ later) = subst (AllBeginOwn mine id) turn.events own in
         let begins_own : AllBeginOwn mine id (begins at turn.t.begun) = each_first (λ e. BeginsOwn mine id e.change)
-        (begins at turn.t.begun) (refusals at turn.t.started)
-        (each_last (λ e. BeginsOwn mine id e.change) (results at turn.t.polled)
-        (begins at turn.t.begun ++ refusals at turn.t.started) all_own) in
+        (begins at turn.t.begun) (refusals at turn.t.started) (each_last (λ e. BeginsOwn mine id e.change) row later all_own) in
         let begun_own : AreOwn mine id turn.t.begun = each_unmap (λ e. BeginsOwn mine id e.change) (begin_of at) turn.t.begun begins_own in
         let started_own : AreOwn mine id (map (λ x. x.what) turn.t.started) = subst (AreOwn mine id) (sym turn.t.each_started) begun_own in
-        let who : map (λ p. p.who) own_polled ≡ active_of id (running_in y) = sym
-        (filter-map (λ a. bytes_eq id a.id) (λ p. p.who) turn.t.polled) ∙ ap (own_of id) turn.t.each_polled.each
-        ∙ own_active old.state id apart
-        ∙ ap (λ (o : Option Resource). active_of id (option_and_then (λ r. r.history.running) o)) (sym stands.resource) in
-        let own_bytes : AllByRecursion (λ p. IsPoll p.poll) own_polled =
-        each_filter (λ p. IsPoll p.poll) (λ p. bytes_eq id p.who.id) turn.t.polled turn.t.each_polled.bytes in
         let what : map (λ x. x.what) own_started ≡ own_begun = sym (filter-map (λ a. bytes_eq id a.id) (λ x. x.what) turn.t.started)
         ∙ ap (own_of id) turn.t.each_started in
-        let row : events_of id (results at turn.t.polled) ≡ results at own_polled = results_kept id at turn.t.polled in
-        let there : Stands (isolated_after_all y (results at own_polled)) mid moments id = subst
-        (λ (l : List Event). Stands (isolated_after_all y l) mid moments id) row
-        (stands_all y old.state (due_in old) id (results at turn.t.polled) stands results_new) in record {
+        let there : Stands (isolated_after_all y (events_of id row)) mid moments id =
+        stands_all y old.state (due_in old) id row stands results_new in record {
           done = turn.done;
-          polled = polls at own_polled;
+          polled = filter test polled;
           started = starts turn.t.clock own_started;
-          results = results at own_polled;
+          results = events_of id row;
           begins = begins at own_begun ++ refusals at own_started;
-          all_entries = ap (filter test) turn.entries ∙ filter-append test (polls at turn.t.polled) (starts turn.t.clock turn.t.started)
-              ∙ ap₂ (λ (a b : List Entry). a ++ b) (polls_kept mine id at turn.t.polled polled_own)
-              (starts_kept mine id turn.t.clock turn.t.started started_own);
+          all_entries = ap (filter test) turn.entries ∙ filter-append test polled (starts turn.t.clock turn.t.started)
+              ∙ ap (λ (l : List Entry). filter test polled ++ l) (starts_kept mine id turn.t.clock turn.t.started started_own);
           all_events =
-              ap (events_of id) turn.events
-              ∙ filter-append (names_it id) (results at turn.t.polled) (begins at turn.t.begun ++ refusals at turn.t.started)
-              ∙ ap₂ (λ (a b : List Event). a ++ b) row (filter-append (names_it id) (begins at turn.t.begun) (refusals at turn.t.started)
+              ap (events_of id) turn.events ∙ filter-append (names_it id) row later
+              ∙ ap (λ (l : List Event). events_of id row ++ l) (filter-append (names_it id) (begins at turn.t.begun) (refusals at turn.t.started)
               ∙ ap₂ (λ (a b : List Event). a ++ b) (begins_kept id at turn.t.begun) (refusals_kept id at turn.t.started));
-          polls = isolated_poll id at (running_in y) own_polled own_bytes who;
+          polls = own_polls mine id at y old.state turn.t.polled turn.t.each_polled.each turn.t.each_polled.bytes apart runs stands.resource;
           goes_on =
-              isolated_begins (isolated_after_all y (results at own_polled)) id at turn.t.clock mid.next_run moments
+              isolated_begins (isolated_after_all y (events_of id row)) id at turn.t.clock mid.next_run moments
               (resource_at mid id) own_begun own_started there.resource there.due there.runs
-              (chosen moments at mid.next_run mid.resources turn.t.begun id
-              (ids_stay old.state (results at turn.t.polled) results_new apart) picks) what;
+              (chosen moments at mid.next_run mid.resources turn.t.begun id (ids_stay old.state row results_new apart) picks) what;
         }

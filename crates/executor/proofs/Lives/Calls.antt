@@ -10,6 +10,7 @@ use Rattle.exec_ledger.specs.Pieces.{Effects, Leaves, followed_by, no_effects, r
 use Rattle.executor.specs.CallLaws.{followed_by_assoc, followed_by_none}
 use Rattle.executor.specs.Lives.{Abandoned, Calls, Cleared, Does, Exchange, Finished, Row, Took, Tidied}
 use Rattle.executor.specs.FinishCalls.{FinishedWhile}
+use Rattle.executor.specs.Machine.{AnswersClosed}
 use Rattle.executor.specs.RowCalls.{TakesRow}
 use Rattle.executor.specs.Sights.{Sight}
 use Rattle.exec_ledger.specs.Held.{Held}
@@ -29,32 +30,28 @@ module _ {D : Type 0} (look : D → View) where
     nothing = nothing;
   }
 
-  does_nothing : (e : Exchange) (x y : Sight D) (d : Effects) → x.is_open ≡ false → Does look e x y d → Closed x y d
+  pub does_nothing : (e : Exchange) (x y : Sight D) (d : Effects) → x.is_open ≡ false → Does look e x y d
+      → AnswersClosed e × Closed x y d
   does_nothing (Took i reply) x y d closed does =
-      let none = of_closed _ _ closed does in
-      stays_closed x y d closed none.1 none.2
+      let none = of_closed _ _ closed does in (none.0, stays_closed x y d closed none.1 none.2)
   does_nothing (Row now commands replies) x y d closed does = absurd (false≢true (sym closed ∙ does.takes.was_open))
   does_nothing (Finished now end) x y d closed does =
-      let none = of_closed _ _ closed does in
-      stays_closed x y d closed none.1 none.2
+      let none = of_closed _ _ closed does in (none.0, stays_closed x y d closed none.1 none.2)
   does_nothing (Tidied end) x y d closed does =
-      let none = of_closed _ _ closed does.0 in
-      stays_closed x y d closed none.1 does.1
-  does_nothing Cleared x y d closed does = record {
-    is_closed = ap (λ (z : Sight D). z.is_open) does.0 ∙ closed;
-    disk = ap (λ (z : Sight D). z.disk) does.0;
-    nothing = does.1;
-  }
-  does_nothing Abandoned x y d closed does = record {
-    is_closed = ap (λ (z : Sight D). z.is_open) does.0;
-    disk = ap (λ (z : Sight D). z.disk) does.0;
-    nothing = does.1;
-  }
+      let none = of_closed _ _ closed does.0 in (none.0, stays_closed x y d closed none.1 does.1)
+  does_nothing Cleared x y d closed does = (
+    tt,
+    record { is_closed = ap (λ (z : Sight D). z.is_open) does.0 ∙ closed; disk = ap (λ (z : Sight D). z.disk) does.0; nothing = does.1 },
+  )
+  does_nothing Abandoned x y d closed does = (
+    tt,
+    record { is_closed = ap (λ (z : Sight D). z.is_open) does.0; disk = ap (λ (z : Sight D). z.disk) does.0; nothing = does.1 },
+  )
 
   pub calls_closed : (x z : Sight D) (es : List Exchange) (d : Effects) → x.is_open ≡ false → Calls look x es z d → Closed x z d
   calls_closed x z [] d closed calls = stays_closed x z d closed calls.0 calls.1
   calls_closed x z (e ∷ es) d closed (mid, first, later, does, rest, is) =
-      let one = does_nothing e x mid first closed does in
+      let one = (does_nothing e x mid first closed does).1 in
       let others = calls_closed mid z es later one.is_closed rest in
       record {
         is_closed = others.is_closed;
@@ -110,27 +107,13 @@ module _ {D : Type 0} (look : D → View) where
         subst (λ (b : Effects). Onward look w y b) (sym (followed_by_none a) ∙ ap (followed_by a) (sym does.1))
         (subst (λ (z : Sight D). Onward look w z a) (sym does.0)
         (record { crash = so_far.crash; state = λ bad. absurd (false≢true bad); whole = λ bad. absurd (false≢true bad) }))
-    taken_more false w x y (Took i reply) a d closed does so_far =
-        let none = of_closed _ _ closed does in
-        subst (λ (b : Effects). Onward look w y b) (sym (followed_by_none a) ∙ ap (followed_by a) (sym none.2))
-        (subst (λ (z : Sight D). Onward look w z a) (sym none.1) so_far)
-    taken_more false w x y (Row now commands replies) a d closed does so_far = absurd (false≢true (sym closed ∙ does.takes.was_open))
-    taken_more false w x y (Finished now end) a d closed does so_far =
-        let none = of_closed _ _ closed does in
-        subst (λ (b : Effects). Onward look w y b) (sym (followed_by_none a) ∙ ap (followed_by a) (sym none.2))
-        (subst (λ (z : Sight D). Onward look w z a) (sym none.1) so_far)
-    taken_more false w x y (Tidied end) a d closed does so_far =
-        let none = of_closed _ _ closed does.0 in
-        subst (λ (b : Effects). Onward look w y b) (sym (followed_by_none a) ∙ ap (followed_by a) (sym does.1))
-        (subst (λ (z : Sight D). Onward look w z a) (sym none.1) so_far)
-    taken_more false w x y Cleared a d closed does so_far =
-        subst (λ (b : Effects). Onward look w y b) (sym (followed_by_none a) ∙ ap (followed_by a) (sym does.1))
-        (subst (λ (z : Sight D). Onward look w z a) (sym does.0)
-        (record { crash = so_far.crash; state = so_far.state; whole = so_far.whole }))
-    taken_more false w x y Abandoned a d closed does so_far =
-        subst (λ (b : Effects). Onward look w y b) (sym (followed_by_none a) ∙ ap (followed_by a) (sym does.1))
-        (subst (λ (z : Sight D). Onward look w z a) (sym does.0)
-        (record { crash = so_far.crash; state = λ bad. absurd (false≢true bad); whole = λ bad. absurd (false≢true bad) }))
+    taken_more false w x y e a d closed does so_far =
+        let none = (does_nothing e x y d closed does).1 in
+        subst (λ (b : Effects). Onward look w y b) (sym (followed_by_none a) ∙ ap (followed_by a) (sym none.nothing)) (record {
+          crash = subst (λ (k : D). Leaves look w.disk k w.state (after_all w.state a.events) a) (sym none.disk) so_far.crash;
+          state = λ bad. absurd (false≢true (sym none.is_closed ∙ bad));
+          whole = λ bad. absurd (false≢true (sym none.is_closed ∙ bad));
+        })
 
     -- any calls more
     pub calls_more : (w x z : Sight D) (es : List Exchange) (a d : Effects) → Calls look x es z d → Onward look w x a

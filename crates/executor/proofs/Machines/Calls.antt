@@ -19,12 +19,12 @@ use Rattle.child_model.specs.declared.answer.Entry.{Entry}
 use Rattle.exec_turn.specs.Turn.{IsFinish, IsTurn, TurnKind}
 use Rattle.exec_ledger.specs.Commands.{Obeys, Records}
 use Rattle.executor.specs.Lives.{Abandoned, Calls, Cleared, Does, Exchange, Finished, Row, Tidied, Took}
-use Rattle.executor.specs.Machine.{AnswersClosed, Closes, GoesOn, Label, Machine, MovesAll, MovesOpen, MovesTurn, MovesWhile, TakesAll, TakesOne, TidyEnds}
+use Rattle.executor.specs.Machine.{GoesOn, Label, Machine, MovesAll, MovesOpen, MovesTurn, MovesWhile, TakesAll, TakesOne, TidyEnds}
 use Rattle.exec_ledger.specs.Replies.{acknowledged, pending, recorded}
 use Rattle.exec_ledger.specs.Together.{Adds, Answered, failed, row_replies}
 use Rattle.executor.specs.FinishCalls.{FinishedWhile}
 use Rattle.executor.specs.RowCalls.{TakesRow}
-use Rattle.exec_ledger.specs.Laws.{of_closed, of_open, same_entries}
+use Rattle.exec_ledger.specs.Laws.{of_open, same_entries}
 use Rattle.exec_ledger.specs.Pieces.{Effects, no_effects, row_effects}
 use Rattle.exec_ledger.specs.Scenes.{due_after_all}
 use Rattle.executor.specs.SeenLives.{label_in, labels}
@@ -35,6 +35,7 @@ use Rattle.executor.specs.Sights.{Beside, Sight, due_in, ledger_of}
 use Rattle.exec_ledger.specs.Tidying.{Tidies}
 use Rattle.executor.specs.TurnCalls.{MakesTurn}
 use Rattle.executor.specs.declared.session.InputOf.TheVariants as input
+use Rattle.executor.proofs.Lives.Calls.{does_nothing}
 use Rattle.executor.proofs.Memory.{memory_told}
 
 -- an executor as the machine
@@ -252,32 +253,12 @@ module _ {D : Type 0} (look : D → View) where
   moves_open Abandoned x y d was does =
       ((same_entries does.1, refl), (ap (λ (z : Sight D). z.is_open) does.0, does.1))
 
-  -- a closed one
-  closed_still : (x y : Sight D) (d : Effects) → x.is_open ≡ false → y ≡ x → d ≡ no_effects → Closes [] (machine_of y) d
-  closed_still x y d was same none = (ap (λ (z : Sight D). z.is_open) same ∙ was, none)
-
-  moves_closed : (e : Exchange) (x y : Sight D) (d : Effects) → x.is_open ≡ false → Does look e x y d
-      → (d.entries ≡ []) × AnswersClosed e × Closes [] (machine_of y) d
-  moves_closed (Took i reply) x y d was does =
-      let t = of_closed _ _ was does in
-      (same_entries t.2, t.0, closed_still x y d was t.1 t.2)
-  moves_closed (Row now cs rs) x y d was does = absurd (false≢true (sym was ∙ does.takes.was_open))
-  moves_closed (Finished now end) x y d was does =
-      let t = of_closed _ _ was does in
-      (same_entries t.2, t.0, closed_still x y d was t.1 t.2)
-  moves_closed (Tidied end) x y d was does =
-      let t = of_closed _ _ was does.0 in
-      (same_entries does.1, t.0, closed_still x y d was t.1 does.1)
-  moves_closed Cleared x y d was does =
-      (same_entries does.1, tt, (ap (λ (z : Sight D). z.is_open) does.0 ∙ was, does.1))
-  moves_closed Abandoned x y d was does =
-      (same_entries does.1, tt, (ap (λ (z : Sight D). z.is_open) does.0, does.1))
-
   moves : (o : Bool) (e : Exchange) (x y : Sight D) (d : Effects) → x.is_open ≡ o → Does look e x y d
       → MovesWhile o (label_in look o e x y d) (machine_of x) (machine_of y) d
   moves true e x y d was does = (moves_open e x y d was does, memory_told look e x y d does)
   moves false e x y d was does =
-      let m = moves_closed e x y d was does in ((m.0, refl), m.1, m.2)
+      let none = does_nothing look e x y d was does in
+      ((same_entries none.1.nothing, refl), none.0, (none.1.is_closed, none.1.nothing))
 
   -- calls, one after the other
   pub moves_all : (es : List Exchange) (x y : Sight D) (d : Effects) (calls : Calls look x es y d)

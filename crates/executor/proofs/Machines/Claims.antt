@@ -28,7 +28,7 @@ use Rattle.exec_turn.specs.Polls.{Polled, ends_of, result_notices, results}
 use Rattle.exec_turn.specs.Starts.{refusal_notices, refusals, refused_end}
 use Rattle.exec_ledger.specs.Laws.{same_events}
 use Rattle.exec_turn.specs.Turn.{IsFinish, IsTurn, Whole}
-use Rattle.executor.specs.Lives.{Abandoned, Cleared, Exchange, Finished, Row, Tidied, Took, boots}
+use Rattle.executor.specs.Lives.{Exchange, Finished, Row, Took, boots}
 use Rattle.executor.specs.Machine.{AnswersClosed, Label, Machine, MovesAll, MovesOpen, MovesWhile, TakesAll, TakesOne}
 use Rattle.executor.specs.Promise.{Acknowledged, AllBegun, AllRecorded, Claim, Ended, IsKept, acknowledged_in, acknowledgements, claimed, claims_of}
 use Rattle.executor.specs.Runs.{HasBegins, Opening, Remains, Runs, Seen, SeenService, Serving, opened_on}
@@ -90,12 +90,7 @@ none_failed : (now : ℕ) (cs : List Command) (rs : List Reply) → acknowledgem
 none_failed now [] rs = refl
 none_failed now (c ∷ cs) [] = refl
 none_failed now (c ∷ cs) (reply.Refused why ∷ rs) = none_failed now cs rs
-none_failed now (c ∷ cs) (reply.Done ∷ rs) = none_kept now cs rs
-none_failed now (c ∷ cs) (reply.Accepted call key ∷ rs) = none_kept now cs rs
-none_failed now (c ∷ cs) (reply.List ids ∷ rs) = none_kept now cs rs
-none_failed now (c ∷ cs) (reply.Info info ∷ rs) = none_kept now cs rs
-none_failed now (c ∷ cs) (reply.History results ∷ rs) = none_kept now cs rs
-none_failed now (c ∷ cs) (reply.Turn end ∷ rs) = none_kept now cs rs
+none_failed now (c ∷ cs) (r ∷ rs) = none_kept now cs rs
 
 none_claimed : (s : State) (cs : List Claim) (es : List Event) → cs ≡ [] → AllRecorded s cs es
 none_claimed s cs es none = subst (λ (ds : List Claim). AllRecorded s ds es) (sym none) tt
@@ -174,10 +169,7 @@ finish_recorded turn_end.Done x did told (ps, _, is, ns) =
     moved x.state told (result_notices x.at ps) did.events (results x.at ps) ns (same_events is) (results_recorded x.state x.at ps)
 finish_recorded turn_end.BookFull x did told (is, ns) = moved x.state told [] did.events [] ns (same_events is) tt
 finish_recorded turn_end.Disk x did told (ps, _, is, ns) = moved x.state told [] did.events [] ns (same_events is) tt
-finish_recorded turn_end.Closed x did told none = absurd none
-finish_recorded turn_end.RunsSpent x did told none = absurd none
-finish_recorded turn_end.Full x did told none = absurd none
-finish_recorded turn_end.Memory x did told none = absurd none
+finish_recorded _ x did told none = absurd none
 
 -- a step with no notice
 unnoticed : (s : State) (cs : List Claim) (ns : List Notice) (es : List Event) → ns ≡ [] → AllRecorded s cs es
@@ -198,20 +190,14 @@ open_recorded (Row now cs rs) l m n did h =
     unnoticed m.state (acknowledgements now cs rs) l.notices did.events h.0.1 (takes_recorded l now cs rs m n did h.1)
 open_recorded (Finished now end) l m n did t =
     finish_recorded end (scene m.state m.due l.place (moment m.state now) m.refuses) did l.notices t.turns
-open_recorded (Tidied end) l m n did h = unnoticed m.state [] l.notices did.events h.0.1 tt
-open_recorded Cleared l m n did h = unnoticed m.state [] l.notices did.events h.0.1 tt
-open_recorded Abandoned l m n did h = unnoticed m.state [] l.notices did.events h.0.1 tt
+open_recorded _ l m n did h = unnoticed m.state [] l.notices did.events h.0.1 tt
 
 closed_claims : (e : Exchange) (ns : List Notice) → AnswersClosed e → ns ≡ [] → acknowledged_in e ++ map Ended ns ≡ []
 closed_claims (Took (input.Request now (asked.Question q)) r) ns h none = ap (map Ended) none
 closed_claims (Took (input.Request now (asked.Command c)) r) ns h none =
     ap (λ (t : Reply). acknowledgements now (c ∷ []) (t ∷ []) ++ map Ended ns) h ∙ ap (map Ended) none
-closed_claims (Took (input.Turn now) r) ns h none = ap (map Ended) none
 closed_claims (Row now cs rs) ns h none = absurd h
-closed_claims (Finished now end) ns h none = ap (map Ended) none
-closed_claims (Tidied end) ns h none = ap (map Ended) none
-closed_claims Cleared ns h none = ap (map Ended) none
-closed_claims Abandoned ns h none = ap (map Ended) none
+closed_claims _ ns h none = ap (map Ended) none
 
 step_recorded : (o : Bool) (l : Label) (m n : Machine) (did : Effects) → MovesWhile o l m n did → AllRecorded m.state (claims_of l) did.events
 step_recorded true l m n did h = open_recorded l.exchange l m n did h.0

@@ -193,10 +193,7 @@ finish_follows turn_end.BookFull x did told (is, none) =
 finish_follows turn_end.Disk x did told (ps, polled, is, told_is) =
     some_pending x.state [] (results x.at ps) did.events did.pending (same_events is) (same_pending is)
     (λ fine. results_follow x.at x.state ps polled.each fine)
-finish_follows turn_end.Closed x did told bad = absurd bad
-finish_follows turn_end.RunsSpent x did told bad = absurd bad
-finish_follows turn_end.Full x did told bad = absurd bad
-finish_follows turn_end.Memory x did told bad = absurd bad
+finish_follows _ x did told bad = absurd bad
 
 -- What calls leave, from one machine to another: it applies, and it leads to an open machine.
 pub record Went (m n : Machine) (did : Effects) : Type 0 where

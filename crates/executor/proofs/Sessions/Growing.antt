@@ -6,7 +6,7 @@ use Rattle.ocf_types.specs.Laws.{after_all-append}
 use Rattle.ocf_types.specs.State.{State, after_all}
 use Rattle.ocf_types.specs.Due.{Due}
 use Rattle.ocf_types.specs.declared.refusal.Refusal.TheVariants.{Disk}
-use Rattle.ocf_types.specs.declared.reply.ReplyOf.TheVariants.{Refused, Turn, Accepted, Done, History, Info, List as ListOf}
+use Rattle.ocf_types.specs.declared.reply.ReplyOf.TheVariants.{Refused}
 use Rattle.ocf_types.specs.declared.reply.TurnEnd.{TurnEnd}
 use Rattle.disk_model.specs.View.{View, Lawful}
 use Rattle.child_model.specs.declared.answer.Entry.{Entry}

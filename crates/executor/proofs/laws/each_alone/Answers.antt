@@ -1,5 +1,10 @@
-use Rattle.executor.proofs.Isolation.Sessions.{alone_ends, each_alone, row_alone}
+use Rattle.executor.proofs.Isolation.Calls.{alone_ends, commands_alone, each_alone, session_alone}
 use Rattle.executor.proofs.laws.each_alone.Goals as goal
 
 pub returns : goal.returns
-returns g c = record { alone = each_alone g.D.Disk.view; ends = alone_ends g.D.Disk.view; row = row_alone g.D.Disk.view }
+returns g c = record {
+  alone = each_alone g.D.Disk.view;
+  ends = alone_ends g.D.Disk.view;
+  session = session_alone g.D.Disk.view;
+  row = commands_alone;
+}

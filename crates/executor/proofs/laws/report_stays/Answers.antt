@@ -1,4 +1,4 @@
-use Rattle.executor.proofs.Reports.{report_stays}
+use Rattle.executor.proofs.Lasting.{report_stays}
 use Rattle.executor.proofs.laws.report_stays.Goals as goal
 
 pub returns : goal.returns

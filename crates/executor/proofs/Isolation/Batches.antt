@@ -1,0 +1,192 @@
+-- Commands in a row at one moment, as the machine of one resource takes those that are about it.
+use Rattle.std.proofs.Common.{◌≡◌, ◌⊎◌, inl, inr, ℕ, ◌≤◌, Bool, true, false, true≢false, cond, Some, List, [], ◌∷◌, ◌++◌, Result, Ok, Err, refl, sym, ap, subst, ◌∙◌}
+use Rattle.std.specs.Option.{option_map_or}
+use Rattle.std.specs.List.{AllByRecursion}
+use Rattle.std.specs.Str.{bytes_eq}
+use Rattle.std.specs.Prelude.{⊤}
+use Rattle.std.proofs.lemmas.List.Elements.{filter-append}
+use Rattle.std.proofs.lemmas.Slice.Eq.{bytes_eq-Decides}
+use Rattle.ocf_types.specs.Answer.{event_of}
+use Rattle.ocf_types.specs.Kinds.{Change, Command, Event, Reply}
+use Rattle.ocf_types.specs.Laws.{each_append, each_weaken}
+use Rattle.ocf_types.specs.State.{State, after_all, named, resource_at}
+use Rattle.ocf_types.specs.declared.command.RequestOf.TheVariants as asked
+use Rattle.ocf_types.specs.declared.event.Change.TheVariants as change
+use Rattle.ocf_types.specs.declared.event.Step.TheVariants as step
+use Rattle.ocf_types.specs.declared.refusal.Refusal.{Refusal}
+use Rattle.ocf_types.specs.declared.refusal.Refusal.TheVariants.{Disk}
+use Rattle.ocf_types.specs.declared.reply.ReplyOf.TheVariants.{Refused}
+use Rattle.child_model.specs.declared.answer.Entry.{Entry}
+use Rattle.exec_ledger.specs.Pieces.{Effects, row_effects}
+use Rattle.exec_ledger.specs.Replies.{KeepsRunning, acknowledged}
+use Rattle.exec_ledger.specs.Together.{Answered, disk_each, failed, is_kept}
+use Rattle.executor.specs.Lives.{Exchange, Row, Took}
+use Rattle.executor.specs.Parts.{IsAnswered, IsPlain, commanded, events_of, part_of}
+use Rattle.executor.specs.Isolated.{Alone, Follows, Isolated, IsolatedCommand, IsolatedTakes, cut, isolated_after_all}
+use Rattle.executor.specs.declared.session.InputOf.TheVariants as input
+use Rattle.executor.proofs.Isolation.Changes.{AreFresh, Stands, stands_all}
+use Rattle.executor.proofs.Isolation.Lists.{filter_alike}
+use Rattle.executor.proofs.Isolation.Replies.{isolated_command}
+use Rattle.executor.proofs.Isolation.Requests.{AllKeep, Commands, Does, Seen, added, seen_behind}
+use Rattle.executor.proofs.Isolation.Rows.{names_it}
+use Rattle.executor.proofs.Isolation.Turns.{AllBeginOwn, BeginsOwn, fresh-append}
+use Rattle.ocf_types.specs.Laws.{after_all-append}
+
+-- the machine takes a call that concerns it; one that does not leaves no event of it and no entry
+abbrev pub IsStep : Bool → List ℕ → Isolated → Exchange → List Entry → List Event → Type 0
+IsStep true id y e entries events = IsolatedTakes id y e entries events
+IsStep false id y e entries events = (entries ≡ []) × (events ≡ [])
+
+-- a call that concerns it is answered plainly, and so are the later ones
+pub plain_first : (b : Bool) (e : Exchange) (rest : List Exchange) → AllByRecursion IsAnswered (cond b (e ∷ rest) rest)
+    → (b ≡ true → IsAnswered e) × AllByRecursion IsAnswered rest
+plain_first true e rest h = (λ own. h.0, h.1)
+plain_first false e rest h = (λ own. absurd (true≢false (sym own)), h)
+
+-- a step, and a behaviour of the machine from then on
+pub step_on : (b : Bool) (id : List ℕ) (y : Isolated) (e : Exchange) (rest : List Exchange) (es fs : List Entry)
+    (first later : List Event) → IsStep b id y e es first → Alone id (isolated_after_all y first) rest fs later
+    → Alone id y (cond b (e ∷ rest) rest) (es ++ fs) (first ++ later)
+step_on true id y e rest es fs first later step behind = (es, fs, first, later, refl, refl, step, behind)
+step_on false id y e rest es fs first later step behind =
+    subst (λ (l : List Entry). Alone id y rest (l ++ fs) (first ++ later)) (sym step.0)
+    (subst (λ (l : List Event). Alone id y rest fs (l ++ later)) (sym step.1)
+    (subst (λ (l : List Event). Alone id (isolated_after_all y l) rest fs later) step.1 behind))
+
+-- the events of a command name its resource, or not
+pub named_so : (b : Bool) (id : List ℕ) (c : Command) (es : List Event) → bytes_eq id (commanded c) ≡ b
+    → AllByRecursion (λ e. named e.change ≡ Some (commanded c)) es → events_of id es ≡ cond b es []
+named_so b id c es about names = filter_alike (names_it id) b es
+    (each_weaken (λ e. named e.change ≡ Some (commanded c)) (λ e. names_it id e ≡ b)
+    (λ e name. ap (λ o. option_map_or (bytes_eq id) o false) name ∙ about) es names)
+
+-- the machine takes a command that is about it
+pub own_command : (b : Bool) (id : List ℕ) (y : Isolated) (now : ℕ) (c : Command) (old new : Seen) (r : Reply) (effects : Effects)
+    → bytes_eq id (commanded c) ≡ b → old.state.clock ≤ cut now
+    → (b ≡ true → IsPlain r) → Stands y old.state old.due id → Commands now c old new r effects
+    → IsStep b id y (Took (input.Request now (asked.Command c)) r) [] (events_of id effects.events)
+own_command true id y now c old new r effects about clock plain stands did =
+    let is : id ≡ commanded c = (bytes_eq-Decides id (commanded c)).0 about in (
+      refl,
+      subst (λ (l : List Event). IsolatedCommand (cut now) y c r l) (sym (named_so true id c effects.events about did.names))
+          (isolated_command y old.state now c r effects.events (stands.resource ∙ ap (resource_at old.state) is) stands.calls clock
+          (plain refl) (did.follows (plain refl))),
+    )
+own_command false id y now c old new r effects about clock plain stands did =
+    (refl, named_so false id c effects.events about did.names)
+
+-- commands begin nothing
+pub keep_own : (mine : ℕ → Bool) (id : List ℕ) (es : List Event) → AllKeep es → AllBeginOwn mine id es
+keep_own mine id es keep = each_weaken (λ e. KeepsRunning e.change) (λ e. BeginsOwn mine id e.change) (λ e kept. by e.change kept) es keep
+  where
+    by : (c : Change) → KeepsRunning c → BeginsOwn mine id c
+    by (change.Step other (step.Begin call run)) kept = absurd kept
+    by (change.Step other _) kept = tt
+    by _ kept = tt
+
+-- each reply is what was meant, or a refusal for the disk
+abbrev pub AreToldOf : List Reply → List Reply → Type 0
+AreToldOf [] [] = ⊤
+AreToldOf (r ∷ rs) (m ∷ ms) = ((r ≡ m) ⊎ (r ≡ Refused Disk)) × AreToldOf rs ms
+AreToldOf [] (m ∷ ms) = ⊥
+AreToldOf (r ∷ rs) [] = ⊥
+
+pub told_so : (ms : List Reply) → AreToldOf ms ms
+told_so [] = tt
+told_so (m ∷ ms) = (inl refl, told_so ms)
+
+abbrev pub AllRefused : List Reply → Type 0
+AllRefused rs = AllByRecursion (λ r. is_kept r ≡ false) rs
+
+-- of a row whose record failed each reply is a refusal
+disk_told : (ms : List Reply) → AreToldOf (disk_each ms) ms × AllRefused (disk_each ms)
+disk_told [] = (tt, tt)
+disk_told (m ∷ ms) = let rest = disk_told ms in ((inr refl, rest.0), (refl, rest.1))
+
+pub failed_told : (ms : List Reply) → AreToldOf (failed ms) ms × AllRefused (failed ms)
+failed_told [] = (tt, tt)
+failed_told (Refused refusal ∷ ms) = let rest = failed_told ms in ((inl refl, rest.0), (refl, rest.1))
+failed_told (m ∷ ms) = let rest = disk_told ms in ((inr refl, rest.0), (refl, rest.1))
+
+-- an acknowledgement is no refusal
+kept_ack : (c : Change) → is_kept (acknowledged c) ≡ true
+kept_ack (change.Step id (step.Exec o)) = refl
+kept_ack (change.Step id (step.Recur m)) = refl
+kept_ack _ = refl
+
+-- what a command did, by what it was answered
+told_commands : (now : ℕ) (c : Command) (old new : Seen) (r m : Reply) (effects : Effects) → (r ≡ m) ⊎ (r ≡ Refused Disk)
+    → Commands now c old new m effects → Commands now c old new r effects
+told_commands now c old new r m effects (inl same) did = subst (λ (q : Reply). Commands now c old new q effects) (sym same) did
+told_commands now c old new r m effects (inr disk) did = record {
+  no_entries = did.no_entries;
+  names = did.names;
+  does = did.does;
+  keep = did.keep;
+  follows = λ plain. absurd (subst IsPlain disk plain);
+}
+
+-- a command that was refused has no event
+refused_none : (found : Result Event Refusal) (r : Reply) (es : List Event) → is_kept r ≡ false → Follows found r es → es ≡ []
+refused_none (Err why) r es refused follows = follows.1
+refused_none (Ok e) r es refused follows =
+    absurd (true≢false (sym (kept_ack e.change) ∙ ap is_kept (sym follows.0) ∙ refused))
+
+module _ (now : ℕ) (id : List ℕ) where
+  -- what the commands of a row did to the state, whatever became of its record
+  pub row_does : (x : Seen) (cs : List Command) (ms : List Reply) (es : List Event) → x.state.clock ≤ cut now
+      → Answered now x.state cs ms es → Does (cut now) x (seen_behind x es) es × AllKeep es
+  row_does x [] [] es clock is = (
+    record {
+      state = refl;
+      due = refl;
+      next = subst (λ (l : List Event). AreFresh x.state l) (sym is) tt;
+      clock = subst (λ (l : List Event). (after_all x.state l).clock ≤ cut now) (sym is) clock;
+    },
+    subst AllKeep (sym is) tt,
+  )
+  row_does x [] (m ∷ ms) es clock bad = absurd bad
+  row_does x (c ∷ cs) [] es clock bad = absurd bad
+  row_does x (c ∷ cs) (m ∷ ms) es clock (first, later, adds, rest, all) =
+      let did = added now c x m first clock adds in
+      let behind = row_does (seen_behind x first) cs ms later did.does.clock rest in
+      subst (λ (l : List Event). Does (cut now) x (seen_behind x l) l × AllKeep l) (sym all) (
+        record {
+          state = refl;
+          due = refl;
+          next = fresh-append x.state first later did.does.next behind.0.next;
+          clock = subst (λ (s : State). s.clock ≤ cut now) (sym (after_all-append x.state first later)) behind.0.clock;
+        },
+        each_append (λ e. KeepsRunning e.change) first later did.keep behind.1,
+      )
+
+  -- the machine takes its commands of a row; where each reply is a refusal none of them had an event
+  pub row_alone : (y : Isolated) (x : Seen) (cs : List Command) (rs ms : List Reply) (es : List Event) → x.state.clock ≤ cut now
+      → AllByRecursion IsAnswered (part_of id (Row now cs rs)) → Stands y x.state x.due id → Answered now x.state cs ms es → AreToldOf rs ms
+      → Alone id y (part_of id (Row now cs rs)) [] (events_of id es) × (AllRefused rs → events_of id es ≡ [])
+  row_alone y x [] [] [] es clock plain stands is told = ((refl, ap (events_of id) is), λ refused. ap (events_of id) is)
+  row_alone y x [] [] (m ∷ ms) es clock plain stands bad told = absurd bad
+  row_alone y x [] (r ∷ rs) [] es clock plain stands is bad = absurd bad
+  row_alone y x [] (r ∷ rs) (m ∷ ms) es clock plain stands bad told = absurd bad
+  row_alone y x (c ∷ cs) [] [] es clock plain stands bad told = absurd bad
+  row_alone y x (c ∷ cs) [] (m ∷ ms) es clock plain stands is bad = absurd bad
+  row_alone y x (c ∷ cs) (r ∷ rs) [] es clock plain stands bad told = absurd bad
+  row_alone y x (c ∷ cs) (r ∷ rs) (m ∷ ms) es clock plain stands (first, later, adds, rest, all) told =
+      let b = bytes_eq id (commanded c) in
+      let e = Took (input.Request now (asked.Command c)) r in
+      let parts = part_of id (Row now cs rs) in
+      let plain2 = plain_first b e parts plain in
+      let did = told_commands now c x (seen_behind x first) r m (row_effects true first) told.0 (added now c x m first clock adds) in
+      let behind = row_alone (isolated_after_all y (events_of id first)) (seen_behind x first) cs rs ms later did.does.clock plain2.1
+      (stands_all y x.state x.due id first stands did.does.next) rest told.1 in
+      let step = own_command b id y now c x (seen_behind x first) r (row_effects true first) refl clock plain2.0 stands did in
+      let split = ap (events_of id) all ∙ filter-append (names_it id) first later in (
+        subst (λ (l : List Event). Alone id y (cond b (e ∷ parts) parts) [] l) (sym split)
+            (step_on b id y e parts [] [] (events_of id first) (events_of id later) step behind.0),
+        λ refused. split ∙ (λ i. one b refl plain2.0 did refused.0 i ++ behind.1 refused.1 i),
+      )
+    where
+      one : (b : Bool) → bytes_eq id (commanded c) ≡ b → (b ≡ true → IsPlain r)
+          → Commands now c x (seen_behind x first) r (row_effects true first) → is_kept r ≡ false → events_of id first ≡ []
+      one true about plain did refused = ap (events_of id) (refused_none (event_of x.state now c) r first refused (did.follows (plain refl)))
+      one false about plain did refused = named_so false id c first about did.names

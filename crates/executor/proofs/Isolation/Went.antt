@@ -1,0 +1,150 @@
+-- What a call did to the state and the due moments, as one resource sees it.
+use Rattle.std.proofs.Common.{◌≡◌, ℕ, ◌≤◌, Bool, true, false, true≢false, List, [], ◌∷◌, ◌++◌, refl, sym, ap, subst, ◌∙◌, le_refl}
+use Rattle.std.specs.List.{AllByRecursion}
+use Rattle.std.proofs.lemmas.List.{append-nil}
+use Rattle.ocf_types.specs.Kinds.{Command, Event, Reply, Request}
+use Rattle.ocf_types.specs.State.{State, after, after_all}
+use Rattle.ocf_types.specs.declared.command.RequestOf.TheVariants as asked
+use Rattle.ocf_types.specs.declared.reply.TidyEnd.{TidyEnd}
+use Rattle.ocf_types.specs.declared.reply.TurnEnd.{TurnEnd}
+use Rattle.ocf_types.specs.declared.reply.TurnEnd.TheVariants as turn_end
+use Rattle.disk_model.specs.View.{View}
+use Rattle.exec_state.specs.Store.{due_of}
+use Rattle.exec_ledger.specs.Held.{Held}
+use Rattle.exec_ledger.specs.Laws.{same_events}
+use Rattle.exec_ledger.specs.Pieces.{Effects, no_effects, row_effects}
+use Rattle.exec_ledger.specs.Together.{row_replies}
+use Rattle.executor.specs.FinishCalls.{FinishedWhile}
+use Rattle.executor.specs.Lives.{Abandoned, Cleared, Exchange, Finished, Row, Tidied, Took}
+use Rattle.executor.specs.Lives.{Does as Called}
+use Rattle.executor.specs.Parts.{IsAnswered, IsPlain, events_of, moment_in, part_of}
+use Rattle.executor.specs.RowCalls.{TakesRow}
+use Rattle.executor.specs.Sessions.{Input, TakesWhile, closed_reply}
+use Rattle.executor.specs.Sights.{Sight, due_in}
+use Rattle.executor.specs.TidyCalls.{TidiesWhile}
+use Rattle.executor.specs.Isolated.{cut, isolated_of}
+use Rattle.executor.specs.declared.session.InputOf.TheVariants as input
+use Rattle.executor.proofs.Isolation.Batches.{AllRefused, AreToldOf, failed_told, keep_own, row_alone, row_does}
+use Rattle.executor.proofs.Isolation.Changes.{AreFresh, Stands}
+use Rattle.executor.proofs.Isolation.Finishes.{finish_does, finish_done}
+use Rattle.executor.proofs.Isolation.Requests.{AllKeep, Does, Seen, commands, rested, seen, seen_behind}
+use Rattle.executor.proofs.Isolation.Turns.{AllBeginOwn, turn_does, turn_done}
+
+-- what a closed executor replies is not plain
+pub closed_plain : (i : Input) (r : Reply) → r ≡ closed_reply i → IsPlain r → ⊥
+closed_plain (input.Request now request) r is plain = subst IsPlain is plain
+closed_plain (input.Turn now) r is plain = let bad : turn_end.Closed ≡ turn_end.Done = subst IsPlain is plain in cc
+
+-- the first of new events, and events that are one's own after others
+pub first_fresh : (s : State) (es fs : List Event) → AreFresh s (es ++ fs) → AreFresh s es
+first_fresh s [] fs h = tt
+first_fresh s (e ∷ es) fs h = (h.0, first_fresh (after s e) es fs h.1)
+
+pub own_append : (mine : ℕ → Bool) (id : List ℕ) (es fs : List Event) → AllBeginOwn mine id es → AllBeginOwn mine id fs
+    → AllBeginOwn mine id (es ++ fs)
+own_append mine id [] fs one two = two
+own_append mine id (e ∷ es) fs one two = (one.0, own_append mine id es fs one.1 two)
+
+-- each resource by itself, as it is in an executor
+pub here : {D : Type 0} (x : Sight D) (id : List ℕ) → Stands (isolated_of x id) x.state (due_in x) id
+here x id = record { resource = refl; due = λ call there. refl; calls = le_refl x.state.next_call; runs = le_refl x.state.next_run }
+
+-- What a call did, as one resource sees it: the state and the due moments after its events, and after those of others that a disk
+-- fault left pending as it closed the executor.
+pub record Went {D : Type 0} (mine : ℕ → Bool) (id : List ℕ) (at : ℕ) (old new : Sight D) (es : List Event) : Type 0 where
+  pub more : List Event
+  pub does : Does at (seen old) (seen new) (es ++ more)
+  pub others : events_of id more ≡ []
+  pub begins : AllBeginOwn mine id more
+  pub whole : new.is_open ≡ true → more ≡ []
+
+module _ {D : Type 0} (look : D → View) (mine : ℕ → Bool) (id : List ℕ) where
+  -- all of it is recorded, or nothing was done
+  went_so : (at : ℕ) (old new : Sight D) (es : List Event) → Does at (seen old) (seen new) es → Went mine id at old new es
+  went_so at old new es does = record {
+    more = [];
+    does = subst (λ (l : List Event). Does at (seen old) (seen new) l) (sym (append-nil es)) does;
+    others = refl;
+    begins = tt;
+    whole = λ _. refl;
+  }
+
+  went_nowhere : (at : ℕ) (old new : Sight D) (d : Effects) → old.state.clock ≤ at → seen new ≡ seen old → d ≡ no_effects
+      → Went mine id at old new d.events
+  went_nowhere at old new d clock same none =
+      subst (λ (x : Effects). Went mine id at old new x.events) (sym none) (went_so at old new [] (rested at (seen old) (seen new) clock same))
+
+  -- a request, and a turn
+  request_went : (b : Bool) (now : ℕ) (r : Reply) (old new : Sight D) (d : Effects) (request : Request) → old.state.clock ≤ cut now
+      → TakesWhile b look (input.Request now request) old new r d → Went mine id (cut now) old new d.events
+  request_went true now r old new d (asked.Command c) clock takes = went_so (cut now) old new d.events (commands look now c old new r d clock takes).does
+  request_went true now r old new d (asked.Question q) clock takes = went_nowhere (cut now) old new d clock (ap seen takes.serves.1) takes.does
+  request_went false now r old new d request clock takes = went_nowhere (cut now) old new d clock (ap seen takes.1) takes.2
+
+  turn_went : (b : Bool) (now : ℕ) (r : Reply) (old new : Sight D) (d : Effects) → old.state.clock ≤ cut now → IsPlain r
+      → TakesWhile b look (input.Turn now) old new r d → Went mine id (cut now) old new d.events
+  turn_went true now r old new d clock plain takes =
+      went_so (cut now) old new d.events (turn_does now old new r d (turn_done look now old new r d clock plain takes) clock)
+  turn_went false now r old new d clock plain takes = absurd (closed_plain (input.Turn now) r takes.0 plain)
+
+  -- a turn that begins nothing
+  finish_went : (b : Bool) (now : ℕ) (end : TurnEnd) (old new : Sight D) (d : Effects) → old.state.clock ≤ cut now → end ≡ turn_end.Done
+      → FinishedWhile b look now old new end d → Went mine id (cut now) old new d.events
+  finish_went true now end old new d clock done (takes, did) =
+      let finish = finish_done look now old new end takes clock done in
+      subst (λ (x : Effects). Went mine id (cut now) old new x.events) (sym did)
+      (went_so (cut now) old new takes.turns.effects.events (finish_does now old new takes.turns.effects finish clock))
+  finish_went false now end old new d clock done takes = absurd (let bad : turn_end.Closed ≡ turn_end.Done = sym takes.0 ∙ done in cc)
+
+  tidy_went : (b : Bool) (at : ℕ) (end : TidyEnd) (old new : Sight D) (d : Effects) → old.state.clock ≤ at → d ≡ no_effects
+      → TidiesWhile b look old new end → Went mine id at old new d.events
+  tidy_went true at end old new d clock none (tidies, beside) =
+      let seen_in : Held D → Seen = λ h. record { state = h.state; due = due_of h.monitors } in
+      went_nowhere at old new d clock (ap seen_in tidies.same) none
+  tidy_went false at end old new d clock none rests = went_nowhere at old new d clock (ap seen rests.1) none
+
+  -- commands in a row
+  row_went : (now : ℕ) (cs : List Command) (rs : List Reply) (old new : Sight D) (d : Effects) → old.state.clock ≤ cut now
+      → AllByRecursion IsAnswered (part_of id (Row now cs rs)) → TakesRow look now cs old new rs d → Went mine id (cut now) old new d.events
+  row_went now cs rs old new d clock plain row = by new.is_open refl row.takes.told (same_events row.does)
+    where
+      es : List Event
+      es = row.takes.events
+
+      did : Does (cut now) (seen old) (seen_behind (seen old) es) es × AllKeep es
+      did = row_does now id (seen old) cs row.takes.meant es clock row.takes.answered
+
+      state : new.state ≡ after_all old.state es
+      state = ap (λ (x : Held D). x.state) row.takes.records.went.same
+
+      done : Does (cut now) (seen old) (seen new) es
+      done = record {
+        state = state;
+        due = row.takes.records.went.due;
+        next = did.0.next;
+        clock = subst (λ (s : State). s.clock ≤ cut now) (sym state) did.0.clock;
+      }
+
+      by : (b : Bool) → new.is_open ≡ b → rs ≡ row_replies b row.takes.meant → d.events ≡ (row_effects b es).events
+          → Went mine id (cut now) old new d.events
+      by true is told events = subst (λ (l : List Event). Went mine id (cut now) old new l) (sym events) (went_so (cut now) old new es done)
+      by false is told events =
+          let bad = failed_told row.takes.meant in record {
+            more = es;
+            does = subst (λ (l : List Event). Does (cut now) (seen old) (seen new) (l ++ es)) (sym events) done;
+            others = (row_alone now id (isolated_of old id) (seen old) cs rs row.takes.meant es clock plain (here old id) row.takes.answered
+                (subst (λ (l : List Reply). AreToldOf l row.takes.meant) (sym told) bad.0)).1 (subst AllRefused (sym told) bad.1);
+            begins = keep_own mine id es did.1;
+            whole = λ open_now. absurd (true≢false (sym open_now ∙ is));
+          }
+
+  -- any call
+  pub call_went : (at : ℕ) (e : Exchange) (old new : Sight D) (d : Effects) → old.state.clock ≤ moment_in at e
+      → AllByRecursion IsAnswered (part_of id e) → Called look e old new d → Went mine id (moment_in at e) old new d.events
+  call_went at (Took (input.Request now request) r) old new d clock plain does = request_went old.is_open now r old new d request clock does
+  call_went at (Took (input.Turn now) r) old new d clock plain does = turn_went old.is_open now r old new d clock plain.0 does
+  call_went at (Row now cs rs) old new d clock plain does = row_went now cs rs old new d clock plain does
+  call_went at (Finished now end) old new d clock plain does = finish_went old.is_open now end old new d clock plain.0 does
+  call_went at (Tidied end) old new d clock plain does = tidy_went old.is_open at end old new d clock does.1 does.0
+  call_went at Cleared old new d clock plain does = went_nowhere at old new d clock (ap seen does.0) does.1
+  call_went at Abandoned old new d clock plain does = went_nowhere at old new d clock (ap seen does.0) does.1
