@@ -2,14 +2,23 @@
 ghost use Rattle.std.specs.Prelude.{◌≡◌, ◌+◌, ◌-◌, ◌≤◌};
 ghost use Rattle.std.specs.Duration.{as_nanos, max_nanos};
 
+use libc::sched_yield;
 use ocf_types::Moment;
 use std::io;
 use std::rt::Clock;
 use std::time::Duration;
 
+// The longest pause in which the processor is offered to others again and again, in place of a sleep, in microseconds: the
+// system lets a sleep last some 50 microseconds longer than it was asked for.
+const OFFERED: u64 = 100;
+
+// How often the processor is offered in one pause at most.
+const OFFERS: u32 = 1_000;
+
 /// The clock of a run: it shows the wall clock's time as the run began, or that of its journal where that is greater, and
 /// from then on counts up as the monotonic clock does. So a step of the wall clock changes no timeout, no interval and no
-/// limit, and a journal whose clock is ahead goes on from there.
+/// limit, and a journal whose clock is ahead goes on from there. A sleep of at most 100 microseconds is exact: the processor is
+/// offered to others until it is over.
 #[derive(Drop)]
 pub struct RunClock<'a, K> {
     clock: &'a K,
@@ -40,6 +49,22 @@ impl<'a, K: Clock> RunClock<'a, K> {
     }
 }
 
+// Offers the processor to others until so much time has passed, and says whether it has: not where the clock does not go on.
+fn offers(clock: &impl Clock, duration: Duration) -> bool {
+    let Ok(begun) = clock.monotonic() else {
+        return false;
+    };
+    for _ in 0..OFFERS {
+        sched_yield();
+        match clock.monotonic() {
+            Ok(now) if now.saturating_sub(begun) >= duration => return true,
+            Ok(now) if now > begun => {}
+            _ => return false,
+        }
+    }
+    false
+}
+
 impl<K: Clock> Clock for RunClock<'_, K> {
     fn monotonic(&self) -> io::Result<Duration> {
         self.clock.monotonic()
@@ -53,6 +78,8 @@ impl<K: Clock> Clock for RunClock<'_, K> {
     }
 
     fn sleep(&self, duration: Duration) {
-        self.clock.sleep(duration);
+        if duration > Duration::from_micros(OFFERED) || !offers(self.clock, duration) {
+            self.clock.sleep(duration);
+        }
     }
 }
