@@ -1,7 +1,7 @@
 #!/usr/bin/env python3
 """The two ends of a run: a reader that goes away ends a drain, a watch, a run that waits for a line and one that serves within a
-second, with its agents, and an opening that waits for what is left; descriptors that do not block are waited for; behind a device that
-fails a run waits, too; starts with signals ignored, which are named; and starts that are refused: with SIGCHLD ignored, and with a root
+second, with its agents, and an opening that waits for what is left; descriptors that do not block are waited for; lines come a byte at a
+time, break off, or are a million at once; behind a device that fails a run waits, too; starts with signals ignored, which are named; and starts that are refused: with SIGCHLD ignored, and with a root
 that is not absolute.
 Use: ends.py PROGRAM"""
 import fcntl
@@ -116,6 +116,55 @@ class Ends(helper.Check):
     def test_serve_not_blocking(self):
         """serve where neither end blocks"""
         self.not_blocking("serve")
+
+    def test_byte_at_a_time(self):
+        """run and serve answer lines that come a byte at a time as those that come at once"""
+        told = helper.lines(helper.register("r1", "Dummy"), {"op": "list"}, helper.register("r2", "Dummy")) + b'\n{"op":"list"}\n'
+        for word in ("run", "serve"):
+            whole = helper.run(word, "--memory", told=told)
+            run = subprocess.Popen([PROGRAM, word, "--memory"], stdin=subprocess.PIPE, stdout=subprocess.PIPE, bufsize=0)
+            self.addCleanup(run.kill)
+            for place in range(len(told)):
+                run.stdin.write(told[place:place + 1])
+            found, _ = run.communicate(timeout=helper.PATIENCE)
+            self.assertEqual((run.returncode, found), (0, whole.stdout), word)
+            self.assertEqual(found.count(b"\n"), 4, word)
+
+    def test_half_a_line(self):
+        """an input that ends amid a line: its half is refused as syntax, and what was recorded before is left"""
+        for word in ("run", "serve"):
+            folder = self.journal(word)
+            done = helper.run(word, "--journal", folder, told=helper.lines(helper.register("r1", "Dummy")) + b'{"op":"li')
+            self.assertEqual((done.returncode, len(helper.replies(done.stdout))), (0, 2), word)
+            self.assertEqual(helper.replies(done.stdout)[1]["number"], 1, word)
+            again = helper.run("run", "--journal", folder, told=helper.lines({"op": "list"}))
+            self.assertEqual(helper.replies(again.stdout), [{"ok": True, "resources": ["r1"]}], word)
+
+    def test_gone_amid_a_line(self):
+        """a client that is gone amid a line: run and serve end within a second, and what was recorded before is left"""
+        for word in ("run", "serve"):
+            folder = self.journal(word)
+            run = subprocess.Popen([PROGRAM, word, "--journal", folder], stdin=subprocess.PIPE, stdout=subprocess.PIPE, stderr=subprocess.PIPE)
+            self.addCleanup(run.kill)
+            run.stdin.write(helper.lines(helper.register("r1", "Dummy")) + b'{"op":"li')
+            run.stdin.flush()
+            self.assertEqual(run.stdout.readline(), b'{"ok":true}\n', word)
+            self.ends_unheard(run)
+            again = helper.run("run", "--journal", folder, told=helper.lines({"op": "list"}))
+            self.assertEqual(helper.replies(again.stdout), [{"ok": True, "resources": ["r1"]}], word)
+
+    @helper.slow
+    def test_many(self):
+        """a million lines that are there at once are answered by a run, each"""
+        asked = self.place("asked")
+        with open(asked, "wb") as file:
+            file.write(b'{"op":"list"}\n' * 1_000_000)
+        with open(asked, "rb") as file:
+            run = subprocess.Popen([PROGRAM, "run", "--memory"], stdin=file, stdout=subprocess.PIPE)
+        self.addCleanup(run.kill)
+        count = sum(part.count(b"\n") for part in iter(lambda: run.stdout.read(1 << 20), b""))
+        run.stdout.close()
+        self.assertEqual((run.wait(helper.PATIENCE), count), (0, 1_000_000))
 
     def test_children_ignored(self):
         """a program that was started with SIGCHLD ignored says so, and makes no journal"""

@@ -1,5 +1,5 @@
 -- What a line is answered, as the relations say it.
-use Rattle.std.proofs.Common.{◌≡◌, ◌+◌, ◌↔◌, ◌⊎◌, ℕ, Bool, true, false, [], ◌∷◌, Result, Ok, Err, OnErr, OnOk, inl, inr, refl, sym, ap, subst, true≢false, ◌∙◌}
+use Rattle.std.proofs.Common.{◌≡◌, ◌+◌, ◌↔◌, ℕ, Bool, true, false, [], ◌∷◌, Result, Ok, inl, inr, refl, sym, ap, subst, true≢false, ◌∙◌}
 use Rattle.ocf_types.specs.Kinds.{Reply, Request}
 use Rattle.ocf_types.specs.declared.refusal.Refusal.{Refusal}
 use Rattle.ocf_types.specs.declared.refusal.Refusal.TheVariants as refusal
@@ -16,13 +16,16 @@ use Rattle.exec_trace.specs.Edges.{EdgeView}
 use Rattle.exec_trace.specs.declared.event.IoEvent.TheVariants.{Shown}
 use Rattle.exec_session.specs.Answers.{DrainTold, DrainsFor, IsClosedReply, IsOpenReply, Source}
 use Rattle.exec_session.specs.Breaks.{AnswerBreaks}
-use Rattle.exec_session.specs.Broken.{DrainBreaks, DrainBreaksFor, ReplyBreaks}
+use Rattle.exec_session.specs.Broken.{DrainBreaks, DrainBreaksFor, DrainEndsEarly, ReplyBreaks}
 use Rattle.exec_session.specs.Drains.{Drains}
 use Rattle.exec_session.specs.declared.drain.Terms.{Terms}
 use Rattle.exec_commands.specs.declared.ends.DrainEnd.{DrainEnd}
 use Rattle.exec_session.specs.Progress.{Answers, AnswersSo}
 use Rattle.exec_session.specs.Rules.{MakesRoom, Rules}
-use Rattle.exec_session.specs.Spots.{Position, Spot, Telling, Tells, TellsPart, at_of, behind, moved, noted, spot}
+use Rattle.exec_session.specs.Spots.{Keeps, Position, Spot, Telling, Tells, TellsPart, at_of, behind, moved, noted, spot}
+use Rattle.exec_session.specs.Steps.{Sends, Steps}
+use Rattle.exec_session.proofs.EventLemmas.{here_keeps}
+use Rattle.exec_session.proofs.StepLemmas.{step_after}
 
 module _ {D : Type 0} (look : D → View) (source : Source) (rules : Rules) where
   module _ (tells_so : Telling D) where
@@ -67,38 +70,33 @@ module _ {D : Type 0} (look : D → View) (source : Source) (rules : Rules) wher
           closes = closes;
         }) tells
 
-  -- the reply of a send that was made, or broke off
-  pub answers_by : {T E : Type 0} (r : Result T E) (found : Result Line Refusal) (reply : LineReply) (p noticed q : Spot D)
-      → ((tells_so : Telling D) → tells_so noticed q (Answered reply ∷ []) → AnswersSo tells_so look source rules found p q)
-      → OnOk r (Tells rules.form noticed q (Answered reply ∷ [])) → OnOk r (Answers look source rules found p q)
-  answers_by (Ok done) found reply p noticed q answers tells = answers (Tells rules.form) tells
-  answers_by (Err fault) found reply p noticed q answers tells = tt
-
-  pub breaks_by : {T E : Type 0} (r : Result T E) (found : Result Line Refusal) (reply : LineReply) (p noticed q : Spot D)
-      → ((tells_so : Telling D) → tells_so noticed q (Answered reply ∷ []) → AnswersSo tells_so look source rules found p q)
-      → OnErr r (TellsPart rules.form noticed q (Answered reply ∷ [])) → OnErr r (AnswerBreaks look source rules found p q)
-  breaks_by (Ok done) found reply p noticed q answers tells = tt
-  breaks_by (Err fault) found reply p noticed q answers tells = inl (answers (TellsPart rules.form) tells)
+  -- the reply of a send that was made, or broke off, after what was kept
+  pub answers_step : {T E : Type 0} (r : Result T E) (found : Result Line Refusal) (reply : LineReply) (p m q : Position D) → Keeps p m
+      → ((tells_so : Telling D) → tells_so m.at q.at (Answered reply ∷ []) → AnswersSo tells_so look source rules found p.at q.at)
+      → Sends rules.form (Answered reply ∷ []) m q r
+      → Steps (Answers look source rules found p.at) (AnswerBreaks look source rules found p.at) p q r
+  answers_step r found reply p m q keeps answers sends =
+      step_after p m q r keeps sends (λ tells. answers (Tells rules.form) tells) (λ tells. inl (answers (TellsPart rules.form) tells))
 
   -- a drain or a watch, of which this is an open executor's answer
-  pub drain_answers : {T E : Type 0} (r : Result T E) (found : Result Line Refusal) (ends_idle : Bool) (limit : ℕ) (p q : Spot D)
-      → p.executor.is_open ≡ true
-      → ((noticed : Spot D) (reply : LineReply) → DrainsFor look ends_idle limit rules p noticed reply → IsOpenReply look source rules p noticed found reply)
-      → OnOk r (DrainTold (Tells rules.form) look ends_idle limit rules p q) → OnOk r (Answers look source rules found p q)
-  drain_answers (Ok done) found ends_idle limit p q is_open is told =
-      open_answered (Tells rules.form) found told.reply p told.noticed q is_open (is told.noticed told.reply told.drains) told.tells
-  drain_answers (Err fault) found ends_idle limit p q is_open is told = tt
+  pub drain_step : {T E : Type 0} (r : Result T E) (found : Result Line Refusal) (ends_idle : Bool) (limit : ℕ) (p q : Position D)
+      → p.at.executor.is_open ≡ true
+      → ((noticed : Spot D) (reply : LineReply) → DrainsFor look ends_idle limit rules p.at noticed reply
+      → IsOpenReply look source rules p.at noticed found reply)
+      → (DrainBreaksFor look ends_idle limit rules p.at q.at → ReplyBreaks look rules p.at q.at found)
+      → Steps (DrainTold (Tells rules.form) look ends_idle limit rules p.at) (DrainEndsEarly look ends_idle limit rules p.at) p q r
+      → Steps (Answers look source rules found p.at) (AnswerBreaks look source rules found p.at) p q r
+  drain_step r found ends_idle limit p q is_open is broke step =
+      step_after p p q r (here_keeps p) step (λ told. told_so (Tells rules.form) told) breaks
+    where
+      told_so : (tells_so : Telling D) → DrainTold tells_so look ends_idle limit rules p.at q.at
+          → AnswersSo tells_so look source rules found p.at q.at
+      told_so tells_so told =
+          open_answered tells_so found told.reply p.at told.noticed q.at is_open (is told.noticed told.reply told.drains) told.tells
 
-  pub drain_breaks : {T E : Type 0} (r : Result T E) (found : Result Line Refusal) (ends_idle : Bool) (limit : ℕ) (p q : Spot D)
-      → p.executor.is_open ≡ true
-      → ((noticed : Spot D) (reply : LineReply) → DrainsFor look ends_idle limit rules p noticed reply → IsOpenReply look source rules p noticed found reply)
-      → (DrainBreaksFor look ends_idle limit rules p q → ReplyBreaks look rules p q found)
-      → OnErr r (DrainTold (TellsPart rules.form) look ends_idle limit rules p q ⊎ DrainBreaksFor look ends_idle limit rules p q)
-      → OnErr r (AnswerBreaks look source rules found p q)
-  drain_breaks (Ok done) found ends_idle limit p q is_open is broke breaks = tt
-  drain_breaks (Err fault) found ends_idle limit p q is_open is broke (inl told) =
-      inl (open_answered (TellsPart rules.form) found told.reply p told.noticed q is_open (is told.noticed told.reply told.drains) told.tells)
-  drain_breaks (Err fault) found ends_idle limit p q is_open is broke (inr breaks) = inr (is_open, broke breaks)
+      breaks : DrainEndsEarly look ends_idle limit rules p.at q.at → AnswerBreaks look source rules found p.at q.at
+      breaks (inl told) = inl (told_so (TellsPart rules.form) told)
+      breaks (inr early) = inr (is_open, broke early)
 
 module _ {D : Type 0} (look : D → View) (rules : Rules) (ends_idle : Bool) (limit n start : ℕ) (p m q : Position D) where
   abbrev Held : ℕ → Terms

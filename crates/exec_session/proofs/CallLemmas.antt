@@ -219,6 +219,9 @@ module _ {D : Type 0} (look : D → View) where
     open_goes source p s q (Ok (line.Meta provider agent limit)) reply is_open ((meta, gives, is), same) tells =
         both_go p s q (stays p s same)
         (plain_go rules.form s q reply (is_plain s.executor reply (answer.Meta meta) is (refl, tt)) tells)
+    open_goes source p s q (Ok (line.Direct direct)) reply is_open (is, same) tells =
+        both_go p s q (stays p s same)
+        (plain_go rules.form s q reply (is_plain s.executor reply (answer.Direct direct) is (refl, tt)) tells)
     open_goes source p s q (Err why) reply is_open (is, same) tells =
         both_go p s q (stays p s same)
         (plain_go rules.form s q reply (is_plain s.executor reply (answer.Request (Refused why)) is (refl, tt)) tells)

@@ -8,7 +8,6 @@ use Rattle.exec_commands.specs.declared.line.Line.{Line}
 use Rattle.exec_commands.specs.declared.line.Line.TheVariants as line
 use Rattle.exec_commands.specs.declared.reply.LineReply.TheVariants as answer
 use Rattle.exec_client.specs.Said.{Answered}
-use Rattle.exec_output.specs.declared.send.IoFault.{IoFault}
 use Rattle.exec_session.specs.Answers.{Source}
 use Rattle.exec_session.specs.Held.{AnswersHeld, MayAnswerAtOnce, MayTakeAtOnce, asks}
 use Rattle.exec_session.specs.Progress.{AnswersSo}
@@ -27,6 +26,7 @@ line_at_once way is (Ok (line.Drain limit)) = tt
 line_at_once way is (Ok (line.Watch limit)) = tt
 line_at_once way is (Ok line.Tidy) = tt
 line_at_once way is (Ok line.Leave) = is
+line_at_once way is (Ok (line.Direct direct)) = tt
 line_at_once way is (Err why) = tt
 
 -- a run by lines alone answers each so
@@ -50,7 +50,7 @@ answered_held tells_so look source rules provider agent limit given p q is_open 
   tells = tells;
 }
 
-pub held_err : {D : Type 0} (look : D → View) (source : Source) (rules : Rules) (held : Held) (p q : Spot D) (r : Result Bool IoFault)
+pub held_err : {D E : Type 0} (look : D → View) (source : Source) (rules : Rules) (held : Held) (p q : Spot D) (r : Result Bool E)
     → IsErr r → AnswersSo (TellsPart rules.form) look source rules (Ok (asks held)) p q → MayBreakOff q.events
     → AnswersHeld look source rules held p q r
 held_err look source rules held p q (Ok done) bad broke cause = let none : ⊥ = cc in absurd none

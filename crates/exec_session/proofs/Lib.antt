@@ -8,6 +8,7 @@ pub mod CallLemmas
 pub mod TellLemmas
 pub mod HeldLemmas
 pub mod LeaveLemmas
+pub mod StepLemmas
 pub mod BreakLemmas
 pub mod RoomLemmas
 pub mod LastLemmas

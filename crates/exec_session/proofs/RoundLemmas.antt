@@ -8,13 +8,11 @@ use Rattle.ocf_types.specs.declared.reply.TurnEnd.{TurnEnd}
 use Rattle.ocf_types.specs.declared.reply.TurnEnd.TheVariants.{Done}
 use Rattle.disk_model.specs.View.{View}
 use Rattle.executor.specs.Sights.{Sight}
-use Rattle.exec_output.specs.declared.send.IoFault.{IoFault}
 use Rattle.exec_trace.specs.declared.event.IoEvent.{IoEvent}
 use Rattle.exec_trace.specs.declared.event.IoEvent.TheVariants.{Looked, Rested}
 use Rattle.exec_session.specs.Answers.{Source}
 use Rattle.exec_session.specs.Breaks.{BreaksOff, OwnTurnBreaks, in_line, in_own_turn}
-use Rattle.exec_session.specs.Gathered.{waiting}
-use Rattle.exec_session.specs.Held.{AnswersHeld, asks, held_lines}
+use Rattle.exec_session.specs.Held.{asks, held_lines}
 use Rattle.exec_session.specs.Pausing.{IsQuietSince, IsUntilDue, MayPause}
 use Rattle.exec_state.specs.Store.{all_pairs}
 use Rattle.exec_trace.specs.Events.{last_shown}
@@ -25,8 +23,9 @@ use Rattle.exec_session.specs.Pending.{IsClear}
 use Rattle.exec_session.specs.Rules.{Rules}
 use Rattle.exec_session.specs.Looks.{HasLooked, Lines, misses_in, reads_in}
 use Rattle.exec_session.specs.Runs.{IsWait, MakesOwnTurn, MakesTurns, MayGoOn, MayRest, MayTurn, OwnTurn, Reaches, ReachesFault, ReachesLeave, answers, of_command, turn, turned}
-use Rattle.exec_session.specs.Spots.{Lasts, MayBreakOff, Position, Spot, behind, noted, paused, position, spot}
-use Rattle.exec_session.specs.Waiting.{Comes, ComesOrEnds, GoesRound, HasCome, HasComeRound, IsReadTo, IsRound, IsSince, LooksOnce, MayBegin, MayTakeBehind, MayWait, Midway, Waits, WaitsForThere, midway, more, still}
+use Rattle.exec_session.specs.Spots.{Lasts, MayBreakOff, Position, Spot, TellsPart, behind, noted, paused, position, spot}
+use Rattle.exec_session.specs.Progress.{Answers, AnswersSo}
+use Rattle.exec_session.specs.Waiting.{Comes, ComesOrEnds, GoesRound, HasCome, HasComeRound, IsReadTo, IsRound, IsSince, LooksOnce, MayBegin, MayTakeBehind, MayWait, Midway, Rounds, Stage, Waits, WaitsForThere, midway, more, still}
 use Rattle.exec_session.specs.declared.context.Way.{Way}
 use Rattle.exec_session.specs.declared.context.Way.TheVariants.{Run, Serve}
 use Rattle.exec_session.specs.declared.held.Held.{Held}
@@ -35,7 +34,7 @@ use Rattle.exec_session.specs.declared.lines.Taken.{Taken}
 use Rattle.exec_session.specs.declared.lines.Taken.TheVariants as taken
 use Rattle.exec_session.specs.declared.pending.Pending.{Pending}
 use Rattle.exec_session.proofs.LastLemmas.{lasts_both, lasts_event, lasts_misses, lasts_noted, lasts_reads, lasts_same, looked_later}
-use Rattle.exec_session.proofs.WaitLemmas.{begins, come_more, first_come, go_open, looked, none_there, none_waits, waited}
+use Rattle.exec_session.proofs.WaitLemmas.{begins, come_more, first_come, go_open, looked, none_stays, waited}
 
 pub at_none : {A : Type 0} (o : Option A) (P : Type 0) (Q : A → Type 0) → o ≡ None → MatchOption o P Q → P
 at_none None P Q is m = m
@@ -65,17 +64,13 @@ run_round Run is most = tt
 run_round Serve is most = absurd cc
 
 -- a round may begin
-pub run_begins : {D : Type 0} (way : Way) (q : Spot D) (pending : Pending) → way ≡ Run → MayWait way q.executor pending
-    → WaitsForThere pending q.events → MayBegin way q pending
-run_begins way q pending run waits there = record { waits = waits; there = there; serves = λ serve. absurd cc }
+pub run_begins : {D : Type 0} (way : Way) (s : Midway D) → way ≡ Run → MayWait way s → WaitsForThere s → MayBegin way s
+run_begins way s run waits there = record { stays = record { waits = waits; there = there }; serves = λ serve. absurd cc }
 
-pub serve_begins : {D : Type 0} (way : Way) (q : Spot D) (pending : Pending) → way ≡ Serve → q.executor.is_open ≡ true
-    → waiting pending.gathered ≡ [] → MayBegin way q pending
-serve_begins way q pending serve is_open none = record {
-  waits = none_waits way q.executor pending none (λ run. absurd cc);
-  there = none_there pending q.events none;
-  serves = λ _. (is_open, none);
-}
+pub serve_begins : {D : Type 0} (way : Way) (s : Midway D) → way ≡ Serve → s.place.at.executor.is_open ≡ true → s.commands ≡ []
+    → MayBegin way s
+serve_begins way s serve is_open none =
+    record { stays = none_stays way s none (λ run. absurd cc); serves = λ _. (is_open, none) }
 
 -- where a run is, by its parts
 pub position_is : {D : Type 0} (q : Position D) (s : Spot D) (left : Option (List ℕ)) → q.at ≡ s → q.left ≡ left → q ≡ position s left
@@ -149,12 +144,13 @@ module _ {D : Type 0} (since now : ℕ) where
           ∙ ap (λ (es : List IoEvent). position (spot m.at.executor m.at.heard es) m.left) (append-nil m.at.events))) waits
 
 -- a look that may have been made
-pub wait_looked : {D : Type 0} (way : Way) (p q : Position D) (pending : Pending) → LooksOnce p q → MayWait way p.at.executor pending
-    → MayWait way q.at.executor pending
+pub wait_looked : {D : Type 0} (way : Way) (p q : Position D) (pending : Pending) → LooksOnce p q → MayWait way (midway p pending)
+    → MayWait way (midway q pending)
 wait_looked way p q pending (inl same) may =
-    subst (λ (w : Position _). MayWait way w.at.executor pending) (sym same) may
+    subst (λ (w : Position _). MayWait way (midway w pending)) (sym same) may
 wait_looked way p q pending (inr (ready, same)) may =
-    subst (λ (w : Position _). MayWait way w.at.executor pending) (sym same) may
+    subst (λ (w : Position _). MayWait way (midway w pending)) (sym same)
+    (record { few = may.few; while_open = may.while_open; free = may.free })
 
 pub lasts_looked : {D : Type 0} (p q : Position D) → LooksOnce p q → Lasts p.at q.at
 lasts_looked p q (inl same) = lasts_same p.at q.at (ap (λ (w : Position _). w.at) same)
@@ -208,7 +204,7 @@ module _ {D : Type 0} (look : D → View) (source : Source) (rules : Rules) (p :
   -- the line that is held was answered, or broke off
   pub held_answered : rules.way ≡ Serve → (most : ℕ) → MayTakeBehind rules.way most → (commands : List Command) (held : Option Held)
       (h : Held) (kept : List ℕ) (place place' : Position D) → commands ≡ [] → held ≡ Some h → place'.left ≡ place.left
-      → Come most place commands held kept → AnswersHeld look source rules h place.at place'.at (Ok true)
+      → Come most place commands held kept → Answers look source rules (Ok (asks h)) place.at place'.at
       → MayGoOn rules.way place'.at.executor → Come (most + 1) place' commands None kept
   held_answered way most may commands held h kept place place' none is same come answered goes_on = record {
     count = come.count + 1;
@@ -237,9 +233,9 @@ module _ {D : Type 0} (look : D → View) (source : Source) (rules : Rules) (p :
       subst (λ (w : Position D). Come most w commands held kept) (sym (position_is place' place.at place.left same same')) come
 
   pub held_breaks : (most : ℕ) (commands : List Command) (held : Option Held) (h : Held) (kept : List ℕ) (place : Position D) (s : Spot D)
-      (fault : IoFault) → commands ≡ [] → held ≡ Some h → Come most place commands held kept
-      → AnswersHeld look source rules h place.at s (Err fault) → BreaksOff look source rules p s
-  held_breaks most commands held h kept place s fault none is come (broke, cause) = record {
+      → commands ≡ [] → held ≡ Some h → Come most place commands held kept
+      → AnswersSo (TellsPart rules.form) look source rules (Ok (asks h)) place.at s × MayBreakOff s.events → BreaksOff look source rules p s
+  held_breaks most commands held h kept place s none is come (broke, cause) = record {
     own = own;
     count = come.count;
     lines = Ok (asks h) ∷ [];
@@ -333,15 +329,15 @@ module _ {D : Type 0} (look : D → View) (source : Source) (rules : Rules) (p :
   ends_more n m commands held kept place taken.Leaves le come = come
 
   -- a round that ends the run
-  pub round_ends : (quiet : ℕ) (end : TurnEnd) (most : ℕ) (s : Midway D) (step : Taken) → step ≢ taken.More
-      → ComesOrEnds look source rules p own most s step → GoesRound look source rules p quiet end s (Ok step)
-  round_ends quiet end most s taken.More ends come = absurd (ends refl)
-  round_ends quiet end most s taken.End ends come = come
-  round_ends quiet end most s taken.Closed ends come = come
-  round_ends quiet end most s taken.Leaves ends come = come
+  pub round_ends : (E : Type 0) (quiet : ℕ) (end : TurnEnd) (most : ℕ) (s : Midway D) (step : Taken) → step ≢ taken.More
+      → ComesOrEnds look source rules p own most s step → GoesRound {E = E} look source rules p quiet end s (Ok step)
+  round_ends E quiet end most s taken.More ends come = absurd (ends refl)
+  round_ends E quiet end most s taken.End ends come = come
+  round_ends E quiet end most s taken.Closed ends come = come
+  round_ends E quiet end most s taken.Leaves ends come = come
 
   -- a round of a run by lines alone
-  pub round_read : rules.way ≡ Run → (quiet : ℕ) (end : TurnEnd) (most : ℕ) (s : Midway D) (r : Result Taken IoFault)
+  pub round_read : {E : Type 0} → rules.way ≡ Run → (quiet : ℕ) (end : TurnEnd) (most : ℕ) (s : Midway D) (r : Result Taken E)
       → IsSince own quiet end (held_lines s.held) s.place.at → Comes look source rules p own most s r
       → GoesRound look source rules p quiet end s r
   round_read way quiet end most s (Ok taken.More) since come =
@@ -401,9 +397,31 @@ pub quiet_later : (own : OwnTurn) (book : List Entry) (now quiet since : ℕ) �
 quiet_later own book now quiet since le (inl began) = inl began
 quiet_later own book now quiet since le (inr (runs, later)) = inr (runs, omega (arith, le, later))
 
+-- a round that ends the run, in which the last step lasted so
+pub round_over : {D E : Type 0} (look : D → View) (source : Source) (rules : Rules) (s t : Stage D) (step : Taken) → step ≢ taken.More
+    → Lasts s.at.place.at t.at.place.at
+    → ((p : Position D) → HasComeRound look source rules p s.quiet s.end s.at
+    → GoesRound {E = E} look source rules p t.quiet t.end t.at (Ok step)) → Rounds {E = E} look source rules s t (Ok step)
+round_over look source rules s t step ends lasts goes =
+    record { lasts = lasts; longer = λ is. absurd (ends is); begins = λ is. absurd (ends is); goes = goes }
+
+-- one that breaks off
+pub round_fails : {D E : Type 0} (look : D → View) (source : Source) (rules : Rules) (s t : Stage D) (r : Result Taken E) → IsErr r
+    → Lasts s.at.place.at t.at.place.at
+    → ((p : Position D) → HasComeRound look source rules p s.quiet s.end s.at → BreaksOff look source rules p t.at.place.at)
+    → Rounds look source rules s t r
+round_fails look source rules s t (Ok x) bad lasts breaks = let none : ⊥ = cc in absurd none
+round_fails look source rules s t (Err e) bad lasts breaks = record { lasts = lasts; longer = tt; begins = tt; goes = breaks }
+
+pub closed_ends : taken.Closed ≢ taken.More
+closed_ends is = cc
+
+pub leaves_ends : taken.Leaves ≢ taken.More
+leaves_ends is = cc
+
 -- a round that breaks off
-pub round_err : {D : Type 0} (look : D → View) (source : Source) (rules : Rules) (p : Position D) (quiet : ℕ) (end : TurnEnd) (s : Midway D)
-    (r : Result Taken IoFault) → IsErr r → BreaksOff look source rules p s.place.at → GoesRound look source rules p quiet end s r
+pub round_err : {D E : Type 0} (look : D → View) (source : Source) (rules : Rules) (p : Position D) (quiet : ℕ) (end : TurnEnd) (s : Midway D)
+    (r : Result Taken E) → IsErr r → BreaksOff look source rules p s.place.at → GoesRound look source rules p quiet end s r
 round_err look source rules p quiet end s (Ok x) bad breaks = let none : ⊥ = cc in absurd none
 round_err look source rules p quiet end s (Err e) bad breaks = breaks
 
@@ -434,13 +452,9 @@ round_again look source rules p now quiet end q s lasts come = record {
 -- nothing is done yet
 pub first_round : {D : Type 0} (look : D → View) (source : Source) (rules : Rules) (p : Position D) (pending : Pending) (quiet : ℕ)
     (end : TurnEnd) → IsClear pending → end ≡ Done → p.at.executor.is_open ≡ true
-    → MayBegin rules.way p.at pending × HasComeRound look source rules p quiet end (midway p pending)
+    → MayBegin rules.way (midway p pending) × HasComeRound look source rules p quiet end (midway p pending)
 first_round look source rules p pending quiet end clear none is_open = (
-  record {
-    waits = none_waits rules.way p.at.executor pending clear.none (λ _. clear.free);
-    there = none_there pending p.at.events clear.none;
-    serves = λ _. (is_open, clear.none);
-  },
+  record { stays = none_stays rules.way (midway p pending) clear.none (λ _. clear.free); serves = λ _. (is_open, clear.none) },
   record {
     most = 0;
     own = turned 0 0 Done [] p.at;

@@ -52,6 +52,7 @@ closed_plain x source (Ok (line.Watch limit)) given is = is_plain x given _ is (
 closed_plain x source (Ok line.Tidy) given is = is_plain x given _ is (refl, tt)
 closed_plain x source (Ok line.Leave) given is = is_plain x given _ is (refl, tt)
 closed_plain x source (Ok (line.Request request)) given is = is_plain x given _ is (refl, tt)
+closed_plain x source (Ok (line.Direct direct)) given is = is_plain x given _ is (refl, tt)
 closed_plain x source (Err why) given is = is_plain x given _ is (refl, tt)
 
 module _ {D : Type 0} (look : D → View) where

@@ -11,14 +11,12 @@ use Rattle.disk_model.specs.View.{View}
 use Rattle.executor.specs.Sights.{Sight}
 use Rattle.exec_lines.specs.Buffer.{line_bytes}
 use Rattle.exec_lines.specs.Pieces.{IsMidLine}
-use Rattle.exec_output.specs.declared.send.IoFault.{IoFault}
 use Rattle.exec_trace.specs.Events.{is_failure}
 use Rattle.exec_trace.specs.declared.event.IoEvent.{IoEvent}
 use Rattle.exec_trace.specs.declared.event.IoEvent.TheVariants.{Looked, Peeked, Read}
 use Rattle.exec_session.specs.Answers.{Source}
 use Rattle.exec_session.specs.Breaks.{BreaksOff, at_once, in_event, in_line, in_row}
 use Rattle.exec_session.specs.Broken.{RowBreaks}
-use Rattle.exec_session.specs.Gathered.{waiting}
 use Rattle.exec_session.specs.Held.{asks, held_lines}
 use Rattle.exec_session.specs.Pending.{IsClear}
 use Rattle.exec_session.specs.Progress.{ReadsInput}
@@ -28,7 +26,7 @@ use Rattle.exec_session.specs.Runs.{IsLook, IsWait, MakesTurns, MayGoOn, MayRest
 use Rattle.exec_session.specs.Runs.{answers, here, looks, passes, reads, row, waits}
 use Rattle.exec_session.specs.Spots.{MayBreakOff, Position, Spot, behind, noted, position}
 use Rattle.exec_session.specs.Together.{AnswersAll}
-use Rattle.exec_session.specs.Waiting.{Comes, ComesOrEnds, HasCome, HasFound, IsFound, IsReadTo, IsTaken, MayTakeBehind, MayWait, Midway, TakesFound, WaitsForThere, found_lines, midway}
+use Rattle.exec_session.specs.Waiting.{Comes, ComesOrEnds, HasCome, HasFound, IsFound, IsReadTo, IsTaken, MayStay, MayTakeBehind, MayWait, Midway, TakesFound, WaitsForThere, found_lines, midway}
 use Rattle.exec_session.specs.declared.context.Way.{Way}
 use Rattle.exec_session.specs.declared.context.Way.TheVariants.{Run, Serve}
 use Rattle.exec_session.specs.declared.held.Held.{Held}
@@ -61,14 +59,15 @@ if_ok P Q (Ok x) to p = to x p
 if_ok P Q (Err e) to p = tt
 
 -- none waits
-pub none_waits : {D : Type 0} (way : Way) (x : Sight D) (pending : Pending) → waiting pending.gathered ≡ [] → (way ≡ Run → pending.held ≡ None)
-    → MayWait way x pending
-none_waits way x pending none free =
-    record { few = omega (arith, ap length none); while_open = λ _. none; free = free }
+pub none_waits : {D : Type 0} (way : Way) (s : Midway D) → s.commands ≡ [] → (way ≡ Run → s.held ≡ None) → MayWait way s
+none_waits way s none free = record { few = omega (arith, ap length none); while_open = λ _. none; free = free }
 
 -- then nothing has to be there
-pub none_there : (pending : Pending) (events : List IoEvent) → waiting pending.gathered ≡ [] → WaitsForThere pending events
-none_there pending events none some = absurd (some none)
+pub none_there : {D : Type 0} (s : Midway D) → s.commands ≡ [] → WaitsForThere s
+none_there s none some = absurd (some none)
+
+pub none_stays : {D : Type 0} (way : Way) (s : Midway D) → s.commands ≡ [] → (way ≡ Run → s.held ≡ None) → MayStay way s
+none_stays way s none free = record { waits = none_waits way s none free; there = none_there s none }
 
 -- it was asked whether something is there, and it was
 pub peeked_there : {D : Type 0} (p q : Position D) (has_line : Bool) → q ≡ noted p (Peeked has_line) → has_line ≡ true → IsThere q.at.events
@@ -98,17 +97,16 @@ may_read_free commands held events free there =
     (subst (λ (ls : Lines). MayRead ls events) (sym (append-nil (map of_command commands))) (may_read commands events there))
 
 -- while some wait the executor is open
-pub open_while : {D : Type 0} (way : Way) (x : Sight D) (pending : Pending) → MayWait way x pending → waiting pending.gathered ≢ []
-    → x.is_open ≡ true
-open_while way x pending may some = by x.is_open refl
+pub open_while : {D : Type 0} (way : Way) (s : Midway D) → MayWait way s → s.commands ≢ [] → s.place.at.executor.is_open ≡ true
+open_while way s may some = by s.place.at.executor.is_open refl
   where
-    by : (b : Bool) → x.is_open ≡ b → x.is_open ≡ true
+    by : (b : Bool) → s.place.at.executor.is_open ≡ b → s.place.at.executor.is_open ≡ true
     by true is_open = is_open
     by false closed = absurd (some (may.while_open closed))
 
 -- an error of a step is that of a run that broke off
-pub comes_err : {D : Type 0} (look : D → View) (source : Source) (rules : Rules) (p : Position D) (own : OwnTurn) (most : ℕ) (s : Midway D)
-    (r : Result Taken IoFault) → IsErr r → BreaksOff look source rules p s.place.at → Comes look source rules p own most s r
+pub comes_err : {D E : Type 0} (look : D → View) (source : Source) (rules : Rules) (p : Position D) (own : OwnTurn) (most : ℕ) (s : Midway D)
+    (r : Result Taken E) → IsErr r → BreaksOff look source rules p s.place.at → Comes look source rules p own most s r
 comes_err look source rules p own most s (Ok x) bad breaks = let none : ⊥ = cc in absurd none
 comes_err look source rules p own most s (Err e) bad breaks = breaks
 
@@ -456,13 +454,13 @@ module _ {D : Type 0} (look : D → View) (source : Source) (rules : Rules) (p :
       found_closed most may commands what q q' is_open finds answered serves closed
 
   -- what was read was answered, or it was no line
-  pub found_taken : (most : ℕ) → MayTakeBehind rules.way most → (commands : List Command) (held : Option Held) (kept : List ℕ)
+  pub found_taken : (E : Type 0) (most : ℕ) → MayTakeBehind rules.way most → (commands : List Command) (held : Option Held) (kept : List ℕ)
       (what : Found) (q q' : Position D) (has_ended : Bool) (step : Taken) → commands ≡ [] → held ≡ None → kept ≡ []
-      → q'.left ≡ q.left → Finds most [] what q → TakesFound look source rules what q.at q'.at (Ok has_ended)
+      → q'.left ≡ q.left → Finds most [] what q → TakesFound {E = E} look source rules what q.at q'.at (Ok has_ended)
       → IsTaken rules.way q'.at.executor has_ended step
       → ComesOrEnds look source rules p own (most + 1)
       (record { place = q'; commands = commands; held = held; kept = kept }) step
-  found_taken most may commands held kept what q q' has_ended step none free empty same finds takes is =
+  found_taken E most may commands held kept what q q' has_ended step none free empty same finds takes is =
       by what finds takes
     where
       Ends : Taken → Type 0
@@ -517,7 +515,7 @@ module _ {D : Type 0} (look : D → View) (source : Source) (rules : Rules) (p :
         is_closed = closed;
       }
 
-      by : (f : Found) → Finds most [] f q → TakesFound look source rules f q.at q'.at (Ok has_ended) → Ends step
+      by : (f : Found) → Finds most [] f q → TakesFound {E = E} look source rules f q.at q'.at (Ok has_ended) → Ends step
       by (found.Line line) it (not_ended, answered) =
           further it.left (it.count + 1) (omega (arith, it.few)) (it.next ∙ sym same)
           (answers own it.count line (position q.at it.left) q'.at it.reached it.goes_on (may it.count (omega (arith, it.few))) answered)
@@ -530,7 +528,7 @@ module _ {D : Type 0} (look : D → View) (source : Source) (rules : Rules) (p :
       by found.End it (at_end, same_at) =
           ended it same_at step (subst (λ (b : Bool). IsTaken rules.way q'.at.executor b step) at_end is)
 
-  pub found_breaks : (most : ℕ) (what : Found) (q : Position D) (s : Spot D) (fault : IoFault) → Finds most [] what q
+  pub found_breaks : {E : Type 0} (most : ℕ) (what : Found) (q : Position D) (s : Spot D) (fault : E) → Finds most [] what q
       → TakesFound look source rules what q.at s (Err fault) → BreaksOff look source rules p s
   found_breaks most what q s fault finds broke = by what finds broke
     where

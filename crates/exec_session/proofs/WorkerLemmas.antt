@@ -1,5 +1,5 @@
 -- What a worker does, as its relations say it: from what its executor and its edge were to what they are.
-use Rattle.std.proofs.Common.{◌≡◌, ℕ, Bool, true, false, List, [], ◌∷◌, ◌==◌, length, Some, map, Result, OnErr, OnOk, refl, sym, ap, subst, true≢false, ◌∙◌}
+use Rattle.std.proofs.Common.{◌≡◌, ℕ, Bool, true, false, List, [], ◌∷◌, ◌==◌, length, Some, map, Result, OnErr, OnOk, refl, sym, ap, subst, true≢false, ◌∙◌, arith, eqb-true}
 use Rattle.ocf_types.specs.Kinds.{Command, Reply}
 use Rattle.ocf_types.specs.declared.reply.TurnEnd.{TurnEnd}
 use Rattle.ocf_types.specs.declared.reply.TurnEnd.TheVariants.{Disk}
@@ -126,6 +126,12 @@ module _ {D : Type 0} (look : D → View) (rules : Rules) where
       → OnErr r (TogetherHeard (TellsPart rules.form) look rules commands p q) → OnErr r (RowBreaks look rules commands p q)
   row_broken r [] p q some heard = absurd (some refl)
   row_broken r (first ∷ others) p q some heard = heard
+
+  -- there was none
+  pub none_answered : (commands : List Command) (p : Spot D) → (length commands == 0) ≡ true → AnswersAll look rules commands p p
+  none_answered [] p none = refl
+  none_answered (first ∷ others) p none =
+      let zero = eqb-true (length (first ∷ others)) 0 none in absurd (omega (arith, zero))
 
 pub some_waits : (commands : List Command) → (length commands == 0) ≡ false → commands ≡ [] → ⊥
 some_waits commands some is = true≢false (sym (ap (λ (cs : List Command). length cs == 0) is) ∙ some)

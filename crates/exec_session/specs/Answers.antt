@@ -12,8 +12,8 @@ use Rattle.disk_model.specs.View.{View}
 use Rattle.executor.specs.Commands.{Serves}
 use Rattle.executor.specs.Sights.{Sight}
 use Rattle.executor.specs.TidyCalls.{Tidies}
-use Rattle.exec_commands.specs.Lines.{line_read, served_line_read}
-use Rattle.exec_commands.specs.Twice.{HasKeyTwice}
+use Rattle.exec_commands.specs.Lines.{line_read}
+use Rattle.exec_commands.specs.Served.{IsServedAs}
 use Rattle.exec_commands.specs.declared.ends.DrainEnd.{DrainEnd}
 use Rattle.exec_commands.specs.declared.ends.DrainEnd.TheVariants.{Turn}
 use Rattle.ocf_types.specs.declared.outcome.MetaFault.{MetaFault}
@@ -29,14 +29,12 @@ use Rattle.exec_session.specs.Spots.{Spot, Telling, behind, moved}
 use Rattle.exec_session.specs.declared.context.Way.{Way}
 use Rattle.exec_session.specs.declared.context.Way.TheVariants.{Run, Serve}
 
--- A line of these bytes is read as the definition says, but that memory may be refused in reading it; a run that serves may also be
--- asked to end, and refuses a line in which a key comes twice as syntax.
+-- A line of these bytes is read as the definition says, but that memory may be refused in reading it; a run that serves reads it by a
+-- definition of its own.
 abbrev pub IsReadAs : Way → List ℕ → Result Line Refusal → Type 0
 IsReadAs Run bytes (Ok found) = line_read bytes ≡ Ok found
 IsReadAs Run bytes (Err why) = why ≢ refusal.Memory → line_read bytes ≡ Err why
-IsReadAs Serve bytes (Ok found) = (served_line_read bytes ≡ Ok found) × ¬ (HasKeyTwice bytes)
-IsReadAs Serve bytes (Err why) =
-    why ≢ refusal.Memory → (HasKeyTwice bytes → why ≡ refusal.Syntax) × (¬ (HasKeyTwice bytes) → served_line_read bytes ≡ Err why)
+IsReadAs Serve bytes found = IsServedAs bytes found
 
 -- a source of metadata: what it may answer for the agent of a provider and a type that is given this many milliseconds, its
 -- metadata or why it has none
@@ -66,6 +64,7 @@ IsClosedReply source (Ok (line.Watch limit)) reply = reply ≡ closed_drain
 IsClosedReply source (Ok line.Tidy) reply = reply ≡ closed_tidy
 IsClosedReply source (Ok line.Leave) reply = reply ≡ refused refusal.Closed
 IsClosedReply source (Ok (line.Request request)) reply = reply ≡ refused refusal.Closed
+IsClosedReply source (Ok (line.Direct direct)) reply = reply ≡ refused refusal.Closed
 IsClosedReply source (Err why) reply = reply ≡ refused refusal.Closed
 
 -- a drain from the moment that the clock shows, for at most this many milliseconds and turns
@@ -112,6 +111,7 @@ IsOpenReply look source rules p q (Ok line.Tidy) reply = TidiesNow look p q repl
 IsOpenReply look source rules p q (Ok line.Leave) reply = (reply ≡ refused refusal.UnknownOp) × (q ≡ p)
 IsOpenReply look source rules p q (Ok (line.Meta provider agent limit)) reply =
     IsMetaReply source provider agent limit reply × (q ≡ p)
+IsOpenReply look source rules p q (Ok (line.Direct direct)) reply = (reply ≡ answer.Direct direct) × (q ≡ p)
 IsOpenReply look source rules p q (Err why) reply = (reply ≡ refused why) × (q ≡ p)
 
 -- the same while the executor is open or closed

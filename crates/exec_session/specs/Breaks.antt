@@ -9,7 +9,6 @@ use Rattle.disk_model.specs.View.{View}
 use Rattle.executor.specs.declared.report.Report.{Report}
 use Rattle.exec_commands.specs.declared.line.Line.{Line}
 use Rattle.exec_commands.specs.declared.line.Line.TheVariants as line
-use Rattle.exec_output.specs.declared.send.IoFault.{IoFault}
 use Rattle.exec_trace.specs.Events.{is_failure}
 use Rattle.exec_trace.specs.declared.event.IoEvent.{IoEvent}
 use Rattle.exec_trace.specs.declared.event.IoEvent.TheVariants.{Shown}
@@ -17,12 +16,13 @@ use Rattle.exec_session.specs.Answers.{Source}
 use Rattle.exec_session.specs.Broken.{ReplyBreaks, RowBreaks}
 use Rattle.exec_session.specs.Drains.{MakesTurn, TurnHeard}
 use Rattle.exec_session.specs.Leaving.{LeaveBreaks}
-use Rattle.exec_session.specs.Progress.{AnswersSo}
+use Rattle.exec_session.specs.Progress.{Answers, AnswersSo}
 use Rattle.exec_session.specs.Reports.{ReportBreaks, TellsReport, ended}
 use Rattle.exec_session.specs.Rules.{Rules}
 use Rattle.exec_session.specs.Looks.{Lines}
 use Rattle.exec_session.specs.Runs.{Finishes, MakesTurns, MayGoOn, MayTurn, NewsSo, OwnTurn, Reaches, of_command}
 use Rattle.exec_session.specs.Spots.{MayBreakOff, Position, Spot, TellsPart, behind}
+use Rattle.exec_session.specs.Steps.{Steps}
 
 -- A run broke off in an own turn, of whose notices the client received a prefix, or of the line that says how it ended.
 pub data OwnTurnBreaks {D : Type 0} (look : D → View) (rules : Rules) (before : TurnEnd) (p q : Spot D) : Type 0 where
@@ -36,6 +36,12 @@ abbrev pub AnswerBreaks : {D : Type 0} → (D → View) → Source → Rules →
 AnswerBreaks look source rules found p q =
     AnswersSo (TellsPart rules.form) look source rules found p q
     ⊎ ((p.executor.is_open ≡ true) × ReplyBreaks look rules p q found)
+
+-- a line is answered, or that breaks off
+abbrev pub AnswersLine : {D E : Type 0} → (D → View) → Source → Rules → Result Line Refusal → Position D → Position D
+    → Result Unit E → Type 0
+AnswersLine look source rules found p q result =
+    Steps (Answers look source rules found p.at) (AnswerBreaks look source rules found p.at) p q result
 
 -- After a place that a run has come to, with these lines unanswered, it did at most one more thing, of which the client received a
 -- prefix: it asked something that failed, or answered the next line, or a drain's turns up to one of them, or a row of commands,
@@ -67,7 +73,7 @@ pub record BreaksOff {D : Type 0} (look : D → View) (source : Source) (rules :
   pub cause : MayBreakOff q.events
 
 -- a run finished, or broke off before
-abbrev pub EndsOrBreaks : {D : Type 0} → (D → View) → Source → Rules → Position D → Position D → Result Unit IoFault → Type 0
+abbrev pub EndsOrBreaks : {D E : Type 0} → (D → View) → Source → Rules → Position D → Position D → Result Unit E → Type 0
 EndsOrBreaks look source rules p q (Ok done) = Finishes look source rules p q
 EndsOrBreaks look source rules p q (Err fault) = BreaksOff look source rules p q.at
 

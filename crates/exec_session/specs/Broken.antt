@@ -1,5 +1,5 @@
 -- Where a run breaks off in an answer: what it asked failed in a drain, or while it sent replies.
-use Rattle.std.specs.Prelude.{ℕ, ◌+◌, Bool, true, false, List, [], ◌∷◌, Result, Ok}
+use Rattle.std.specs.Prelude.{◌⊎◌, ℕ, ◌+◌, Bool, true, false, List, [], ◌∷◌, Result, Ok}
 use Rattle.ocf_types.specs.Kinds.{Command}
 use Rattle.ocf_types.specs.declared.refusal.Refusal.{Refusal}
 use Rattle.ocf_types.specs.declared.reply.TurnEnd.{TurnEnd}
@@ -8,10 +8,15 @@ use Rattle.exec_commands.specs.declared.line.Line.{Line}
 use Rattle.exec_commands.specs.declared.line.Line.TheVariants as line
 use Rattle.exec_trace.specs.declared.event.IoEvent.TheVariants.{Shown}
 use Rattle.exec_session.specs.declared.drain.Terms.{Terms}
+use Rattle.exec_session.specs.Answers.{DrainTold}
 use Rattle.exec_session.specs.Drains.{GoesOn, MakesTurn, TurnHeard}
 use Rattle.exec_session.specs.Rules.{Rules}
 use Rattle.exec_session.specs.Spots.{Pauses, Spot, TellsPart, behind}
 use Rattle.exec_session.specs.Together.{TogetherHeard}
+
+-- a turn at this moment broke off in its notices
+abbrev pub TurnBreaks : {D : Type 0} → (D → View) → Rules → ℕ → Spot D → Spot D → Type 0
+TurnBreaks look rules now p q = (end : TurnEnd) × TurnHeard (TellsPart rules.form) look rules now p q end
 
 -- A drain broke off in a turn, of whose notices a prefix is written, or after one, where nobody read any more what was
 -- sent; or it had made as many turns as its loop goes round.
@@ -26,6 +31,11 @@ pub data DrainBreaks {D : Type 0} (look : D → View) (rules : Rules) (t : Terms
 abbrev pub DrainBreaksFor : {D : Type 0} → (D → View) → Bool → ℕ → Rules → Spot D → Spot D → Type 0
 DrainBreaksFor look ends_idle limit rules p q =
     (now : ℕ) × DrainBreaks look rules (record { ends_idle = ends_idle; until = now + limit; most = rules.most_turns }) now (behind p (Shown now)) q
+
+-- the same, or in telling how it ended
+abbrev pub DrainEndsEarly : {D : Type 0} → (D → View) → Bool → ℕ → Rules → Spot D → Spot D → Type 0
+DrainEndsEarly look ends_idle limit rules p q =
+    DrainTold (TellsPart rules.form) look ends_idle limit rules p q ⊎ DrainBreaksFor look ends_idle limit rules p q
 
 -- An open executor broke off in answering a line before its reply was sent: a drain or a watch, and no other.
 abbrev pub ReplyBreaks : {D : Type 0} → (D → View) → Rules → Spot D → Spot D → Result Line Refusal → Type 0

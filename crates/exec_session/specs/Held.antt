@@ -4,7 +4,6 @@ use Rattle.ocf_types.specs.declared.refusal.Refusal.{Refusal}
 use Rattle.disk_model.specs.View.{View}
 use Rattle.exec_commands.specs.declared.line.Line.{Line}
 use Rattle.exec_commands.specs.declared.line.Line.TheVariants as line
-use Rattle.exec_output.specs.declared.send.IoFault.{IoFault}
 use Rattle.exec_session.specs.Answers.{Source}
 use Rattle.exec_session.specs.Progress.{Answers, AnswersSo}
 use Rattle.exec_session.specs.Rules.{Rules}
@@ -40,7 +39,7 @@ MayTakeAtOnce way (found.Line line) = MayAnswerAtOnce way line
 MayTakeAtOnce way _ = ⊤
 
 -- the held line was answered, or its agent has not answered by now and nothing was done, or the run broke off in the reply
-abbrev pub AnswersHeld : {D : Type 0} → (D → View) → Source → Rules → Held → Spot D → Spot D → Result Bool IoFault → Type 0
+abbrev pub AnswersHeld : {D E : Type 0} → (D → View) → Source → Rules → Held → Spot D → Spot D → Result Bool E → Type 0
 AnswersHeld look source rules held p q (Ok true) = Answers look source rules (Ok (asks held)) p q
 AnswersHeld look source rules held p q (Ok false) = q ≡ p
 AnswersHeld look source rules held p q (Err fault) =

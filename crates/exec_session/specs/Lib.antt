@@ -15,5 +15,6 @@ pub mod Rules
 pub mod Progress
 pub mod Runs
 pub mod Spots
+pub mod Steps
 pub mod Together
 pub mod Waiting

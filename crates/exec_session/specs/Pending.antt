@@ -9,8 +9,3 @@ pub record IsClear (pending : Pending) : Type 0 where
   pub buffer : line_bytes pending.buffer ≡ []
   pub none : waiting pending.gathered ≡ []
   pub free : pending.held ≡ None
-
--- the next line was not begun, and none is held
-pub record IsBetween (pending : Pending) : Type 0 where
-  pub buffer : line_bytes pending.buffer ≡ []
-  pub free : pending.held ≡ None

@@ -1,5 +1,5 @@
 -- A run between two lines, some of which may wait to be answered.
-use Rattle.std.specs.Prelude.{◌≡◌, ◌≢◌, ◌⊎◌, ⊤, ℕ, ◌+◌, ◌<◌, ◌≤◌, Bool, true, false, List, [], ◌∷◌, ◌++◌, length, map, Option, Some, None, Result, Ok, Err}
+use Rattle.std.specs.Prelude.{◌≡◌, ◌≢◌, ◌⊎◌, ⊤, ℕ, ◌+◌, ◌<◌, ◌≤◌, Bool, true, false, List, [], ◌∷◌, ◌++◌, length, map, Option, Some, None, Result, Ok, Err, IfOk}
 use Rattle.std.specs.Io.KnownBytes.{IsAtEnd}
 use Rattle.ocf_types.specs.Kinds.{Command}
 use Rattle.ocf_types.specs.declared.reply.TurnEnd.{TurnEnd}
@@ -7,19 +7,18 @@ use Rattle.disk_model.specs.View.{View}
 use Rattle.executor.specs.Sights.{Sight}
 use Rattle.exec_lines.specs.Buffer.{line_bytes}
 use Rattle.exec_lines.specs.Pieces.{IsMidLine}
-use Rattle.exec_output.specs.declared.send.IoFault.{IoFault}
 use Rattle.exec_trace.specs.declared.event.IoEvent.{IoEvent}
 use Rattle.exec_trace.specs.declared.event.IoEvent.TheVariants.{Looked}
 use Rattle.exec_session.specs.Answers.{Source}
 use Rattle.exec_session.specs.Breaks.{AnswerBreaks, BreaksOff}
 use Rattle.exec_session.specs.Gathered.{waiting}
 use Rattle.exec_session.specs.Held.{held_lines}
-use Rattle.exec_session.specs.Limits.{most_together}
+use Rattle.exec_session.specs.Limits.{lines_a_turn, most_together}
 use Rattle.exec_session.specs.Progress.{Answers, PassesLine}
 use Rattle.exec_session.specs.Rules.{Rules}
 use Rattle.exec_session.specs.Looks.{IsThere, Lines, misses_in, reads_in}
 use Rattle.exec_session.specs.Runs.{IsWait, MakesTurns, MayGoOn, MayTake, OwnTurn, Reaches, ReachesEnd, ReachesFault, ReachesLeave, of_command}
-use Rattle.exec_session.specs.Spots.{MayBreakOff, Position, Spot, behind, position}
+use Rattle.exec_session.specs.Spots.{Lasts, MayBreakOff, Position, Spot, behind, position}
 use Rattle.exec_session.specs.declared.context.Way.{Way}
 use Rattle.exec_session.specs.declared.context.Way.TheVariants.{Run, Serve}
 use Rattle.exec_session.specs.declared.held.Held.{Held}
@@ -28,13 +27,6 @@ use Rattle.exec_session.specs.declared.lines.Found.TheVariants as found
 use Rattle.exec_session.specs.declared.lines.Taken.{Taken}
 use Rattle.exec_session.specs.declared.lines.Taken.TheVariants.{Closed, End, Leaves, More}
 use Rattle.exec_session.specs.declared.pending.Pending.{Pending}
-
--- What was read may stay unanswered: there is room for one command more, none waits once the executor is closed, and a run by lines alone
--- holds no line.
-pub record MayWait {D : Type 0} (way : Way) (x : Sight D) (pending : Pending) : Type 0 where
-  pub few : length (waiting pending.gathered) < most_together
-  pub while_open : x.is_open ≡ false → waiting pending.gathered ≡ []
-  pub free : way ≡ Run → pending.held ≡ None
 
 -- where a session is: its position, the commands that wait, the line after them where it is held, and what was read of the next
 -- line
@@ -51,6 +43,27 @@ midway place pending = record {
   held = pending.held;
   kept = line_bytes pending.buffer;
 }
+
+-- What was read may stay unanswered: there is room for one command more, none waits once the executor is closed, and a run by lines alone
+-- holds no line.
+pub record MayWait {D : Type 0} (way : Way) (s : Midway D) : Type 0 where
+  pub few : length s.commands < most_together
+  pub while_open : s.place.at.executor.is_open ≡ false → s.commands ≡ []
+  pub free : way ≡ Run → s.held ≡ None
+
+-- Where commands wait the next line is there.
+abbrev pub WaitsForThere : {D : Type 0} → Midway D → Type 0
+WaitsForThere s = s.commands ≢ [] → IsThere s.place.at.events
+
+-- the next line was not begun, and none is held
+pub record IsBetween {D : Type 0} (s : Midway D) : Type 0 where
+  pub buffer : s.kept ≡ []
+  pub free : s.held ≡ None
+
+-- what was read may stay unanswered while the next line is read
+pub record MayStay {D : Type 0} (way : Way) (s : Midway D) : Type 0 where
+  pub waits : MayWait way s
+  pub there : WaitsForThere s
 
 -- Of what was left after the last line a prefix of the next one was read, which the buffer keeps; while a line is held nothing was.
 abbrev pub IsReadTo : Option Held → Option (List ℕ) → List ℕ → Option (List ℕ) → Type 0
@@ -101,7 +114,7 @@ pub record HasFound {D : Type 0} (look : D → View) (source : Source) (rules : 
   pub goes_on : MayGoOn rules.way q.at.executor
 
 -- What comes next in the input was answered, or passed over, or is its end, as is said; or an answer broke off.
-abbrev pub TakesFound : {D : Type 0} → (D → View) → Source → Rules → Found → Spot D → Spot D → Result Bool IoFault → Type 0
+abbrev pub TakesFound : {D E : Type 0} → (D → View) → Source → Rules → Found → Spot D → Spot D → Result Bool E → Type 0
 TakesFound look source rules (found.Line line) p q (Ok has_ended) = (has_ended ≡ false) × Answers look source rules line p q
 TakesFound look source rules found.Empty p q (Ok has_ended) = (has_ended ≡ false) × (q ≡ p)
 TakesFound look source rules found.End p q (Ok has_ended) = (has_ended ≡ true) × (q ≡ p)
@@ -116,9 +129,31 @@ ComesOrEnds look source rules p own most s Closed = ReachesFault look source rul
 ComesOrEnds look source rules p own most s Leaves = ReachesLeave look source rules p s.place.at
 
 -- or it broke off
-abbrev pub Comes : {D : Type 0} → (D → View) → Source → Rules → Position D → OwnTurn → ℕ → Midway D → Result Taken IoFault → Type 0
+abbrev pub Comes : {D E : Type 0} → (D → View) → Source → Rules → Position D → OwnTurn → ℕ → Midway D → Result Taken E → Type 0
 Comes look source rules p own most s (Ok taken) = ComesOrEnds look source rules p own most s taken
 Comes look source rules p own most s (Err fault) = BreaksOff look source rules p s.place.at
+
+-- a run may take a line after at most this many since its last turn
+abbrev pub MayTakeBehind : Way → ℕ → Type 0
+MayTakeBehind way most = (n : ℕ) → n ≤ most → MayTake way n
+
+-- A step of a session that has found this with no part of a further line: more was asked; what was read may stay unanswered, and no
+-- further line was begun; and a run that has come so far that this was found comes further by it, or ends, or breaks off.
+pub record Takes {D E : Type 0} (look : D → View) (source : Source) (rules : Rules) (found : Found) (s t : Midway D)
+    (result : Result Taken E) : Type 0 where
+  pub lasts : Lasts s.place.at t.place.at
+  pub stays : MayStay rules.way t
+  pub between : IsBetween t
+  pub comes : (p : Position D) (own : OwnTurn) (most : ℕ) → MayTakeBehind rules.way most
+      → HasFound look source rules p own most s.commands found s.place → Comes look source rules p own (most + 1) t result
+
+-- The lines that are there are taken: more was asked, and a run that has come so far with no line since its last turn comes further, by
+-- as many as it may take between two turns, or ends, or breaks off.
+pub record TakesLines {D E : Type 0} (look : D → View) (source : Source) (rules : Rules) (s t : Midway D) (result : Result Taken E)
+    : Type 0 where
+  pub lasts : Lasts s.place.at t.place.at
+  pub comes : (p : Position D) (own : OwnTurn) → HasCome look source rules p own 0 s
+      → Comes look source rules p own lines_a_turn t result
 
 -- whether the input has ended, and whether the run goes on from there: one that serves does not once its executor is closed
 abbrev pub IsTaken : {D : Type 0} → Way → Sight D → Bool → Taken → Type 0
@@ -127,15 +162,10 @@ IsTaken way x has_ended End = (has_ended ≡ true) × MayGoOn way x
 IsTaken way x has_ended Closed = MakesTurns way × (x.is_open ≡ false)
 IsTaken way x has_ended Leaves = ⊥
 
--- Where commands wait the next line is there.
-abbrev pub WaitsForThere : Pending → List IoEvent → Type 0
-WaitsForThere pending events = waiting pending.gathered ≢ [] → IsThere events
-
 -- With what was read a round may begin: it may stay unanswered, and in a run that serves no command waits, and its executor is open.
-pub record MayBegin {D : Type 0} (way : Way) (p : Spot D) (pending : Pending) : Type 0 where
-  pub waits : MayWait way p.executor pending
-  pub there : WaitsForThere pending p.events
-  pub serves : way ≡ Serve → (p.executor.is_open ≡ true) × (waiting pending.gathered ≡ [])
+pub record MayBegin {D : Type 0} (way : Way) (s : Midway D) : Type 0 where
+  pub stays : MayStay way s
+  pub serves : way ≡ Serve → (s.place.at.executor.is_open ≡ true) × (s.commands ≡ [])
 
 -- A round of a run that serves begins after a turn, with no line after that; one of a run by lines alone anywhere.
 abbrev pub IsRound : Way → ℕ → Type 0
@@ -161,13 +191,28 @@ pub record HasComeRound {D : Type 0} (look : D → View) (source : Source) (rule
   pub come : HasCome look source rules p own most s
 
 -- a round leads to the begin of the next one, or the run ends by it, or broke off
-abbrev pub GoesRound : {D : Type 0} → (D → View) → Source → Rules → Position D → ℕ → TurnEnd → Midway D → Result Taken IoFault → Type 0
+abbrev pub GoesRound : {D E : Type 0} → (D → View) → Source → Rules → Position D → ℕ → TurnEnd → Midway D → Result Taken E → Type 0
 GoesRound look source rules p quiet own s (Ok More) = HasComeRound look source rules p quiet own s
 GoesRound look source rules p quiet own s (Ok End) = ReachesEnd look source rules p s.place.at
 GoesRound look source rules p quiet own s (Ok Closed) = ReachesFault look source rules p s.place.at
 GoesRound look source rules p quiet own s (Ok Leaves) = ReachesLeave look source rules p s.place.at
 GoesRound look source rules p quiet own s (Err fault) = BreaksOff look source rules p s.place.at
 
--- a run may take a line after at most this many since its last turn
-abbrev pub MayTakeBehind : Way → ℕ → Type 0
-MayTakeBehind way most = (n : ℕ) → n ≤ most → MayTake way n
+-- where a session is between two rounds: since when nothing has ended or begun, and how its last own turn ended
+pub record Stage (D : Type 0) : Type 0 where
+  pub at : Midway D
+  pub quiet : ℕ
+  pub end : TurnEnd
+
+abbrev pub stage : {D : Type 0} → Midway D → ℕ → TurnEnd → Stage D
+stage at quiet end = record { at = at; quiet = quiet; end = end }
+
+-- A round: more was asked, and where the run goes on, at least one thing, and a further round may begin; and a run that has come to the
+-- begin of this one comes to the begin of the next, or ends, or breaks off.
+pub record Rounds {D E : Type 0} (look : D → View) (source : Source) (rules : Rules) (s t : Stage D) (result : Result Taken E)
+    : Type 0 where
+  pub lasts : Lasts s.at.place.at t.at.place.at
+  pub longer : IfOk result (λ taken. taken ≡ More → length s.at.place.at.events < length t.at.place.at.events)
+  pub begins : IfOk result (λ taken. taken ≡ More → MayBegin rules.way t.at)
+  pub goes : (p : Position D) → HasComeRound look source rules p s.quiet s.end s.at
+      → GoesRound look source rules p t.quiet t.end t.at result

@@ -1,25 +1,31 @@
-//! What a line is answered.
-ghost use Rattle.std.specs.Prelude.{◌≡◌, ◌↔◌, ◌⊎◌, [], ◌∷◌, false, true, IfErr, IfOk, IsTrue, Ok, OnErr, OnOk};
+//! What a line is answered, alone or with others that arrived together.
+ghost use Rattle.std.specs.Prelude.{◌≡◌, ◌≢◌, ◌↔◌, [], ◌∷◌, false, true, length, map, replicate, IfOk, Ok};
+ghost use Rattle.std.specs.List.{AllByRecursion};
 ghost use Rattle.ocf_types.specs.declared.refusal.Refusal.TheVariants as refusal;
 ghost use Rattle.ocf_types.specs.declared.reply.ReplyOf.TheVariants.{Refused};
 ghost use Rattle.executor.specs.Commands.{Serves};
+ghost use Rattle.executor.specs.Rows.{TakesCommands};
 ghost use Rattle.exec_commands.specs.declared.line.Line.TheVariants as line;
 ghost use Rattle.exec_commands.specs.declared.reply.LineReply.TheVariants as answer;
-ghost use Rattle.exec_client.specs.MayTell.{MayAnswer, MayReply, StandsBehind};
-ghost use Rattle.exec_client.specs.Said.{Answered, answered};
-ghost use Rattle.exec_client.specs.Behind.{claims};
-ghost use Rattle.exec_output.specs.declared.send.IoFault.TheVariants.{Memory};
-ghost use Rattle.exec_session.specs.Answers.{DrainTold, DrainsFor, IsClosedReply, IsMetaReply, TidiesNow};
+ghost use Rattle.exec_client.specs.MayTell.{MayAnswer, StandsBehind};
+ghost use Rattle.exec_client.specs.Said.{answered};
+ghost use Rattle.exec_session.specs.Answers.{IsClosedReply, IsMetaReply, TidiesNow};
 ghost use Rattle.exec_session.specs.Answers.{closed_drain, closed_tidy, refused};
-ghost use Rattle.exec_session.specs.Breaks.{AnswerBreaks};
-ghost use Rattle.exec_session.specs.Broken.{DrainBreaksFor};
-ghost use Rattle.exec_session.specs.Held.{MayAnswerAtOnce};
+ghost use Rattle.exec_session.specs.Breaks.{AnswersLine};
+ghost use Rattle.exec_session.specs.Broken.{RowBreaks};
+ghost use Rattle.exec_session.specs.Gathered.{replied, waiting};
+ghost use Rattle.exec_session.specs.Held.{AnswersHeld, MayAnswerAtOnce, MayTakeAtOnce};
 ghost use Rattle.exec_session.specs.Progress.{Answers, AnswersSo};
 ghost use Rattle.exec_session.specs.Rules.{rules_of};
-ghost use Rattle.exec_session.specs.Spots.{Keeps, MayBreakOff, Tells, TellsPart};
+ghost use Rattle.exec_session.specs.Spots.{Keeps, TellsPart};
+ghost use Rattle.exec_session.specs.Steps.{Steps};
+ghost use Rattle.exec_session.specs.Together.{AnswersAll};
+ghost use Rattle.exec_session.specs.Waiting.{TakesFound};
 
 use crate::context::{RunContext, Way};
-use crate::drain::Terms;
+use crate::gathered::Gathered;
+use crate::held::Held;
+use crate::lines::Found;
 use crate::metadata::Metadata;
 use crate::room::{make_room, tidy_timed};
 use crate::worker::Worker;
@@ -28,7 +34,7 @@ use disk_model::Disk;
 use exec_client::{Client, Told};
 use exec_commands::{DrainEnd, Line, LineReply};
 use exec_lines::Input;
-use exec_output::IoFault;
+use exec_trace::Failed;
 use executor::Executor;
 use ocf_types::{AgentType, Provider, Refusal, Reply, Request, TidyEnd, TurnEnd};
 use std::rt::Clock;
@@ -82,7 +88,7 @@ fn closed_reply<M: Metadata>(context: &RunContext<M>, line: &Result<Line, Refusa
         ) => meta_reply(context, provider, agent, *limit),
         Ok(Line::Drain(_) | Line::Watch(_)) => closed_drain(),
         Ok(Line::Tidy) => closed_tidy(),
-        Ok(Line::Request(_) | Line::Leave) | Err(_) => refused(Refusal::Closed),
+        Ok(Line::Request(_) | Line::Leave | Line::Direct(_)) | Err(_) => refused(Refusal::Closed),
     }
 }
 
@@ -106,6 +112,29 @@ fn request_reply<D: Disk + Drop, C: Children + Drop>(
     executor.command(now, request)
 }
 
+// Does what the commands ask at this moment, after room was made. Where the disk failed as room was made each is refused for that.
+fn serve_gathered<D: Disk + Drop, C: Children + Drop>(
+    executor: &mut Executor<D, C>,
+    gathered: &mut Gathered,
+    now: u64,
+)
+    ensures stands { StandsBehind D.view executor.old executor.new
+        (map answered (replied gathered.new)) }
+    ensures says { AllByRecursion (MayAnswer executor.new) (replied gathered.new) }
+    ensures takes { executor.old.is_open ≡ true → TakesCommands D.view now
+        (waiting gathered.old) executor.old executor.new (replied gathered.new) }
+    ensures fails { executor.old.is_open ≡ false
+        → (replied gathered.new ≡ replicate (length (waiting gathered.old)) (Refused refusal.Disk))
+        × (executor.new ≡ executor.old) }
+    ensures none { waiting gathered.new ≡ [] }
+{
+    if executor.is_open() {
+        gathered.take_all(executor, now);
+    } else {
+        gathered.refuse_all();
+    }
+}
+
 impl<'a, R: Input, D: Disk + Drop, C: Children + Drop, T: Client<D, C>, K: Clock> Worker<
     'a,
     R,
@@ -114,73 +143,6 @@ impl<'a, R: Input, D: Disk + Drop, C: Children + Drop, T: Client<D, C>, K: Clock
     T,
     K,
 > {
-    /// Sends the client a reply that says nothing of what is recorded, and nothing of the state.
-    pub fn tell_reply<M>(
-        &mut self,
-        context: &RunContext<M>,
-        reply: &LineReply,
-    ) -> Result<(), IoFault>
-        requires plain { claims (Answered reply.now) ≡ false }
-        requires says { MayReply self.old.at.executor reply.now }
-        ensures keeps { Keeps self.old self.new }
-        ensures told { OnOk result
-            (Tells context.now.form self.old.at self.new.at (Answered reply.now ∷ [])) }
-        ensures breaks { OnErr result
-            (TellsPart context.now.form self.old.at self.new.at (Answered reply.now ∷ [])) }
-        ensures cause { OnErr result (MayBreakOff self.new.at.events) }
-        ensures memory { IfErr result (λ f. f ≡ Memory → IsTrue T.refuses) }
-    {
-        self.tell(context.form, &Told::Reply(reply))
-    }
-
-    // Drains from now on, for at most this many milliseconds.
-    fn drain_reply<M>(
-        &mut self,
-        context: &RunContext<M>,
-        ends_idle: bool,
-        limit: u32,
-    ) -> Result<LineReply, IoFault>
-        requires open { self.old.at.executor.is_open ≡ true }
-        ensures keeps { Keeps self.old self.new }
-        ensures reply { IfOk result (DrainsFor D.view ends_idle limit (rules_of context.now)
-            self.old.at self.new.at) }
-        ensures breaks { OnErr result (DrainBreaksFor D.view ends_idle limit (rules_of context.now)
-            self.old.at self.new.at) }
-        ensures cause { OnErr result (MayBreakOff self.new.at.events) }
-        ensures memory { IfErr result (λ f. f ≡ Memory → IsTrue T.refuses) }
-    {
-        let start = self.now();
-        let terms = Terms {
-            ends_idle,
-            until: start + u64::from(limit),
-            most: context.most_turns,
-        };
-        let end = self.drain(context, terms, start)?;
-        Ok(LineReply::Drain(end))
-    }
-
-    // Drains from now on, for at most this many milliseconds, and sends how that ended.
-    fn answer_drain<M>(
-        &mut self,
-        context: &RunContext<M>,
-        ends_idle: bool,
-        limit: u32,
-    ) -> Result<(), IoFault>
-        requires open { self.old.at.executor.is_open ≡ true }
-        ensures keeps { Keeps self.old self.new }
-        ensures answers { OnOk result (DrainTold (Tells context.now.form) D.view ends_idle limit
-            (rules_of context.now) self.old.at self.new.at) }
-        ensures breaks { OnErr result (DrainTold (TellsPart context.now.form) D.view ends_idle limit
-            (rules_of context.now) self.old.at self.new.at
-            ⊎ DrainBreaksFor D.view ends_idle limit (rules_of context.now)
-            self.old.at self.new.at) }
-        ensures cause { OnErr result (MayBreakOff self.new.at.events) }
-        ensures memory { IfErr result (λ f. f ≡ Memory → IsTrue T.refuses) }
-    {
-        let reply = self.drain_reply(context, ends_idle, limit)?;
-        self.tell_reply(context, &reply)
-    }
-
     // Tidies the journal.
     fn tidy<M>(&mut self, context: &RunContext<M>) -> TidyEnd
         requires open { self.old.at.executor.is_open ≡ true }
@@ -195,17 +157,14 @@ impl<'a, R: Input, D: Disk + Drop, C: Children + Drop, T: Client<D, C>, K: Clock
         &mut self,
         context: &RunContext<M>,
         request: Request,
-    ) -> Result<(), IoFault>
+    ) -> Result<(), Failed>
         requires open { self.old.at.executor.is_open ≡ true }
-        ensures keeps { Keeps self.old self.new }
-        ensures answers { OnOk result
+        ensures answers { Steps
             (Answers D.view (M.gives context.now.metadata.now) (rules_of context.now)
-            (Ok (line.Request request)) self.old.at self.new.at) }
-        ensures breaks { OnErr result (AnswersSo (TellsPart context.now.form) D.view
-            (M.gives context.now.metadata.now) (rules_of context.now)
-            (Ok (line.Request request)) self.old.at self.new.at) }
-        ensures cause { OnErr result (MayBreakOff self.new.at.events) }
-        ensures memory { IfErr result (λ f. f ≡ Memory → IsTrue T.refuses) }
+            (Ok (line.Request request)) self.old.at)
+            (AnswersSo (TellsPart context.now.form) D.view (M.gives context.now.metadata.now)
+            (rules_of context.now) (Ok (line.Request request)) self.old.at)
+            self.old self.new result }
     {
         let now = self.now();
         make_room(context, self.edge.clock(), &mut self.executor, now);
@@ -219,16 +178,11 @@ impl<'a, R: Input, D: Disk + Drop, C: Children + Drop, T: Client<D, C>, K: Clock
         &mut self,
         context: &RunContext<M>,
         line: Result<Line, Refusal>,
-    ) -> Result<(), IoFault>
+    ) -> Result<(), Failed>
         requires open { self.old.at.executor.is_open ≡ true }
         requires at_once { MayAnswerAtOnce context.now.way line }
-        ensures keeps { Keeps self.old self.new }
-        ensures answers { OnOk result (Answers D.view (M.gives context.now.metadata.now)
-            (rules_of context.now) line self.old.at self.new.at) }
-        ensures breaks { OnErr result (AnswerBreaks D.view (M.gives context.now.metadata.now)
-            (rules_of context.now) line self.old.at self.new.at) }
-        ensures cause { OnErr result (MayBreakOff self.new.at.events) }
-        ensures memory { IfErr result (λ f. f ≡ Memory → IsTrue T.refuses) }
+        ensures answers { AnswersLine D.view (M.gives context.now.metadata.now) (rules_of context.now) line
+            self.old self.new result }
     {
         match line {
             Ok(Line::Request(request)) => self.answer_request(context, request),
@@ -246,29 +200,102 @@ impl<'a, R: Input, D: Disk + Drop, C: Children + Drop, T: Client<D, C>, K: Clock
                     limit,
                 },
             ) => self.tell_reply(context, &meta_reply(context, &provider, &agent, limit)),
+            Ok(Line::Direct(direct)) => self.tell_reply(context, &LineReply::Direct(direct)),
             Err(refusal) => self.tell_reply(context, &refused(refusal)),
         }
     }
 
-    /// Answers a line, as it was read: the client is sent a drain's notices, and then the reply.
-    pub fn answer_line<M: Metadata>(
+    // Answers a line, as it was read: the client is sent a drain's notices, and then the reply.
+    fn answer_line<M: Metadata>(
         &mut self,
         context: &RunContext<M>,
         line: Result<Line, Refusal>,
-    ) -> Result<(), IoFault>
+    ) -> Result<(), Failed>
         requires at_once { MayAnswerAtOnce context.now.way line }
-        ensures keeps { Keeps self.old self.new }
-        ensures answers { OnOk result (Answers D.view (M.gives context.now.metadata.now)
-            (rules_of context.now) line self.old.at self.new.at) }
-        ensures breaks { OnErr result (AnswerBreaks D.view (M.gives context.now.metadata.now)
-            (rules_of context.now) line self.old.at self.new.at) }
-        ensures cause { OnErr result (MayBreakOff self.new.at.events) }
-        ensures memory { IfErr result (λ f. f ≡ Memory → IsTrue T.refuses) }
+        ensures answers { AnswersLine D.view (M.gives context.now.metadata.now) (rules_of context.now) line
+            self.old self.new result }
     {
         if self.is_open() {
             self.answer_open(context, line)
         } else {
             self.tell_reply(context, &closed_reply(context, &line))
         }
+    }
+
+    /// Answers what comes next in the input, after which nothing was read. Whether it is the input's end.
+    pub fn answer_found<M: Metadata>(
+        &mut self,
+        context: &RunContext<'_, M>,
+        found: Found,
+    ) -> Result<bool, Failed>
+        requires at_once { MayTakeAtOnce context.now.way found }
+        ensures keeps { Keeps self.old self.new }
+        ensures takes { TakesFound D.view (M.gives context.now.metadata.now) (rules_of context.now)
+            found self.old.at self.new.at result }
+    {
+        match found {
+            Found::End => Ok(true),
+            Found::Empty => Ok(false),
+            Found::Line(line) => {
+                self.answer_line(context, line)?;
+                Ok(false)
+            }
+        }
+    }
+
+    /// Answers a line that is held for an agent's metadata, where the agent has answered by now. Whether it has.
+    pub fn answer_held<M: Metadata>(
+        &mut self,
+        context: &RunContext<'_, M>,
+        line: &Held,
+    ) -> Result<bool, Failed>
+        requires open { self.old.at.executor.is_open ≡ true }
+        ensures keeps { Keeps self.old self.new }
+        ensures stays { IfOk result (λ _. self.new.at.executor ≡ self.old.at.executor) }
+        ensures answers { AnswersHeld D.view (M.gives context.now.metadata.now) (rules_of context.now)
+            line.now self.old.at self.new.at result }
+    {
+        let Held::Metadata {
+            provider,
+            agent,
+            limit,
+        } = line
+        else {
+            return Ok(false);
+        };
+        let asked = context
+            .metadata
+            .poll_metadata(context.alloc, provider, agent, *limit);
+        let Some(given) = asked else {
+            return Ok(false);
+        };
+        self.tell_reply(context, &LineReply::Meta(given))?;
+        Ok(true)
+    }
+
+    /// Answers the commands that wait. They are recorded together, and no reply is sent before that; the replies are sent
+    /// together.
+    pub fn answer_gathered<M>(
+        &mut self,
+        context: &RunContext<M>,
+        gathered: &mut Gathered,
+    ) -> Result<(), Failed>
+        requires open { waiting gathered.old ≢ [] → self.old.at.executor.is_open ≡ true }
+        ensures none { waiting gathered.new ≡ [] }
+        ensures answers { Steps (AnswersAll D.view (rules_of context.now) (waiting gathered.old) self.old.at)
+            (RowBreaks D.view (rules_of context.now) (waiting gathered.old) self.old.at)
+            self.old self.new result }
+    {
+        if gathered.is_empty() {
+            return Ok(());
+        }
+        let moment = self.now();
+        make_room(context, self.edge.clock(), &mut self.executor, moment);
+        serve_gathered(&mut self.executor, gathered, moment);
+        self.edge.tell(
+            &self.executor,
+            context.form,
+            &Told::Replies(gathered.replies()),
+        )
     }
 }

@@ -1,15 +1,13 @@
 //! Where lines are answered, one by one or together.
-ghost use Rattle.std.specs.Prelude.{◌≡◌, ◌≢◌, ℕ, ◌+◌, ◌<◌, [], true, length, IfErr, IfOk, IsTrue, None};
-ghost use Rattle.exec_output.specs.declared.send.IoFault.TheVariants.{Memory};
+ghost use Rattle.std.specs.Prelude.{◌≡◌, ◌≢◌, ℕ, ◌+◌, ◌<◌, [], true, length, IfOk, None};
 ghost use Rattle.exec_session.specs.Gathered.{waiting};
 ghost use Rattle.exec_session.specs.Held.{MayTakeAtOnce};
 ghost use Rattle.exec_session.specs.Limits.{most_together};
 ghost use Rattle.exec_session.specs.Looks.{IsThere, reads_in};
-ghost use Rattle.exec_session.specs.Pending.{IsBetween};
 ghost use Rattle.exec_session.specs.Rules.{rules_of};
 ghost use Rattle.exec_session.specs.Runs.{MayGoOn, OwnTurn, of_command};
-ghost use Rattle.exec_session.specs.Spots.{Keeps, Lasts, Position};
-ghost use Rattle.exec_session.specs.Waiting.{Comes, HasCome, HasFound, IsTaken, MayTakeBehind, MayWait, TakesFound, WaitsForThere, midway};
+ghost use Rattle.exec_session.specs.Spots.{Lasts, Position};
+ghost use Rattle.exec_session.specs.Waiting.{Comes, HasCome, HasFound, IsBetween, IsTaken, MayTakeBehind, MayWait, Takes, WaitsForThere, midway};
 ghost use Rattle.exec_session.specs.declared.lines.Found.TheVariants as found;
 ghost use Rattle.exec_session.specs.declared.lines.Taken.TheVariants.{More};
 
@@ -24,7 +22,7 @@ use disk_model::Disk;
 use exec_client::Client;
 use exec_commands::Line;
 use exec_lines::Input;
-use exec_output::IoFault;
+use exec_trace::Failed;
 use ocf_types::{Command, Request};
 use std::rt::Clock;
 
@@ -33,35 +31,6 @@ use std::rt::Clock;
 pub struct Desk<'a, R: Input, D: Disk + Drop, C: Children + Drop, T: Client<D, C>, K: Clock> {
     pub worker: Worker<'a, R, D, C, T, K>,
     pub pending: Pending,
-}
-
-// Answers what comes next in the input, after which nothing was read. Whether it is the input's end.
-fn answer_found<
-    R: Input,
-    D: Disk + Drop,
-    C: Children + Drop,
-    T: Client<D, C>,
-    K: Clock,
-    M: Metadata,
->(
-    worker: &mut Worker<'_, R, D, C, T, K>,
-    context: &RunContext<'_, M>,
-    found: Found,
-) -> Result<bool, IoFault>
-    requires at_once { MayTakeAtOnce context.now.way found }
-    ensures keeps { Keeps worker.old worker.new }
-    ensures takes { TakesFound D.view (M.gives context.now.metadata.now) (rules_of context.now) found
-        worker.old.at worker.new.at result }
-    ensures memory { IfErr result (λ f. f ≡ Memory → IsTrue T.refuses) }
-{
-    match found {
-        Found::End => Ok(true),
-        Found::Empty => Ok(false),
-        Found::Line(line) => {
-            worker.answer_line(context, line)?;
-            Ok(false)
-        }
-    }
 }
 
 impl<'a, R: Input, D: Disk + Drop, C: Children + Drop, T: Client<D, C>, K: Clock> Desk<
@@ -87,10 +56,7 @@ impl<'a, R: Input, D: Disk + Drop, C: Children + Drop, T: Client<D, C>, K: Clock
 
     /// Answers the commands that wait, since no line that follows them is there. A part of a line that was read, and a line that is held,
     /// stay.
-    pub fn answer_rest<M: Metadata>(
-        &mut self,
-        context: &RunContext<'_, M>,
-    ) -> Result<Taken, IoFault>
+    pub fn answer_rest<M: Metadata>(&mut self, context: &RunContext<'_, M>) -> Result<Taken, Failed>
         requires open { waiting self.old.pending.gathered ≢ []
             → self.old.worker.at.executor.is_open ≡ true }
         ensures none { waiting self.new.pending.gathered ≡ [] }
@@ -105,7 +71,6 @@ impl<'a, R: Input, D: Disk + Drop, C: Children + Drop, T: Client<D, C>, K: Clock
             (midway self.old.worker self.old.pending)
             → Comes D.view (M.gives context.now.metadata.now) (rules_of context.now) p own (most + 1)
             (midway self.new.worker self.new.pending) result }
-        ensures memory { IfErr result (λ f. f ≡ Memory → IsTrue T.refuses) }
     {
         self.worker
             .answer_gathered(context, &mut self.pending.gathered)?;
@@ -118,14 +83,14 @@ impl<'a, R: Input, D: Disk + Drop, C: Children + Drop, T: Client<D, C>, K: Clock
         context: &RunContext<'_, M>,
         command: Command,
         has_next: bool,
-    ) -> Result<Taken, IoFault>
+    ) -> Result<Taken, Failed>
         requires open { self.old.worker.at.executor.is_open ≡ true }
         requires few { length (waiting self.old.pending.gathered) < most_together }
-        requires between { IsBetween self.old.pending }
+        requires between { IsBetween (midway self.old.worker self.old.pending) }
         requires peeked { has_next ≡ true → IsThere self.old.worker.at.events }
-        ensures waits { MayWait context.now.way self.new.worker.at.executor self.new.pending }
-        ensures there { WaitsForThere self.new.pending self.new.worker.at.events }
-        ensures between { IsBetween self.new.pending }
+        ensures waits { MayWait context.now.way (midway self.new.worker self.new.pending) }
+        ensures there { WaitsForThere (midway self.new.worker self.new.pending) }
+        ensures between { IsBetween (midway self.new.worker self.new.pending) }
         ensures lasts { Lasts self.old.worker.at self.new.worker.at }
         ensures takes { (p : Position D) (own : OwnTurn) (most : ℕ)
             → MayTakeBehind context.now.way most
@@ -133,7 +98,6 @@ impl<'a, R: Input, D: Disk + Drop, C: Children + Drop, T: Client<D, C>, K: Clock
             (waiting self.old.pending.gathered) (found.Line (of_command command)) self.old.worker
             → Comes D.view (M.gives context.now.metadata.now) (rules_of context.now) p own (most + 1)
             (midway self.new.worker self.new.pending) result }
-        ensures memory { IfErr result (λ f. f ≡ Memory → IsTrue T.refuses) }
     {
         self.pending.gathered.push(command);
         if has_next && !self.pending.gathered.is_full() {
@@ -147,21 +111,12 @@ impl<'a, R: Input, D: Disk + Drop, C: Children + Drop, T: Client<D, C>, K: Clock
         &mut self,
         context: &RunContext<'_, M>,
         found: Found,
-    ) -> Result<Taken, IoFault>
+    ) -> Result<Taken, Failed>
         requires at_once { MayTakeAtOnce context.now.way found }
-        requires waits { MayWait context.now.way self.old.worker.at.executor self.old.pending }
-        requires between { IsBetween self.old.pending }
-        ensures waits { MayWait context.now.way self.new.worker.at.executor self.new.pending }
-        ensures none { waiting self.new.pending.gathered ≡ [] }
-        ensures between { IsBetween self.new.pending }
-        ensures lasts { Lasts self.old.worker.at self.new.worker.at }
-        ensures takes { (p : Position D) (own : OwnTurn) (most : ℕ)
-            → MayTakeBehind context.now.way most
-            → HasFound D.view (M.gives context.now.metadata.now) (rules_of context.now) p own most
-            (waiting self.old.pending.gathered) found self.old.worker
-            → Comes D.view (M.gives context.now.metadata.now) (rules_of context.now) p own (most + 1)
-            (midway self.new.worker self.new.pending) result }
-        ensures memory { IfErr result (λ f. f ≡ Memory → IsTrue T.refuses) }
+        requires waits { MayWait context.now.way (midway self.old.worker self.old.pending) }
+        requires between { IsBetween (midway self.old.worker self.old.pending) }
+        ensures takes { Takes D.view (M.gives context.now.metadata.now) (rules_of context.now) found
+            (midway self.old.worker self.old.pending) (midway self.new.worker self.new.pending) result }
     {
         self.worker
             .answer_gathered(context, &mut self.pending.gathered)?;
@@ -169,7 +124,7 @@ impl<'a, R: Input, D: Disk + Drop, C: Children + Drop, T: Client<D, C>, K: Clock
         if step != Taken::More {
             return Ok(step);
         }
-        let has_ended = answer_found(&mut self.worker, context, found)?;
+        let has_ended = self.worker.answer_found(context, found)?;
         Ok(self.next_step(context, has_ended))
     }
 
@@ -180,22 +135,13 @@ impl<'a, R: Input, D: Disk + Drop, C: Children + Drop, T: Client<D, C>, K: Clock
         context: &RunContext<'_, M>,
         found: Found,
         has_next: bool,
-    ) -> Result<Taken, IoFault>
+    ) -> Result<Taken, Failed>
         requires at_once { MayTakeAtOnce context.now.way found }
-        requires waits { MayWait context.now.way self.old.worker.at.executor self.old.pending }
-        requires between { IsBetween self.old.pending }
+        requires waits { MayWait context.now.way (midway self.old.worker self.old.pending) }
+        requires between { IsBetween (midway self.old.worker self.old.pending) }
         requires peeked { has_next ≡ true → IsThere self.old.worker.at.events }
-        ensures waits { MayWait context.now.way self.new.worker.at.executor self.new.pending }
-        ensures there { WaitsForThere self.new.pending self.new.worker.at.events }
-        ensures between { IsBetween self.new.pending }
-        ensures lasts { Lasts self.old.worker.at self.new.worker.at }
-        ensures takes { (p : Position D) (own : OwnTurn) (most : ℕ)
-            → MayTakeBehind context.now.way most
-            → HasFound D.view (M.gives context.now.metadata.now) (rules_of context.now) p own most
-            (waiting self.old.pending.gathered) found self.old.worker
-            → Comes D.view (M.gives context.now.metadata.now) (rules_of context.now) p own (most + 1)
-            (midway self.new.worker self.new.pending) result }
-        ensures memory { IfErr result (λ f. f ≡ Memory → IsTrue T.refuses) }
+        ensures takes { Takes D.view (M.gives context.now.metadata.now) (rules_of context.now) found
+            (midway self.old.worker self.old.pending) (midway self.new.worker self.new.pending) result }
     {
         match found {
             Found::Line(Ok(Line::Request(Request::Command(command)))) if self.worker.is_open() => {
@@ -207,13 +153,13 @@ impl<'a, R: Input, D: Disk + Drop, C: Children + Drop, T: Client<D, C>, K: Clock
 
     /// Goes on with the line in the buffer by one read, and takes it once it is whole, or holds it. Where it goes on, no command waits for
     /// the rest of it.
-    pub fn take_read<M: Metadata>(&mut self, context: &RunContext<'_, M>) -> Result<Taken, IoFault>
+    pub fn take_read<M: Metadata>(&mut self, context: &RunContext<'_, M>) -> Result<Taken, Failed>
         requires free { self.old.pending.held ≡ None }
-        requires waits { MayWait context.now.way self.old.worker.at.executor self.old.pending }
-        requires there { WaitsForThere self.old.pending self.old.worker.at.events }
-        ensures waits { MayWait context.now.way self.new.worker.at.executor self.new.pending }
+        requires waits { MayWait context.now.way (midway self.old.worker self.old.pending) }
+        requires there { WaitsForThere (midway self.old.worker self.old.pending) }
+        ensures waits { MayWait context.now.way (midway self.new.worker self.new.pending) }
         ensures there { IfOk result (λ taken. taken ≡ More
-            → WaitsForThere self.new.pending self.new.worker.at.events) }
+            → WaitsForThere (midway self.new.worker self.new.pending)) }
         ensures lasts { Lasts self.old.worker.at self.new.worker.at }
         ensures reads { reads_in self.old.worker.at.events < reads_in self.new.worker.at.events }
         ensures takes { (p : Position D) (own : OwnTurn) (most : ℕ)
@@ -222,7 +168,6 @@ impl<'a, R: Input, D: Disk + Drop, C: Children + Drop, T: Client<D, C>, K: Clock
             (midway self.old.worker self.old.pending)
             → Comes D.view (M.gives context.now.metadata.now) (rules_of context.now) p own (most + 1)
             (midway self.new.worker self.new.pending) result }
-        ensures memory { IfErr result (λ f. f ≡ Memory → IsTrue T.refuses) }
     {
         let Some(next) = self.worker.read(&mut self.pending.buffer)? else {
             return self.answer_rest(context);

@@ -1,10 +1,12 @@
-//! Drains and watches: turns, each with its notices.
-ghost use Rattle.std.specs.Prelude.{◌≡◌, true, IfErr, IfOk, IsTrue, OnErr, Some};
-ghost use Rattle.exec_output.specs.declared.send.IoFault.TheVariants.{Memory};
-ghost use Rattle.exec_session.specs.Broken.{DrainBreaks};
+//! Turns one after another: drains and watches, and the end of a run that serves, in order, as a line asks for it.
+ghost use Rattle.std.specs.Prelude.{◌≡◌, true, Some};
+ghost use Rattle.exec_session.specs.Answers.{DrainTold, DrainsFor};
+ghost use Rattle.exec_session.specs.Broken.{DrainBreaks, DrainBreaksFor, DrainEndsEarly};
 ghost use Rattle.exec_session.specs.Drains.{Drains, end_behind};
+ghost use Rattle.exec_session.specs.Leaving.{FinishHeard, LeaveBreaks, LeavesFrom};
 ghost use Rattle.exec_session.specs.Rules.{rules_of};
-ghost use Rattle.exec_session.specs.Spots.{Keeps, MayBreakOff};
+ghost use Rattle.exec_session.specs.Spots.{Tells, TellsPart};
+ghost use Rattle.exec_session.specs.Steps.{Steps, StepsTo};
 ghost use Rattle.exec_trace.specs.Events.{last_shown};
 
 use crate::context::RunContext;
@@ -12,10 +14,10 @@ use crate::pause::Pause;
 use crate::worker::Worker;
 use child_model::Children;
 use disk_model::Disk;
-use exec_client::Client;
-use exec_commands::DrainEnd;
+use exec_client::{Client, Told, TurnNotices};
+use exec_commands::{DrainEnd, LineReply};
 use exec_lines::Input;
-use exec_output::IoFault;
+use exec_trace::Failed;
 use ocf_types::{NUM_MAX, TurnEnd};
 use std::rt::Clock;
 
@@ -59,23 +61,18 @@ impl<'a, R: Input, D: Disk + Drop, C: Children + Drop, T: Client<D, C>, K: Clock
     T,
     K,
 > {
-    /// Makes turns up to the end of a drain that begins at this moment, which the clock showed last. Between two turns in
-    /// which nothing happened it pauses. It ends where nobody reads its output any more.
-    pub fn drain<M>(
+    // Makes turns up to the end of a drain that begins at this moment, which the clock showed last. Between two turns in
+    // which nothing happened it pauses. It ends where nobody reads its output any more.
+    fn drain<M>(
         &mut self,
         context: &RunContext<M>,
         terms: Terms,
         start: u64,
-    ) -> Result<DrainEnd, IoFault>
+    ) -> Result<DrainEnd, Failed>
         requires open { self.old.at.executor.is_open ≡ true }
         requires shown { last_shown self.old.at.events ≡ Some start }
-        ensures keeps { Keeps self.old self.new }
-        ensures drains { IfOk result
-            (Drains D.view (rules_of context.now) terms start self.old.at self.new.at) }
-        ensures breaks { OnErr result
-            (DrainBreaks D.view (rules_of context.now) terms start self.old.at self.new.at) }
-        ensures cause { OnErr result (MayBreakOff self.new.at.events) }
-        ensures memory { IfErr result (λ f. f ≡ Memory → IsTrue T.refuses) }
+        ensures drains { StepsTo (λ end q. Drains D.view (rules_of context.now) terms start self.old.at q end)
+            (DrainBreaks D.view (rules_of context.now) terms start self.old.at) self.old self.new result }
     {
         let mut now = start;
         let mut pause = Pause::new(start);
@@ -83,13 +80,92 @@ impl<'a, R: Input, D: Disk + Drop, C: Children + Drop, T: Client<D, C>, K: Clock
             pause.before_turn(self.clock(), now);
             let end = self.make_turn(context, now)?;
             if !self.pauses(&mut pause) {
-                return Err(IoFault::InputOrOutput);
+                return Err(Failed);
             }
             now = self.now();
             if let Some(end) = terms.end_behind(turns + 1, now, end, self.idle()) {
                 return Ok(end);
             }
         }
-        Err(IoFault::InputOrOutput)
+        Err(Failed)
+    }
+
+    // Drains from now on, for at most this many milliseconds.
+    fn drain_reply<M>(
+        &mut self,
+        context: &RunContext<M>,
+        ends_idle: bool,
+        limit: u32,
+    ) -> Result<LineReply, Failed>
+        requires open { self.old.at.executor.is_open ≡ true }
+        ensures reply { StepsTo
+            (λ reply q. DrainsFor D.view ends_idle limit (rules_of context.now) self.old.at q reply)
+            (DrainBreaksFor D.view ends_idle limit (rules_of context.now) self.old.at)
+            self.old self.new result }
+    {
+        let start = self.now();
+        let terms = Terms {
+            ends_idle,
+            until: start + u64::from(limit),
+            most: context.most_turns,
+        };
+        let end = self.drain(context, terms, start)?;
+        Ok(LineReply::Drain(end))
+    }
+
+    /// Drains from now on, for at most this many milliseconds, and sends how that ended.
+    pub fn answer_drain<M>(
+        &mut self,
+        context: &RunContext<M>,
+        ends_idle: bool,
+        limit: u32,
+    ) -> Result<(), Failed>
+        requires open { self.old.at.executor.is_open ≡ true }
+        ensures answers { Steps
+            (DrainTold (Tells context.now.form) D.view ends_idle limit (rules_of context.now) self.old.at)
+            (DrainEndsEarly D.view ends_idle limit (rules_of context.now) self.old.at)
+            self.old self.new result }
+    {
+        let reply = self.drain_reply(context, ends_idle, limit)?;
+        self.tell_reply(context, &reply)
+    }
+
+    // Makes a turn now that begins nothing, and sends its notices.
+    fn finish_turn<M>(&mut self, context: &RunContext<M>, pause: &mut Pause) -> Result<(), Failed>
+        requires open { self.old.at.executor.is_open ≡ true }
+        ensures made { Steps (FinishHeard (Tells context.now.form) D.view self.old.at)
+            (FinishHeard (TellsPart context.now.form) D.view self.old.at) self.old self.new result }
+    {
+        let now = self.now();
+        pause.before_turn(self.edge.clock(), now);
+        self.executor.clear_book();
+        self.executor.finish(now);
+        let turn = TurnNotices::of_executor(&self.executor);
+        self.edge
+            .tell(&self.executor, context.form, &Told::Notices(turn))
+    }
+
+    /// Makes turns that begin nothing as long as anything runs, and sends their notices; then it sends the line that ends
+    /// the run. Once a disk fault has closed the executor it sends the line of that fault instead. It ends where nobody
+    /// reads what is sent.
+    pub fn leave<M>(&mut self, context: &RunContext<M>) -> Result<(), Failed>
+        requires open { self.old.at.executor.is_open ≡ true }
+        ensures leaves { Steps (LeavesFrom D.view (rules_of context.now) self.old.at)
+            (LeaveBreaks D.view (rules_of context.now) self.old.at) self.old self.new result }
+    {
+        let mut pause = Pause::new(0);
+        for _turns in 0..NUM_MAX {
+            if !self.runs_any() {
+                return self.tell_reply(context, &LineReply::Left);
+            }
+            self.finish_turn(context, &mut pause)?;
+            if !self.is_open() {
+                return self.tell_end(context, TurnEnd::Disk);
+            }
+            if !self.pauses(&mut pause) {
+                return Err(Failed);
+            }
+        }
+        Err(Failed)
     }
 }

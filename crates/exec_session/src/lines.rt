@@ -36,7 +36,7 @@ pub enum Taken {
     Leaves,
 }
 
-// What a line asks for, or why it is refused: a run that serves may be asked to end, and refuses a line in which a key comes twice.
+// What a line asks for, or why it is refused: a run that serves may be asked to end, and is more strict.
 fn read_line(way: Way, alloc: Global, bytes: &[u8]) -> Result<Line, Refusal>
     ensures reads { IsReadAs way bytes.now result }
     ensures memory { IfErr result (λ e. e ≡ Refusal.Memory → IsTrue ⟦<Global as Grows>⟧.refuses) }

@@ -1,19 +1,16 @@
 //! Serving: the lines that are there are answered, in rounds.
-ghost use Rattle.std.specs.Prelude.{◌≡◌, ◌<◌, ◌++◌, [], true, false, IfErr, IfOk, IsTrue, None};
-ghost use Rattle.exec_output.specs.declared.send.IoFault.TheVariants.{Memory};
+ghost use Rattle.std.specs.Prelude.{◌≡◌, ◌<◌, ◌++◌, [], true, false, IfOk, IsTrue, None};
 ghost use Rattle.exec_session.specs.Gathered.{waiting};
 ghost use Rattle.exec_session.specs.Held.{held_lines};
-ghost use Rattle.exec_session.specs.Limits.{lines_a_turn};
 ghost use Rattle.exec_session.specs.Looks.{HasLooked, IsThere, misses_in, reads_in};
 ghost use Rattle.exec_session.specs.Rules.{rules_of};
-ghost use Rattle.exec_session.specs.Runs.{MayGoOn, OwnTurn};
-ghost use Rattle.exec_session.specs.Spots.{Lasts, Position};
-ghost use Rattle.exec_session.specs.Waiting.{Comes, HasCome, LooksOnce, MayWait, midway};
+ghost use Rattle.exec_session.specs.Runs.{MayGoOn};
+ghost use Rattle.exec_session.specs.Waiting.{LooksOnce, MayWait, TakesLines, midway};
 ghost use Rattle.exec_session.specs.declared.lines.Taken.TheVariants.{More};
 
 use crate::context::{RunContext, Way};
 use crate::desk::Desk;
-use crate::held::{Held, answer_held};
+use crate::held::Held;
 use crate::lines::Taken;
 use crate::metadata::Metadata;
 use crate::worker::Worker;
@@ -21,7 +18,7 @@ use child_model::Children;
 use disk_model::Disk;
 use exec_client::Client;
 use exec_lines::Input;
-use exec_output::IoFault;
+use exec_trace::Failed;
 use std::rt::Clock;
 
 // How many reads are made at most between two turns, and so how many lines are answered.
@@ -53,20 +50,15 @@ impl<'a, R: Input, D: Disk + Drop, C: Children + Drop, T: Client<D, C>, K: Clock
     K,
 > {
     // Takes the lines that are there, up to one that is held, unless the run ends before. Commands may wait still.
-    fn take_waiting<M: Metadata>(&mut self, context: &RunContext<'_, M>) -> Result<Taken, IoFault>
+    fn take_waiting<M: Metadata>(&mut self, context: &RunContext<'_, M>) -> Result<Taken, Failed>
         requires way { context.now.way ≡ Way.Serve }
-        requires waits { MayWait context.now.way self.old.worker.at.executor self.old.pending }
-        ensures waits { MayWait context.now.way self.new.worker.at.executor self.new.pending }
+        requires waits { MayWait context.now.way (midway self.old.worker self.old.pending) }
+        ensures waits { MayWait context.now.way (midway self.new.worker self.new.pending) }
         ensures looked { IfOk result (λ taken. taken ≡ More
             → HasLooked (reads_in self.old.worker.at.events) (misses_in self.old.worker.at.events)
             (held_lines self.new.pending.held) self.new.worker.at.events) }
-        ensures lasts { Lasts self.old.worker.at self.new.worker.at }
-        ensures takes { (p : Position D) (own : OwnTurn)
-            → HasCome D.view (M.gives context.now.metadata.now) (rules_of context.now) p own 0
-            (midway self.old.worker self.old.pending)
-            → Comes D.view (M.gives context.now.metadata.now) (rules_of context.now) p own lines_a_turn
-            (midway self.new.worker self.new.pending) result }
-        ensures memory { IfErr result (λ f. f ≡ Memory → IsTrue T.refuses) }
+        ensures takes { TakesLines D.view (M.gives context.now.metadata.now) (rules_of context.now)
+            (midway self.old.worker self.old.pending) (midway self.new.worker self.new.pending) result }
     {
         for _reads in 0..READS_A_TURN {
             if !may_read(&mut self.worker, &self.pending.held) {
@@ -81,22 +73,17 @@ impl<'a, R: Input, D: Disk + Drop, C: Children + Drop, T: Client<D, C>, K: Clock
     }
 
     // Answers the lines that are there, up to one that is held, unless the run ends before.
-    fn answer_waiting<M: Metadata>(&mut self, context: &RunContext<'_, M>) -> Result<Taken, IoFault>
+    fn answer_waiting<M: Metadata>(&mut self, context: &RunContext<'_, M>) -> Result<Taken, Failed>
         requires way { context.now.way ≡ Way.Serve }
-        requires waits { MayWait context.now.way self.old.worker.at.executor self.old.pending }
+        requires waits { MayWait context.now.way (midway self.old.worker self.old.pending) }
         ensures none { IfOk result (λ taken. taken ≡ More → waiting self.new.pending.gathered ≡ []) }
         ensures looked { IfOk result (λ taken. taken ≡ More
             → HasLooked (reads_in self.old.worker.at.events) (misses_in self.old.worker.at.events)
             (held_lines self.new.pending.held) self.new.worker.at.events) }
         ensures goes_on { IfOk result
             (λ taken. taken ≡ More → MayGoOn context.now.way self.new.worker.at.executor) }
-        ensures lasts { Lasts self.old.worker.at self.new.worker.at }
-        ensures takes { (p : Position D) (own : OwnTurn)
-            → HasCome D.view (M.gives context.now.metadata.now) (rules_of context.now) p own 0
-            (midway self.old.worker self.old.pending)
-            → Comes D.view (M.gives context.now.metadata.now) (rules_of context.now) p own lines_a_turn
-            (midway self.new.worker self.new.pending) result }
-        ensures memory { IfErr result (λ f. f ≡ Memory → IsTrue T.refuses) }
+        ensures takes { TakesLines D.view (M.gives context.now.metadata.now) (rules_of context.now)
+            (midway self.old.worker self.old.pending) (midway self.new.worker self.new.pending) result }
     {
         let waited = self.take_waiting(context)?;
         if waited != Taken::More {
@@ -110,7 +97,7 @@ impl<'a, R: Input, D: Disk + Drop, C: Children + Drop, T: Client<D, C>, K: Clock
     pub fn answer_round<M: Metadata>(
         &mut self,
         context: &RunContext<'_, M>,
-    ) -> Result<Taken, IoFault>
+    ) -> Result<Taken, Failed>
         requires way { context.now.way ≡ Way.Serve }
         requires open { self.old.worker.at.executor.is_open ≡ true }
         requires none { waiting self.old.pending.gathered ≡ [] }
@@ -121,18 +108,13 @@ impl<'a, R: Input, D: Disk + Drop, C: Children + Drop, T: Client<D, C>, K: Clock
             self.new.worker.at.events) }
         ensures goes_on { IfOk result
             (λ taken. taken ≡ More → MayGoOn context.now.way self.new.worker.at.executor) }
-        ensures lasts { Lasts self.old.worker.at self.new.worker.at }
-        ensures takes { (p : Position D) (own : OwnTurn)
-            → HasCome D.view (M.gives context.now.metadata.now) (rules_of context.now) p own 0
-            (midway self.old.worker self.old.pending)
-            → Comes D.view (M.gives context.now.metadata.now) (rules_of context.now) p own lines_a_turn
-            (midway self.new.worker self.new.pending) result }
-        ensures memory { IfErr result (λ f. f ≡ Memory → IsTrue T.refuses) }
+        ensures takes { TakesLines D.view (M.gives context.now.metadata.now) (rules_of context.now)
+            (midway self.old.worker self.old.pending) (midway self.new.worker self.new.pending) result }
     {
         let Some(line) = &self.pending.held else {
             return self.answer_waiting(context);
         };
-        let answered = answer_held(&mut self.worker, context, line)?;
+        let answered = self.worker.answer_held(context, line)?;
         if answered {
             self.pending.held = None;
         }

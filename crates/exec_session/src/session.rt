@@ -1,18 +1,15 @@
 //! A run over its input: lines answered one by one, and turns by itself where it serves.
-ghost use Rattle.std.specs.Prelude.{◌≡◌, ◌<◌, [], length, true, OnErr, OnOk, IfErr, IfOk, IsTrue};
+ghost use Rattle.std.specs.Prelude.{◌≡◌, [], true, IfErr, OnErr, OnOk};
 ghost use Rattle.ocf_types.specs.declared.reply.TurnEnd.TheVariants.{Done};
 ghost use Rattle.exec_output.specs.Faults.{HasCause};
-ghost use Rattle.exec_output.specs.declared.send.IoFault.TheVariants.{Memory};
-ghost use Rattle.exec_session.specs.Breaks.{EndsOrBreaks, OwnTurnBreaks, RunBreaks};
+ghost use Rattle.exec_session.specs.Breaks.{EndsOrBreaks, RunBreaks};
 ghost use Rattle.exec_session.specs.Ends.{ClosesByCalls, Ended, EndsAs, Runs};
-ghost use Rattle.exec_session.specs.Gathered.{waiting};
 ghost use Rattle.exec_session.specs.Pending.{IsClear};
 ghost use Rattle.exec_session.specs.Reports.{IsReportOf};
 ghost use Rattle.exec_session.specs.Rules.{rules_of};
-ghost use Rattle.exec_session.specs.Runs.{IsNew, IsNews, MakesOwnTurn, NewsSo};
-ghost use Rattle.exec_session.specs.Spots.{Keeps, Lasts, MayBreakOff, Position, Tells, TellsPart, at_of};
-ghost use Rattle.exec_session.specs.Waiting.{GoesRound, HasComeRound, MayBegin, midway};
-ghost use Rattle.exec_session.specs.declared.lines.Taken.TheVariants.{More};
+ghost use Rattle.exec_session.specs.Runs.{IsNew};
+ghost use Rattle.exec_session.specs.Spots.{Lasts, at_of};
+ghost use Rattle.exec_session.specs.Waiting.{MayBegin, Rounds, midway, stage};
 
 use crate::context::{RunContext, Way};
 use crate::desk::Desk;
@@ -26,8 +23,8 @@ use child_model::Children;
 use disk_model::Disk;
 use exec_client::Client;
 use exec_lines::Input;
-use exec_output::{Fault, IoFault};
-use exec_trace::Edge;
+use exec_output::Fault;
+use exec_trace::{Edge, Failed};
 use executor::{Executor, Report};
 use ocf_types::{NUM_MAX, TurnEnd};
 use std::rt::Clock;
@@ -52,67 +49,6 @@ struct Session<'a, R: Input, D: Disk + Drop, C: Children + Drop, T: Client<D, C>
     own: TurnEnd,
 }
 
-// Whether it is news how an own turn ended.
-fn is_news(before: TurnEnd, end: TurnEnd) -> bool
-    ensures news { IsTrue result → IsNews before end }
-    ensures none { IsNews before end → IsTrue result }
-{
-    end != before && end != TurnEnd::Done && end != TurnEnd::Disk
-}
-
-// Sends how an own turn ended, where that is news.
-fn tell_news<R: Input, D: Disk + Drop, C: Children + Drop, T: Client<D, C>, K: Clock, M: Metadata>(
-    worker: &mut Worker<'_, R, D, C, T, K>,
-    context: &RunContext<'_, M>,
-    before: TurnEnd,
-    end: TurnEnd,
-) -> Result<(), IoFault>
-    ensures keeps { Keeps worker.old worker.new }
-    ensures told { OnOk result (NewsSo (Tells context.now.form) before end worker.old.at worker.new.at) }
-    ensures breaks { OnErr result
-        (NewsSo (TellsPart context.now.form) before end worker.old.at worker.new.at) }
-    ensures cause { OnErr result (MayBreakOff worker.new.at.events) }
-    ensures memory { IfErr result (λ f. f ≡ Memory → IsTrue T.refuses) }
-{
-    if is_news(before, end) {
-        worker.tell_end(context, end)
-    } else {
-        Ok(())
-    }
-}
-
-// Makes a turn now, after an own one that ended so, and sends its end where that is news.
-fn make_own_turn<
-    R: Input,
-    D: Disk + Drop,
-    C: Children + Drop,
-    T: Client<D, C>,
-    K: Clock,
-    M: Metadata,
->(
-    worker: &mut Worker<'_, R, D, C, T, K>,
-    context: &RunContext<'_, M>,
-    pause: &mut Pause,
-    before: TurnEnd,
-) -> Result<TurnEnd, IoFault>
-    requires open { worker.old.at.executor.is_open ≡ true }
-    ensures keeps { Keeps worker.old worker.new }
-    ensures longer { length worker.old.at.events < length worker.new.at.events }
-    ensures since { pause.new.since ≡ pause.old.since }
-    ensures made { IfOk result (λ end. MakesOwnTurn D.view (rules_of context.now) before
-        pause.new.moment worker.old.at worker.new.at end) }
-    ensures breaks { OnErr result (OwnTurnBreaks D.view (rules_of context.now) before
-        worker.old.at worker.new.at) }
-    ensures cause { OnErr result (MayBreakOff worker.new.at.events) }
-    ensures memory { IfErr result (λ f. f ≡ Memory → IsTrue T.refuses) }
-{
-    let now = worker.now();
-    pause.before_turn(worker.clock(), now);
-    let end = worker.make_turn(context, now)?;
-    tell_news(worker, context, before, end)?;
-    Ok(end)
-}
-
 impl<'a, R: Input, D: Disk + Drop, C: Children + Drop, T: Client<D, C>, K: Clock> Session<
     'a,
     R,
@@ -123,22 +59,13 @@ impl<'a, R: Input, D: Disk + Drop, C: Children + Drop, T: Client<D, C>, K: Clock
 > {
     // Answers the lines that are there, and makes a turn after at most 64 of them; where nothing happened in it, waits for
     // the next line.
-    fn serve_round<M: Metadata>(&mut self, context: &RunContext<'_, M>) -> Result<Taken, IoFault>
+    fn serve_round<M: Metadata>(&mut self, context: &RunContext<'_, M>) -> Result<Taken, Failed>
         requires way { context.now.way ≡ Way.Serve }
-        requires begins { MayBegin context.now.way self.old.desk.worker.at self.old.desk.pending }
-        ensures begins { IfOk result (λ taken. taken ≡ More
-            → MayBegin context.now.way self.new.desk.worker.at self.new.desk.pending) }
-        ensures lasts { Lasts self.old.desk.worker.at self.new.desk.worker.at }
-        ensures longer { IfOk result (λ taken. taken ≡ More
-            → length self.old.desk.worker.at.events < length self.new.desk.worker.at.events) }
-        ensures goes { (p : Position D)
-            → HasComeRound D.view (M.gives context.now.metadata.now) (rules_of context.now) p
-            self.old.pause.since self.old.own
-            (midway self.old.desk.worker self.old.desk.pending)
-            → GoesRound D.view (M.gives context.now.metadata.now) (rules_of context.now) p
-            self.new.pause.since self.new.own
-            (midway self.new.desk.worker self.new.desk.pending) result }
-        ensures memory { IfErr result (λ f. f ≡ Memory → IsTrue T.refuses) }
+        requires begins { MayBegin context.now.way (midway self.old.desk.worker self.old.desk.pending) }
+        ensures rounds { Rounds D.view (M.gives context.now.metadata.now) (rules_of context.now)
+            (stage (midway self.old.desk.worker self.old.desk.pending) self.old.pause.since self.old.own)
+            (stage (midway self.new.desk.worker self.new.desk.pending) self.new.pause.since self.new.own)
+            result }
     {
         let taken = self.desk.answer_round(context)?;
         if taken != Taken::More {
@@ -147,7 +74,10 @@ impl<'a, R: Input, D: Disk + Drop, C: Children + Drop, T: Client<D, C>, K: Clock
         if self.desk.pending.is_leaving() {
             return Ok(Taken::Leaves);
         }
-        let end = make_own_turn(&mut self.desk.worker, context, &mut self.pause, self.own)?;
+        let end = self
+            .desk
+            .worker
+            .make_own_turn(context, &mut self.pause, self.own)?;
         self.own = end;
         if !self.desk.worker.is_open() {
             return Ok(Taken::Closed);
@@ -156,42 +86,24 @@ impl<'a, R: Input, D: Disk + Drop, C: Children + Drop, T: Client<D, C>, K: Clock
         if wait(&mut self.desk.worker, &mut self.pause, holds) {
             Ok(Taken::More)
         } else {
-            Err(IoFault::InputOrOutput)
+            Err(Failed)
         }
     }
 
     // One round: of a run by lines alone a read, and the answer to the line that it completes.
-    fn round<M: Metadata>(&mut self, context: &RunContext<'_, M>) -> Result<Taken, IoFault>
-        requires begins { MayBegin context.now.way self.old.desk.worker.at self.old.desk.pending }
-        ensures begins { IfOk result (λ taken. taken ≡ More
-            → MayBegin context.now.way self.new.desk.worker.at self.new.desk.pending) }
-        ensures lasts { Lasts self.old.desk.worker.at self.new.desk.worker.at }
-        ensures longer { IfOk result (λ taken. taken ≡ More
-            → length self.old.desk.worker.at.events < length self.new.desk.worker.at.events) }
-        ensures goes { (p : Position D)
-            → HasComeRound D.view (M.gives context.now.metadata.now) (rules_of context.now) p
-            self.old.pause.since self.old.own
-            (midway self.old.desk.worker self.old.desk.pending)
-            → GoesRound D.view (M.gives context.now.metadata.now) (rules_of context.now) p
-            self.new.pause.since self.new.own
-            (midway self.new.desk.worker self.new.desk.pending) result }
-        ensures memory { IfErr result (λ f. f ≡ Memory → IsTrue T.refuses) }
+    fn round<M: Metadata>(&mut self, context: &RunContext<'_, M>) -> Result<Taken, Failed>
+        requires begins { MayBegin context.now.way (midway self.old.desk.worker self.old.desk.pending) }
+        ensures rounds { Rounds D.view (M.gives context.now.metadata.now) (rules_of context.now)
+            (stage (midway self.old.desk.worker self.old.desk.pending) self.old.pause.since self.old.own)
+            (stage (midway self.new.desk.worker self.new.desk.pending) self.new.pause.since self.new.own)
+            result }
     {
         match context.way {
             Way::Run => self.desk.take_read(context),
             Way::Serve => self.serve_round(context),
         }
     }
-}
 
-impl<'a, R: Input, D: Disk + Drop, C: Children + Drop, T: Client<D, C>, K: Clock> Session<
-    'a,
-    R,
-    D,
-    C,
-    T,
-    K,
-> {
     // Nothing was read, and no turn was made. What is moved here is no part of the stack of a run.
     #[inline(never)]
     fn new(
@@ -217,14 +129,13 @@ impl<'a, R: Input, D: Disk + Drop, C: Children + Drop, T: Client<D, C>, K: Clock
 
     // Answers the lines of the input up to its end, round by round. Once a disk fault has closed the executor a run that
     // serves sends that, and ends; it also ends once a line has asked it to, when what runs has ended.
-    fn answer_all<M: Metadata>(&mut self, context: &RunContext<'_, M>) -> Result<(), IoFault>
+    fn answer_all<M: Metadata>(&mut self, context: &RunContext<'_, M>) -> Result<(), Failed>
         requires clear { IsClear self.old.desk.pending }
         requires none { self.old.own ≡ Done }
         requires open { self.old.desk.worker.at.executor.is_open ≡ true }
         ensures lasts { Lasts self.old.desk.worker.at self.new.desk.worker.at }
         ensures ends { EndsOrBreaks D.view (M.gives context.now.metadata.now) (rules_of context.now)
             self.old.desk.worker self.new.desk.worker result }
-        ensures memory { IfErr result (λ f. f ≡ Memory → IsTrue T.refuses) }
     {
         for _rounds in 0..NUM_MAX {
             match self.round(context)? {
@@ -234,7 +145,7 @@ impl<'a, R: Input, D: Disk + Drop, C: Children + Drop, T: Client<D, C>, K: Clock
                 Taken::Leaves => return self.desk.worker.leave(context),
             }
         }
-        Err(IoFault::InputOrOutput)
+        Err(Failed)
     }
 
     // Sends the report, and then answers all lines.
@@ -242,7 +153,7 @@ impl<'a, R: Input, D: Disk + Drop, C: Children + Drop, T: Client<D, C>, K: Clock
         &mut self,
         context: &RunContext<'_, M>,
         report: &Report,
-    ) -> Result<(), IoFault>
+    ) -> Result<(), Failed>
         requires clear { IsClear self.old.desk.pending }
         requires none { self.old.own ≡ Done }
         requires open { self.old.desk.worker.at.executor.is_open ≡ true }
@@ -252,7 +163,6 @@ impl<'a, R: Input, D: Disk + Drop, C: Children + Drop, T: Client<D, C>, K: Clock
             report.now self.old.desk.worker self.new.desk.worker) }
         ensures breaks { OnErr result (RunBreaks D.view (M.gives context.now.metadata.now)
             (rules_of context.now) report.now self.old.desk.worker self.new.desk.worker.at) }
-        ensures memory { IfErr result (λ f. f ≡ Memory → IsTrue T.refuses) }
     {
         self.desk.worker.tell_report(context, report)?;
         self.answer_all(context)?;
@@ -277,8 +187,8 @@ impl<'a, R: Input, D: Disk + Drop, C: Children + Drop, T: Client<D, C>, K: Clock
         match self.report_and_answer(context, report) {
             Ok(()) if self.desk.worker.is_open() => Ok(()),
             Ok(()) => Err(Fault::Disk),
-            Err(IoFault::InputOrOutput) => Err(Fault::InputOrOutput),
-            Err(IoFault::Memory) => Err(Fault::ReplyMemory),
+            Err(_) if self.desk.worker.lacks_memory() => Err(Fault::ReplyMemory),
+            Err(_) => Err(Fault::InputOrOutput),
         }
     }
 }

@@ -1,22 +1,33 @@
 //! One turn, with its notices.
-ghost use Rattle.std.specs.Prelude.{◌≡◌, true, IfErr, IfOk, IsTrue, OnErr, Some};
-ghost use Rattle.ocf_types.specs.declared.reply.TurnEnd.{TurnEnd};
-ghost use Rattle.exec_output.specs.declared.send.IoFault.TheVariants.{Memory};
-ghost use Rattle.exec_session.specs.Drains.{MakesTurn, TurnHeard};
+ghost use Rattle.std.specs.Prelude.{◌≡◌, ◌<◌, length, true, IsTrue, Some};
+ghost use Rattle.exec_session.specs.Breaks.{OwnTurnBreaks};
+ghost use Rattle.exec_session.specs.Broken.{TurnBreaks};
+ghost use Rattle.exec_session.specs.Drains.{MakesTurn};
 ghost use Rattle.exec_session.specs.Rules.{rules_of};
-ghost use Rattle.exec_session.specs.Spots.{Keeps, MayBreakOff, TellsPart};
+ghost use Rattle.exec_session.specs.Runs.{IsNews, MakesOwnTurn, NewsSo};
+ghost use Rattle.exec_session.specs.Spots.{Tells, TellsPart};
+ghost use Rattle.exec_session.specs.Steps.{Steps, StepsTo};
 ghost use Rattle.exec_trace.specs.Events.{last_shown};
 
 use crate::context::RunContext;
+use crate::pause::Pause;
 use crate::room::make_room;
 use crate::worker::Worker;
 use child_model::Children;
 use disk_model::Disk;
 use exec_client::{Client, Told, TurnNotices};
 use exec_lines::Input;
-use exec_output::IoFault;
+use exec_trace::Failed;
 use ocf_types::TurnEnd;
 use std::rt::Clock;
+
+// Whether it is news how an own turn ended.
+fn is_news(before: TurnEnd, end: TurnEnd) -> bool
+    ensures news { IsTrue result → IsNews before end }
+    ensures none { IsNews before end → IsTrue result }
+{
+    end != before && end != TurnEnd::Done && end != TurnEnd::Disk
+}
 
 impl<'a, R: Input, D: Disk + Drop, C: Children + Drop, T: Client<D, C>, K: Clock> Worker<
     'a,
@@ -28,17 +39,11 @@ impl<'a, R: Input, D: Disk + Drop, C: Children + Drop, T: Client<D, C>, K: Clock
 > {
     /// Makes room and then a turn at this moment, which the clock showed last, and sends its notices. Where the disk fails
     /// as room is made there is no turn.
-    pub fn make_turn<M>(&mut self, context: &RunContext<M>, now: u64) -> Result<TurnEnd, IoFault>
+    pub fn make_turn<M>(&mut self, context: &RunContext<M>, now: u64) -> Result<TurnEnd, Failed>
         requires open { self.old.at.executor.is_open ≡ true }
         requires shown { last_shown self.old.at.events ≡ Some now }
-        ensures keeps { Keeps self.old self.new }
-        ensures made { IfOk result
-            (MakesTurn D.view (rules_of context.now) now self.old.at self.new.at) }
-        ensures breaks { OnErr result ((end : TurnEnd)
-            × TurnHeard (TellsPart context.now.form) D.view (rules_of context.now) now
-            self.old.at self.new.at end) }
-        ensures cause { OnErr result (MayBreakOff self.new.at.events) }
-        ensures memory { IfErr result (λ f. f ≡ Memory → IsTrue T.refuses) }
+        ensures made { StepsTo (λ end q. MakesTurn D.view (rules_of context.now) now self.old.at q end)
+            (TurnBreaks D.view (rules_of context.now) now self.old.at) self.old self.new result }
     {
         self.executor.clear_book();
         if !make_room(context, self.edge.clock(), &mut self.executor, now) {
@@ -48,6 +53,44 @@ impl<'a, R: Input, D: Disk + Drop, C: Children + Drop, T: Client<D, C>, K: Clock
         let turn = TurnNotices::of_executor(&self.executor);
         self.edge
             .tell(&self.executor, context.form, &Told::Notices(turn))?;
+        Ok(end)
+    }
+
+    // Sends how an own turn ended, where that is news.
+    fn tell_news<M>(
+        &mut self,
+        context: &RunContext<M>,
+        before: TurnEnd,
+        end: TurnEnd,
+    ) -> Result<(), Failed>
+        ensures told { Steps (NewsSo (Tells context.now.form) before end self.old.at)
+            (NewsSo (TellsPart context.now.form) before end self.old.at) self.old self.new result }
+    {
+        if is_news(before, end) {
+            self.tell_end(context, end)
+        } else {
+            Ok(())
+        }
+    }
+
+    /// Makes a turn now, after an own one that ended so, and sends how it ended where that is news.
+    pub fn make_own_turn<M>(
+        &mut self,
+        context: &RunContext<M>,
+        pause: &mut Pause,
+        before: TurnEnd,
+    ) -> Result<TurnEnd, Failed>
+        requires open { self.old.at.executor.is_open ≡ true }
+        ensures longer { length self.old.at.events < length self.new.at.events }
+        ensures since { pause.new.since ≡ pause.old.since }
+        ensures made { StepsTo (λ end q. MakesOwnTurn D.view (rules_of context.now) before
+            pause.new.moment self.old.at q end)
+            (OwnTurnBreaks D.view (rules_of context.now) before self.old.at) self.old self.new result }
+    {
+        let now = self.now();
+        pause.before_turn(self.clock(), now);
+        let end = self.make_turn(context, now)?;
+        self.tell_news(context, before, end)?;
         Ok(end)
     }
 }

@@ -1,22 +1,24 @@
 //! What a run works with: its executor, and the reader, the client and the clock.
-ghost use Rattle.std.specs.Prelude.{◌≡◌, ◌≤◌, not, IfErr, IsTrue, OnErr, OnOk};
+ghost use Rattle.std.specs.Prelude.{◌≡◌, ◌≤◌, ℕ, List, Option, MatchOption, not, is_ok, IfOk, IsTrue};
 ghost use Rattle.ocf_types.specs.Boot.{any_busy};
 ghost use Rattle.ocf_types.specs.Numbers.{IsMoment};
-ghost use Rattle.exec_client.specs.MayTell.{MaySay, StandsBehind};
-ghost use Rattle.exec_client.specs.Said.{said_in};
-ghost use Rattle.exec_output.specs.declared.send.IoFault.TheVariants.{Memory};
+ghost use Rattle.recurring.specs.Monitors.{IsFirstMoment};
+ghost use Rattle.exec_state.specs.Store.{all_pairs};
+ghost use Rattle.exec_turn.specs.Actives.{any_running};
+ghost use Rattle.exec_client.specs.MayTell.{AllStand};
+ghost use Rattle.exec_lines.specs.Buffer.{line_bytes};
+ghost use Rattle.exec_lines.specs.Pieces.{IsMidLine, IsNext};
 ghost use Rattle.exec_session.specs.Pausing.{IsQuietSince};
-ghost use Rattle.exec_session.specs.Spots.{Keeps, MayBreakOff, Pauses, Tells, TellsPart, noted};
-ghost use Rattle.exec_trace.specs.declared.event.IoEvent.TheVariants.{Shown};
+ghost use Rattle.exec_session.specs.Runs.{IsNew};
+ghost use Rattle.exec_session.specs.Spots.{Pauses, at_of, behind, noted, paused, position};
+ghost use Rattle.exec_trace.specs.declared.event.IoEvent.TheVariants.{Asked, Looked, Peeked, Read, Shown};
 
 use crate::pause::Pause;
 use child_model::Children;
 use disk_model::Disk;
-use exec_client::{Client, Told};
-use exec_commands::NoticeForm;
-use exec_lines::Input;
-use exec_output::IoFault;
-use exec_trace::Edge;
+use exec_client::Client;
+use exec_lines::{Input, LineBuffer, Next};
+use exec_trace::{Edge, Failed};
 use executor::Executor;
 use std::marker::Model;
 use std::rt::Clock;
@@ -49,6 +51,24 @@ impl<'a, R: Input, D: Disk + Drop, C: Children + Drop, T: Client<D, C>, K: Clock
     T,
     K,
 > {
+    /// An executor that was just opened, of which its client was sent nothing yet.
+    #[tactic(auto, using(crate::proofs::TellLemmas::new_stands))]
+    pub fn new(edge: Edge<'a, R, D, C, T, K>, executor: Executor<D, C>) -> Worker<'a, R, D, C, T, K>
+        requires fresh { IsNew edge.heard executor }
+        ensures { result ≡ at_of executor edge.entry }
+    {
+        Worker { edge, executor }
+    }
+
+    /// What it works with.
+    pub fn into_parts(self) -> (Edge<'a, R, D, C, T, K>, Executor<D, C>)
+        ensures parts { at_of result.1 result.0 ≡ self.entry }
+        ensures stands { AllStand D.view result.0.heard result.1 }
+    {
+        let Worker { edge, executor } = self;
+        (edge, executor)
+    }
+
     /// The clock, for the length of a pause.
     pub fn clock(&self) -> &'a K {
         self.edge.clock()
@@ -90,19 +110,65 @@ impl<'a, R: Input, D: Disk + Drop, C: Children + Drop, T: Client<D, C>, K: Clock
         self.edge.is_heard()
     }
 
-    /// Sends the client something that says nothing of what is recorded; notices in this form.
-    pub fn tell(&mut self, form: NoticeForm, what: &Told) -> Result<(), IoFault>
-        requires stands { StandsBehind D.view self.old.at.executor self.old.at.executor
-            (said_in what.now) }
-        requires says { MaySay self.old.at.executor what.now }
-        ensures keeps { Keeps self.old self.new }
-        ensures told { OnOk result
-            (Tells form.entry self.old.at self.new.at (said_in what.now)) }
-        ensures breaks { OnErr result
-            (TellsPart form.entry self.old.at self.new.at (said_in what.now)) }
-        ensures cause { OnErr result (MayBreakOff self.new.at.events) }
-        ensures memory { IfErr result (λ f. f ≡ Memory → IsTrue T.refuses) }
+    /// Waits for input for at most this many milliseconds, and says whether a read would not block.
+    pub fn look(&mut self, millis: u32) -> bool
+        ensures noted { self.new ≡ noted self.old (Looked millis result) }
     {
-        self.edge.tell(&self.executor, form, what)
+        self.edge.look(millis)
+    }
+
+    /// Whether what was read already holds a whole line.
+    pub fn has_line(&mut self) -> bool
+        ensures noted { self.new ≡ noted self.old (Peeked result) }
+    {
+        self.edge.has_line()
+    }
+
+    /// Reads once, and goes on with a line in the buffer. It gives what comes next in the input once that line is whole;
+    /// none while it goes on.
+    pub fn read(&mut self, buffer: &mut LineBuffer) -> Result<Option<Next>, Failed>
+        ensures gathers { (left : Option (List ℕ))
+            → IsMidLine left (line_bytes buffer.old) self.old.left
+            → IfOk result (λ next. MatchOption next
+            (IsMidLine left (line_bytes buffer.new) self.new.left)
+            (λ n. IsNext left n (line_bytes buffer.new) self.new.left)) }
+        ensures noted { self.new.at ≡ behind self.old.at (Read (is_ok result)) }
+    {
+        self.edge.read(buffer)
+    }
+
+    /// Pauses for this many microseconds: not at all for none.
+    pub fn rest(&mut self, micros: u64)
+        ensures noted { self.new ≡ position (paused self.old.at micros) self.old.left }
+    {
+        self.edge.rest(micros);
+    }
+
+    /// Whether anybody may still read what is sent.
+    pub fn is_heard(&mut self) -> bool
+        ensures noted { self.new ≡ noted self.old (Asked result) }
+    {
+        self.edge.is_heard()
+    }
+
+    /// When the first monitor is due, in milliseconds since 1970.
+    pub fn first_due(&self) -> Option<u64>
+        ensures first { IsFirstMoment (all_pairs self.now.at.executor.monitors) result }
+    {
+        self.executor.first_due()
+    }
+
+    /// Whether an action of any resource runs.
+    pub fn runs_any(&self) -> bool
+        ensures value { result ≡ any_running self.now.at.executor.state }
+    {
+        self.executor.runs_any()
+    }
+
+    /// Whether the client failed last for want of memory.
+    pub fn lacks_memory(&self) -> bool
+        ensures memory { IsTrue result → IsTrue T.refuses }
+    {
+        self.edge.lacks_memory()
     }
 }

@@ -1,16 +1,16 @@
 //! The reader, the client and the clock of a run.
-ghost use Rattle.std.specs.Prelude.{◌≡◌, [], ◌∷◌, ◌++◌, ◌≤◌, Bool, true, false, is_ok, IfErr, IfOk, IsTrue, List, MatchOption, OnErr, OnOk, Option, ℕ};
+ghost use Rattle.std.specs.Prelude.{◌≡◌, [], ◌∷◌, ◌++◌, ◌≤◌, Bool, true, false, is_ok, IfOk, IsTrue, List, MatchOption, OnErr, OnOk, Option, ℕ};
 ghost use Rattle.ocf_types.specs.Numbers.{IsMoment};
 ghost use Rattle.exec_lines.specs.Buffer.{line_bytes};
 ghost use Rattle.exec_lines.specs.Pieces.{IsMidLine, IsNext};
 ghost use Rattle.exec_client.specs.Heard.{Hears, HearsPart, IsTold};
 ghost use Rattle.exec_client.specs.MayTell.{MayTell};
 ghost use Rattle.exec_client.specs.Said.{said_in};
-ghost use Rattle.exec_output.specs.declared.send.IoFault.TheVariants.{InputOrOutput, Memory};
 ghost use Rattle.exec_trace.specs.Edges.{EdgeView, noting, rested};
 ghost use Rattle.exec_trace.specs.declared.event.IoEvent.TheVariants.{Asked, Looked, Peeked, Read, Sent, Shown};
 
 use crate::event::IoEvent;
+use crate::failed::Failed;
 use child_model::Children;
 use disk_model::Disk;
 use exec_client::{Client, Told};
@@ -31,16 +31,22 @@ pub struct Edge<'a, R: Input, D: Disk + Drop, C: Children + Drop, T: Client<D, C
     client: T,
     clock: &'a K,
     past: Past<IoEvent>,
+    // How the reader or the client failed last.
+    fault: IoFault,
     of: PhantomData<(D, C)>,
 }
 
 impl<'a, R: Input, D: Disk + Drop, C: Children + Drop, T: Client<D, C>, K: Clock> Model
     for Edge<'a, R, D, C, T, K> {
+    ghost use Rattle.std.specs.Prelude.{◌≡◌, IsTrue};
+    ghost use Rattle.exec_output.specs.declared.send.IoFault.TheVariants.{Memory};
     ghost use Rattle.exec_trace.specs.Edges.{EdgeView};
 
     ghost Value = { EdgeView D };
 
     ghost view = { λ e. record { left = R.remaining e.reader; heard = T.heard e.client; events = e.past.items } };
+
+    ghost invariant = { λ e. e.fault ≡ Memory → IsTrue T.refuses };
 }
 
 impl<'a, R: Input, D: Disk + Drop, C: Children + Drop, T: Client<D, C>, K: Clock> Edge<
@@ -60,6 +66,7 @@ impl<'a, R: Input, D: Disk + Drop, C: Children + Drop, T: Client<D, C>, K: Clock
             client,
             clock,
             past: Past::new(),
+            fault: IoFault::InputOrOutput,
             of: PhantomData,
         }
     }
@@ -89,13 +96,12 @@ impl<'a, R: Input, D: Disk + Drop, C: Children + Drop, T: Client<D, C>, K: Clock
 
     /// Reads once, and goes on with a line in the buffer. It gives what comes next in the input once that line is whole;
     /// none while it goes on.
-    pub fn read(&mut self, buffer: &mut LineBuffer) -> Result<Option<Next>, IoFault>
+    pub fn read(&mut self, buffer: &mut LineBuffer) -> Result<Option<Next>, Failed>
         ensures gathers { (left : Option (List ℕ))
             → IsMidLine left (line_bytes buffer.old) self.old.left
             → IfOk result (λ next. MatchOption next
             (IsMidLine left (line_bytes buffer.new) self.new.left)
             (λ n. IsNext left n (line_bytes buffer.new) self.new.left)) }
-        ensures fault { IfErr result (λ f. f ≡ InputOrOutput) }
         ensures heard { self.new.heard ≡ self.old.heard }
         ensures noted { self.new.events ≡ self.old.events ++ Read (is_ok result) ∷ [] }
     {
@@ -103,7 +109,10 @@ impl<'a, R: Input, D: Disk + Drop, C: Children + Drop, T: Client<D, C>, K: Clock
         self.past.note(&IoEvent::Read { done: read.is_ok() });
         match read {
             Ok(next) => Ok(next),
-            Err(error) => Err(IoFault::from(error)),
+            Err(error) => {
+                self.fault = IoFault::from(error);
+                Err(Failed)
+            }
         }
     }
 
@@ -134,18 +143,30 @@ impl<'a, R: Input, D: Disk + Drop, C: Children + Drop, T: Client<D, C>, K: Clock
         executor: &Executor<D, C>,
         form: NoticeForm,
         what: &Told,
-    ) -> Result<(), IoFault>
+    ) -> Result<(), Failed>
         requires may_tell { MayTell D.view self.old.heard executor.now what.now }
         ensures told { IsTold self.old.heard self.new.heard (said_in what.now) }
         ensures hears { OnOk result (Hears form.entry self.old.heard self.new.heard (said_in what.now)) }
         ensures breaks { OnErr result (HearsPart form.entry self.old.heard self.new.heard (said_in what.now)) }
-        ensures memory { IfErr result (λ f. f ≡ Memory → IsTrue T.refuses) }
         ensures left { self.new.left ≡ self.old.left }
         ensures noted { self.new.events ≡ self.old.events ++ Sent (is_ok result) ∷ [] }
     {
         let told = self.client.tell(executor, form, what);
         self.past.note(&IoEvent::Sent { done: told.is_ok() });
-        told
+        match told {
+            Ok(()) => Ok(()),
+            Err(fault) => {
+                self.fault = fault;
+                Err(Failed)
+            }
+        }
+    }
+
+    /// Whether the client failed last for want of memory.
+    pub fn lacks_memory(&self) -> bool
+        ensures memory { IsTrue result → IsTrue T.refuses }
+    {
+        matches!(self.fault, IoFault::Memory)
     }
 
     /// Whether anybody may still read what is sent.

@@ -3,6 +3,8 @@
 
 mod edge;
 mod event;
+mod failed;
 
 pub use edge::Edge;
 pub use event::IoEvent;
+pub use failed::Failed;

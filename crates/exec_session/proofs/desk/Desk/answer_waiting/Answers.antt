@@ -11,15 +11,7 @@ use Rattle.exec_session.proofs.desk.Desk.answer_waiting.Goals as goal
 pub answer_rest-requires : goal.answer_rest-requires
 answer_rest-requires g c =
     let it = c.take_waiting.new.self in
-    record { «open» = open_while c.args.context.now.way it.worker.at.executor it.pending c.in_ok-waited.ensures.waits }
-
-pub returns-clause-takes : goal.returns-clause-takes
-returns-clause-takes g c = λ p own come.
-    let it = c.take_waiting.new.self in
-    let more : c.in_ok-waited.waited ≡ More = search (rules, c.ne.ensures, c.if-ne.false) in
-    c.answer_rest.ensures.takes p own 63 (may_serve c.args.context.now.way 63 c.requires.way (omega arith))
-    (subst (ComesOrEnds g.D.Disk.view (g.M.Metadata.gives c.args.context.now.metadata.now) (rules_of c.args.context.now) p own 64
-    (midway it.worker it.pending)) more (c.in_ok-waited.ensures.takes p own come))
+    record { «open» = open_while c.args.context.now.way (midway it.worker it.pending) c.in_ok-waited.ensures.waits }
 
 pub returns-clause-looked : goal.returns-clause-looked
 returns-clause-looked g c =
@@ -35,11 +27,27 @@ returns-clause-looked g c =
     (subst (λ h. HasLooked (reads_in old.events) (misses_in old.events) (held_lines h) it.worker.at.events) (sym c.answer_rest.ensures.held)
     (c.in_ok-waited.ensures.looked more)))
 
-pub returns-clause-lasts : goal.returns-clause-lasts
-returns-clause-lasts g c =
-    lasts_both c.args.self.now.worker.at c.take_waiting.new.self.worker.at c.answer_rest.new.self.worker.at c.in_ok-waited.ensures.lasts
-    c.answer_rest.ensures.lasts
+pub returns-clause-takes : goal.returns-clause-takes
+returns-clause-takes g c = record {
+  lasts =
+      lasts_both c.args.self.now.worker.at c.take_waiting.new.self.worker.at c.answer_rest.new.self.worker.at c.in_ok-waited.ensures.takes.lasts
+      c.answer_rest.ensures.lasts;
+  comes =
+      λ p own come.
+      let it = c.take_waiting.new.self in
+      let more : c.in_ok-waited.waited ≡ More = search (rules, c.ne.ensures, c.if-ne.false) in
+      c.answer_rest.ensures.takes p own 63 (may_serve c.args.context.now.way 63 c.requires.way (omega arith))
+      (subst (ComesOrEnds g.D.Disk.view (g.M.Metadata.gives c.args.context.now.metadata.now) (rules_of c.args.context.now) p own 64
+      (midway it.worker it.pending)) more (c.in_ok-waited.ensures.takes.comes p own come));
+}
 
 pub returns-in_err-waited-clause-takes : goal.returns-in_err-waited-clause-takes
-returns-in_err-waited-clause-takes g c = λ p own come.
-    comes_err _ _ _ _ own _ _ c.from_residual.result c.from_residual.ensures.0 (c.in_err-waited.ensures.takes p own come)
+returns-in_err-waited-clause-takes g c = record {
+  lasts = c.in_err-waited.ensures.takes.lasts;
+  comes =
+      λ p own come.
+      comes_err _ _ _ _ own _ _ c.from_residual.result c.from_residual.ensures.0 (c.in_err-waited.ensures.takes.comes p own come);
+}
+
+pub returns-then-ne-clause-takes : goal.returns-then-ne-clause-takes
+returns-then-ne-clause-takes g c = c.in_ok-waited.ensures.takes

@@ -2,6 +2,7 @@ use Rattle.std.proofs.Common.{ap, ◌∙◌}
 use Rattle.exec_lines.specs.Buffer.{line_bytes}
 use Rattle.exec_session.specs.Gathered.{waiting}
 use Rattle.exec_session.specs.Rules.{rules_of}
+use Rattle.exec_session.specs.Waiting.{midway}
 use Rattle.exec_session.proofs.WaitLemmas.{none_there, none_waits, one_waits}
 use Rattle.exec_session.proofs.desk.Desk.take_command.Goals as goal
 
@@ -23,12 +24,12 @@ returns-clause-takes g c = λ p own most may finds.
 pub returns-clause-waits : goal.returns-clause-waits
 returns-clause-waits g c =
     let new = c.answer_rest.new.self in
-    none_waits c.args.context.now.way new.worker.at.executor new.pending c.answer_rest.ensures.none
+    none_waits c.args.context.now.way (midway new.worker new.pending) c.answer_rest.ensures.none
     (λ _. c.answer_rest.ensures.held ∙ c.requires.between.free)
 
 pub returns-clause-there : goal.returns-clause-there
 returns-clause-there g c =
-    let new = c.answer_rest.new.self in none_there new.pending new.worker.at.events c.answer_rest.ensures.none
+    let new = c.answer_rest.new.self in none_there (midway new.worker new.pending) c.answer_rest.ensures.none
 
 pub returns-clause-between : goal.returns-clause-between
 returns-clause-between g c = record {

@@ -6,9 +6,9 @@ use Rattle.exec_session.specs.Rules.{rules_of}
 use Rattle.exec_session.specs.Spots.{Spot}
 use Rattle.exec_session.specs.Waiting.{HasFound}
 use Rattle.exec_session.specs.declared.lines.Found.{Found}
-use Rattle.exec_session.proofs.LastLemmas.{lasts_both, lasts_noted, one_read, read_then}
+use Rattle.exec_session.proofs.LastLemmas.{lasts_both, lasts_event, lasts_noted, one_read, read_then}
 use Rattle.exec_session.proofs.RoundLemmas.{at_none, at_some}
-use Rattle.exec_session.proofs.WaitLemmas.{come_more, comes_err, event_breaks, found_held, found_looked, found_next, mid_before, read_part}
+use Rattle.exec_session.proofs.WaitLemmas.{come_more, comes_err, event_breaks, found_held, found_looked, found_next, mid_before, ok_always, read_part}
 use Rattle.exec_session.proofs.desk.Desk.take_read.Goals as goal
 
 pub returns-in_default-clause-takes : goal.returns-in_default-clause-takes
@@ -61,7 +61,7 @@ returns-clause-takes g c = λ p own most may come.
     let next = at_some c.in_ok-next.field-0 c.in-Some.next _ _ c.in-Some.is (c.in_ok-next.ensures.gathers come.left mid) in
     let finds = found_next look source rules p own most commands held kept old.worker place' c.found_in-found.result c.requires.free
     c.requires.there c.in_ok-next.ensures.noted come (c.found_in-found.ensures.found come.left place'.left next) in
-    c.take_found.ensures.takes p own most may
+    c.take_found.ensures.takes.comes p own most may
     (found_looked look source rules p own most commands c.in-Err.other place' c.has_line-has_next.new.self (Peeked c.has_line-has_next.result)
     (old.worker.at.events, ap (λ (s : Spot _). s.events) c.in_ok-next.ensures.noted) c.has_line-has_next.ensures.noted
     (subst (λ (f : Found). HasFound look source rules p own most commands f place') (sym c.in-Err.ensures.same) finds))
@@ -97,4 +97,20 @@ returns-clause-reads g c =
     let new = c.take_found.new.self.worker.at in
     read_then old read.at new (one_read old read.at true c.in_ok-next.ensures.noted)
     (lasts_both read.at looked.at new (lasts_noted read looked (Peeked c.has_line-has_next.result) c.has_line-has_next.ensures.noted)
-    c.take_found.ensures.lasts)
+    c.take_found.ensures.takes.lasts)
+
+pub returns-clause-lasts : goal.returns-clause-lasts
+returns-clause-lasts g c =
+    let old = c.args.self.now.worker.at in
+    let read = c.read.new.self in
+    let looked = c.has_line-has_next.new.self in
+    let new = c.take_found.new.self.worker.at in
+    lasts_both old read.at new (lasts_event old read.at (Read true) c.in_ok-next.ensures.noted)
+    (lasts_both read.at looked.at new (lasts_noted read looked (Peeked c.has_line-has_next.result) c.has_line-has_next.ensures.noted)
+    c.take_found.ensures.takes.lasts)
+
+pub returns-clause-waits : goal.returns-clause-waits
+returns-clause-waits g c = c.take_found.ensures.takes.stays.waits
+
+pub returns-clause-there : goal.returns-clause-there
+returns-clause-there g c = ok_always _ c.take_found.result (λ taken _. c.take_found.ensures.takes.stays.there)

@@ -19,14 +19,6 @@ loop-reads-init g c = record {
   come = λ p own come. come;
 }
 
-pub returns-then-not-may_read-clause-takes : goal.returns-then-not-may_read-clause-takes
-returns-then-not-may_read-clause-takes g c = λ p own come.
-    let it = c.loop-reads.self in
-    looked_once _ _ _ p own 64 (waiting it.pending.gathered) it.pending.held (line_bytes it.pending.buffer) it.worker
-    c.may_read.new.worker c.loop-reads.invariant.way c.may_read.ensures.looks
-    (come_more _ _ _ p own c.loop-reads._reads 64 (waiting it.pending.gathered) it.pending.held (line_bytes it.pending.buffer) it.worker
-    (omega (arith, c.loop-reads-test.true)) (c.loop-reads.invariant.come p own come))
-
 pub returns-then-not-may_read-clause-looked : goal.returns-then-not-may_read-clause-looked
 returns-then-not-may_read-clause-looked g c = λ _.
     let old = c.args.self.now in
@@ -50,11 +42,6 @@ returns-then-not-may_read-clause-waits g c =
     wait_looked c.args.context.now.way c.loop-reads.self.worker c.may_read.new.worker c.loop-reads.self.pending c.may_read.ensures.looks
     c.loop-reads.invariant.waits
 
-pub returns-then-not-may_read-clause-lasts : goal.returns-then-not-may_read-clause-lasts
-returns-then-not-may_read-clause-lasts g c =
-    lasts_both c.args.self.now.worker.at c.loop-reads.self.worker.at c.may_read.new.worker.at c.loop-reads.invariant.lasts
-    (lasts_looked c.loop-reads.self.worker c.may_read.new.worker c.may_read.ensures.looks)
-
 pub take_read-requires : goal.take_read-requires
 take_read-requires g c = record {
   free = c.may_read.ensures.free (search rules);
@@ -63,25 +50,6 @@ take_read-requires g c = record {
       wait_looked c.args.context.now.way c.loop-reads.self.worker c.may_read.new.worker c.loop-reads.self.pending
       c.may_read.ensures.looks c.loop-reads.invariant.waits;
 }
-
-pub returns-then-ne-clause-takes : goal.returns-then-ne-clause-takes
-returns-then-ne-clause-takes g c = λ p own come.
-    let it = c.loop-reads.self in
-    let new = c.take_read.new.self in
-    let n = c.loop-reads._reads in
-    ends_more g.D.Disk.view (g.M.Metadata.gives c.args.context.now.metadata.now) (rules_of c.args.context.now) p own (n + 1) 64
-    (waiting new.pending.gathered) new.pending.held (line_bytes new.pending.buffer) new.worker c.in_ok-taken.taken
-    (omega (arith, c.loop-reads-test.true))
-    (c.in_ok-taken.ensures.takes p own n
-    (may_serve c.args.context.now.way n c.loop-reads.invariant.way (omega (arith, c.loop-reads-test.true)))
-    (looked_once _ _ _ p own n (waiting it.pending.gathered) it.pending.held (line_bytes it.pending.buffer) it.worker
-    c.may_read.new.worker c.loop-reads.invariant.way c.may_read.ensures.looks (c.loop-reads.invariant.come p own come)))
-
-pub returns-then-ne-clause-lasts : goal.returns-then-ne-clause-lasts
-returns-then-ne-clause-lasts g c =
-    lasts_both c.args.self.now.worker.at c.loop-reads.self.worker.at c.take_read.new.self.worker.at c.loop-reads.invariant.lasts
-    (lasts_both c.loop-reads.self.worker.at c.may_read.new.worker.at c.take_read.new.self.worker.at
-    (lasts_looked c.loop-reads.self.worker c.may_read.new.worker c.may_read.ensures.looks) c.in_ok-taken.ensures.lasts)
 
 pub loop-reads-preserved : goal.loop-reads-preserved
 loop-reads-preserved g c =
@@ -112,23 +80,62 @@ loop-reads-preserved g c =
           c.may_read.new.worker c.loop-reads.invariant.way c.may_read.ensures.looks (c.loop-reads.invariant.come p own come)));
     }
 
+pub returns-then-not-may_read-clause-takes : goal.returns-then-not-may_read-clause-takes
+returns-then-not-may_read-clause-takes g c = record {
+  lasts =
+      lasts_both c.args.self.now.worker.at c.loop-reads.self.worker.at c.may_read.new.worker.at c.loop-reads.invariant.lasts
+      (lasts_looked c.loop-reads.self.worker c.may_read.new.worker c.may_read.ensures.looks);
+  comes =
+      λ p own come.
+      let it = c.loop-reads.self in
+      looked_once _ _ _ p own 64 (waiting it.pending.gathered) it.pending.held (line_bytes it.pending.buffer) it.worker
+      c.may_read.new.worker c.loop-reads.invariant.way c.may_read.ensures.looks
+      (come_more _ _ _ p own c.loop-reads._reads 64 (waiting it.pending.gathered) it.pending.held (line_bytes it.pending.buffer) it.worker
+      (omega (arith, c.loop-reads-test.true)) (c.loop-reads.invariant.come p own come));
+}
+
+pub returns-then-ne-clause-takes : goal.returns-then-ne-clause-takes
+returns-then-ne-clause-takes g c = record {
+  lasts =
+      lasts_both c.args.self.now.worker.at c.loop-reads.self.worker.at c.take_read.new.self.worker.at c.loop-reads.invariant.lasts
+      (lasts_both c.loop-reads.self.worker.at c.may_read.new.worker.at c.take_read.new.self.worker.at
+      (lasts_looked c.loop-reads.self.worker c.may_read.new.worker c.may_read.ensures.looks) c.in_ok-taken.ensures.lasts);
+  comes =
+      λ p own come.
+      let it = c.loop-reads.self in
+      let new = c.take_read.new.self in
+      let n = c.loop-reads._reads in
+      ends_more g.D.Disk.view (g.M.Metadata.gives c.args.context.now.metadata.now) (rules_of c.args.context.now) p own (n + 1) 64
+      (waiting new.pending.gathered) new.pending.held (line_bytes new.pending.buffer) new.worker c.in_ok-taken.taken
+      (omega (arith, c.loop-reads-test.true))
+      (c.in_ok-taken.ensures.takes p own n
+      (may_serve c.args.context.now.way n c.loop-reads.invariant.way (omega (arith, c.loop-reads-test.true)))
+      (looked_once _ _ _ p own n (waiting it.pending.gathered) it.pending.held (line_bytes it.pending.buffer) it.worker
+      c.may_read.new.worker c.loop-reads.invariant.way c.may_read.ensures.looks (c.loop-reads.invariant.come p own come)));
+}
+
 pub returns-clause-takes : goal.returns-clause-takes
-returns-clause-takes g c = λ p own come.
-    let it = c.loop-reads.self in
-    come_more _ _ _ p own c.loop-reads._reads 64 (waiting it.pending.gathered) it.pending.held (line_bytes it.pending.buffer) it.worker
-    (omega (arith, c.loop-reads.auto)) (c.loop-reads.invariant.come p own come)
+returns-clause-takes g c = record {
+  lasts = c.loop-reads.invariant.lasts;
+  comes =
+      λ p own come.
+      let it = c.loop-reads.self in
+      come_more _ _ _ p own c.loop-reads._reads 64 (waiting it.pending.gathered) it.pending.held (line_bytes it.pending.buffer) it.worker
+      (omega (arith, c.loop-reads.auto)) (c.loop-reads.invariant.come p own come);
+}
 
 pub returns-in_err-taken-clause-takes : goal.returns-in_err-taken-clause-takes
-returns-in_err-taken-clause-takes g c = λ p own come.
-    let it = c.loop-reads.self in
-    let n = c.loop-reads._reads in
-    comes_err _ _ _ _ own _ _ c.from_residual.result c.from_residual.ensures.0 (c.in_err-taken.ensures.takes p own n
-    (may_serve c.args.context.now.way n c.loop-reads.invariant.way (omega (arith, c.loop-reads-test.true)))
-    (looked_once _ _ _ p own n (waiting it.pending.gathered) it.pending.held (line_bytes it.pending.buffer) it.worker
-    c.may_read.new.worker c.loop-reads.invariant.way c.may_read.ensures.looks (c.loop-reads.invariant.come p own come)))
-
-pub returns-in_err-taken-clause-lasts : goal.returns-in_err-taken-clause-lasts
-returns-in_err-taken-clause-lasts g c =
-    lasts_both c.args.self.now.worker.at c.loop-reads.self.worker.at c.take_read.new.self.worker.at c.loop-reads.invariant.lasts
-    (lasts_both c.loop-reads.self.worker.at c.may_read.new.worker.at c.take_read.new.self.worker.at
-    (lasts_looked c.loop-reads.self.worker c.may_read.new.worker c.may_read.ensures.looks) c.in_err-taken.ensures.lasts)
+returns-in_err-taken-clause-takes g c = record {
+  lasts =
+      lasts_both c.args.self.now.worker.at c.loop-reads.self.worker.at c.take_read.new.self.worker.at c.loop-reads.invariant.lasts
+      (lasts_both c.loop-reads.self.worker.at c.may_read.new.worker.at c.take_read.new.self.worker.at
+      (lasts_looked c.loop-reads.self.worker c.may_read.new.worker c.may_read.ensures.looks) c.in_err-taken.ensures.lasts);
+  comes =
+      λ p own come.
+      let it = c.loop-reads.self in
+      let n = c.loop-reads._reads in
+      comes_err _ _ _ _ own _ _ c.from_residual.result c.from_residual.ensures.0 (c.in_err-taken.ensures.takes p own n
+      (may_serve c.args.context.now.way n c.loop-reads.invariant.way (omega (arith, c.loop-reads-test.true)))
+      (looked_once _ _ _ p own n (waiting it.pending.gathered) it.pending.held (line_bytes it.pending.buffer) it.worker
+      c.may_read.new.worker c.loop-reads.invariant.way c.may_read.ensures.looks (c.loop-reads.invariant.come p own come)));
+}

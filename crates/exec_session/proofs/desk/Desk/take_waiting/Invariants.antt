@@ -10,7 +10,7 @@ use Rattle.exec_session.proofs.desk.Desk.take_waiting.Given as goal
 abbrev pub invariant-loop-reads : goal.invariant-loop-reads
 invariant-loop-reads g l = record {
   way : l.context.way ≡ Serve;
-  waits : MayWait l.context.way l.self.worker.at.executor l.self.pending;
+  waits : MayWait l.context.way (midway l.self.worker l.self.pending);
   lasts : Lasts l.fn.self.worker.at l.self.worker.at;
   reads : reads_in l.fn.self.worker.at.events + l._reads ≤ reads_in l.self.worker.at.events;
   come : (p : Position g.row.D.Denot) (own : OwnTurn)

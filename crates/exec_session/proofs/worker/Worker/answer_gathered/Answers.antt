@@ -9,13 +9,13 @@ use Rattle.exec_session.specs.Gathered.{waiting}
 use Rattle.exec_session.specs.Spots.{Tells, TellsPart, spot}
 use Rattle.exec_session.proofs.EventLemmas.{both_keep, err_map, ok_map, here_keeps, send_cause, send_keeps, sends, sends_part, was_noted}
 use Rattle.exec_session.proofs.TellLemmas.{after_told}
-use Rattle.exec_session.proofs.WorkerLemmas.{all_answered, open_noted, row_broken, some_waits, together_heard}
+use Rattle.exec_session.proofs.WorkerLemmas.{all_answered, none_answered, open_noted, row_broken, some_waits, together_heard}
 use Rattle.exec_session.proofs.worker.Worker.answer_gathered.Goals as goal
 
 pub make_room-requires : goal.make_room-requires
 make_room-requires g c = record {
   «open» =
-      open_noted c.self.inside.executor c.self.inside.edge c.args.self.now c.now-now.new.self _ c.self.view_is c.now-now.ensures.noted
+      open_noted c.self.inside.executor c.self.inside.edge c.args.self.now c.now-moment.new.self _ c.self.view_is c.now-moment.ensures.noted
       (c.requires.«open» (some_waits _ (sym c.is_empty.ensures ∙ c.if-is_empty.false)));
 }
 
@@ -45,61 +45,61 @@ invariant_of-self g c =
     c.tell.ensures.told
 
 pub returns-clause-answers : goal.returns-clause-answers
-returns-clause-answers g c =
-    let look = g.D.Disk.view in
-    let form = c.args.context.now.form in
-    let x = c.self.inside.executor in
-    let e = c.self.inside.edge in
-    let y = c.serve_gathered.new.executor in
-    let new = c.tell.new.self in
-    let now = c.now-now.result in
-    let commands = waiting c.args.gathered.now in
-    all_answered look _ c.tell.result commands c.args.self.now.at (spot y new.heard new.events) (some_waits _ (sym c.is_empty.ensures ∙ c.if-is_empty.false))
-    (ok_map c.tell.result _ _
-    (λ tells. together_heard (Tells form) look _ now commands x y e c.args.self.now c.now-now.new.self (spot y new.heard new.events) _
-    c.now-now.ensures.noted c.self.view_is refl
-    (record {
-      middle = c.make_room.new.executor;
-      room = c.make_room.ensures.makes;
-      takes = c.serve_gathered.ensures.takes;
-      fails = c.serve_gathered.ensures.fails;
-    })
-    (subst (λ (rs : List Reply). Tells form (spot y e.heard e.events) (spot y new.heard new.events) (map answered rs)) c.replies.ensures tells))
-    (sends form _ y e new c.tell.result c.tell.ensures.hears c.tell.ensures.noted))
+returns-clause-answers g c = record {
+  keeps =
+      let m = c.now-moment.new.self in
+      both_keep c.args.self.now m _ (was_noted c.args.self.now m _ c.now-moment.ensures.noted)
+      (send_keeps c.args.context.now.form [] c.serve_gathered.new.executor c.self.inside.edge c.tell.new.self (is_ok c.tell.result) m
+      c.self.inside.executor c.self.view_is c.tell.ensures.told.0 c.tell.ensures.left c.tell.ensures.noted);
+  done =
+      let look = g.D.Disk.view in
+      let form = c.args.context.now.form in
+      let x = c.self.inside.executor in
+      let e = c.self.inside.edge in
+      let y = c.serve_gathered.new.executor in
+      let new = c.tell.new.self in
+      let now = c.now-moment.result in
+      let commands = waiting c.args.gathered.now in
+      all_answered look _ c.tell.result commands c.args.self.now.at (spot y new.heard new.events) (some_waits _ (sym c.is_empty.ensures ∙ c.if-is_empty.false))
+      (ok_map c.tell.result _ _
+      (λ tells. together_heard (Tells form) look _ now commands x y e c.args.self.now c.now-moment.new.self (spot y new.heard new.events) _
+      c.now-moment.ensures.noted c.self.view_is refl
+      (record {
+        middle = c.make_room.new.executor;
+        room = c.make_room.ensures.makes;
+        takes = c.serve_gathered.ensures.takes;
+        fails = c.serve_gathered.ensures.fails;
+      })
+      (subst (λ (rs : List Reply). Tells form (spot y e.heard e.events) (spot y new.heard new.events) (map answered rs)) c.replies.ensures tells))
+      (sends form _ y e new c.tell.result c.tell.ensures.hears c.tell.ensures.noted));
+  breaks =
+      let look = g.D.Disk.view in
+      let form = c.args.context.now.form in
+      let x = c.self.inside.executor in
+      let e = c.self.inside.edge in
+      let y = c.serve_gathered.new.executor in
+      let new = c.tell.new.self in
+      let now = c.now-moment.result in
+      let commands = waiting c.args.gathered.now in
+      row_broken look _ c.tell.result commands c.args.self.now.at (spot y new.heard new.events) (some_waits _ (sym c.is_empty.ensures ∙ c.if-is_empty.false))
+      (err_map c.tell.result _ _
+      (λ tells. together_heard (TellsPart form) look _ now commands x y e c.args.self.now c.now-moment.new.self (spot y new.heard new.events) _
+      c.now-moment.ensures.noted c.self.view_is refl
+      (record {
+        middle = c.make_room.new.executor;
+        room = c.make_room.ensures.makes;
+        takes = c.serve_gathered.ensures.takes;
+        fails = c.serve_gathered.ensures.fails;
+      })
+      (subst (λ (rs : List Reply). TellsPart form (spot y e.heard e.events) (spot y new.heard new.events) (map answered rs)) c.replies.ensures tells))
+      (sends_part form _ y e new c.tell.result c.tell.ensures.breaks c.tell.ensures.noted));
+  cause = send_cause c.args.context.now.form [] c.serve_gathered.new.executor c.self.inside.edge c.tell.new.self c.tell.result c.tell.ensures.noted;
+}
 
-pub returns-clause-breaks : goal.returns-clause-breaks
-returns-clause-breaks g c =
-    let look = g.D.Disk.view in
-    let form = c.args.context.now.form in
-    let x = c.self.inside.executor in
-    let e = c.self.inside.edge in
-    let y = c.serve_gathered.new.executor in
-    let new = c.tell.new.self in
-    let now = c.now-now.result in
-    let commands = waiting c.args.gathered.now in
-    row_broken look _ c.tell.result commands c.args.self.now.at (spot y new.heard new.events) (some_waits _ (sym c.is_empty.ensures ∙ c.if-is_empty.false))
-    (err_map c.tell.result _ _
-    (λ tells. together_heard (TellsPart form) look _ now commands x y e c.args.self.now c.now-now.new.self (spot y new.heard new.events) _
-    c.now-now.ensures.noted c.self.view_is refl
-    (record {
-      middle = c.make_room.new.executor;
-      room = c.make_room.ensures.makes;
-      takes = c.serve_gathered.ensures.takes;
-      fails = c.serve_gathered.ensures.fails;
-    })
-    (subst (λ (rs : List Reply). TellsPart form (spot y e.heard e.events) (spot y new.heard new.events) (map answered rs)) c.replies.ensures tells))
-    (sends_part form _ y e new c.tell.result c.tell.ensures.breaks c.tell.ensures.noted))
-
-pub returns-clause-keeps : goal.returns-clause-keeps
-returns-clause-keeps g c =
-    let m = c.now-now.new.self in
-    both_keep c.args.self.now m _ (was_noted c.args.self.now m _ c.now-now.ensures.noted)
-    (send_keeps c.args.context.now.form [] c.serve_gathered.new.executor c.self.inside.edge c.tell.new.self (is_ok c.tell.result) m
-    c.self.inside.executor c.self.view_is c.tell.ensures.told.0 c.tell.ensures.left c.tell.ensures.noted)
-
-pub returns-then-is_empty-clause-keeps : goal.returns-then-is_empty-clause-keeps
-returns-then-is_empty-clause-keeps g c = here_keeps c.args.self.now
-
-pub returns-clause-cause : goal.returns-clause-cause
-returns-clause-cause g c =
-    send_cause c.args.context.now.form [] c.serve_gathered.new.executor c.self.inside.edge c.tell.new.self c.tell.result c.tell.ensures.noted
+pub returns-then-is_empty-clause-answers : goal.returns-then-is_empty-clause-answers
+returns-then-is_empty-clause-answers g c = record {
+  keeps = here_keeps c.args.self.now;
+  done = none_answered g.D.Disk.view _ (waiting c.args.gathered.now) c.args.self.now.at (sym c.is_empty.ensures ∙ c.if-is_empty.true);
+  breaks = tt;
+  cause = tt;
+}

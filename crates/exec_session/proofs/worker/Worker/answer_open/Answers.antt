@@ -1,164 +1,126 @@
-use Rattle.std.proofs.Common.{OnErr, OnOk, Ok, Err, true, false, ap, sym, subst, refl, ◌∙◌}
+use Rattle.std.proofs.Common.{Ok, Err, true, false, ap, inl, sym, subst, refl, ◌∙◌}
 use Rattle.exec_commands.specs.declared.line.Line.TheVariants as line
 use Rattle.exec_commands.specs.declared.reply.LineReply.TheVariants as answer
-use Rattle.exec_session.specs.Breaks.{AnswerBreaks}
-use Rattle.exec_session.specs.Progress.{Answers}
+use Rattle.exec_session.specs.Breaks.{AnswersLine}
 use Rattle.exec_session.specs.Rules.{rules_of}
-use Rattle.exec_session.proofs.AnswerLemmas.{answers_by, breaks_by, drain_answers, drain_breaks, open_answered}
+use Rattle.exec_session.proofs.AnswerLemmas.{answers_step, drain_step, open_answered}
+use Rattle.exec_session.proofs.EventLemmas.{here_keeps}
+use Rattle.exec_session.proofs.StepLemmas.{step_after}
 use Rattle.exec_session.proofs.worker.Worker.answer_open.Goals as goal
 
-pub returns-in-Ok-Drain-clause-answers : goal.returns-in-Ok-Drain-clause-answers
-returns-in-Ok-Drain-clause-answers g c =
-    let look = g.D.Disk.view in
-    let source = g.M.Metadata.gives c.args.context.now.metadata.now in
-    let rules = rules_of c.args.context.now in
-    let p = c.args.self.now.at in
-    let q = c.answer_drain.new.self.at in
-    subst (λ l. OnOk c.answer_drain.result (Answers look source rules l p q)) (sym (c.in-Ok-Drain.is ∙ ap Ok c.in-Ok-Drain.field-0-is))
-    (drain_answers look source rules c.answer_drain.result (Ok (line.Drain c.in-Ok-Drain.limit)) true c.in-Ok-Drain.limit p q c.requires.«open»
-    (λ noticed reply drains. drains) c.answer_drain.ensures.answers)
+pub returns-in-Ok-Request : goal.returns-in-Ok-Request
+returns-in-Ok-Request g c = record {
+  answers =
+      let p = c.args.self.now in
+      let q = c.answer_request.new.self in
+      subst (λ l. AnswersLine g.D.Disk.view (g.M.Metadata.gives c.args.context.now.metadata.now) (rules_of c.args.context.now) l p q
+      c.answer_request.result) (sym (c.in-Ok-Request.is ∙ ap Ok c.in-Ok-Request.field-0-is))
+      (step_after p p q c.answer_request.result (here_keeps p) c.answer_request.ensures.answers (λ answers. answers) (λ broke. inl broke));
+}
 
-pub returns-in-Ok-Drain-clause-breaks : goal.returns-in-Ok-Drain-clause-breaks
-returns-in-Ok-Drain-clause-breaks g c =
-    let look = g.D.Disk.view in
-    let source = g.M.Metadata.gives c.args.context.now.metadata.now in
-    let rules = rules_of c.args.context.now in
-    let p = c.args.self.now.at in
-    let q = c.answer_drain.new.self.at in
-    subst (λ l. OnErr c.answer_drain.result (AnswerBreaks look source rules l p q)) (sym (c.in-Ok-Drain.is ∙ ap Ok c.in-Ok-Drain.field-0-is))
-    (drain_breaks look source rules c.answer_drain.result (Ok (line.Drain c.in-Ok-Drain.limit)) true c.in-Ok-Drain.limit p q c.requires.«open»
-    (λ noticed reply drains. drains) (λ broke. broke) c.answer_drain.ensures.breaks)
+pub returns-in-Ok-Drain : goal.returns-in-Ok-Drain
+returns-in-Ok-Drain g c = record {
+  answers =
+      let look = g.D.Disk.view in
+      let source = g.M.Metadata.gives c.args.context.now.metadata.now in
+      let rules = rules_of c.args.context.now in
+      let p = c.args.self.now in
+      let q = c.answer_drain.new.self in
+      subst (λ l. AnswersLine look source rules l p q c.answer_drain.result) (sym (c.in-Ok-Drain.is ∙ ap Ok c.in-Ok-Drain.field-0-is))
+      (drain_step look source rules c.answer_drain.result (Ok (line.Drain c.in-Ok-Drain.limit)) true c.in-Ok-Drain.limit p q c.requires.«open»
+      (λ noticed reply drains. drains) (λ broke. broke) c.answer_drain.ensures.answers);
+}
 
-pub returns-in-Ok-Watch-clause-answers : goal.returns-in-Ok-Watch-clause-answers
-returns-in-Ok-Watch-clause-answers g c =
-    let look = g.D.Disk.view in
-    let source = g.M.Metadata.gives c.args.context.now.metadata.now in
-    let rules = rules_of c.args.context.now in
-    let p = c.args.self.now.at in
-    let q = c.answer_drain-in-Ok-Watch.new.self.at in
-    subst (λ l. OnOk c.answer_drain-in-Ok-Watch.result (Answers look source rules l p q)) (sym (c.in-Ok-Watch.is ∙ ap Ok c.in-Ok-Watch.field-0-is))
-    (drain_answers look source rules c.answer_drain-in-Ok-Watch.result (Ok (line.Watch c.in-Ok-Watch.limit)) false c.in-Ok-Watch.limit p q c.requires.«open»
-    (λ noticed reply drains. drains) c.answer_drain-in-Ok-Watch.ensures.answers)
+pub returns-in-Ok-Watch : goal.returns-in-Ok-Watch
+returns-in-Ok-Watch g c = record {
+  answers =
+      let look = g.D.Disk.view in
+      let source = g.M.Metadata.gives c.args.context.now.metadata.now in
+      let rules = rules_of c.args.context.now in
+      let p = c.args.self.now in
+      let q = c.answer_drain-in-Ok-Watch.new.self in
+      subst (λ l. AnswersLine look source rules l p q c.answer_drain-in-Ok-Watch.result) (sym (c.in-Ok-Watch.is ∙ ap Ok c.in-Ok-Watch.field-0-is))
+      (drain_step look source rules c.answer_drain-in-Ok-Watch.result (Ok (line.Watch c.in-Ok-Watch.limit)) false c.in-Ok-Watch.limit p q c.requires.«open»
+      (λ noticed reply drains. drains) (λ broke. broke) c.answer_drain-in-Ok-Watch.ensures.answers);
+}
 
-pub returns-in-Ok-Watch-clause-breaks : goal.returns-in-Ok-Watch-clause-breaks
-returns-in-Ok-Watch-clause-breaks g c =
-    let look = g.D.Disk.view in
-    let source = g.M.Metadata.gives c.args.context.now.metadata.now in
-    let rules = rules_of c.args.context.now in
-    let p = c.args.self.now.at in
-    let q = c.answer_drain-in-Ok-Watch.new.self.at in
-    subst (λ l. OnErr c.answer_drain-in-Ok-Watch.result (AnswerBreaks look source rules l p q)) (sym (c.in-Ok-Watch.is ∙ ap Ok c.in-Ok-Watch.field-0-is))
-    (drain_breaks look source rules c.answer_drain-in-Ok-Watch.result (Ok (line.Watch c.in-Ok-Watch.limit)) false c.in-Ok-Watch.limit p q c.requires.«open»
-    (λ noticed reply drains. drains) (λ broke. broke) c.answer_drain-in-Ok-Watch.ensures.breaks)
+pub returns-in-Ok-Tidy : goal.returns-in-Ok-Tidy
+returns-in-Ok-Tidy g c = record {
+  answers =
+      let look = g.D.Disk.view in
+      let source = g.M.Metadata.gives c.args.context.now.metadata.now in
+      let rules = rules_of c.args.context.now in
+      let p = c.args.self.now in
+      let m = c.tidy-end.new.self in
+      let q = c.tell_reply.new.self in
+      let found = Ok line.Tidy in
+      subst (λ l. AnswersLine look source rules l p q c.tell_reply.result) (sym (c.in-Ok-Tidy.is ∙ ap Ok c.in-Ok-Tidy.field-0-is))
+      (answers_step look source rules c.tell_reply.result found (answer.Tidy c.tidy-end.result) p m q c.tidy-end.ensures.keeps
+      (λ tells_so tells. open_answered look source rules tells_so found (answer.Tidy c.tidy-end.result) p.at m.at q.at c.requires.«open» c.tidy-end.ensures.tidies tells)
+      c.tell_reply.ensures.sends);
+}
 
-pub returns-in-Ok-Tidy-clause-answers : goal.returns-in-Ok-Tidy-clause-answers
-returns-in-Ok-Tidy-clause-answers g c =
-    let look = g.D.Disk.view in
-    let source = g.M.Metadata.gives c.args.context.now.metadata.now in
-    let rules = rules_of c.args.context.now in
-    let p = c.args.self.now.at in
-    let noticed = c.tidy-end.new.self.at in
-    let q = c.tell_reply.new.self.at in
-    let found = Ok line.Tidy in
-    subst (λ l. OnOk c.tell_reply.result (Answers look source rules l p q)) (sym (c.in-Ok-Tidy.is ∙ ap Ok c.in-Ok-Tidy.field-0-is))
-    (answers_by look source rules c.tell_reply.result found (answer.Tidy c.tidy-end.result) p noticed q
-    (λ tells_so tells. open_answered look source rules tells_so found (answer.Tidy c.tidy-end.result) p noticed q c.requires.«open» c.tidy-end.ensures.tidies tells)
-    c.tell_reply.ensures.told)
+pub returns-in-Ok-Leave : goal.returns-in-Ok-Leave
+returns-in-Ok-Leave g c = record {
+  answers =
+      let look = g.D.Disk.view in
+      let source = g.M.Metadata.gives c.args.context.now.metadata.now in
+      let rules = rules_of c.args.context.now in
+      let p = c.args.self.now in
+      let m = p in
+      let q = c.tell_reply-in-Ok-Leave.new.self in
+      let found = Ok line.Leave in
+      subst (λ l. AnswersLine look source rules l p q c.tell_reply-in-Ok-Leave.result) (sym (c.in-Ok-Leave.is ∙ ap Ok c.in-Ok-Leave.field-0-is))
+      (answers_step look source rules c.tell_reply-in-Ok-Leave.result found c.refused.result p m q (here_keeps p)
+      (λ tells_so tells. open_answered look source rules tells_so found c.refused.result p.at m.at q.at c.requires.«open» (c.refused.ensures, refl) tells)
+      c.tell_reply-in-Ok-Leave.ensures.sends);
+}
 
-pub returns-in-Ok-Tidy-clause-breaks : goal.returns-in-Ok-Tidy-clause-breaks
-returns-in-Ok-Tidy-clause-breaks g c =
-    let look = g.D.Disk.view in
-    let source = g.M.Metadata.gives c.args.context.now.metadata.now in
-    let rules = rules_of c.args.context.now in
-    let p = c.args.self.now.at in
-    let noticed = c.tidy-end.new.self.at in
-    let q = c.tell_reply.new.self.at in
-    let found = Ok line.Tidy in
-    subst (λ l. OnErr c.tell_reply.result (AnswerBreaks look source rules l p q)) (sym (c.in-Ok-Tidy.is ∙ ap Ok c.in-Ok-Tidy.field-0-is))
-    (breaks_by look source rules c.tell_reply.result found (answer.Tidy c.tidy-end.result) p noticed q
-    (λ tells_so tells. open_answered look source rules tells_so found (answer.Tidy c.tidy-end.result) p noticed q c.requires.«open» c.tidy-end.ensures.tidies tells)
-    c.tell_reply.ensures.breaks)
+pub returns-in-Ok-Meta : goal.returns-in-Ok-Meta
+returns-in-Ok-Meta g c = record {
+  answers =
+      let look = g.D.Disk.view in
+      let source = g.M.Metadata.gives c.args.context.now.metadata.now in
+      let rules = rules_of c.args.context.now in
+      let p = c.args.self.now in
+      let m = p in
+      let q = c.tell_reply-in-Ok-Meta.new.self in
+      let found = Ok (line.Meta c.in-Ok-Meta.provider c.in-Ok-Meta.agent c.in-Ok-Meta.limit) in
+      subst (λ l. AnswersLine look source rules l p q c.tell_reply-in-Ok-Meta.result) (sym (c.in-Ok-Meta.is ∙ ap Ok c.in-Ok-Meta.field-0-is))
+      (answers_step look source rules c.tell_reply-in-Ok-Meta.result found c.meta_reply.result p m q (here_keeps p)
+      (λ tells_so tells. open_answered look source rules tells_so found c.meta_reply.result p.at m.at q.at c.requires.«open» (c.meta_reply.ensures, refl) tells)
+      c.tell_reply-in-Ok-Meta.ensures.sends);
+}
 
-pub returns-in-Ok-Leave-clause-answers : goal.returns-in-Ok-Leave-clause-answers
-returns-in-Ok-Leave-clause-answers g c =
-    let look = g.D.Disk.view in
-    let source = g.M.Metadata.gives c.args.context.now.metadata.now in
-    let rules = rules_of c.args.context.now in
-    let p = c.args.self.now.at in
-    let noticed = c.args.self.now.at in
-    let q = c.tell_reply-in-Ok-Leave.new.self.at in
-    let found = Ok line.Leave in
-    subst (λ l. OnOk c.tell_reply-in-Ok-Leave.result (Answers look source rules l p q)) (sym (c.in-Ok-Leave.is ∙ ap Ok c.in-Ok-Leave.field-0-is))
-    (answers_by look source rules c.tell_reply-in-Ok-Leave.result found c.refused.result p noticed q
-    (λ tells_so tells. open_answered look source rules tells_so found c.refused.result p noticed q c.requires.«open» (c.refused.ensures, refl) tells)
-    c.tell_reply-in-Ok-Leave.ensures.told)
+pub returns-in-Ok-Direct : goal.returns-in-Ok-Direct
+returns-in-Ok-Direct g c = record {
+  answers =
+      let look = g.D.Disk.view in
+      let source = g.M.Metadata.gives c.args.context.now.metadata.now in
+      let rules = rules_of c.args.context.now in
+      let p = c.args.self.now in
+      let m = p in
+      let q = c.tell_reply-in-Ok-Direct.new.self in
+      let direct = c.in-Ok-Direct.direct in
+      let found = Ok (line.Direct direct) in
+      subst (λ l. AnswersLine look source rules l p q c.tell_reply-in-Ok-Direct.result) (sym (c.in-Ok-Direct.is ∙ ap Ok c.in-Ok-Direct.field-0-is))
+      (answers_step look source rules c.tell_reply-in-Ok-Direct.result found (answer.Direct direct) p m q (here_keeps p)
+      (λ tells_so tells. open_answered look source rules tells_so found (answer.Direct direct) p.at m.at q.at c.requires.«open» (refl, refl) tells)
+      c.tell_reply-in-Ok-Direct.ensures.sends);
+}
 
-pub returns-in-Ok-Leave-clause-breaks : goal.returns-in-Ok-Leave-clause-breaks
-returns-in-Ok-Leave-clause-breaks g c =
-    let look = g.D.Disk.view in
-    let source = g.M.Metadata.gives c.args.context.now.metadata.now in
-    let rules = rules_of c.args.context.now in
-    let p = c.args.self.now.at in
-    let noticed = c.args.self.now.at in
-    let q = c.tell_reply-in-Ok-Leave.new.self.at in
-    let found = Ok line.Leave in
-    subst (λ l. OnErr c.tell_reply-in-Ok-Leave.result (AnswerBreaks look source rules l p q)) (sym (c.in-Ok-Leave.is ∙ ap Ok c.in-Ok-Leave.field-0-is))
-    (breaks_by look source rules c.tell_reply-in-Ok-Leave.result found c.refused.result p noticed q
-    (λ tells_so tells. open_answered look source rules tells_so found c.refused.result p noticed q c.requires.«open» (c.refused.ensures, refl) tells)
-    c.tell_reply-in-Ok-Leave.ensures.breaks)
-
-pub returns-in-Ok-Meta-clause-answers : goal.returns-in-Ok-Meta-clause-answers
-returns-in-Ok-Meta-clause-answers g c =
-    let look = g.D.Disk.view in
-    let source = g.M.Metadata.gives c.args.context.now.metadata.now in
-    let rules = rules_of c.args.context.now in
-    let p = c.args.self.now.at in
-    let noticed = c.args.self.now.at in
-    let q = c.tell_reply-in-Ok-Meta.new.self.at in
-    let found = Ok (line.Meta c.in-Ok-Meta.provider c.in-Ok-Meta.agent c.in-Ok-Meta.limit) in
-    subst (λ l. OnOk c.tell_reply-in-Ok-Meta.result (Answers look source rules l p q)) (sym (c.in-Ok-Meta.is ∙ ap Ok c.in-Ok-Meta.field-0-is))
-    (answers_by look source rules c.tell_reply-in-Ok-Meta.result found c.meta_reply.result p noticed q
-    (λ tells_so tells. open_answered look source rules tells_so found c.meta_reply.result p noticed q c.requires.«open» (c.meta_reply.ensures, refl) tells)
-    c.tell_reply-in-Ok-Meta.ensures.told)
-
-pub returns-in-Ok-Meta-clause-breaks : goal.returns-in-Ok-Meta-clause-breaks
-returns-in-Ok-Meta-clause-breaks g c =
-    let look = g.D.Disk.view in
-    let source = g.M.Metadata.gives c.args.context.now.metadata.now in
-    let rules = rules_of c.args.context.now in
-    let p = c.args.self.now.at in
-    let noticed = c.args.self.now.at in
-    let q = c.tell_reply-in-Ok-Meta.new.self.at in
-    let found = Ok (line.Meta c.in-Ok-Meta.provider c.in-Ok-Meta.agent c.in-Ok-Meta.limit) in
-    subst (λ l. OnErr c.tell_reply-in-Ok-Meta.result (AnswerBreaks look source rules l p q)) (sym (c.in-Ok-Meta.is ∙ ap Ok c.in-Ok-Meta.field-0-is))
-    (breaks_by look source rules c.tell_reply-in-Ok-Meta.result found c.meta_reply.result p noticed q
-    (λ tells_so tells. open_answered look source rules tells_so found c.meta_reply.result p noticed q c.requires.«open» (c.meta_reply.ensures, refl) tells)
-    c.tell_reply-in-Ok-Meta.ensures.breaks)
-
-pub returns-in-Err-clause-answers : goal.returns-in-Err-clause-answers
-returns-in-Err-clause-answers g c =
-    let look = g.D.Disk.view in
-    let source = g.M.Metadata.gives c.args.context.now.metadata.now in
-    let rules = rules_of c.args.context.now in
-    let p = c.args.self.now.at in
-    let noticed = c.args.self.now.at in
-    let q = c.tell_reply-in-Err.new.self.at in
-    let found = Err c.in-Err.refusal in
-    subst (λ l. OnOk c.tell_reply-in-Err.result (Answers look source rules l p q)) (sym (c.in-Err.is))
-    (answers_by look source rules c.tell_reply-in-Err.result found c.refused-in-Err.result p noticed q
-    (λ tells_so tells. open_answered look source rules tells_so found c.refused-in-Err.result p noticed q c.requires.«open» (c.refused-in-Err.ensures, refl) tells)
-    c.tell_reply-in-Err.ensures.told)
-
-pub returns-in-Err-clause-breaks : goal.returns-in-Err-clause-breaks
-returns-in-Err-clause-breaks g c =
-    let look = g.D.Disk.view in
-    let source = g.M.Metadata.gives c.args.context.now.metadata.now in
-    let rules = rules_of c.args.context.now in
-    let p = c.args.self.now.at in
-    let noticed = c.args.self.now.at in
-    let q = c.tell_reply-in-Err.new.self.at in
-    let found = Err c.in-Err.refusal in
-    subst (λ l. OnErr c.tell_reply-in-Err.result (AnswerBreaks look source rules l p q)) (sym (c.in-Err.is))
-    (breaks_by look source rules c.tell_reply-in-Err.result found c.refused-in-Err.result p noticed q
-    (λ tells_so tells. open_answered look source rules tells_so found c.refused-in-Err.result p noticed q c.requires.«open» (c.refused-in-Err.ensures, refl) tells)
-    c.tell_reply-in-Err.ensures.breaks)
+pub returns-in-Err : goal.returns-in-Err
+returns-in-Err g c = record {
+  answers =
+      let look = g.D.Disk.view in
+      let source = g.M.Metadata.gives c.args.context.now.metadata.now in
+      let rules = rules_of c.args.context.now in
+      let p = c.args.self.now in
+      let m = p in
+      let q = c.tell_reply-in-Err.new.self in
+      let found = Err c.in-Err.refusal in
+      subst (λ l. AnswersLine look source rules l p q c.tell_reply-in-Err.result) (sym c.in-Err.is)
+      (answers_step look source rules c.tell_reply-in-Err.result found c.refused-in-Err.result p m q (here_keeps p)
+      (λ tells_so tells. open_answered look source rules tells_so found c.refused-in-Err.result p.at m.at q.at c.requires.«open» (c.refused-in-Err.ensures, refl) tells)
+      c.tell_reply-in-Err.ensures.sends);
+}

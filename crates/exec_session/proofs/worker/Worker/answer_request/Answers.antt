@@ -32,39 +32,37 @@ invariant_of-self g c =
     let stands = both_stand look x r y [] (answered c.request_reply.result ∷ []) c.make_room.ensures.stands c.request_reply.ensures.stands in
     after_told look c.self.inside.edge.heard c.tell.new.self.heard x y _ c.self.invariant stands c.tell.ensures.told
 
-pub returns-clause-answers : goal.returns-clause-answers
-returns-clause-answers g c =
-    let look = g.D.Disk.view in
-    let form = c.args.context.now.form in
-    let y = c.request_reply.new.executor in
-    let e = c.self.inside.edge in
-    let new = c.tell.new.self in
-    ok_map c.tell.result _ _
-    (λ tells. request_answered look _ _ (Tells form) c.now-now.result c.args.request c.self.inside.executor c.make_room.new.executor y e
-    c.args.self.now c.now-now.new.self (spot y new.heard new.events) c.request_reply.result c.now-now.ensures.noted c.self.view_is
-    c.requires.«open» c.make_room.ensures.makes c.request_reply.ensures.serves c.request_reply.ensures.fails c.request_reply.ensures.closes tells)
-    (sends form _ y e new c.tell.result c.tell.ensures.hears c.tell.ensures.noted)
-
-pub returns-clause-breaks : goal.returns-clause-breaks
-returns-clause-breaks g c =
-    let look = g.D.Disk.view in
-    let form = c.args.context.now.form in
-    let y = c.request_reply.new.executor in
-    let e = c.self.inside.edge in
-    let new = c.tell.new.self in
-    err_map c.tell.result _ _
-    (λ tells. request_answered look _ _ (TellsPart form) c.now-now.result c.args.request c.self.inside.executor c.make_room.new.executor y e
-    c.args.self.now c.now-now.new.self (spot y new.heard new.events) c.request_reply.result c.now-now.ensures.noted c.self.view_is
-    c.requires.«open» c.make_room.ensures.makes c.request_reply.ensures.serves c.request_reply.ensures.fails c.request_reply.ensures.closes tells)
-    (sends_part form _ y e new c.tell.result c.tell.ensures.breaks c.tell.ensures.noted)
-
-pub returns-clause-keeps : goal.returns-clause-keeps
-returns-clause-keeps g c =
-    let m = c.now-now.new.self in
-    both_keep c.args.self.now m _ (was_noted c.args.self.now m _ c.now-now.ensures.noted)
-    (send_keeps c.args.context.now.form [] c.request_reply.new.executor c.self.inside.edge c.tell.new.self (is_ok c.tell.result) m
-    c.self.inside.executor c.self.view_is c.tell.ensures.told.0 c.tell.ensures.left c.tell.ensures.noted)
-
-pub returns-clause-cause : goal.returns-clause-cause
-returns-clause-cause g c =
-    send_cause c.args.context.now.form [] c.request_reply.new.executor c.self.inside.edge c.tell.new.self c.tell.result c.tell.ensures.noted
+pub returns : goal.returns
+returns g c = record {
+  answers =
+      record {
+        keeps =
+            let m = c.now-now.new.self in
+            both_keep c.args.self.now m _ (was_noted c.args.self.now m _ c.now-now.ensures.noted)
+            (send_keeps c.args.context.now.form [] c.request_reply.new.executor c.self.inside.edge c.tell.new.self (is_ok c.tell.result) m
+            c.self.inside.executor c.self.view_is c.tell.ensures.told.0 c.tell.ensures.left c.tell.ensures.noted);
+        done =
+            let look = g.D.Disk.view in
+            let form = c.args.context.now.form in
+            let y = c.request_reply.new.executor in
+            let e = c.self.inside.edge in
+            let new = c.tell.new.self in
+            ok_map c.tell.result _ _
+            (λ tells. request_answered look _ _ (Tells form) c.now-now.result c.args.request c.self.inside.executor c.make_room.new.executor y e
+            c.args.self.now c.now-now.new.self (spot y new.heard new.events) c.request_reply.result c.now-now.ensures.noted c.self.view_is
+            c.requires.«open» c.make_room.ensures.makes c.request_reply.ensures.serves c.request_reply.ensures.fails c.request_reply.ensures.closes tells)
+            (sends form _ y e new c.tell.result c.tell.ensures.hears c.tell.ensures.noted);
+        breaks =
+            let look = g.D.Disk.view in
+            let form = c.args.context.now.form in
+            let y = c.request_reply.new.executor in
+            let e = c.self.inside.edge in
+            let new = c.tell.new.self in
+            err_map c.tell.result _ _
+            (λ tells. request_answered look _ _ (TellsPart form) c.now-now.result c.args.request c.self.inside.executor c.make_room.new.executor y e
+            c.args.self.now c.now-now.new.self (spot y new.heard new.events) c.request_reply.result c.now-now.ensures.noted c.self.view_is
+            c.requires.«open» c.make_room.ensures.makes c.request_reply.ensures.serves c.request_reply.ensures.fails c.request_reply.ensures.closes tells)
+            (sends_part form _ y e new c.tell.result c.tell.ensures.breaks c.tell.ensures.noted);
+        cause = send_cause c.args.context.now.form [] c.request_reply.new.executor c.self.inside.edge c.tell.new.self c.tell.result c.tell.ensures.noted;
+      };
+}

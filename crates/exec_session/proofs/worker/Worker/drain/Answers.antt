@@ -1,9 +1,9 @@
-use Rattle.std.proofs.Common.{◌+◌, ◌≤◌, ap, None, Some, arith, ◌∙◌}
-use Rattle.exec_lines.proofs.PieceLemmas.{on_err}
+use Rattle.std.proofs.Common.{◌+◌, ◌≤◌, ap, None, Some, arith, inr, ◌∙◌}
 use Rattle.exec_session.specs.Drains.{at_start, further}
 use Rattle.exec_session.specs.Broken.{in_turn, spent, unheard}
 use Rattle.exec_session.proofs.DrainLemmas.{at_moment, closes, paused_longer, rests, rests_executor, rests_shown, still_open, told_end_at, unheard_cause, unheard_pause}
 use Rattle.exec_session.proofs.EventLemmas.{both_keep, here_keeps, last_longer, pause_keeps, was_noted}
+use Rattle.exec_session.proofs.StepLemmas.{step_to_fails}
 use Rattle.exec_session.proofs.worker.Worker.drain.Goals as goal
 
 pub loop-turns-init : goal.loop-turns-init
@@ -15,39 +15,6 @@ loop-turns-init g c = record {
   many = omega arith;
   since = omega (arith, c.new-pause.ensures.since);
 }
-
-pub returns-in-Some-clause-drains : goal.returns-in-Some-clause-drains
-returns-in-Some-clause-drains g c =
-    let told = c.make_turn.new.self.at in
-    let q = c.now-now.new.self in
-    let paused = at_moment c.pauses.new.pause.since c.pauses.new.pause.moment c.loop-turns.now c.pauses.result told c.pauses.new.self.at
-    (c.pauses.ensures.moment ∙ c.before_turn.ensures.moment) c.pauses.ensures.paused in
-    let rest = rests c.args.start c.pauses.new.pause.since c.loop-turns.now told c.pauses.new.self q c.pauses.result c.now-now.result
-    (omega (arith, c.loop-turns.invariant.since, c.before_turn.ensures.since, c.pauses.ensures.grows)) c.if-not-pauses.false paused
-    c.now-now.ensures.noted in
-    record {
-      turns = c.loop-turns.turns;
-      now = c.loop-turns.now;
-      after = c.now-now.result;
-      last = c.loop-turns.self.at;
-      told = told;
-      turn_end = c.in_ok-end.end;
-      gone_on = c.loop-turns.invariant.gone_on;
-      made = c.in_ok-end.ensures.made;
-      rests = rest;
-      ended =
-          told_end_at c.args.terms (c.loop-turns.turns + 1) c.now-now.result c.in_ok-end.end told q.at c.idle.result c.end_behind.result
-          (Some c.in-Some.end) (rests_executor c.args.start c.loop-turns.now told q.at c.now-now.result rest) c.end_behind.ensures c.idle.ensures.value c.in-Some.is;
-    }
-
-pub returns-in-Some-clause-keeps : goal.returns-in-Some-clause-keeps
-returns-in-Some-clause-keeps g c =
-    both_keep c.args.self.now c.loop-turns.self c.now-now.new.self c.loop-turns.invariant.keeps
-    (both_keep c.loop-turns.self c.make_turn.new.self c.now-now.new.self c.make_turn.ensures.keeps
-    (both_keep c.make_turn.new.self c.pauses.new.self c.now-now.new.self
-    (pause_keeps c.pauses.new.pause.since c.pauses.new.pause.moment c.pauses.result c.make_turn.new.self c.pauses.new.self
-    c.pauses.ensures.left c.pauses.ensures.paused)
-    (was_noted c.pauses.new.self c.now-now.new.self _ c.now-now.ensures.noted)))
 
 pub loop-turns-preserved : goal.loop-turns-preserved
 loop-turns-preserved g c =
@@ -74,47 +41,93 @@ loop-turns-preserved g c =
       is_open =
           ap (λ x. x.is_open) same
           ∙ still_open c.args.terms (c.loop-turns.turns + 1) after end _ told.at.executor.is_open
-          (closes _ _ _ m.at told.at end c.in_ok-end.ensures.made) on;
+          (closes _ _ _ m.at told.at end c.in_ok-end.ensures.made.done) on;
       shown = rests_shown c.args.start c.loop-turns.now told.at q.at after rest;
       since = later;
-      gone_on = further c.loop-turns.turns c.loop-turns.now after m.at told.at q.at end c.loop-turns.invariant.gone_on c.in_ok-end.ensures.made rest on;
-      keeps = both_keep c.args.self.now m q c.loop-turns.invariant.keeps (both_keep m told q c.make_turn.ensures.keeps keeps);
+      gone_on = further c.loop-turns.turns c.loop-turns.now after m.at told.at q.at end c.loop-turns.invariant.gone_on c.in_ok-end.ensures.made.done rest on;
+      keeps = both_keep c.args.self.now m q c.loop-turns.invariant.keeps (both_keep m told q c.make_turn.ensures.made.keeps keeps);
       many =
           let one = c.loop-turns.invariant.many in
-          let two = last_longer m.at told.at c.make_turn.ensures.keeps.0 in
+          let two = last_longer m.at told.at c.make_turn.ensures.made.keeps.0 in
           let three = last_longer mid.at q.at (was_noted mid q _ c.now-now.ensures.noted).0 in
           omega (arith, one, two, more, three);
     }
 
-pub returns-in_err-end-clause-breaks : goal.returns-in_err-end-clause-breaks
-returns-in_err-end-clause-breaks g c =
-    let (end, heard) = c.in_err-end.ensures.breaks in
-    on_err c.from_residual.result _
-    (in_turn c.loop-turns.turns c.loop-turns.now c.loop-turns.self.at end c.loop-turns.invariant.gone_on heard)
+pub returns-in-Some : goal.returns-in-Some
+returns-in-Some g c = record {
+  drains =
+      record {
+        keeps =
+            both_keep c.args.self.now c.loop-turns.self c.now-now.new.self c.loop-turns.invariant.keeps
+            (both_keep c.loop-turns.self c.make_turn.new.self c.now-now.new.self c.make_turn.ensures.made.keeps
+            (both_keep c.make_turn.new.self c.pauses.new.self c.now-now.new.self
+            (pause_keeps c.pauses.new.pause.since c.pauses.new.pause.moment c.pauses.result c.make_turn.new.self c.pauses.new.self
+            c.pauses.ensures.left c.pauses.ensures.paused)
+            (was_noted c.pauses.new.self c.now-now.new.self _ c.now-now.ensures.noted)));
+        done =
+            let told = c.make_turn.new.self.at in
+            let q = c.now-now.new.self in
+            let paused = at_moment c.pauses.new.pause.since c.pauses.new.pause.moment c.loop-turns.now c.pauses.result told c.pauses.new.self.at
+            (c.pauses.ensures.moment ∙ c.before_turn.ensures.moment) c.pauses.ensures.paused in
+            let rest = rests c.args.start c.pauses.new.pause.since c.loop-turns.now told c.pauses.new.self q c.pauses.result c.now-now.result
+            (omega (arith, c.loop-turns.invariant.since, c.before_turn.ensures.since, c.pauses.ensures.grows)) c.if-not-pauses.false paused
+            c.now-now.ensures.noted in
+            record {
+              turns = c.loop-turns.turns;
+              now = c.loop-turns.now;
+              after = c.now-now.result;
+              last = c.loop-turns.self.at;
+              told = told;
+              turn_end = c.in_ok-end.end;
+              gone_on = c.loop-turns.invariant.gone_on;
+              made = c.in_ok-end.ensures.made.done;
+              rests = rest;
+              ended =
+                  told_end_at c.args.terms (c.loop-turns.turns + 1) c.now-now.result c.in_ok-end.end told q.at c.idle.result c.end_behind.result
+                  (Some c.in-Some.end) (rests_executor c.args.start c.loop-turns.now told q.at c.now-now.result rest) c.end_behind.ensures c.idle.ensures.value c.in-Some.is;
+            };
+        breaks = tt;
+        cause = tt;
+      };
+}
 
-pub returns-in_err-end-clause-keeps : goal.returns-in_err-end-clause-keeps
-returns-in_err-end-clause-keeps g c =
-    both_keep c.args.self.now c.loop-turns.self c.make_turn.new.self c.loop-turns.invariant.keeps c.make_turn.ensures.keeps
+pub returns-in_err-end : goal.returns-in_err-end
+returns-in_err-end g c = record {
+  drains =
+      let (end, heard) = c.in_err-end.ensures.made.breaks in
+      step_to_fails c.args.self.now c.make_turn.new.self c.from_residual.result c.from_residual.ensures.0
+      (both_keep c.args.self.now c.loop-turns.self c.make_turn.new.self c.loop-turns.invariant.keeps c.make_turn.ensures.made.keeps)
+      (in_turn c.loop-turns.turns c.loop-turns.now c.loop-turns.self.at end c.loop-turns.invariant.gone_on heard) c.in_err-end.ensures.made.cause;
+}
 
-pub returns-then-not-pauses-clause-breaks : goal.returns-then-not-pauses-clause-breaks
-returns-then-not-pauses-clause-breaks g c =
-    unheard c.loop-turns.turns c.loop-turns.now c.loop-turns.self.at c.make_turn.new.self.at c.in_ok-end.end c.loop-turns.invariant.gone_on
-    c.in_ok-end.ensures.made
-    (unheard_pause c.args.start c.pauses.new.pause.since c.loop-turns.now c.pauses.result c.make_turn.new.self.at c.pauses.new.self.at
-    (omega (arith, c.loop-turns.invariant.since, c.before_turn.ensures.since, c.pauses.ensures.grows)) c.if-not-pauses.true
-    (at_moment c.pauses.new.pause.since c.pauses.new.pause.moment c.loop-turns.now c.pauses.result c.make_turn.new.self.at
-    c.pauses.new.self.at (c.pauses.ensures.moment ∙ c.before_turn.ensures.moment) c.pauses.ensures.paused))
+pub returns-then-not-pauses : goal.returns-then-not-pauses
+returns-then-not-pauses g c = record {
+  drains =
+      record {
+        keeps =
+            both_keep c.args.self.now c.loop-turns.self c.pauses.new.self c.loop-turns.invariant.keeps
+            (both_keep c.loop-turns.self c.make_turn.new.self c.pauses.new.self c.make_turn.ensures.made.keeps
+            (pause_keeps c.pauses.new.pause.since c.pauses.new.pause.moment c.pauses.result c.make_turn.new.self c.pauses.new.self
+            c.pauses.ensures.left c.pauses.ensures.paused));
+        done = tt;
+        breaks =
+            unheard c.loop-turns.turns c.loop-turns.now c.loop-turns.self.at c.make_turn.new.self.at c.in_ok-end.end c.loop-turns.invariant.gone_on
+            c.in_ok-end.ensures.made.done
+            (unheard_pause c.args.start c.pauses.new.pause.since c.loop-turns.now c.pauses.result c.make_turn.new.self.at c.pauses.new.self.at
+            (omega (arith, c.loop-turns.invariant.since, c.before_turn.ensures.since, c.pauses.ensures.grows)) c.if-not-pauses.true
+            (at_moment c.pauses.new.pause.since c.pauses.new.pause.moment c.loop-turns.now c.pauses.result c.make_turn.new.self.at
+            c.pauses.new.self.at (c.pauses.ensures.moment ∙ c.before_turn.ensures.moment) c.pauses.ensures.paused));
+        cause = unheard_cause c.pauses.new.pause.since c.pauses.new.pause.moment c.pauses.result c.make_turn.new.self.at c.pauses.new.self.at c.if-not-pauses.true c.pauses.ensures.paused;
+      };
+}
 
-pub returns-then-not-pauses-clause-cause : goal.returns-then-not-pauses-clause-cause
-returns-then-not-pauses-clause-cause g c =
-    unheard_cause c.pauses.new.pause.since c.pauses.new.pause.moment c.pauses.result c.make_turn.new.self.at c.pauses.new.self.at c.if-not-pauses.true c.pauses.ensures.paused
-
-pub returns-then-not-pauses-clause-keeps : goal.returns-then-not-pauses-clause-keeps
-returns-then-not-pauses-clause-keeps g c =
-    both_keep c.args.self.now c.loop-turns.self c.pauses.new.self c.loop-turns.invariant.keeps
-    (both_keep c.loop-turns.self c.make_turn.new.self c.pauses.new.self c.make_turn.ensures.keeps
-    (pause_keeps c.pauses.new.pause.since c.pauses.new.pause.moment c.pauses.result c.make_turn.new.self c.pauses.new.self
-    c.pauses.ensures.left c.pauses.ensures.paused))
-
-pub returns-clause-breaks : goal.returns-clause-breaks
-returns-clause-breaks g c = spent c.loop-turns.turns c.loop-turns.now c.loop-turns.invariant.gone_on
+pub returns : goal.returns
+returns g c = record {
+  drains =
+      record {
+        keeps = c.loop-turns.invariant.keeps;
+        done = tt;
+        breaks = spent c.loop-turns.turns c.loop-turns.now c.loop-turns.invariant.gone_on;
+        cause = inr (omega (arith, c.loop-turns.auto, c.loop-turns.invariant.many));
+      };
+}

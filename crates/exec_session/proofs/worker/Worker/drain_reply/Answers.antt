@@ -1,9 +1,9 @@
 use Rattle.std.proofs.Common.{ap, ◌∙◌}
-use Rattle.exec_lines.proofs.PieceLemmas.{on_err}
 use Rattle.exec_trace.specs.Events.{last_shown}
 use Rattle.exec_session.specs.Spots.{Position}
 use Rattle.exec_session.proofs.AnswerLemmas.{drain_breaks_for, drains_for}
 use Rattle.exec_session.proofs.EventLemmas.{both_keep, shown_last, was_noted}
+use Rattle.exec_session.proofs.StepLemmas.{step_to_fails}
 use Rattle.exec_session.proofs.worker.Worker.drain_reply.Goals as goal
 
 pub drain-requires : goal.drain-requires
@@ -14,23 +14,29 @@ drain-requires g c = record {
       ∙ shown_last c.args.self.now.at.events c.now-start.result;
 }
 
-pub returns-clause-reply : goal.returns-clause-reply
-returns-clause-reply g c =
-    drains_for g.D.Disk.view _ c.args.ends_idle c.args.limit c.from.result c.now-start.result c.args.self.now c.now-start.new.self
-    c.drain.new.self c.in_ok-end.end c.from.ensures c.now-start.ensures.noted c.in_ok-end.ensures.drains
+pub returns : goal.returns
+returns g c = record {
+  reply =
+      let p = c.args.self.now in
+      let m = c.now-start.new.self in
+      record {
+        keeps = both_keep p m c.drain.new.self (was_noted p m _ c.now-start.ensures.noted) c.in_ok-end.ensures.drains.keeps;
+        done =
+            drains_for g.D.Disk.view _ c.args.ends_idle c.args.limit c.from.result c.now-start.result p m c.drain.new.self c.in_ok-end.end
+            c.from.ensures c.now-start.ensures.noted c.in_ok-end.ensures.drains.done;
+        breaks = tt;
+        cause = tt;
+      };
+}
 
-pub returns-in_err-end-clause-breaks : goal.returns-in_err-end-clause-breaks
-returns-in_err-end-clause-breaks g c =
-    on_err c.from_residual.result _
-    (drain_breaks_for g.D.Disk.view _ c.args.ends_idle c.args.limit c.from.result c.now-start.result c.args.self.now c.now-start.new.self
-    c.drain.new.self c.from.ensures c.now-start.ensures.noted c.in_err-end.ensures.breaks)
-
-pub returns-clause-keeps : goal.returns-clause-keeps
-returns-clause-keeps g c =
-    both_keep c.args.self.now c.now-start.new.self c.drain.new.self
-    (was_noted c.args.self.now c.now-start.new.self _ c.now-start.ensures.noted) c.drain.ensures.keeps
-
-pub returns-in_err-end-clause-keeps : goal.returns-in_err-end-clause-keeps
-returns-in_err-end-clause-keeps g c =
-    both_keep c.args.self.now c.now-start.new.self c.drain.new.self
-    (was_noted c.args.self.now c.now-start.new.self _ c.now-start.ensures.noted) c.drain.ensures.keeps
+pub returns-in_err-end : goal.returns-in_err-end
+returns-in_err-end g c = record {
+  reply =
+      let p = c.args.self.now in
+      let m = c.now-start.new.self in
+      let drains = c.in_err-end.ensures.drains in
+      step_to_fails p c.drain.new.self c.from_residual.result c.from_residual.ensures.0
+      (both_keep p m c.drain.new.self (was_noted p m _ c.now-start.ensures.noted) drains.keeps)
+      (drain_breaks_for g.D.Disk.view _ c.args.ends_idle c.args.limit c.from.result c.now-start.result p m c.drain.new.self c.from.ensures
+      c.now-start.ensures.noted drains.breaks) drains.cause;
+}

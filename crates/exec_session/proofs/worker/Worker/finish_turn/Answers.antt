@@ -40,51 +40,49 @@ invariant_of-self g c =
     (subst (λ (said : List Said). StandsBehind look old last said) (sym c.of_executor-turn.ensures.said) told)
     c.tell.ensures.told
 
-pub returns-clause-made : goal.returns-clause-made
-returns-clause-made g c =
-    let look = g.D.Disk.view in
-    let form = c.args.context.now.form in
-    let old = c.self.inside.executor in
-    let e = c.self.inside.edge in
-    let last = c.finish.new.self in
-    let new = c.tell.new.self in
-    let now = c.now-now.result in
-    let is_open = open_noted old e c.args.self.now c.now-now.new.self _ c.self.view_is c.now-now.ensures.noted c.requires.«open» in
-    let takes = finish_taken look now old c.clear_book.new.self last c.finish.result c.clear_book.ensures.cleared is_open
-    c.finish.ensures.finishes in
-    ok_map c.tell.result _ _
-    (λ tells. finish_heard (Tells form) look now old last e c.args.self.now c.now-now.new.self (spot last new.heard new.events) c.finish.result
-    c.now-now.ensures.noted c.self.view_is refl takes
-    (subst (λ (said : List Said). Tells form (spot last e.heard e.events) (spot last new.heard new.events) said)
-    c.of_executor-turn.ensures.said tells))
-    (sends form _ last e new c.tell.result c.tell.ensures.hears c.tell.ensures.noted)
-
-pub returns-clause-breaks : goal.returns-clause-breaks
-returns-clause-breaks g c =
-    let look = g.D.Disk.view in
-    let form = c.args.context.now.form in
-    let old = c.self.inside.executor in
-    let e = c.self.inside.edge in
-    let last = c.finish.new.self in
-    let new = c.tell.new.self in
-    let now = c.now-now.result in
-    let is_open = open_noted old e c.args.self.now c.now-now.new.self _ c.self.view_is c.now-now.ensures.noted c.requires.«open» in
-    let takes = finish_taken look now old c.clear_book.new.self last c.finish.result c.clear_book.ensures.cleared is_open
-    c.finish.ensures.finishes in
-    err_map c.tell.result _ _
-    (λ tells. finish_heard (TellsPart form) look now old last e c.args.self.now c.now-now.new.self (spot last new.heard new.events) c.finish.result
-    c.now-now.ensures.noted c.self.view_is refl takes
-    (subst (λ (said : List Said). TellsPart form (spot last e.heard e.events) (spot last new.heard new.events) said)
-    c.of_executor-turn.ensures.said tells))
-    (sends_part form _ last e new c.tell.result c.tell.ensures.breaks c.tell.ensures.noted)
-
-pub returns-clause-keeps : goal.returns-clause-keeps
-returns-clause-keeps g c =
-    let m = c.now-now.new.self in
-    both_keep c.args.self.now m _ (was_noted c.args.self.now m _ c.now-now.ensures.noted)
-    (send_keeps c.args.context.now.form [] c.finish.new.self c.self.inside.edge c.tell.new.self (is_ok c.tell.result) m
-    c.self.inside.executor c.self.view_is c.tell.ensures.told.0 c.tell.ensures.left c.tell.ensures.noted)
-
-pub returns-clause-cause : goal.returns-clause-cause
-returns-clause-cause g c =
-    send_cause c.args.context.now.form [] c.finish.new.self c.self.inside.edge c.tell.new.self c.tell.result c.tell.ensures.noted
+pub returns : goal.returns
+returns g c = record {
+  made =
+      record {
+        keeps =
+            let m = c.now-now.new.self in
+            both_keep c.args.self.now m _ (was_noted c.args.self.now m _ c.now-now.ensures.noted)
+            (send_keeps c.args.context.now.form [] c.finish.new.self c.self.inside.edge c.tell.new.self (is_ok c.tell.result) m
+            c.self.inside.executor c.self.view_is c.tell.ensures.told.0 c.tell.ensures.left c.tell.ensures.noted);
+        done =
+            let look = g.D.Disk.view in
+            let form = c.args.context.now.form in
+            let old = c.self.inside.executor in
+            let e = c.self.inside.edge in
+            let last = c.finish.new.self in
+            let new = c.tell.new.self in
+            let now = c.now-now.result in
+            let is_open = open_noted old e c.args.self.now c.now-now.new.self _ c.self.view_is c.now-now.ensures.noted c.requires.«open» in
+            let takes = finish_taken look now old c.clear_book.new.self last c.finish.result c.clear_book.ensures.cleared is_open
+            c.finish.ensures.finishes in
+            ok_map c.tell.result _ _
+            (λ tells. finish_heard (Tells form) look now old last e c.args.self.now c.now-now.new.self (spot last new.heard new.events) c.finish.result
+            c.now-now.ensures.noted c.self.view_is refl takes
+            (subst (λ (said : List Said). Tells form (spot last e.heard e.events) (spot last new.heard new.events) said)
+            c.of_executor-turn.ensures.said tells))
+            (sends form _ last e new c.tell.result c.tell.ensures.hears c.tell.ensures.noted);
+        breaks =
+            let look = g.D.Disk.view in
+            let form = c.args.context.now.form in
+            let old = c.self.inside.executor in
+            let e = c.self.inside.edge in
+            let last = c.finish.new.self in
+            let new = c.tell.new.self in
+            let now = c.now-now.result in
+            let is_open = open_noted old e c.args.self.now c.now-now.new.self _ c.self.view_is c.now-now.ensures.noted c.requires.«open» in
+            let takes = finish_taken look now old c.clear_book.new.self last c.finish.result c.clear_book.ensures.cleared is_open
+            c.finish.ensures.finishes in
+            err_map c.tell.result _ _
+            (λ tells. finish_heard (TellsPart form) look now old last e c.args.self.now c.now-now.new.self (spot last new.heard new.events) c.finish.result
+            c.now-now.ensures.noted c.self.view_is refl takes
+            (subst (λ (said : List Said). TellsPart form (spot last e.heard e.events) (spot last new.heard new.events) said)
+            c.of_executor-turn.ensures.said tells))
+            (sends_part form _ last e new c.tell.result c.tell.ensures.breaks c.tell.ensures.noted);
+        cause = send_cause c.args.context.now.form [] c.finish.new.self c.self.inside.edge c.tell.new.self c.tell.result c.tell.ensures.noted;
+      };
+}

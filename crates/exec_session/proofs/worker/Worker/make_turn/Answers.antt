@@ -2,12 +2,12 @@ use Rattle.std.proofs.Common.{◌≡◌, true, [], List, refl, sym, subst}
 use Rattle.std.specs.Prelude.{is_ok}
 use Rattle.executor.specs.Sights.{Sight}
 use Rattle.executor.specs.TurnCalls.{TurnsWhile}
-use Rattle.exec_lines.proofs.PieceLemmas.{on_err}
 use Rattle.exec_client.specs.MayTell.{StandsBehind}
 use Rattle.exec_client.specs.Said.{Said}
 use Rattle.exec_client.proofs.Growing.{all_still_stand, may_tell}
 use Rattle.exec_session.specs.Spots.{Position, Tells, TellsPart, spot}
 use Rattle.exec_session.proofs.EventLemmas.{moved_keeps, send_keeps, unsent}
+use Rattle.exec_session.proofs.StepLemmas.{step_to_fails}
 use Rattle.exec_session.proofs.TellLemmas.{after_told, cleared_room, turn_behind_room}
 use Rattle.exec_session.proofs.WorkerLemmas.{parts, turn_failed, turn_heard}
 use Rattle.exec_session.proofs.worker.Worker.make_turn.Goals as goal
@@ -19,16 +19,6 @@ make_room-requires g c = record {
       (parts (λ (P : Position _). P.at.executor.is_open ≡ true) c.self.inside.executor c.self.inside.edge c.args.self.now c.self.view_is
       c.requires.«open»);
 }
-
-pub returns-then-not-make_room-clause-made : goal.returns-then-not-make_room-clause-made
-returns-then-not-make_room-clause-made g c =
-    turn_failed (Tells c.args.context.now.form) g.D.Disk.view _ c.args.now c.self.inside.executor c.clear_book.new.self
-    c.make_room.new.executor c.self.inside.edge c.args.self.now c.self.view_is c.requires.shown c.clear_book.ensures.cleared
-    c.make_room.ensures.makes (sym c.if-not-make_room.ensures.value)
-
-pub returns-then-not-make_room-clause-keeps : goal.returns-then-not-make_room-clause-keeps
-returns-then-not-make_room-clause-keeps g c =
-    moved_keeps c.self.inside.executor c.make_room.new.executor c.self.inside.edge c.args.self.now c.self.view_is
 
 pub invariant_of-self : goal.invariant_of-self
 invariant_of-self g c =
@@ -81,53 +71,68 @@ invariant_of-self-in_err-tell g c =
     (subst (λ (said : List Said). StandsBehind look old last said) (sym c.of_executor-turn.ensures.said) told)
     c.tell.ensures.told
 
-pub returns-clause-made : goal.returns-clause-made
-returns-clause-made g c =
-    let look = g.D.Disk.view in
-    let is_open = sym c.if-not-make_room.ensures.value in
-    let e = c.self.inside.edge in
-    let middle = c.make_room.new.executor in
-    let last = c.turn-end.new.self in
-    let new = c.tell.new.self in
-    let form = c.args.context.now.form in
-    turn_heard (Tells form) look _ c.args.now c.self.inside.executor c.clear_book.new.self middle last e c.args.self.now
-    (spot last new.heard new.events) c.turn-end.result c.self.view_is c.requires.shown c.clear_book.ensures.cleared
-    c.make_room.ensures.makes is_open refl
-    (subst (λ b. TurnsWhile b look c.args.now middle last c.turn-end.result) is_open c.turn-end.ensures.turns)
-    (subst (λ (said : List Said). Tells form (spot last e.heard e.events) (spot last new.heard new.events) said)
-    c.of_executor-turn.ensures.said
-    (record { executor = refl; hears = c.in_ok-tell.ensures.hears; events = c.in_ok-tell.ensures.noted }))
+pub returns-then-not-make_room : goal.returns-then-not-make_room
+returns-then-not-make_room g c = record {
+  made =
+      record {
+        keeps = moved_keeps c.self.inside.executor c.make_room.new.executor c.self.inside.edge c.args.self.now c.self.view_is;
+        done =
+            turn_failed (Tells c.args.context.now.form) g.D.Disk.view _ c.args.now c.self.inside.executor c.clear_book.new.self
+            c.make_room.new.executor c.self.inside.edge c.args.self.now c.self.view_is c.requires.shown c.clear_book.ensures.cleared
+            c.make_room.ensures.makes (sym c.if-not-make_room.ensures.value);
+        breaks = tt;
+        cause = tt;
+      };
+}
 
-pub returns-in_err-tell-clause-breaks : goal.returns-in_err-tell-clause-breaks
-returns-in_err-tell-clause-breaks g c =
-    let look = g.D.Disk.view in
-    let is_open = sym c.if-not-make_room.ensures.value in
-    let e = c.self.inside.edge in
-    let middle = c.make_room.new.executor in
-    let last = c.turn-end.new.self in
-    let new = c.tell.new.self in
-    let form = c.args.context.now.form in
-    on_err c.from_residual.result _ (
-      c.turn-end.result,
-      turn_heard (TellsPart form) look _ c.args.now c.self.inside.executor c.clear_book.new.self middle last e c.args.self.now
-          (spot last new.heard new.events) c.turn-end.result c.self.view_is c.requires.shown c.clear_book.ensures.cleared
-          c.make_room.ensures.makes is_open refl
-          (subst (λ b. TurnsWhile b look c.args.now middle last c.turn-end.result) is_open c.turn-end.ensures.turns)
-          (subst (λ (said : List Said). TellsPart form (spot last e.heard e.events) (spot last new.heard new.events) said)
-          c.of_executor-turn.ensures.said
-          (record { executor = refl; hears = c.in_err-tell.ensures.breaks; events = c.in_err-tell.ensures.noted })),
-    )
+pub returns : goal.returns
+returns g c = record {
+  made =
+      record {
+        keeps =
+            send_keeps c.args.context.now.form [] c.turn-end.new.self c.self.inside.edge c.tell.new.self (is_ok c.tell.result) c.args.self.now
+            c.self.inside.executor c.self.view_is c.tell.ensures.told.0 c.tell.ensures.left c.tell.ensures.noted;
+        done =
+            let look = g.D.Disk.view in
+            let is_open = sym c.if-not-make_room.ensures.value in
+            let e = c.self.inside.edge in
+            let middle = c.make_room.new.executor in
+            let last = c.turn-end.new.self in
+            let new = c.tell.new.self in
+            let form = c.args.context.now.form in
+            turn_heard (Tells form) look _ c.args.now c.self.inside.executor c.clear_book.new.self middle last e c.args.self.now
+            (spot last new.heard new.events) c.turn-end.result c.self.view_is c.requires.shown c.clear_book.ensures.cleared
+            c.make_room.ensures.makes is_open refl
+            (subst (λ b. TurnsWhile b look c.args.now middle last c.turn-end.result) is_open c.turn-end.ensures.turns)
+            (subst (λ (said : List Said). Tells form (spot last e.heard e.events) (spot last new.heard new.events) said)
+            c.of_executor-turn.ensures.said
+            (record { executor = refl; hears = c.in_ok-tell.ensures.hears; events = c.in_ok-tell.ensures.noted }));
+        breaks = tt;
+        cause = tt;
+      };
+}
 
-pub returns-clause-keeps : goal.returns-clause-keeps
-returns-clause-keeps g c =
-    send_keeps c.args.context.now.form [] c.turn-end.new.self c.self.inside.edge c.tell.new.self (is_ok c.tell.result) c.args.self.now
-    c.self.inside.executor c.self.view_is c.tell.ensures.told.0 c.tell.ensures.left c.tell.ensures.noted
-
-pub returns-in_err-tell-clause-keeps : goal.returns-in_err-tell-clause-keeps
-returns-in_err-tell-clause-keeps g c =
-    send_keeps c.args.context.now.form [] c.turn-end.new.self c.self.inside.edge c.tell.new.self (is_ok c.tell.result) c.args.self.now
-    c.self.inside.executor c.self.view_is c.tell.ensures.told.0 c.tell.ensures.left c.tell.ensures.noted
-
-pub returns-in_err-tell-clause-cause : goal.returns-in_err-tell-clause-cause
-returns-in_err-tell-clause-cause g c =
-    on_err c.from_residual.result _ (unsent c.self.inside.edge.events c.tell.new.self.events c.in_err-tell.ensures.noted)
+pub returns-in_err-tell : goal.returns-in_err-tell
+returns-in_err-tell g c = record {
+  made =
+      let look = g.D.Disk.view in
+      let is_open = sym c.if-not-make_room.ensures.value in
+      let e = c.self.inside.edge in
+      let middle = c.make_room.new.executor in
+      let last = c.turn-end.new.self in
+      let new = c.tell.new.self in
+      let form = c.args.context.now.form in
+      step_to_fails c.args.self.now _ c.from_residual.result c.from_residual.ensures.0 (
+      send_keeps c.args.context.now.form [] c.turn-end.new.self c.self.inside.edge c.tell.new.self (is_ok c.tell.result) c.args.self.now
+      c.self.inside.executor c.self.view_is c.tell.ensures.told.0 c.tell.ensures.left c.tell.ensures.noted
+      ) (
+        c.turn-end.result,
+        turn_heard (TellsPart form) look _ c.args.now c.self.inside.executor c.clear_book.new.self middle last e c.args.self.now
+            (spot last new.heard new.events) c.turn-end.result c.self.view_is c.requires.shown c.clear_book.ensures.cleared
+            c.make_room.ensures.makes is_open refl
+            (subst (λ b. TurnsWhile b look c.args.now middle last c.turn-end.result) is_open c.turn-end.ensures.turns)
+            (subst (λ (said : List Said). TellsPart form (spot last e.heard e.events) (spot last new.heard new.events) said)
+            c.of_executor-turn.ensures.said
+            (record { executor = refl; hears = c.in_err-tell.ensures.breaks; events = c.in_err-tell.ensures.noted })),
+      ) (unsent c.self.inside.edge.events c.tell.new.self.events c.in_err-tell.ensures.noted);
+}

@@ -32,31 +32,30 @@ invariant_of-self g c =
     (parts (λ (P : Position _). StandsBehind look P.at.executor P.at.executor said) x e c.args.self.now c.self.view_is c.requires.stands)
     c.tell.ensures.told
 
-pub returns-clause-keeps : goal.returns-clause-keeps
-returns-clause-keeps g c =
-    let x = c.self.inside.executor in
-    send_keeps c.args.form (said_in c.args.what.now) x c.self.inside.edge c.tell.new.self (is_ok c.tell.result) c.args.self.now x
-    c.self.view_is c.tell.ensures.told.0 c.tell.ensures.left c.tell.ensures.noted
-
-pub returns-clause-told : goal.returns-clause-told
-returns-clause-told g c =
-    let x = c.self.inside.executor in
-    let e = c.self.inside.edge in
-    let new = c.tell.new.self in
-    let said = said_in c.args.what.now in
-    whole (λ (P : Position _). OnOk c.tell.result (Tells c.args.form P.at (at_of x new).at said)) x e c.args.self.now c.self.view_is
-    (sends c.args.form said x e new c.tell.result c.tell.ensures.hears c.tell.ensures.noted)
-
-pub returns-clause-breaks : goal.returns-clause-breaks
-returns-clause-breaks g c =
-    let x = c.self.inside.executor in
-    let e = c.self.inside.edge in
-    let new = c.tell.new.self in
-    let said = said_in c.args.what.now in
-    whole (λ (P : Position _). OnErr c.tell.result (TellsPart c.args.form P.at (at_of x new).at said)) x e c.args.self.now c.self.view_is
-    (sends_part c.args.form said x e new c.tell.result c.tell.ensures.breaks c.tell.ensures.noted)
-
-pub returns-clause-cause : goal.returns-clause-cause
-returns-clause-cause g c =
-    send_cause c.args.form (said_in c.args.what.now) c.self.inside.executor c.self.inside.edge c.tell.new.self c.tell.result
-    c.tell.ensures.noted
+pub returns : goal.returns
+returns g c = record {
+  sends =
+      record {
+        keeps =
+            let x = c.self.inside.executor in
+            send_keeps c.args.form (said_in c.args.what.now) x c.self.inside.edge c.tell.new.self (is_ok c.tell.result) c.args.self.now x
+            c.self.view_is c.tell.ensures.told.0 c.tell.ensures.left c.tell.ensures.noted;
+        done =
+            let x = c.self.inside.executor in
+            let e = c.self.inside.edge in
+            let new = c.tell.new.self in
+            let said = said_in c.args.what.now in
+            whole (λ (P : Position _). OnOk c.tell.result (Tells c.args.form P.at (at_of x new).at said)) x e c.args.self.now c.self.view_is
+            (sends c.args.form said x e new c.tell.result c.tell.ensures.hears c.tell.ensures.noted);
+        breaks =
+            let x = c.self.inside.executor in
+            let e = c.self.inside.edge in
+            let new = c.tell.new.self in
+            let said = said_in c.args.what.now in
+            whole (λ (P : Position _). OnErr c.tell.result (TellsPart c.args.form P.at (at_of x new).at said)) x e c.args.self.now c.self.view_is
+            (sends_part c.args.form said x e new c.tell.result c.tell.ensures.breaks c.tell.ensures.noted);
+        cause =
+            send_cause c.args.form (said_in c.args.what.now) c.self.inside.executor c.self.inside.edge c.tell.new.self c.tell.result
+            c.tell.ensures.noted;
+      };
+}

@@ -3,7 +3,7 @@ use Rattle.ocf_types.specs.declared.reply.Notice.{Notice}
 use Rattle.executor.specs.Reports.{ReportView}
 use Rattle.exec_client.specs.Said.{Reported}
 use Rattle.exec_session.specs.Spots.{Tells, TellsPart}
-use Rattle.exec_session.proofs.EventLemmas.{err_map, ok_map}
+use Rattle.exec_session.proofs.StepLemmas.{step_after, step_fails}
 use Rattle.exec_session.proofs.TellLemmas.{reported_stand}
 use Rattle.exec_session.proofs.worker.Worker.tell_report.Goals as goal
 
@@ -19,26 +19,26 @@ tell-requires g c =
 pub tell-requires-2-clause-stands : goal.tell-requires-2-clause-stands
 tell-requires-2-clause-stands g c = reported_stand g.D.Disk.view c.tell.new.self.at.executor c.as_slice-2.result.now
 
-pub returns-clause-told : goal.returns-clause-told
-returns-clause-told g c =
-    let form = c.args.context.now.form in
-    let m = c.tell.new.self.at in
-    ok_map c.tell-2.result _ _
-    (λ two. (
-      m,
-      subst (λ (ns : List Notice). Tells form c.args.self.now.at m (map Reported ns)) c.as_slice.ensures.value c.in_ok-tell.ensures.told,
-      subst (λ (ns : List Notice). Tells form m c.tell-2.new.self.at (map Reported ns)) c.as_slice-2.ensures.value two,
-    ))
-    c.tell-2.ensures.told
+pub returns : goal.returns
+returns g c = record {
+  told =
+      let form = c.args.context.now.form in
+      let p = c.args.self.now in
+      let m = c.tell.new.self in
+      let q = c.tell-2.new.self in
+      let first = subst (λ (ns : List Notice). Tells form p.at m.at (map Reported ns)) c.as_slice.ensures.value c.in_ok-tell.ensures.sends.done in
+      step_after p m q c.tell-2.result c.in_ok-tell.ensures.sends.keeps c.tell-2.ensures.sends
+      (λ two. (m.at, first, subst (λ (ns : List Notice). Tells form m.at q.at (map Reported ns)) c.as_slice-2.ensures.value two))
+      (λ two. inr (m.at, first, subst (λ (ns : List Notice). TellsPart form m.at q.at (map Reported ns)) c.as_slice-2.ensures.value two));
+}
 
-pub returns-clause-breaks : goal.returns-clause-breaks
-returns-clause-breaks g c =
-    let form = c.args.context.now.form in
-    let m = c.tell.new.self.at in
-    err_map c.tell-2.result _ _
-    (λ two. inr (
-      m,
-      subst (λ (ns : List Notice). Tells form c.args.self.now.at m (map Reported ns)) c.as_slice.ensures.value c.in_ok-tell.ensures.told,
-      subst (λ (ns : List Notice). TellsPart form m c.tell-2.new.self.at (map Reported ns)) c.as_slice-2.ensures.value two,
-    ))
-    c.tell-2.ensures.breaks
+pub returns-in_err-tell : goal.returns-in_err-tell
+returns-in_err-tell g c = record {
+  told =
+      let p = c.args.self.now in
+      let q = c.tell.new.self in
+      let sends = c.in_err-tell.ensures.sends in
+      step_fails p q c.from_residual.result c.from_residual.ensures.0 sends.keeps
+      (inl (subst (λ (ns : List Notice). TellsPart c.args.context.now.form p.at q.at (map Reported ns)) c.as_slice.ensures.value sends.breaks))
+      sends.cause;
+}

@@ -3,7 +3,7 @@ use Rattle.exec_client.specs.Behind.{nothing}
 use Rattle.exec_client.proofs.Growing.{none_stands}
 use Rattle.exec_session.specs.Gathered.{replied, waiting}
 use Rattle.exec_session.proofs.TellLemmas.{refused_say, refused_stand, together_say, together_stand}
-use Rattle.exec_session.proofs.together.serve_gathered.Goals as goal
+use Rattle.exec_session.proofs.answer.serve_gathered.Goals as goal
 
 pub returns-then-is_open-clause-stands : goal.returns-then-is_open-clause-stands
 returns-then-is_open-clause-stands g c =

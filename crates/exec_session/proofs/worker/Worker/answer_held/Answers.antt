@@ -1,11 +1,11 @@
-use Rattle.std.proofs.Common.{true, Ok, subst, sym}
-use Rattle.exec_session.specs.Held.{AnswersHeld, asks}
-use Rattle.exec_session.specs.Progress.{AnswersSo}
+use Rattle.std.proofs.Common.{Ok, subst, sym}
+use Rattle.exec_session.specs.Held.{asks}
+use Rattle.exec_session.specs.Progress.{Answers, AnswersSo}
 use Rattle.exec_session.specs.Rules.{rules_of}
 use Rattle.exec_session.specs.Spots.{Tells, TellsPart}
 use Rattle.exec_session.specs.declared.held.Held.{Held}
 use Rattle.exec_session.proofs.HeldLemmas.{answered_held, held_err}
-use Rattle.exec_session.proofs.held.answer_held.Goals as goal
+use Rattle.exec_session.proofs.worker.Worker.answer_held.Goals as goal
 
 pub returns-clause-answers : goal.returns-clause-answers
 returns-clause-answers g c =
@@ -13,11 +13,11 @@ returns-clause-answers g c =
     let look = g.D.Disk.view in
     let source = g.M.Metadata.gives context.metadata.now in
     let rules = rules_of context in
-    let p = c.args.worker.now.at in
+    let p = c.args.self.now.at in
     let q = c.tell_reply.new.self.at in
-    subst (λ (h : Held). AnswersHeld look source rules h p q (Ok true)) (sym c.in-Metadata.is)
+    subst (λ (h : Held). Answers look source rules (Ok (asks h)) p q) (sym c.in-Metadata.is)
     (answered_held (Tells context.form) look source rules _ _ _ c.in-Some.given p q c.requires.«open» c.in-Some.ensures.given
-    c.in_ok-tell_reply.ensures.told)
+    c.in_ok-tell_reply.ensures.sends.done)
 
 pub returns-in_err-tell_reply-clause-answers : goal.returns-in_err-tell_reply-clause-answers
 returns-in_err-tell_reply-clause-answers g c =
@@ -25,9 +25,9 @@ returns-in_err-tell_reply-clause-answers g c =
     let look = g.D.Disk.view in
     let source = g.M.Metadata.gives context.metadata.now in
     let rules = rules_of context in
-    let p = c.args.worker.now.at in
+    let p = c.args.self.now.at in
     let q = c.tell_reply.new.self.at in
     held_err look source rules c.args.line.now p q c.from_residual.result c.from_residual.ensures.0
     (subst (λ (h : Held). AnswersSo (TellsPart context.form) look source rules (Ok (asks h)) p q) (sym c.in-Metadata.is)
     (answered_held (TellsPart context.form) look source rules _ _ _ c.in-Some.given p q c.requires.«open» c.in-Some.ensures.given
-    c.in_err-tell_reply.ensures.breaks)) c.in_err-tell_reply.ensures.cause
+    c.in_err-tell_reply.ensures.sends.breaks)) c.in_err-tell_reply.ensures.sends.cause

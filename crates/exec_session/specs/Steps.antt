@@ -1,0 +1,24 @@
+-- What a step of a run leads to, in which nothing is read.
+use Rattle.std.specs.Prelude.{List, Result, IfOk, OnErr, OnOk}
+use Rattle.exec_commands.specs.declared.notice.NoticeForm.{NoticeForm}
+use Rattle.exec_client.specs.Said.{Said}
+use Rattle.exec_session.specs.Spots.{Keeps, MayBreakOff, Position, Spot, Tells, TellsPart}
+
+-- It is done so; or it breaks off so, since what was asked last failed or as much was asked as the loops go round.
+pub record Steps {D T E : Type 0} (does breaks_off : Spot D → Type 0) (p q : Position D) (result : Result T E) : Type 0 where
+  pub keeps : Keeps p q
+  pub done : OnOk result (does q.at)
+  pub breaks : OnErr result (breaks_off q.at)
+  pub cause : OnErr result (MayBreakOff q.at.events)
+
+-- the same of a step that gives a value
+pub record StepsTo {D T E : Type 0} (does : T → Spot D → Type 0) (breaks_off : Spot D → Type 0) (p q : Position D)
+    (result : Result T E) : Type 0 where
+  pub keeps : Keeps p q
+  pub done : IfOk result (λ value. does value q.at)
+  pub breaks : OnErr result (breaks_off q.at)
+  pub cause : OnErr result (MayBreakOff q.at.events)
+
+-- the client is sent this, or a prefix of it
+abbrev pub Sends : {D T E : Type 0} → NoticeForm → List Said → Position D → Position D → Result T E → Type 0
+Sends form said p q result = Steps (λ s. Tells form p.at s said) (λ s. TellsPart form p.at s said) p q result

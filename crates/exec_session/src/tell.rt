@@ -1,0 +1,70 @@
+//! What a run sends that says nothing of what is recorded since, or what an opening reports.
+ghost use Rattle.std.specs.Prelude.{◌≡◌, [], ◌∷◌, false};
+ghost use Rattle.exec_client.specs.Behind.{claims};
+ghost use Rattle.exec_client.specs.MayTell.{MayReply, MaySay, StandsBehind};
+ghost use Rattle.exec_client.specs.Said.{Answered, said_in};
+ghost use Rattle.exec_session.specs.Reports.{IsReportOf, ReportBreaks, TellsReport, ended};
+ghost use Rattle.exec_session.specs.Steps.{Sends, Steps};
+
+use crate::context::RunContext;
+use crate::worker::Worker;
+use child_model::Children;
+use disk_model::Disk;
+use exec_client::{Client, Told};
+use exec_commands::{DrainEnd, LineReply, NoticeForm};
+use exec_lines::Input;
+use exec_trace::Failed;
+use executor::Report;
+use ocf_types::TurnEnd;
+use std::rt::Clock;
+
+impl<'a, R: Input, D: Disk + Drop, C: Children + Drop, T: Client<D, C>, K: Clock> Worker<
+    'a,
+    R,
+    D,
+    C,
+    T,
+    K,
+> {
+    /// Sends the client something that says nothing of what is recorded; notices in this form.
+    pub fn tell(&mut self, form: NoticeForm, what: &Told) -> Result<(), Failed>
+        requires stands { StandsBehind D.view self.old.at.executor self.old.at.executor
+            (said_in what.now) }
+        requires says { MaySay self.old.at.executor what.now }
+        ensures sends { Sends form.entry (said_in what.now) self.old self.new result }
+    {
+        self.edge.tell(&self.executor, form, what)
+    }
+
+    /// Sends the client a reply that says nothing of what is recorded, and nothing of the state.
+    pub fn tell_reply<M>(
+        &mut self,
+        context: &RunContext<M>,
+        reply: &LineReply,
+    ) -> Result<(), Failed>
+        requires plain { claims (Answered reply.now) ≡ false }
+        requires says { MayReply self.old.at.executor reply.now }
+        ensures sends { Sends context.now.form (Answered reply.now ∷ []) self.old self.new result }
+    {
+        self.tell(context.form, &Told::Reply(reply))
+    }
+
+    /// Sends the line that says how a turn ended.
+    pub fn tell_end<M>(&mut self, context: &RunContext<M>, end: TurnEnd) -> Result<(), Failed>
+        ensures sends { Sends context.now.form (ended end ∷ []) self.old self.new result }
+    {
+        self.tell_reply(context, &LineReply::Drain(DrainEnd::Turn(end)))
+    }
+
+    /// Sends what an opening reports: what was interrupted, and then what was dropped.
+    pub fn tell_report<M>(&mut self, context: &RunContext<M>, report: &Report) -> Result<(), Failed>
+        requires reported { IsReportOf self.old.at.executor report.now }
+        ensures told { Steps (TellsReport context.now.form report.now self.old.at)
+            (ReportBreaks context.now.form report.now self.old.at) self.old self.new result }
+    {
+        let interrupted = Told::Report(report.interrupted.as_slice());
+        self.tell(context.form, &interrupted)?;
+        let dropped = Told::Report(report.dropped.as_slice());
+        self.tell(context.form, &dropped)
+    }
+}
