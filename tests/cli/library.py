@@ -63,7 +63,7 @@ class Library(helper.Check):
         """a command is replied, or refused by name and number; an order that serves no client is none here"""
         executor = self.executor("--memory")
         self.assertEqual(executor.ask(**register("a", "Fast")), {"ok": True})
-        self.assertEqual(executor.ask("exists", **register("a", "Fast")), {"error": "exists", "number": 6})
+        self.assertEqual(helper.bare(executor.ask("exists", **register("a", "Fast"))), {"error": "exists", "number": 6})
         with self.assertRaises(ocfexec.Refused) as refused:
             executor.ask(**register("a", "Fast"))
         self.assertEqual((refused.exception.word, refused.exception.number), ("exists", 6))
@@ -100,8 +100,8 @@ class Library(helper.Check):
         executor = self.executor("--memory", patience=240)
         long = {f"p{number}": "x" * 1000 for number in range(15)}
         executor.ask(**register("a", "Fast", **long))
-        replies = executor.ask_all([{"op": "info", "id": "a", "more": "y" * 1000}] * 1000)
-        self.assertEqual([len(reply["params"]) for reply in replies], [15] * 1000)
+        replies = executor.ask_all([{"op": "params", "id": "a", "params": long}, {"op": "info", "id": "a"}] * 500)
+        self.assertEqual([len(reply["params"]) for reply in replies[1::2]], [15] * 500)
 
     def test_late(self):
         """a reply that does not come in time is passed over when it comes, and the next one is that of its own command"""

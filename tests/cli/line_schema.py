@@ -36,43 +36,45 @@ TAKEN = [
     {"op": "watch", "limit": 1},
     {"op": "meta", "provider": "heartbeat", "type": "NoSuchAgent", "limit": 86400000},
 ]
-REFUSED = [
-    {},
-    {"op": 1},
-    {"op": "start", "id": "r1"},
-    {"op": "register", "id": "r1", "provider": "heartbeat"},
-    {**REGISTER, "id": ""},
-    {**REGISTER, "id": "."},
-    {**REGISTER, "id": ".."},
-    {**REGISTER, "id": "a/b"},
-    {**REGISTER, "id": "x" * 65},
-    {**REGISTER, "provider": "a:b"},
-    {**REGISTER, "type": 5},
-    {**REGISTER, "params": []},
-    {**REGISTER, "params": {"a": 1}},
-    {**REGISTER, "params": {"1a": "b"}},
-    {**REGISTER, "params": {"a": "x" * 1025}},
-    {**REGISTER, "params": {"a": "x\0y"}},
-    {**REGISTER, "params": {f"p{n}": "v" for n in range(65)}},
-    {"op": "params", "id": "r1"},
-    {"op": "exec", "id": "r1", "action": "restart"},
-    {"op": "exec", "id": "r1", "action": "start", "level": 10},
-    {"op": "exec", "id": "r1", "action": "stop", "expect": 7},
-    {"op": "exec", "id": "r1", "action": "monitor", "level": 5},
-    {"op": "exec", "id": "r1", "action": "monitor", "expect": 1},
-    {"op": "exec", "id": "r1", "action": "start", "timeout": 0},
-    {"op": "exec", "id": "r1", "action": "start", "timeout": 4294967296},
-    {"op": "exec", "id": "r1", "action": "start", "timeout": "20s"},
-    {"op": "recur", "id": "r1"},
-    {"op": "recur", "id": "r1", "interval": 0},
-    {"op": "withdraw", "id": "r1", "call": 0},
-    {"op": "withdraw", "id": "r1", "call": 9007199254740992},
-    {"op": "drain", "limit": 86400001},
-    {"op": "watch"},
-    {"op": "watch", "limit": 0},
-    {"op": "meta", "provider": "heartbeat"},
-    ["op"],
+# commands that are refused as malformed, each with the key that is at fault
+FAULTY = [
+    ("op", {}),
+    ("op", {"op": 1}),
+    ("op", {"op": "start", "id": "r1"}),
+    ("type", {"op": "register", "id": "r1", "provider": "heartbeat"}),
+    ("id", {**REGISTER, "id": ""}),
+    ("id", {**REGISTER, "id": "."}),
+    ("id", {**REGISTER, "id": ".."}),
+    ("id", {**REGISTER, "id": "a/b"}),
+    ("id", {**REGISTER, "id": "x" * 65}),
+    ("provider", {**REGISTER, "provider": "a:b"}),
+    ("type", {**REGISTER, "type": 5}),
+    ("params", {**REGISTER, "params": []}),
+    ("params", {**REGISTER, "params": {"a": 1}}),
+    ("params", {**REGISTER, "params": {"1a": "b"}}),
+    ("params", {**REGISTER, "params": {"a": "x" * 1025}}),
+    ("params", {**REGISTER, "params": {"a": "x\0y"}}),
+    ("params", {**REGISTER, "params": {f"p{n}": "v" for n in range(65)}}),
+    ("params", {"op": "params", "id": "r1"}),
+    ("action", {"op": "exec", "id": "r1", "action": "restart"}),
+    ("level", {"op": "exec", "id": "r1", "action": "start", "level": 10}),
+    ("expect", {"op": "exec", "id": "r1", "action": "stop", "expect": 7}),
+    ("level", {"op": "exec", "id": "r1", "action": "monitor", "level": 5}),
+    ("expect", {"op": "exec", "id": "r1", "action": "monitor", "expect": 1}),
+    ("timeout", {"op": "exec", "id": "r1", "action": "start", "timeout": 0}),
+    ("timeout", {"op": "exec", "id": "r1", "action": "start", "timeout": 4294967296}),
+    ("timeout", {"op": "exec", "id": "r1", "action": "start", "timeout": "20s"}),
+    ("interval", {"op": "recur", "id": "r1"}),
+    ("interval", {"op": "recur", "id": "r1", "interval": 0}),
+    ("call", {"op": "withdraw", "id": "r1", "call": 0}),
+    ("call", {"op": "withdraw", "id": "r1", "call": 9007199254740992}),
+    ("limit", {"op": "drain", "limit": 86400001}),
+    ("limit", {"op": "watch"}),
+    ("limit", {"op": "watch", "limit": 0}),
+    ("type", {"op": "meta", "provider": "heartbeat"}),
+    ("op", ["op"]),
 ]
+REFUSED = [command for _, command in FAULTY]
 NO_LINES = [
     {"ok": False},
     {"ok": True, "call": 0, "key": "r1_start_0"},
@@ -114,6 +116,20 @@ class Schema(helper.Check):
         """a line that no program prints is none of the schema"""
         for value in NO_LINES:
             self.assertFalse(schema.lines.is_valid(value), json.dumps(value))
+
+    def test_served(self):
+        """serve refuses as run does, and keys that are not named, too: with the key that is at fault, and a sentence"""
+        commands = schema.validator_of("served_command")
+        for key, command in [(None, command) for command in TAKEN] + FAULTY:
+            asked, key = json.dumps(command)[:200], "unknown" if "unknown" in command else key
+            of_run, of_serve = [helper.replies(helper.run(word, "--memory", "--root", self.here, told=helper.lines(command)).stdout)[0]
+                                for word in ("run", "serve")]
+            self.assertEqual(commands.is_valid(command), key is None, asked)
+            self.assertEqual(helper.bare(of_serve), {"error": "bad-value", "number": 4} if key == "unknown" else of_run, asked)
+            self.assertNotIn("message", of_run, asked)
+            if key:
+                self.assertEqual(of_serve["key"], key, asked)
+                self.assertIn(f"{key} must be " if key != "unknown" else "no such key", of_serve["message"], asked)
 
     def test_commands(self):
         """the program refuses as malformed just the commands that the schema refuses"""

@@ -2,7 +2,7 @@
 use Rattle.std.specs.Prelude.{ℕ, List, [], ◌∷◌, map, Option, None}
 use Rattle.ocf_types.specs.Kinds.{Reply}
 use Rattle.ocf_types.specs.declared.reply.Notice.{Notice}
-use Rattle.exec_commands.specs.Replies.{formed_line, reply_line}
+use Rattle.exec_commands.specs.Replies.{formed_line, told_reply_line}
 use Rattle.exec_commands.specs.declared.notice.NoticeForm.{NoticeForm}
 use Rattle.exec_commands.specs.declared.reply.LineReply.{LineReply}
 use Rattle.exec_commands.specs.declared.reply.LineReply.TheVariants.{Request}
@@ -32,8 +32,8 @@ said_in (told.Replies replies) = map answered replies.now
 said_in (told.Notices turn) = map (noticed_by turn.book.now) turn.notices.now
 said_in (told.Report notices) = map Reported notices.now
 
--- the line that says it
+-- the line that says it in a run whose notices have this form
 abbrev pub line_of : NoticeForm → Said → List ℕ
-line_of form (Answered reply) = reply_line reply
+line_of form (Answered reply) = told_reply_line form reply
 line_of form (Noticed notice signal) = formed_line form signal notice
 line_of form (Reported notice) = formed_line form None notice

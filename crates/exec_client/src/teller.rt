@@ -92,8 +92,8 @@ fn write_told<W: Output>(
     ensures memory { IfErr result (λ f. f ≡ Memory → IsTrue ⟦<Global as Grows>⟧.refuses) }
 {
     match what {
-        Told::Reply(reply) => send_reply(alloc, writer, reply),
-        Told::Replies(replies) => send_replies(alloc, writer, replies),
+        Told::Reply(reply) => send_reply(alloc, writer, form, reply),
+        Told::Replies(replies) => send_replies(alloc, writer, form, replies),
         Told::Notices(turn) => send_turn(alloc, writer, form, turn.notices, turn.book),
         Told::Report(notices) => send_notices(alloc, writer, form, notices),
     }

@@ -11,6 +11,12 @@ use Rattle.ocf_types.specs.declared.reply.Notice.{Notice}
 use Rattle.ocf_types.specs.declared.reply.ReplyOf.TheVariants as reply
 use Rattle.exec_commands.specs.Objects.{natural_data, param_members}
 use Rattle.exec_commands.specs.Replies.{recur_data, running_data, failed_data, info_data, ended_data, formed_data, lives_of, timed_notice_data, request_data}
+use Rattle.exec_commands.specs.Replies.{keyed_data, refused_data, served_data, served_request_data}
+use Rattle.ocf_types.specs.Refusals.{refusal_row}
+use Rattle.line_keys.specs.Messages.{about_key, message_of}
+use Rattle.line_keys.specs.declared.refused.About.TheVariants.{Whole}
+use Rattle.line_keys.specs.declared.refused.LineRefusal.{LineRefusal}
+use Rattle.exec_commands.specs.declared.direct.Direct.TheVariants.{Refused}
 use Rattle.exec_commands.specs.Replies.{reply_data, fault_data}
 use Rattle.ocf_types.specs.declared.outcome.MetaFault.{MetaFault}
 use Rattle.ocf_types.specs.declared.outcome.MetaFault.TheVariants as fault
@@ -64,6 +70,15 @@ fault_no_float fault.TooLong = refl
 fault_no_float fault.Limit = refl
 fault_no_float fault.Memory = refl
 
+keyed_no_float : (key : Option (List ℕ)) (word message : List ℕ) (number : ℕ)
+    → has_float (keyed_data word key message number) ≡ false
+keyed_no_float None word message number = refl
+keyed_no_float (Some key) word message number = refl
+
+refused_no_float : (r : LineRefusal) → has_float (refused_data r) ≡ false
+refused_no_float r =
+    keyed_no_float (about_key r.why r.about) (refusal_row r.why).1 (message_of r.why r.about) (refusal_row r.why).0
+
 pub reply_has_no_float : (r : LineReply) → has_float (reply_data r) ≡ false
 reply_has_no_float (line.Request r) = request_has_no_float r
 reply_has_no_float (line.Drain end) = refl
@@ -71,6 +86,25 @@ reply_has_no_float (line.Tidy end) = refl
 reply_has_no_float line.Left = refl
 reply_has_no_float (line.Meta (Ok metadata)) = refl
 reply_has_no_float (line.Meta (Err f)) = fault_no_float f
+reply_has_no_float (line.Direct (Refused refused)) = refused_no_float refused
+
+pub served_request_no_float : (r : Reply) → has_float (served_request_data r) ≡ false
+served_request_no_float (reply.Refused e) = refused_no_float (record { why = e; about = Whole })
+served_request_no_float reply.Done = refl
+served_request_no_float (reply.Accepted call key) = refl
+served_request_no_float (reply.List ids) = request_has_no_float (reply.List ids)
+served_request_no_float (reply.Info i) = info_no_float i
+served_request_no_float (reply.History es) = request_has_no_float (reply.History es)
+served_request_no_float (reply.Turn end) = refl
+
+pub served_has_no_float : (r : LineReply) → has_float (served_data r) ≡ false
+served_has_no_float (line.Request r) = served_request_no_float r
+served_has_no_float (line.Drain end) = refl
+served_has_no_float (line.Tidy end) = refl
+served_has_no_float line.Left = refl
+served_has_no_float (line.Meta (Ok metadata)) = refl
+served_has_no_float (line.Meta (Err f)) = fault_no_float f
+served_has_no_float (line.Direct (Refused refused)) = refused_no_float refused
 
 timed_no_float : (lives : Option ℕ) (n : Notice) → has_float (timed_notice_data lives None n) ≡ false
 timed_no_float None n = refl

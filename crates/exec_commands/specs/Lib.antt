@@ -4,3 +4,6 @@ pub mod Lines
 pub mod Objects
 pub mod Replies
 pub mod Twice
+pub mod Rules
+pub mod Blame
+pub mod Served

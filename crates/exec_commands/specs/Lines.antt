@@ -164,6 +164,3 @@ served_for word d =
 
 abbrev pub served_line_of : Data → Result Line Refusal
 served_line_of d = given (text_at (codes "op") d) (λ word. served_for word d)
-
-abbrev pub served_line_read : List ℕ → Result Line Refusal
-served_line_read bytes = given (typed (value_of bytes)) served_line_of

@@ -23,6 +23,10 @@ use Rattle.ocf_types.specs.declared.reply.TurnEnd.TheVariants as turn
 use Rattle.ocf_codes.specs.ExitCodes.{name_read}
 use Rattle.ocf_codes.specs.OutcomeCodes.{outcome_code}
 use Rattle.ocf_env.specs.Keys.{key_text}
+use Rattle.line_keys.specs.Messages.{about_key, message_of}
+use Rattle.line_keys.specs.declared.refused.About.TheVariants.{Whole}
+use Rattle.line_keys.specs.declared.refused.LineRefusal.{LineRefusal}
+use Rattle.exec_commands.specs.declared.direct.Direct.TheVariants.{Refused}
 use Rattle.exec_commands.specs.Objects.{object_from, natural_data, array_from, param_members}
 use Rattle.exec_commands.specs.declared.ends.DrainEnd.{DrainEnd}
 use Rattle.exec_commands.specs.declared.ends.DrainEnd.TheVariants as drain
@@ -81,6 +85,21 @@ length_data metadata = object_from ((codes "meta", natural_data (length metadata
 abbrev pub refusal_data : Refusal → Data
 refusal_data refusal =
     object_from ((codes "error", string (refusal_row refusal).1) ∷ (codes "number", natural_data (refusal_row refusal).0) ∷ [])
+
+-- the key that a refusal is about, where there is one
+abbrev pub key_member : Option (List ℕ) → List (List ℕ × Data)
+key_member None = []
+key_member (Some key) = (codes "key", string key) ∷ []
+
+abbrev pub keyed_data : List ℕ → Option (List ℕ) → List ℕ → ℕ → Data
+keyed_data word key message number = object_from (
+    (codes "error", string word)
+    ∷ (key_member key ++ ((codes "message", string message) ∷ (codes "number", natural_data number) ∷ [])))
+
+-- the same of a run that serves: also the key of the line that it is about, and a sentence
+abbrev pub refused_data : LineRefusal → Data
+refused_data r =
+    keyed_data (refusal_row r.why).1 (about_key r.why r.about) (message_of r.why r.about) (refusal_row r.why).0
 
 abbrev pub done_data : Data
 done_data = object_from ((codes "ok", boolean true) ∷ [])
@@ -184,6 +203,16 @@ reply_data (line.Tidy end) = end_data (tidy_word end)
 reply_data line.Left = end_data (codes "left")
 reply_data (line.Meta (Ok metadata)) = length_data metadata.items
 reply_data (line.Meta (Err why)) = fault_data why
+reply_data (line.Direct (Refused refused)) = refused_data refused
+
+-- the reply of a run that serves, which says of each refusal what it is about
+abbrev pub served_request_data : Reply → Data
+served_request_data (reply.Refused why) = refused_data (record { why = why; about = Whole })
+served_request_data r = request_data r
+
+abbrev pub served_data : LineReply → Data
+served_data (line.Request r) = served_request_data r
+served_data r = reply_data r
 
 -- what follows the line of a reply: metadata, and a newline
 abbrev pub behind : LineReply → List ℕ
@@ -196,6 +225,21 @@ reply_line reply = compact_text (reply_data reply) ++ 10 ∷ behind reply
 
 abbrev pub formed_line : NoticeForm → Option ℕ → Notice → List ℕ
 formed_line form signal notice = compact_text (formed_data form signal notice) ++ 10 ∷ []
+
+-- the same of a run that serves
+abbrev pub served_reply_line : LineReply → List ℕ
+served_reply_line reply = compact_text (served_data reply) ++ 10 ∷ behind reply
+
+-- the line of a reply in a run whose notices have this form
+abbrev pub told_reply_line : NoticeForm → LineReply → List ℕ
+told_reply_line notice_form.Short r = reply_line r
+told_reply_line (notice_form.Timed left) r = served_reply_line r
+
+abbrev pub served_request_line : Reply → List ℕ
+served_request_line reply = served_reply_line (line.Request reply)
+
+abbrev pub told_request_line : NoticeForm → Reply → List ℕ
+told_request_line form r = told_reply_line form (line.Request r)
 
 -- the line of a reply to a request
 abbrev pub request_line : Reply → List ℕ

@@ -1,7 +1,9 @@
 //! Command lines of JSON, and the replies and notices that are written in answer.
 #![tactic(auto)]
 
+mod blame;
 mod commands;
+mod direct;
 mod ends;
 mod info;
 mod keys;
@@ -12,13 +14,17 @@ mod notice;
 mod operation;
 mod params;
 mod read;
+mod refused;
 mod reply;
 mod results;
+mod rules;
 mod served;
 mod strict;
 mod texts;
+mod told;
 mod values;
 
+pub use direct::Direct;
 pub use ends::{DrainEnd, tidy_word, turn_word};
 pub use left::Left;
 pub use line::Line;
@@ -26,3 +32,4 @@ pub use notice::{NoticeForm, write_notice};
 pub use read::read_command;
 pub use reply::{LineReply, write_reply, write_request_reply};
 pub use strict::read_strictly;
+pub use told::{write_told_reply, write_told_request};

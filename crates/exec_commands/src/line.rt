@@ -1,4 +1,5 @@
 //! What a line asks for.
+use crate::direct::Direct;
 use ocf_types::{AgentType, Provider, Request};
 
 /// What a command line asks for.
@@ -22,4 +23,6 @@ pub enum Line {
         agent: AgentType,
         limit: Option<u32>,
     },
+    /// Nothing of the executor: it is answered by what it is alone. Only a run that serves reads it.
+    Direct(Direct),
 }

@@ -6,9 +6,11 @@ ghost use Rattle.serde_json.specs.Written.{compact_text, has_float};
 ghost use Rattle.exec_commands.specs.Replies.{refusal_data, done_data, accepted_data, list_data, history_data, length_data, request_data};
 ghost use Rattle.exec_commands.specs.Replies.{reply_data, reply_line, request_line, behind};
 
+use crate::direct::Direct;
 use crate::ends::{DrainEnd, drain_word, end_value, fault_value, tidy_word, turn_word};
 use crate::info::info_value;
 use crate::names::id_text;
+use crate::refused::refused_value;
 use crate::results::ended_values;
 use growth::{Grows, append, push};
 use ocf_types::{CallId, Ended, MetaFault, OpKey, Refusal, Reply, RscId, TidyEnd};
@@ -28,6 +30,8 @@ pub enum LineReply {
     Left,
     /// The metadata of an agent, or why it has none.
     Meta(Result<Vec<u8>, MetaFault>),
+    /// What a line is answered by what it is alone.
+    Direct(Direct),
 }
 
 fn refusal_value(alloc: Global, refusal: Refusal) -> Result<Value, AllocError>
@@ -94,7 +98,8 @@ fn history_value(alloc: Global, results: &[Ended]) -> Result<Value, AllocError>
     Global::library_growth(json!(in alloc; {"ok": true, "results": results}))
 }
 
-fn request_value(alloc: Global, reply: &Reply) -> Result<Value, AllocError>
+/// The JSON value of a reply to a request.
+pub fn request_value(alloc: Global, reply: &Reply) -> Result<Value, AllocError>
     ensures value { IfOk result (λ v. view v ≡ request_data reply.now) }
     ensures memory { OnErr result (IsTrue ⟦<Global as Grows>⟧.refuses) }
 {
@@ -119,7 +124,8 @@ fn length_value(alloc: Global, metadata: &[u8]) -> Result<Value, AllocError>
     Global::library_growth(json!(in alloc; {"meta": length}))
 }
 
-fn reply_value(alloc: Global, reply: &LineReply) -> Result<Value, AllocError>
+/// The JSON value of a reply.
+pub fn reply_value(alloc: Global, reply: &LineReply) -> Result<Value, AllocError>
     ensures value { IfOk result (λ v. view v ≡ reply_data reply.now) }
     ensures memory { OnErr result (IsTrue ⟦<Global as Grows>⟧.refuses) }
 {
@@ -130,6 +136,7 @@ fn reply_value(alloc: Global, reply: &LineReply) -> Result<Value, AllocError>
         LineReply::Left => end_value(alloc, "left"),
         LineReply::Meta(Ok(metadata)) => length_value(alloc, metadata.as_slice()),
         LineReply::Meta(Err(fault)) => fault_value(alloc, *fault),
+        LineReply::Direct(Direct::Refused(refusal)) => refused_value(alloc, refusal),
     }
 }
 
@@ -147,8 +154,8 @@ pub fn write_line(alloc: Global, value: &Value) -> Result<Vec<u8>, AllocError>
     Ok(bytes)
 }
 
-// What follows the line of a reply: metadata, and a newline.
-fn push_behind(bytes: &mut Vec<u8>, reply: &LineReply) -> Result<(), AllocError>
+/// Adds what follows the line of a reply: metadata, and a newline.
+pub fn push_behind(bytes: &mut Vec<u8>, reply: &LineReply) -> Result<(), AllocError>
     ensures value { OnOk result (bytes.new.items ≡ bytes.old.items ++ behind reply.now) }
     ensures memory { OnErr result (IsTrue ⟦<Global as Grows>⟧.refuses) }
 {

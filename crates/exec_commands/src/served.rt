@@ -1,17 +1,22 @@
 //! Lines of runs that serve.
-ghost use Rattle.std.specs.Prelude.{◌≡◌, ◌≢◌, Ok, Err, IfOk, IfErr, IsTrue};
+ghost use Rattle.std.specs.Prelude.{◌≡◌, ◌≢◌, Ok, Err, IfOk, IfErr, IsTrue, OnErr};
 ghost use Rattle.serde_json.specs.View.{view};
 ghost use Rattle.ocf_types.specs.declared.refusal.Refusal.TheVariants.{Memory};
-ghost use Rattle.exec_commands.specs.Lines.{served_line_of, served_line_read, served_meta_in};
+ghost use Rattle.exec_commands.specs.Lines.{served_line_of, served_meta_in};
+ghost use Rattle.exec_commands.specs.Served.{known_line, refused_line, served_line};
 
+use crate::blame::{about_line, unknown_key};
+use crate::direct::Direct;
 use crate::keys::{number_or, text_at};
 use crate::line::Line;
-use crate::read::{line_of, value_of};
+use crate::read::line_of;
 use crate::values::{agent_type, limit, provider};
-use growth::Grows;
+use growth::{Grows, text_of};
+use line_keys::{About, LineRefusal};
+use ocf_env::Text;
 use ocf_types::Refusal;
 use serde_json::Value;
-use std::alloc::Global;
+use std::alloc::{AllocError, Global};
 
 // Turns go on while its agent is waited for, so it has a limit in any case.
 fn served_meta_in(line: &Value) -> Result<Line, Refusal>
@@ -43,12 +48,35 @@ fn served_line_of(alloc: Global, value: &Value) -> Result<Line, Refusal>
     }
 }
 
-/// What a line of a run that serves asks for, or why it is refused: as `read_command` says, but that it may ask the run to end,
-/// and that a question for metadata has 30,000 milliseconds where it names no limit; what is no number there is refused as syntax.
-pub fn read_served(alloc: Global, bytes: &[u8]) -> Result<Line, Refusal>
-    ensures ok { IfOk result (λ l. served_line_read bytes.now ≡ Ok l) }
-    ensures refused { IfErr result (λ e. e ≢ Memory → served_line_read bytes.now ≡ Err e) }
-    ensures memory { IfErr result (λ e. e ≡ Memory → IsTrue ⟦<Global as Grows>⟧.refuses) }
+/// A line that is refused.
+pub fn refused_line(why: Refusal, about: About) -> Line
+    ensures { result ≡ refused_line why about }
 {
-    served_line_of(alloc, &value_of(alloc, bytes)?)
+    Line::Direct(Direct::Refused(LineRefusal { why, about }))
+}
+
+// A line that asks for this, unless its operation has not all of its keys.
+fn known_line(alloc: Global, value: &Value, line: Line) -> Result<Line, AllocError>
+    ensures line { IfOk result (λ l. l ≡ known_line (view value.now) line) }
+    ensures memory { OnErr result (IsTrue ⟦<Global as Grows>⟧.refuses) }
+{
+    match unknown_key(value) {
+        Some(name) => {
+            let name = Text::new(text_of(alloc, name)?);
+            Ok(refused_line(Refusal::BadValue, About::Unknown(name)))
+        }
+        None => Ok(line),
+    }
+}
+
+/// The line of a JSON value.
+pub fn served_line(alloc: Global, value: &Value) -> Result<Line, AllocError>
+    ensures line { IfOk result (λ l. l ≡ served_line (view value.now)) }
+    ensures memory { OnErr result (IsTrue ⟦<Global as Grows>⟧.refuses) }
+{
+    match served_line_of(alloc, value) {
+        Ok(line) => known_line(alloc, value, line),
+        Err(Refusal::Memory) => Err(AllocError),
+        Err(why) => Ok(refused_line(why, about_line(why, value))),
+    }
 }

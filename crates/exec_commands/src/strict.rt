@@ -1,13 +1,15 @@
 //! Lines in which no key may come twice.
-ghost use Rattle.std.specs.Prelude.{◌≡◌, ◌≢◌, true, false, Err, Ok, IfOk, IfErr, IsTrue, OnErr};
-ghost use Rattle.ocf_types.specs.declared.refusal.Refusal.TheVariants.{Memory, Syntax};
-ghost use Rattle.exec_commands.specs.Lines.{served_line_read};
+ghost use Rattle.std.specs.Prelude.{◌≡◌, true, false, Ok, IfOk, IfErr, IsTrue, OnErr};
+ghost use Rattle.ocf_types.specs.declared.refusal.Refusal.TheVariants.{Memory};
+ghost use Rattle.exec_commands.specs.Served.{IsServedAs, served_read};
 ghost use Rattle.exec_commands.specs.Twice.{HasKeyTwice};
 
 use crate::line::Line;
-use crate::served::read_served;
+use crate::read::value_of;
+use crate::served::{refused_line, served_line};
 use growth::Grows;
 use json::{Error, Scratch, Value};
+use line_keys::About;
 use ocf_types::Refusal;
 use std::alloc::{AllocError, Global};
 use std::str;
@@ -40,17 +42,38 @@ fn has_key_twice(alloc: Global, bytes: &[u8]) -> Result<bool, AllocError>
     }
 }
 
-/// What a line of a run that serves asks for, or why it is refused: as `read_served` says, but that a line in which an object
-/// has a key twice is refused as syntax. Any answer may be want of memory instead, where the allocator refused it.
-pub fn read_strictly(alloc: Global, bytes: &[u8]) -> Result<Line, Refusal>
-    ensures ok { IfOk result (λ l. (served_line_read bytes.now ≡ Ok l) × ¬ (HasKeyTwice bytes.now)) }
-    ensures refused { IfErr result (λ e. e ≢ Memory
-        → (HasKeyTwice bytes.now → e ≡ Syntax) × (¬ (HasKeyTwice bytes.now) → served_line_read bytes.now ≡ Err e)) }
-    ensures memory { IfErr result (λ e. e ≡ Memory → IsTrue ⟦<Global as Grows>⟧.refuses) }
+// The line of these bytes, in which no key comes twice.
+fn served_read(alloc: Global, bytes: &[u8]) -> Result<Line, AllocError>
+    ensures line { IfOk result (λ l. l ≡ served_read bytes.now) }
+    ensures memory { OnErr result (IsTrue ⟦<Global as Grows>⟧.refuses) }
 {
-    match has_key_twice(alloc, bytes) {
-        Ok(true) => Err(Refusal::Syntax),
-        Ok(false) => read_served(alloc, bytes),
+    match value_of(alloc, bytes) {
+        Ok(value) => served_line(alloc, &value),
+        Err(Refusal::Memory) => Err(AllocError),
+        Err(_) => Ok(refused_line(Refusal::Syntax, About::Whole)),
+    }
+}
+
+// The line of these bytes, in which a key may come twice.
+fn line_of_bytes(alloc: Global, bytes: &[u8]) -> Result<Line, AllocError>
+    ensures served { IfOk result (λ l. IsServedAs bytes.now (Ok l)) }
+    ensures memory { OnErr result (IsTrue ⟦<Global as Grows>⟧.refuses) }
+{
+    if has_key_twice(alloc, bytes)? {
+        return Ok(refused_line(Refusal::Syntax, About::Twice));
+    }
+    served_read(alloc, bytes)
+}
+
+/// The line of a run that serves that these bytes are: what it asks for, or why it is refused and for which key. It may ask the run to
+/// end, a question for metadata has 30,000 milliseconds where it names no limit, and a line in which an object has a key twice, or
+/// that has a key which its operation has not, is refused. It fails only where the allocator refused memory.
+pub fn read_strictly(alloc: Global, bytes: &[u8]) -> Result<Line, Refusal>
+    ensures served { IsServedAs bytes.now result }
+    ensures memory { IfErr result (λ e. (e ≡ Memory) × IsTrue ⟦<Global as Grows>⟧.refuses) }
+{
+    match line_of_bytes(alloc, bytes) {
+        Ok(line) => Ok(line),
         Err(_) => Err(Refusal::Memory),
     }
 }

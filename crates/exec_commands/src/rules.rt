@@ -1,0 +1,125 @@
+//! Which keys the lines of an operation have.
+ghost use Rattle.std.specs.Prelude.{◌≡◌, option_map};
+ghost use Rattle.exec_commands.specs.Rules.{is_known, is_needed, is_one_of, key_in, rules_in, rules_named, rules_of};
+ghost use Rattle.serde_json.specs.View.{view};
+
+use crate::operation::{Operation, operation_named};
+use line_keys::Key;
+use serde_json::Value;
+
+/// A key that the lines of an operation have beside `op`.
+#[derive(Clone, Copy)]
+pub enum KeyRule {
+    /// It has to be there.
+    Needed(Key),
+    /// It may be left out.
+    Free(Key),
+}
+
+impl KeyRule {
+    /// The key.
+    pub fn key(self) -> Key
+        ensures { result ≡ key_in self }
+    {
+        match self {
+            KeyRule::Needed(key) | KeyRule::Free(key) => key,
+        }
+    }
+
+    /// Whether it has to be there.
+    pub fn is_needed(self) -> bool
+        ensures { result ≡ is_needed self }
+    {
+        match self {
+            KeyRule::Needed(_) => true,
+            KeyRule::Free(_) => false,
+        }
+    }
+}
+
+const REGISTER: &[KeyRule] = &[
+    KeyRule::Needed(Key::Id),
+    KeyRule::Needed(Key::Provider),
+    KeyRule::Needed(Key::Type),
+    KeyRule::Free(Key::Params),
+];
+
+const EXEC: &[KeyRule] = &[
+    KeyRule::Needed(Key::Id),
+    KeyRule::Needed(Key::Action),
+    KeyRule::Free(Key::Timeout),
+    KeyRule::Free(Key::Level),
+    KeyRule::Free(Key::Expect),
+];
+
+const RECUR: &[KeyRule] = &[
+    KeyRule::Needed(Key::Id),
+    KeyRule::Needed(Key::Interval),
+    KeyRule::Free(Key::Timeout),
+    KeyRule::Free(Key::Level),
+    KeyRule::Free(Key::Expect),
+];
+
+const META: &[KeyRule] = &[
+    KeyRule::Needed(Key::Provider),
+    KeyRule::Needed(Key::Type),
+    KeyRule::Free(Key::Limit),
+];
+
+fn rules_of(operation: Operation) -> &'static [KeyRule]
+    ensures { result.now ≡ rules_of operation }
+{
+    match operation {
+        Operation::Register => REGISTER,
+        Operation::Unregister | Operation::Forget | Operation::Info | Operation::History => {
+            &[KeyRule::Needed(Key::Id)]
+        }
+        Operation::SetParams => &[KeyRule::Needed(Key::Id), KeyRule::Needed(Key::Params)],
+        Operation::Exec => EXEC,
+        Operation::Recur => RECUR,
+        Operation::Cancel => &[KeyRule::Needed(Key::Id), KeyRule::Needed(Key::Interval)],
+        Operation::Withdraw => &[KeyRule::Needed(Key::Id), KeyRule::Needed(Key::Call)],
+        Operation::Drain => &[KeyRule::Free(Key::Limit)],
+        Operation::Watch => &[KeyRule::Needed(Key::WatchLimit)],
+        Operation::Meta => META,
+        Operation::List | Operation::Tidy => &[],
+    }
+}
+
+fn rules_named(word: &str) -> Option<&'static [KeyRule]>
+    ensures { option_map (λ rules. rules.now) result ≡ rules_named word.now }
+{
+    if word == "leave" {
+        return Some(&[]);
+    }
+    match operation_named(word) {
+        Some(operation) => Some(rules_of(operation)),
+        None => None,
+    }
+}
+
+/// The keys that a line has by its operation, in the order in which they are looked at; none where it names no operation.
+pub fn rules_in(line: &Value) -> Option<&'static [KeyRule]>
+    ensures { option_map (λ rules. rules.now) result ≡ rules_in (view line.now) }
+{
+    match line.get("op") {
+        Some(found) => match found.as_str() {
+            Some(word) => rules_named(word),
+            None => None,
+        },
+        None => None,
+    }
+}
+
+fn is_one_of(rules: &[KeyRule], name: &str) -> bool
+    ensures { result ≡ is_one_of rules.now name.now }
+{
+    rules.iter().any(|rule| name == rule.key().word())
+}
+
+/// Whether a key is `op` or one of these.
+pub fn is_known(rules: &[KeyRule], name: &str) -> bool
+    ensures { result ≡ is_known rules.now name.now }
+{
+    name == "op" || is_one_of(rules, name)
+}

@@ -1,0 +1,50 @@
+-- The keys of lines, and what each may hold.
+use Rattle.std.specs.Prelude.{ℕ, List, ◌++◌, codes, decimal}
+use Rattle.ocf_types.specs.Limits.{num_max}
+use Rattle.line_keys.specs.declared.key.Key.{Key}
+use Rattle.line_keys.specs.declared.key.Key.TheVariants as key
+use Rattle.line_keys.specs.declared.range.Range.{Range}
+use Rattle.line_keys.specs.declared.range.Range.TheVariants as range
+
+-- a key as a line has it
+abbrev pub key_word : Key → List ℕ
+key_word key.Op = codes "op"
+key_word key.Id = codes "id"
+key_word key.Provider = codes "provider"
+key_word key.Type = codes "type"
+key_word key.Params = codes "params"
+key_word key.Action = codes "action"
+key_word key.Timeout = codes "timeout"
+key_word key.Level = codes "level"
+key_word key.Expect = codes "expect"
+key_word key.Interval = codes "interval"
+key_word key.Call = codes "call"
+key_word key.Limit = codes "limit"
+key_word key.WatchLimit = codes "limit"
+
+-- what a key may hold
+abbrev pub range_of : Key → Range
+range_of key.Op = range.Operation
+range_of key.Id = range.Id
+range_of key.Provider = range.Name
+range_of key.Type = range.Name
+range_of key.Params = range.Params
+range_of key.Action = range.Action
+range_of key.Timeout = range.Number 1 4294967295
+range_of key.Level = range.Level
+range_of key.Expect = range.Expect
+range_of key.Interval = range.Number 1 4294967295
+range_of key.Call = range.Number 1 num_max
+range_of key.Limit = range.Number 0 86400000
+range_of key.WatchLimit = range.Number 1 4294967295
+
+-- the same as a part of a sentence
+abbrev pub range_text : Range → List ℕ
+range_text range.Operation = codes "the name of an operation, a text"
+range_text range.Id = codes "a text of 1 to 64 letters, digits, '_', '-', '.' and ':', but not '.' or '..'"
+range_text range.Name = codes "a text of 1 to 64 letters, digits, '_', '-' and '.', but not '.' or '..'"
+range_text range.Params = codes "an object of at most 64 texts of 1024 bytes, no NUL, by names of 1 to 64 letters, digits and '_', no digit first"
+range_text range.Action = codes "start, stop, monitor, promote, demote, reload-agent or validate-all"
+range_text range.Level = codes "the number 0, 10 or 20, and 0 where the action is no monitor"
+range_text range.Expect = codes "the number 0, 7 or 8, and 0 where the action is no monitor"
+range_text (range.Number from to) = codes "a number from " ++ decimal from ++ codes " to " ++ decimal to

@@ -1,0 +1,62 @@
+//! The sentence of a refusal.
+ghost use Rattle.std.specs.Prelude.{◌≡◌, ◌++◌, codes, IfOk, IsTrue, OnErr, string_bytes};
+ghost use Rattle.line_keys.specs.Keys.{key_word, range_of, range_text};
+ghost use Rattle.line_keys.specs.Messages.{key_text, message_of, refusal_text};
+
+use crate::key::Key;
+use crate::refused::About;
+use growth::{Grows, push_text, text_of};
+use ocf_types::Refusal;
+use std::alloc::{AllocError, Global};
+
+// What a refusal says by itself.
+fn refusal_text(why: Refusal) -> &'static str
+    ensures { result.now ≡ refusal_text why }
+{
+    match why {
+        Refusal::Syntax => "a line must be one JSON object of at most 131072 bytes",
+        Refusal::UnknownOp => "there is no such operation",
+        Refusal::BadName => "a name has other letters, or is longer, than one may be",
+        Refusal::BadValue => "a value is outside its range",
+        Refusal::UnknownResource => "no resource of this id is registered",
+        Refusal::Exists => {
+            "a resource of this id is registered, or has a recurring monitor of this interval"
+        }
+        Refusal::Busy => "an action of this resource is queued or running",
+        Refusal::QueueFull => "32 actions of this resource are queued, and no more can be",
+        Refusal::RecurringFull => { "this resource has 8 recurring monitors, and can have no more" }
+        Refusal::NoSuchRecurring => "this resource has no recurring monitor of this interval",
+        Refusal::NotQueued => "no action of this call is queued for this resource",
+        Refusal::TooManyResources => "256 resources are registered, and no more can be",
+        Refusal::TooLarge => "the parameters are too many: their event has more than 16384 bytes",
+        Refusal::CallsSpent => "the last call id, 9007199254740991, is spent",
+        Refusal::JournalFull => "the journal is full; a tidy makes room",
+        Refusal::Memory => "there was not enough memory; nothing was done",
+        Refusal::Disk => "the journal's device failed, and the executor is closed",
+        Refusal::Closed => "the executor is closed",
+    }
+}
+
+// What a key may hold.
+fn key_text(alloc: Global, key: Key) -> Result<String, AllocError>
+    ensures text { IfOk result (λ t. string_bytes t ≡ key_text key) }
+    ensures memory { OnErr result (IsTrue ⟦<Global as Grows>⟧.refuses) }
+{
+    let mut text = text_of(alloc, key.word())?;
+    push_text(&mut text, " must be ")?;
+    key.range().add_to(&mut text)?;
+    Ok(text)
+}
+
+/// The sentence of a refusal: what the key may hold that it is about, or else what the refusal says by itself.
+pub fn message_of(alloc: Global, why: Refusal, about: &About) -> Result<String, AllocError>
+    ensures text { IfOk result (λ t. string_bytes t ≡ message_of why about.now) }
+    ensures memory { OnErr result (IsTrue ⟦<Global as Grows>⟧.refuses) }
+{
+    match about {
+        About::Whole => text_of(alloc, refusal_text(why)),
+        About::Twice => text_of(alloc, "an object of the line has a key twice"),
+        About::Key(key) => key_text(alloc, *key),
+        About::Unknown(_) => text_of(alloc, "this operation has no such key"),
+    }
+}

@@ -1,0 +1,57 @@
+//! Why a line was refused.
+ghost use Rattle.std.specs.Prelude.{◌≡◌, option_map};
+ghost use Rattle.line_keys.specs.Messages.{about_key, key_of};
+
+use crate::key::Key;
+use ocf_env::Text;
+use ocf_types::Refusal;
+
+/// What a refusal of a line is about.
+#[derive(Drop)]
+pub enum About {
+    /// No key of its own: the refusal says all.
+    Whole,
+    /// A key that comes twice in an object.
+    Twice,
+    /// What this key holds, or that it is missing.
+    Key(Key),
+    /// A key that the operation does not have.
+    Unknown(Text),
+}
+
+/// Why a line of a run that serves was refused, and what in it.
+#[derive(Drop)]
+pub struct LineRefusal {
+    pub why: Refusal,
+    pub about: About,
+}
+
+// The key that a refusal of a well formed line is about, where there is one.
+fn key_of(why: Refusal) -> Option<Key>
+    ensures { result ≡ key_of why }
+{
+    match why {
+        Refusal::UnknownResource | Refusal::Busy | Refusal::QueueFull | Refusal::RecurringFull => {
+            Some(Key::Id)
+        }
+        Refusal::NoSuchRecurring => Some(Key::Interval),
+        Refusal::TooLarge => Some(Key::Params),
+        Refusal::NotQueued => Some(Key::Call),
+        _ => None,
+    }
+}
+
+/// The key of the line that a refusal is about, where there is one.
+pub fn about_key(why: Refusal, about: &About) -> Option<&str>
+    ensures { option_map (λ key. key.now) result ≡ about_key why about.now }
+{
+    match about {
+        About::Whole => match key_of(why) {
+            Some(key) => Some(key.word()),
+            None => None,
+        },
+        About::Twice => None,
+        About::Key(key) => Some(key.word()),
+        About::Unknown(name) => Some(name.as_str()),
+    }
+}

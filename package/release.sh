@@ -1,0 +1,23 @@
+#!/usr/bin/env bash
+# Makes a release: writes its version where the program, its check and the manual page have it, and commits that with the tag vVERSION. It
+# is three numbers, above those of each release before. So `--version` counts releases, and the version of a package also commits: a commit
+# can't hold its own name, and a constant that changed with each one would have the program proved anew each time.
+# Use: release.sh VERSION
+set -euo pipefail
+cd "$(dirname "$0")/.."
+. package/version.sh
+version=${1:?Use: release.sh VERSION}
+refuse() {
+    echo "release.sh: $1" >&2
+    exit 1
+}
+[[ $version =~ ^(0|[1-9][0-9]*)(\.(0|[1-9][0-9]*)){2}$ ]] || refuse "$version is not three numbers"
+[ -z "$(git status --porcelain --untracked-files=no)" ] || refuse "something is not committed"
+for earlier in "$(program_version HEAD)" $(releases HEAD); do
+    is_above "$version" "$earlier" || refuse "$version is not above $earlier"
+done
+sed -i "s/^\(pub const VERSION: &str = \"\).*\(\";\)\$/\1$version\2/" crates/exec_options/src/texts.rt
+sed -i "s/^\(wrote \(--version\|-V\) \"ocfexec \).*\"\$/\1$version\"/" tests/cli/words.sh
+sed -i "s/^\(\.TH OCFEXEC 8 [0-9-]* \"ocfexec \)[^\"]*/\1$version/" docs/ocfexec.8
+git commit --quiet --message "Release $version" -- crates/exec_options/src/texts.rt tests/cli/words.sh docs/ocfexec.8
+git tag --annotate --message "Release $version" "v$version"

@@ -1,0 +1,76 @@
+#!/usr/bin/env python3
+"""A refusal of serve says which key of the line it is about, where there is one, and a sentence with what that key may hold; one of run has
+its word and its number alone, and is the same but for that. A key that an operation does not have is refused by name.
+Use: refusals.py PROGRAM"""
+import json
+import sys
+
+sys.path[0] += "/../lib"
+import helper  # noqa: E402
+from helper import action, register  # noqa: E402
+
+LARGE = {f"p{place}": "x" * 1024 for place in range(16)}
+# Commands, and of each that is refused its word, its key and what its sentence has, by FORMAT.
+SPOKEN = [
+    (register("r1", "None"), None),
+    (register("r1", "None"), ("exists", None, "this id is registered")),
+    ({"op": "info", "id": "r2"}, ("unknown-resource", "id", "no resource of this id")),
+    ({"op": "cancel", "id": "r1", "interval": 5}, ("no-such-recurring", "interval", "no recurring monitor of this interval")),
+    ({"op": "withdraw", "id": "r1", "call": 7}, ("not-queued", "call", "no action of this call is queued")),
+    ({"op": "params", "id": "r1", "params": LARGE}, ("too-large", "params", "16384 bytes")),
+    *[({"op": "recur", "id": "r1", "interval": 86400000 + place}, None) for place in range(8)],
+    ({"op": "recur", "id": "r1", "interval": 86400009}, ("recurring-full", "id", "8 recurring monitors")),
+    *[(action("r1", "stop"), None) for _ in range(32)],
+    (action("r1", "stop"), ("queue-full", "id", "32 actions")),
+    ({"op": "unregister", "id": "r1"}, ("busy", "id", "queued or running")),
+    ({"op": "recur", "id": "r1", "interval": 86400000, "timeout": 0}, ("bad-value", "timeout", "a number from 1 to 4294967295")),
+    ({"op": "exec", "id": "r1", "action": "start", "level": 10}, ("bad-value", "level", "0, 10 or 20, and 0 where the action is no monitor")),
+    ({"op": "exec", "id": "r1", "action": "restart"}, ("bad-value", "action", "start, stop, monitor, promote, demote, reload-agent or")),
+    ({"op": "drain", "limit": -1}, ("syntax", "limit", "a number from 0 to 86400000")),
+    ({"op": "watch", "limit": 0}, ("bad-value", "limit", "a number from 1 to 4294967295")),
+    ({"op": "start", "id": "r1"}, ("unknown-op", "op", "the name of an operation")),
+]
+# Lines that are no command at all.
+BROKEN = [b"x", b"{", b'"list"', b"[]", b" " * 131_073, b'{"op":"list","op":"list"}', b"\xff"]
+
+
+def asked(word, *commands):
+    return helper.replies(helper.run(word, "--memory", told=helper.lines(*commands)).stdout)
+
+
+class Refusals(helper.Check):
+    def test_keys(self):
+        """each refusal has the key that it is about and a sentence in serve, and neither in run"""
+        for word in ("run", "serve"):
+            values = [value for value in asked(word, *[command for command, _ in SPOKEN]) if not helper.is_notice(value)]
+            self.assertEqual(len(values), len(SPOKEN), word)
+            for value, (command, wanted) in zip(values, SPOKEN):
+                with self.subTest(word=word, command=json.dumps(command)[:100]):
+                    self.assertEqual(value.get("error"), wanted and wanted[0])
+                    if wanted and word == "serve":
+                        self.assertEqual(value.get("key"), wanted[1])
+                        self.assertIn(wanted[2], value["message"])
+                    elif wanted:
+                        self.assertEqual(set(value), {"error", "number"})
+
+    def test_unknown(self):
+        """a key that an operation does not have is refused by its name in serve, after all else, and passed over by run"""
+        for key in ("timout", "Id", "", "interval", "x" * 100, "\u00e9\u0000\""):
+            command = {"op": "exec", "id": "r1", "action": "start", key: 5}
+            self.assertEqual(asked("run", command), [{"error": "unknown-resource", "number": 5}])
+            self.assertEqual(asked("serve", command), [{"error": "bad-value", "key": key, "message": "this operation has no such key", "number": 4}])
+            self.assertEqual(asked("serve", {**command, "id": "/"})[0]["key"], "id")
+        self.assertEqual([value.get("key") for value in asked("serve", {"op": "list", "id": "r1"}, {"op": "leave", "now": True}, {"op": "list"})],
+                         ["id", "now", None])
+
+    def test_broken(self):
+        """a line that is no command has a sentence without a key in serve, or its op is missing"""
+        for line in BROKEN:
+            [value] = helper.replies(helper.run("serve", "--memory", told=line + b"\n").stdout)
+            self.assertEqual((value["error"], value["number"]), ("syntax", 1), line[:20])
+            self.assertEqual(value.get("key"), "op" if line in (b'"list"', b"[]") else None, line[:20])
+            self.assertIn("twice" if b"op" in line else "op must be" if "key" in value else "one JSON object of at most 131072 bytes", value["message"])
+
+
+if __name__ == "__main__":
+    helper.main()
