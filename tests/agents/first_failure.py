@@ -24,6 +24,8 @@ class FirstFailure(helper.Check):
         super().setUp()
         self.journal = self.place("journal")
         os.mkdir(self.journal, 0o700)
+        self.logs = self.place("logs")
+        os.mkdir(self.logs)
         self.began = time.monotonic()
 
     def tearDown(self):
@@ -36,7 +38,7 @@ class FirstFailure(helper.Check):
         return done.returncode, done.stdout.decode(), done.stderr.decode()
 
     def does(self, *lines):
-        done = helper.run("run", "--journal", self.journal, "--meta-variables", "--log", self.place("log"),
+        done = helper.run("run", "--journal", self.journal, "--meta-variables", "--logs", self.logs,
                           told="".join(json.dumps(line) + "\n" for line in lines).encode())
         self.assertEqual(done.returncode, 0, done.stderr)
 
@@ -45,17 +47,28 @@ class FirstFailure(helper.Check):
 
     @unittest.skipUnless(shutil.which("nginx"), "wants nginx")
     def test_why(self):
-        """Why nginx with a broken configuration did not start."""
+        """Why nginx with a broken configuration did not start: its agent gives no reason, and its log has what nginx said."""
         broken = self.place("nginx.conf")
         with open(broken, "w", encoding="ascii") as file:
             file.write("events {}\nhttp { server { listen 127.0.0.1:1; lissten 2; } }\n")
         self.does(self.registered("web", "nginx", configfile=broken), helper.action("web", "start"), {"op": "drain"})
-        code, out, _ = self.asked("status", "--exit-code")
+        code, out, _ = self.asked("status", "--exit-code", "--logs", self.logs)
         self.assertEqual(code, 9, out)
-        self.assertIn("failed", out)
+        self.assertIn("\n  last failure  start: not installed (OCF_ERR_INSTALLED, 5), ", out)
+        with open(os.path.join(self.logs, "web.log"), encoding="ascii") as file:
+            self.assertIn("lissten", file.read())
         code, out, err = self.asked("once", "--meta-variables", "heartbeat:nginx", "start", f"configfile={broken}")
         self.assertNotEqual(code, 0)
         self.assertIn("lissten", out + err)
+
+    @unittest.skipUnless(shutil.which("nginx"), "wants nginx")
+    def test_reason(self):
+        """Why nginx without its configuration did not start, by status alone."""
+        missing = self.place("nginx.conf")
+        self.does(self.registered("web", "nginx", configfile=missing), helper.action("web", "start"), {"op": "drain"})
+        code, out, _ = self.asked("status", "--exit-code", "--logs", self.logs)
+        self.assertEqual(code, 9, out)
+        self.assertRegex(out, rf"\n  last failure  start: .*\n  exit reason   .*{missing}")
 
     def test_which(self):
         """Which resource of forty is down."""

@@ -26,8 +26,8 @@ OCF = "/usr/lib/ocf"
 
 
 def without_moments(text):
-    """Lines whose moment is MOMENT, and whose length of time is N."""
-    return re.sub(r"(\d+) ms", "N ms", re.sub(MOMENT, "MOMENT ", text))
+    """Lines whose moment is MOMENT, and whose length of time but a timeout is N."""
+    return re.sub(r"(?<!timeout )\b\d+ ms", "N ms", re.sub(MOMENT, "MOMENT ", text))
 
 
 def is_tmpfs_possible():
@@ -66,7 +66,7 @@ class Logs(WithLogs):
         """an agent's words stand between the lines of its begin and of its end"""
         self.ends_with(self.does("exit 6"), code=6)
         self.assertEqual(without_moments(self.read()),
-                         "MOMENT call 1 begins as run 1: start\nstart of web\nstart fails: no such device\n"
+                         "MOMENT call 1 begins as run 1: start, timeout 20000 ms\nstart of web\nstart fails: no such device\n"
                          "MOMENT run 1 ended in N ms: OCF_ERR_CONFIGURED (6)\n")
 
     def test_moments(self):
@@ -122,7 +122,7 @@ class Logs(WithLogs):
         done = helper.run("run", "--memory", "--root", self.here, "--logs", self.logs, told=helper.lines(
             helper.register("web", "None"), helper.action("web", "start"), {"op": "drain"}))
         self.ends_with(done, outcome="not-started")
-        self.assertEqual(without_moments(self.read()), "MOMENT call 1 begins as run 1: start\n"
+        self.assertEqual(without_moments(self.read()), "MOMENT call 1 begins as run 1: start, timeout 20000 ms\n"
                          "MOMENT run 1 was not started: the agent's file is missing\n")
 
     def test_end_of_input(self):
@@ -157,7 +157,7 @@ class Logs(WithLogs):
         self.assertEqual(run.ends(), 0)
         self.assertTrue(self.read("web.log.1").endswith("went on\n"), self.read("web.log.1"))
         self.assertEqual(without_moments(self.read()).split("\n")[:3], [
-            "MOMENT run 1 ended in N ms: OCF_SUCCESS (0)", "MOMENT call 2 begins as run 2: stop", "stop of web"])
+            "MOMENT run 1 ended in N ms: OCF_SUCCESS (0)", "MOMENT call 2 begins as run 2: stop, timeout 20000 ms", "stop of web"])
 
     def test_daemon(self):
         """a daemon that keeps its log goes on writing there after it was renamed and the executor has ended"""
@@ -227,14 +227,14 @@ class Logs(WithLogs):
         log = self.place("log")
         self.ends_with(self.does("exit 0", "--log", log), code=0)
         with open(log, encoding="utf-8") as file:
-            self.assertEqual(without_moments(file.read()), "web: MOMENT call 1 begins as run 1: start\nstart of web\n"
+            self.assertEqual(without_moments(file.read()), "web: MOMENT call 1 begins as run 1: start, timeout 20000 ms\nstart of web\n"
                              "start fails: no such device\nweb: MOMENT run 1 ended in N ms: OCF_SUCCESS (0)\n")
 
     def test_standard_error(self):
         """with --log - they stand on standard error"""
         done = self.does("exit 0", "--log", "-")
         self.ends_with(done, code=0)
-        self.assertEqual(without_moments(done.stderr.decode()), "web: MOMENT call 1 begins as run 1: start\nstart of web\n"
+        self.assertEqual(without_moments(done.stderr.decode()), "web: MOMENT call 1 begins as run 1: start, timeout 20000 ms\nstart of web\n"
                          "start fails: no such device\nweb: MOMENT run 1 ended in N ms: OCF_SUCCESS (0)\n")
 
     def test_both(self):
@@ -257,7 +257,7 @@ class OfDebian(WithLogs):
         """Debian's Dummy starts, and its log has the begin and the end"""
         self.ends_with(self.start("Dummy", state=self.place("state")), code=0)
         text = without_moments(self.read())
-        self.assertTrue(text.startswith("MOMENT call 1 begins as run 1: start\n"), text)
+        self.assertTrue(text.startswith("MOMENT call 1 begins as run 1: start, timeout 60000 ms\n"), text)
         self.assertTrue(text.endswith("MOMENT run 1 ended in N ms: OCF_SUCCESS (0)\n"), text)
 
     @unittest.skipUnless(os.path.exists("/usr/sbin/nginx"), "needs nginx")

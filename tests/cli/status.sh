@@ -95,8 +95,8 @@ checked "no such resource"
 head -n 5 "$here/json" | cmp -s - "$here/shown" || differs "status --json" "first what show prints" "$(cat "$here/json")"
 sed -n '6,$p' "$here/json" | sed -E 's/"(at|since)":[0-9]+/"\1":N/g' > "$here/states"
 cat > "$here/wanted" <<'LINES'
-{"failed":{"action":"promote","at":N,"code":1,"name":"OCF_ERR_GENERIC","outcome":"signaled"},"id":"a-longer-name","queued":1,"running":{"action":"start","since":N},"since":N,"state":"failed"}
-{"failed":{"action":"monitor","at":N,"code":5,"name":"OCF_ERR_INSTALLED","outcome":"not-started"},"id":"b","queued":0,"running":null,"since":N,"state":"failed"}
+{"failed":{"action":"promote","at":N,"code":1,"name":"OCF_ERR_GENERIC","outcome":"signaled","reason":null},"id":"a-longer-name","queued":1,"running":{"action":"start","since":N},"since":N,"state":"failed"}
+{"failed":{"action":"monitor","at":N,"code":5,"name":"OCF_ERR_INSTALLED","outcome":"not-started","reason":null},"id":"b","queued":0,"running":null,"since":N,"state":"failed"}
 LINES
 is_wanted "the states as JSON" "$here/states"
 "$program" status --json --journal "$here/journal" b > "$here/one"

@@ -102,7 +102,7 @@ ends 0 "" show --help
 holds "show --help" Examples: "ocfexec show --journal /srv/journal" "run and serve create its files part-a and part-b if they are missing" OCFEXEC_JOURNAL
 same "show --help, options" "--help --journal --memory" "$(grep -o -e '^ *\(-., \)\?--[a-z-]*' "$here/out" | grep -o -e '--.*' | sort | xargs)"
 ends 0 "" status --help
-same "status --help, options" "--exit-code --help --journal --json --memory" \
+same "status --help, options" "--exit-code --help --journal --json --logs --memory" \
     "$(grep -o -e '^ *\(-., \)\?--[a-z-]*' "$here/out" | grep -o -e '--.*' | sort | xargs)"
 ends 0 "" show -h
 ends 0 "" help run

@@ -26,12 +26,16 @@ call_text call = codes "call " ++ decimal call
 abbrev pub run_text : ℕ → List ℕ
 run_text run = codes "run " ++ decimal run
 
--- before the output: the call, its run and the action
-abbrev pub begun_line : Stamp → Begun → List ℕ
-begun_line s b = stamp_text s ++ call_text b.call ++ codes " begins as " ++ run_text b.run ++ codes ": " ++ b.action.now ++ codes "\n"
-
 abbrev pub millis_text : ℕ → List ℕ
 millis_text millis = decimal millis ++ codes " ms"
+
+-- the action, and how long it may take
+abbrev pub task_text : Begun → List ℕ
+task_text b = codes ": " ++ b.action.now ++ codes ", timeout " ++ millis_text b.timeout
+
+-- before the output: the call, its run, the action and its timeout
+abbrev pub begun_line : Stamp → Begun → List ℕ
+begun_line s b = stamp_text s ++ call_text b.call ++ codes " begins as " ++ run_text b.run ++ task_text b ++ codes "\n"
 
 -- the name and the number of an exit code: OCF Resource Agent API 1.1, exit codes
 abbrev pub code_text : ℕ → List ℕ

@@ -1,11 +1,11 @@
 //! The lines around an agent's own output.
 ghost use Rattle.std.specs.Prelude.{◌≡◌, ◌++◌, IfOk, IsTrue, OnErr, OnOk};
-ghost use Rattle.agent_logs.specs.Lines.{begun_line, call_text, code_text, end_text, ended_line, id_text, millis_text, refusal_text, run_text, stamp_text};
+ghost use Rattle.agent_logs.specs.Lines.{begun_line, call_text, code_text, end_text, ended_line, id_text, millis_text, refusal_text, run_text, stamp_text, task_text};
 
 use growth::Grows;
 use log_lines::{add_bytes, add_moment, add_number};
 use ocf_codes::{name, read_code};
-use ocf_types::{CallId, Moment, RscId, RunId, StartFault};
+use ocf_types::{CallId, Millis, Moment, RscId, RunId, StartFault};
 use std::alloc::{AllocError, Global};
 
 /// What each line begins with: when it was written and, where one log has the lines of all resources, the id.
@@ -22,6 +22,8 @@ pub struct Begun<'a> {
     pub run: RunId,
     /// The word for the action.
     pub action: &'a str,
+    /// How long it may take.
+    pub timeout: Millis,
 }
 
 /// How a run ended, as its log says it.
@@ -92,6 +94,26 @@ fn add_run(line: &mut Vec<u8>, run: RunId) -> Result<(), AllocError>
     add_number(line, run.get())
 }
 
+fn add_millis(line: &mut Vec<u8>, before: &str, millis: u64) -> Result<(), AllocError>
+    ensures added { OnOk result
+        (line.new.items ≡ line.old.items ++ before.now ++ millis_text millis) }
+    ensures memory { OnErr result (IsTrue ⟦<Global as Grows>⟧.refuses) }
+{
+    add(line, before)?;
+    add_number(line, millis)?;
+    add(line, " ms")
+}
+
+// The action, and how long it may take.
+fn add_task(line: &mut Vec<u8>, begun: &Begun<'_>) -> Result<(), AllocError>
+    ensures added { OnOk result (line.new.items ≡ line.old.items ++ task_text begun.now) }
+    ensures memory { OnErr result (IsTrue ⟦<Global as Grows>⟧.refuses) }
+{
+    add(line, ": ")?;
+    add(line, begun.action)?;
+    add_millis(line, ", timeout ", u64::from(begun.timeout.get()))
+}
+
 /// The line that is written before an agent's own output.
 pub fn begun_line(
     alloc: Global,
@@ -106,20 +128,9 @@ pub fn begun_line(
     add_call(&mut line, begun.call)?;
     add(&mut line, " begins as ")?;
     add_run(&mut line, begun.run)?;
-    add(&mut line, ": ")?;
-    add(&mut line, begun.action)?;
+    add_task(&mut line, begun)?;
     add(&mut line, "\n")?;
     Ok(line)
-}
-
-fn add_millis(line: &mut Vec<u8>, before: &str, millis: u64) -> Result<(), AllocError>
-    ensures added { OnOk result
-        (line.new.items ≡ line.old.items ++ before.now ++ millis_text millis) }
-    ensures memory { OnErr result (IsTrue ⟦<Global as Grows>⟧.refuses) }
-{
-    add(line, before)?;
-    add_number(line, millis)?;
-    add(line, " ms")
 }
 
 // The name and the number of an exit code.

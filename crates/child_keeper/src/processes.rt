@@ -234,6 +234,7 @@ fn spawn<R: process::Processes + Clock + Eprint, A: Allocator + Copy, L: Allocat
         call: launch.call,
         run: launch.run,
         action: action_of(&launch.invocation),
+        timeout: launch.timeout,
     };
     let streams = log.begin(rt, &launch.id, &begun)?;
     let mut command = command_of(alloc, &launch.invocation)?;

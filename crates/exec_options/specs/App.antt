@@ -83,12 +83,14 @@ with_agent_app a =
 abbrev pub with_options_app : App → App
 with_options_app a = with_agent_app (with_site_app (with_journal_app a))
 
--- which resource is asked for, whether as JSON, and whether what has failed shows in the status of the process
+-- which resource is asked for, whether as JSON, whether what has failed shows in the status of the process, and where the agents'
+-- reasons are
 abbrev pub with_status_app : App → App
 with_status_app a =
     let a₁ = with_rule a (word_rule (codes "resource")) in
     let a₂ = with_rule a₁ (flag_rule (codes "json")) in
-    with_rule a₂ (flag_rule (codes "exit-code"))
+    let a₃ = with_rule a₂ (flag_rule (codes "exit-code")) in
+    with_rule a₃ (text_rule (codes "logs"))
 
 -- which resource is asked for, from which moment on, whether as JSON, and whether of a damaged journal too
 abbrev pub with_log_app : App → App

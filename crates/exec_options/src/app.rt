@@ -217,10 +217,16 @@ fn with_status_options<'a>(alloc: Global, command: Command<'a>) -> Result<Comman
         "json",
         "Print JSON lines in place of the table: those of show, and one with the state of each resource",
     ))?;
-    command.arg(flag(
+    let command = command.arg(flag(
         alloc,
         "exit-code",
         "End with status 9 if a resource is failed or unknown",
+    ))?;
+    command.arg(text_option(
+        alloc,
+        "logs",
+        "DIR",
+        "Print with a last failure the last reason in DIR/ID.log, which run --logs DIR writes",
     ))
 }
 

@@ -58,7 +58,7 @@ STATE, by the last results: started, promoted, stopped, failed, unknown (an inte
 
 Examples:
   ocfexec status
-  ocfexec status web
+  ocfexec status web --logs /var/log/ocfexec
   ocfexec status --journal /srv/journal --exit-code > /dev/null || echo look at it";
 
 /// What follows the help of `log`.

@@ -6,3 +6,4 @@ pub mod AlarmLemmas
 pub mod ConditionLemmas
 pub mod ConditionExamples
 pub mod StatusLineLemmas
+pub mod FailedLemmas

@@ -12,6 +12,7 @@ use Rattle.disk_model.specs.Image.{Image}
 use Rattle.exec_journal.specs.Found.{FoundAs}
 use Rattle.exec_output.specs.declared.fault.Fault.{Fault}
 use Rattle.exec_output.specs.declared.fault.Fault.TheVariants as fault
+use Rattle.exec_output.specs.Reasons.{reason_of}
 use Rattle.exec_output.specs.Told.{told}
 use Rattle.exec_output.specs.Tables.{agent_text, AreRows, gap, IsRow, IsToldAs, TellsAs, asked_entries, is_asked_for, state_text}
 
@@ -94,8 +95,8 @@ no_row : (look : Look) (e : Entry) (row more : List ℕ) → [] ≡ row ++ more 
 no_row look e row more empty is =
     let front = (e.0 ++ gap is.0) ++ agent_text e.1 in
     let state = (front ++ gap is.1) ++ state_text look e.1 in
-    let whole : [] ≡ (state ++ gap is.2) ++ told look e.1 = left_none row more empty ∙ is.3 in
-    let no_state : [] ≡ state = left_none state (gap is.2) (left_none (state ++ gap is.2) (told look e.1) whole) in
+    let whole : [] ≡ (state ++ gap is.2) ++ told look (reason_of look e.0) e.1 = left_none row more empty ∙ is.3 in
+    let no_state : [] ≡ state = left_none state (gap is.2) (left_none (state ++ gap is.2) (told look (reason_of look e.0) e.1) whole) in
     let no_front : [] ≡ front ++ gap is.1 = left_none (front ++ gap is.1) (state_text look e.1) no_state in
     let agent = right_none (e.0 ++ gap is.0) (agent_text e.1) (left_none front (gap is.1) no_front) in
     no_first 58 e.1.agent (right_none e.1.provider (58 ∷ e.1.agent) agent)

@@ -8,15 +8,20 @@ use Rattle.ocf_types.specs.State.{State}
 use Rattle.ocf_types.specs.declared.operation.Ended.{Ended}
 use Rattle.ocf_types.specs.declared.operation.Running.{Running}
 use Rattle.exec_output.specs.Conditions.{known_of}
-use Rattle.exec_output.specs.StatusLines.{IsFrontTold, IsLinesTold, TellsLinesAs, doing_data, failure_data, since_data, status_data}
+use Rattle.exec_output.specs.Reasons.{reason_of}
+use Rattle.exec_output.specs.StatusLines.{IsFrontTold, IsLinesTold, TellsLinesAs, doing_data, failure_data, reason_data, since_data, status_data}
 use Rattle.exec_output.specs.declared.condition.Known.{Known}
 use Rattle.exec_output.specs.declared.look.Look.{Look}
 use Rattle.exec_output.specs.declared.fault.Fault.{Fault}
 use Rattle.exec_output.specs.declared.fault.Fault.TheVariants as fault
 
-failure_no_float : (last : Option Ended) → has_float (failure_data last) ≡ false
-failure_no_float None = refl
-failure_no_float (Some e) = refl
+reason_no_float : (reason : Option (List ℕ)) → has_float (reason_data reason) ≡ false
+reason_no_float None = refl
+reason_no_float (Some text) = refl
+
+failure_no_float : (reason : Option (List ℕ)) (last : Option Ended) → has_float (failure_data reason last) ≡ false
+failure_no_float reason None = refl
+failure_no_float reason (Some e) = rw (reason_no_float reason) refl
 
 doing_no_float : (r : Option Running) → has_float (doing_data r) ≡ false
 doing_no_float None = refl
@@ -26,9 +31,9 @@ since_no_float : (k : Option Known) → has_float (since_data k) ≡ false
 since_no_float None = refl
 since_no_float (Some k) = refl
 
-pub status_has_no_float : (e : List ℕ × Resource) → has_float (status_data e) ≡ false
-status_has_no_float e =
-    rw (failure_no_float e.1.history.failed, doing_no_float e.1.history.running, since_no_float (known_of e.1.history.ended)) refl
+pub status_has_no_float : (look : Look) (e : List ℕ × Resource) → has_float (status_data look e) ≡ false
+status_has_no_float look e =
+    rw (failure_no_float (reason_of look e.0) e.1.history.failed, doing_no_float e.1.history.running, since_no_float (known_of e.1.history.ended)) refl
 
 -- where the lines of show are not written, that is how it ends
 pub unwritten : (T : Type 0) (look : Look) (s : State) (old new : Option (List ℕ)) (f : Fault)

@@ -5,7 +5,6 @@ use Rattle.std.proofs.lemmas.List.Elements.{filter-append}
 use Rattle.std.proofs.lemmas.Option.{get_or_from_slice_get, slice_get_within}
 use Rattle.std.specs.List.{flat_map, last_or}
 use Rattle.ocf_types.specs.Laws.{flat_more}
-use Rattle.ocf_types.specs.declared.operation.Ended.{Ended}
 use Rattle.exec_output.specs.Told.{last_of}
 
 -- the lines of items, and one more
@@ -39,7 +38,7 @@ last_more : {A : Type 0} (xs : List A) (x : A) (o : Option A) → last_or o (xs 
 last_more [] x o = refl
 last_more (z ∷ xs) x o = last_more xs x (Some z)
 
-kept_more : (is : Ended → Bool) (es : List Ended) (i : ℕ) (e : Ended) → slice_get es i ≡ Some e
+kept_more : {A : Type 0} (is : A → Bool) (es : List A) (i : ℕ) (e : A) → slice_get es i ≡ Some e
     → filter is (take (i + 1) es) ≡ filter is (take i es) ++ filter is (e ∷ [])
 kept_more is es i e at =
     let more : take (i + 1) es ≡ take i es ++ e ∷ [] =
@@ -47,14 +46,14 @@ kept_more is es i e at =
     in
     ap (filter is) more ∙ filter-append is (take i es) (e ∷ [])
 
--- the last of the results of which something holds, where it holds of one more, and where it does not
-pub last_yes : (is : Ended → Bool) (es : List Ended) (i : ℕ) (e : Ended) → slice_get es i ≡ Some e → is e ≡ true
+-- the last of those of which something holds, where it holds of one more, and where it does not
+pub last_yes : {A : Type 0} (is : A → Bool) (es : List A) (i : ℕ) (e : A) → slice_get es i ≡ Some e → is e ≡ true
     → last_of is (take (i + 1) es) ≡ Some e
 last_yes is es i e at true_of =
     let one : filter is (e ∷ []) ≡ e ∷ [] = rw true_of refl in
     ap (last_or None) (kept_more is es i e at ∙ ap (λ t. filter is (take i es) ++ t) one) ∙ last_more (filter is (take i es)) e None
 
-pub last_no : (is : Ended → Bool) (es : List Ended) (i : ℕ) (e : Ended) → slice_get es i ≡ Some e → is e ≡ false
+pub last_no : {A : Type 0} (is : A → Bool) (es : List A) (i : ℕ) (e : A) → slice_get es i ≡ Some e → is e ≡ false
     → last_of is (take (i + 1) es) ≡ last_of is (take i es)
 last_no is es i e at false_of =
     let none : filter is (e ∷ []) ≡ [] = rw false_of refl in

@@ -1,5 +1,7 @@
+pub mod Failed
 pub mod Faults
 pub mod Meanings
+pub mod Reasons
 pub mod Shown
 pub mod Tables
 pub mod Told

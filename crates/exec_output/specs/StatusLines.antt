@@ -17,6 +17,7 @@ use Rattle.disk_model.specs.Image.{Image}
 use Rattle.exec_journal.specs.Found.{Damaged, FoundAs, IsFound}
 use Rattle.exec_commands.specs.Objects.{natural_data, object_from}
 use Rattle.exec_output.specs.Conditions.{condition_of, condition_word, known_of}
+use Rattle.exec_output.specs.Reasons.{reason_of}
 use Rattle.exec_output.specs.Shown.{IsRegistered, resource_lines, shown}
 use Rattle.exec_output.specs.Tables.{asked_entries, is_alarm}
 use Rattle.exec_output.specs.declared.condition.Known.{Known}
@@ -24,13 +25,22 @@ use Rattle.exec_output.specs.declared.look.Look.{Look}
 use Rattle.exec_output.specs.declared.fault.Fault.{Fault}
 use Rattle.exec_output.specs.declared.fault.Fault.TheVariants as fault
 
--- what failed last
-abbrev pub failure_data : Option Ended → Data
-failure_data None = null
-failure_data (Some e) = object_from (
+-- the reason that the agent gave, where one is known
+abbrev pub reason_data : Option (List ℕ) → Data
+reason_data None = null
+reason_data (Some text) = string text
+
+-- a result that has failed, with its reason
+abbrev pub failed_object : Data → Ended → Data
+failed_object reason e = object_from (
     (codes "action", string (action_word e.action)) ∷ (codes "at", natural_data e.at)
     ∷ (codes "code", natural_data (outcome_code e.outcome)) ∷ (codes "name", string (name_read (outcome_code e.outcome)))
-    ∷ (codes "outcome", string (outcome_word e.outcome)) ∷ [])
+    ∷ (codes "outcome", string (outcome_word e.outcome)) ∷ (codes "reason", reason) ∷ [])
+
+-- what failed last
+abbrev pub failure_data : Option (List ℕ) → Option Ended → Data
+failure_data reason None = null
+failure_data reason (Some e) = failed_object (reason_data reason) e
 
 -- what runs
 abbrev pub doing_data : Option Running → Data
@@ -43,18 +53,18 @@ since_data None = null
 since_data (Some k) = natural_data k.since
 
 -- how a resource is, what it does now, and what failed last
-abbrev pub status_data : List ℕ × Resource → Data
-status_data e = object_from (
-    (codes "failed", failure_data e.1.history.failed) ∷ (codes "id", string e.0)
+abbrev pub status_data : Look → List ℕ × Resource → Data
+status_data look e = object_from (
+    (codes "failed", failure_data (reason_of look e.0) e.1.history.failed) ∷ (codes "id", string e.0)
     ∷ (codes "queued", natural_data (length e.1.history.queue)) ∷ (codes "running", doing_data e.1.history.running)
     ∷ (codes "since", since_data (known_of e.1.history.ended)) ∷ (codes "state", string (condition_word (condition_of e.1.history))) ∷ [])
 
-abbrev pub status_line : List ℕ × Resource → List ℕ
-status_line e = compact_text (status_data e) ++ 10 ∷ []
+abbrev pub status_line : Look → List ℕ × Resource → List ℕ
+status_line look e = compact_text (status_data look e) ++ 10 ∷ []
 
 -- the lines of the resources that a look asks for, in order of registration
 abbrev pub status_lines : Look → State → List ℕ
-status_lines look s = flat_map status_line (asked_entries look s.resources)
+status_lines look s = flat_map (status_line look) (asked_entries look s.resources)
 
 -- what `show` prints, of all resources or of the one that is asked for
 abbrev pub front_lines : State → Option (Bor (List ℕ)) → List ℕ

@@ -10,6 +10,7 @@ use Rattle.disk_model.specs.Image.{Image}
 use Rattle.exec_journal.specs.Found.{Damaged, FoundAs, IsFound}
 use Rattle.exec_output.specs.ConditionTexts.{condition_text}
 use Rattle.exec_output.specs.Conditions.{condition_of, is_bad}
+use Rattle.exec_output.specs.Reasons.{reason_of}
 use Rattle.exec_output.specs.Told.{told}
 use Rattle.exec_output.specs.declared.look.Look.{Look}
 use Rattle.exec_output.specs.declared.fault.Fault.{Fault}
@@ -38,7 +39,7 @@ gap n = replicate n 32 ++ codes "  "
 -- a resource's row: its id, its agent and how it is, a gap after each, and then what is shown of it
 abbrev pub IsRow : Look → List ℕ × Resource → List ℕ → Type 0
 IsRow look e row = (n : ℕ) × (m : ℕ) × (k : ℕ)
-    × (row ≡ (((((e.0 ++ gap n) ++ agent_text e.1) ++ gap m) ++ state_text look e.1) ++ gap k) ++ told look e.1)
+    × (row ≡ (((((e.0 ++ gap n) ++ agent_text e.1) ++ gap m) ++ state_text look e.1) ++ gap k) ++ told look (reason_of look e.0) e.1)
 
 -- a row of each of these resources, just once, in their order
 abbrev pub AreRows : Look → List (List ℕ × Resource) → List ℕ → Type 0

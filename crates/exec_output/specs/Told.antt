@@ -44,8 +44,8 @@ is_asked what e = bytes_eq (action_word e.action) (action_word what) && (e.inter
 abbrev pub is_run : ℕ → Ended → Bool
 is_run call e = (e.call == call) && not (e.interval == 0)
 
--- the last of the results of which this holds
-abbrev pub last_of : (Ended → Bool) → List Ended → Option Ended
+-- the last of those of which this holds
+abbrev pub last_of : {A : Type 0} → (A → Bool) → List A → Option A
 last_of is es = last_or None (filter is es)
 
 -- the actions, in the order in which they are shown
@@ -67,10 +67,19 @@ abbrev pub monitor_line : Look → List Ended → Recur → List ℕ
 monitor_line look es m =
     set_in (codes "every " ++ exact_text m.interval) ++ monitor_text look m (last_of (is_run m.call) es)
 
--- the line of what failed last, and no line where nothing has
-abbrev pub failure_line : Look → Option Ended → List ℕ
-failure_line look None = []
-failure_line look (Some e) = set_in (codes "last failure") ++ action_word e.action ++ codes ": " ++ failed_text look e
+-- the line of the reason that the agent gave, and no line where none is known
+abbrev pub known_reason_line : List ℕ → List ℕ
+known_reason_line text = set_in (codes "exit reason") ++ text
+
+abbrev pub reason_line : Option (List ℕ) → List ℕ
+reason_line None = []
+reason_line (Some text) = known_reason_line text
+
+-- the line of what failed last, with that of its reason, and no line where nothing has
+abbrev pub failure_line : Look → Option (List ℕ) → Option Ended → List ℕ
+failure_line look reason None = []
+failure_line look reason (Some e) =
+    set_in (codes "last failure") ++ action_word e.action ++ codes ": " ++ failed_text look e ++ reason_line reason
 
 -- the line of a result in the history
 abbrev pub past_line : Look → Ended → List ℕ
@@ -83,11 +92,11 @@ abbrev pub history_text : Look → List Ended → List ℕ
 history_text look es = option_map_or (λ id. codes "\n  history, oldest first:" ++ flat_map (past_line look) es) look.only []
 
 -- the lines below a resource's row
-abbrev pub lines_text : Look → Resource → List ℕ
-lines_text look r =
+abbrev pub lines_text : Look → Option (List ℕ) → Resource → List ℕ
+lines_text look reason r =
     flat_map (action_line look r.history.ended) told_actions ++ flat_map (monitor_line look r.history.ended) r.recurring
-    ++ failure_line look r.history.failed ++ history_text look r.history.ended
+    ++ failure_line look reason r.history.failed ++ history_text look r.history.ended
 
--- all that is shown of a resource after its agent
-abbrev pub told : Look → Resource → List ℕ
-told look r = now_text look r.history ++ lines_text look r ++ 10 ∷ []
+-- all that is shown of a resource after its agent, where this reason is known for its last failure
+abbrev pub told : Look → Option (List ℕ) → Resource → List ℕ
+told look reason r = now_text look r.history ++ lines_text look reason r ++ 10 ∷ []

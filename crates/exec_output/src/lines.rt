@@ -1,10 +1,11 @@
 //! The lines below a resource's row: its last results, its monitors, what failed last and its history.
-ghost use Rattle.std.specs.Prelude.{◌≡◌, ◌<◌, ◌-◌, ◌++◌, length, replicate, OnOk, IsTrue, OnErr};
+ghost use Rattle.std.specs.Prelude.{◌≡◌, ◌<◌, ◌-◌, ◌++◌, length, replicate, option_map, OnOk, IsTrue, OnErr};
 ghost use Rattle.std.specs.List.{flat_map};
-ghost use Rattle.ocf_types.specs.Places.{at_place};
+ghost use Rattle.ocf_types.specs.Places.{at_place, id_at};
+ghost use Rattle.exec_output.specs.Reasons.{reason_of};
 ghost use Rattle.exec_output.specs.Texts.{colour_of, painted};
 ghost use Rattle.exec_output.specs.Told.{action_line, failure_line, history_text, is_asked, is_run, last_of, lines_text, monitor_line, monitor_text};
-ghost use Rattle.exec_output.specs.Told.{past_line, result_text, set_in, told_actions};
+ghost use Rattle.exec_output.specs.Told.{known_reason_line, past_line, reason_line, result_text, set_in, told_actions};
 
 use crate::condition_text::add_failed;
 use crate::look::Look;
@@ -232,9 +233,38 @@ fn add_monitors(
     Ok(())
 }
 
-// What failed last, and no line where nothing has.
-fn add_failure(text: &mut Vec<u8>, look: &Look, failed: &Option<Ended>) -> Result<(), AllocError>
-    ensures text { OnOk result (text.new.items ≡ text.old.items ++ failure_line look.now failed.now) }
+// The line of a reason.
+fn add_known_reason(text: &mut Vec<u8>, reason: &str) -> Result<(), AllocError>
+    ensures text { OnOk result (text.new.items
+        ≡ text.old.items ++ known_reason_line reason.now) }
+    ensures memory { OnErr result (IsTrue ⟦<Global as Grows>⟧.refuses) }
+{
+    begin(text, b"exit reason")?;
+    add(text, reason)
+}
+
+// The reason that the agent gave, and no line where none is known.
+fn add_reason(text: &mut Vec<u8>, reason: Option<&str>) -> Result<(), AllocError>
+    ensures text { OnOk result (text.new.items
+        ≡ text.old.items ++ reason_line (option_map (λ t. t.now) reason.entry)) }
+    ensures memory { OnErr result (IsTrue ⟦<Global as Grows>⟧.refuses) }
+{
+    match reason {
+        Some(reason) => add_known_reason(text, reason),
+        None => Ok(()),
+    }
+}
+
+// What failed last and its reason, and no line where nothing has.
+fn add_failure(
+    text: &mut Vec<u8>,
+    look: &Look,
+    reason: Option<&str>,
+    failed: &Option<Ended>,
+) -> Result<(), AllocError>
+    ensures text { OnOk result (text.new.items
+        ≡ text.old.items ++ failure_line look.now
+        (option_map (λ t. t.now) reason.entry) failed.now) }
     ensures memory { OnErr result (IsTrue ⟦<Global as Grows>⟧.refuses) }
 {
     let Some(ended) = failed else {
@@ -243,7 +273,8 @@ fn add_failure(text: &mut Vec<u8>, look: &Look, failed: &Option<Ended>) -> Resul
     begin(text, b"last failure")?;
     add(text, ended.action.word())?;
     add(text, ": ")?;
-    add_failed(text, look, ended)
+    add_failed(text, look, ended)?;
+    add_reason(text, reason)
 }
 
 // A line of the history.
@@ -311,11 +342,13 @@ pub fn add_lines(
 ) -> Result<(), AllocError>
     requires { place < length state.now.state.resources }
     ensures text { OnOk result (text.new.items
-        ≡ text.old.items ++ lines_text look.now (at_place state.now.state place)) }
+        ≡ text.old.items ++ lines_text look.now
+        (reason_of look.now (id_at state.now.state place)) (at_place state.now.state place)) }
     ensures memory { OnErr result (IsTrue ⟦<Global as Grows>⟧.refuses) }
 {
     add_actions(text, look, state, place)?;
     add_monitors(alloc, text, look, state, place)?;
-    add_failure(text, look, &state.failed_at(place))?;
+    let reason = look.reason_of(state.id_at(place));
+    add_failure(text, look, reason, &state.failed_at(place))?;
     add_history(text, look, state, place)
 }

@@ -1,11 +1,22 @@
 //! How a status is looked at.
-ghost use Rattle.std.specs.Prelude.{◌≡◌};
+ghost use Rattle.std.specs.Prelude.{◌≡◌, ◌<◌, length, option_map, slice_get, Some};
+ghost use Rattle.exec_output.specs.Reasons.{is_of, reason_of};
 ghost use Rattle.exec_output.specs.Tables.{is_asked_for};
+ghost use Rattle.exec_output.specs.Told.{last_of};
 
 use ocf_types::{Moment, RscId};
 
+/// The last reason for a failure that an agent gave in the log of a resource.
+#[derive(Clone, Copy)]
+pub struct Reason<'a> {
+    /// The id of the resource.
+    pub id: &'a RscId,
+    /// The reason, as it is shown.
+    pub text: &'a str,
+}
+
 /// How a status is looked at.
-#[derive(Clone, Copy, PartialEq, Eq)]
+#[derive(Clone, Copy)]
 pub struct Look<'a> {
     /// The moment from which ages are counted.
     pub moment: Moment,
@@ -15,9 +26,52 @@ pub struct Look<'a> {
     pub colours: bool,
     /// Whether it is a fault where one that is asked for has failed, or it is not known how it is.
     pub alarms: bool,
+    /// The reasons that are known for last failures, one at most of each resource.
+    pub reasons: &'a [Reason<'a>],
 }
 
-impl Look<'_> {
+impl Reason<'_> {
+    // Whether it is one of the resource of this id.
+    fn is_of(&self, id: &RscId) -> bool
+        ensures { result ≡ is_of id.now self.now }
+    {
+        self.id.as_bytes() == id.as_bytes()
+    }
+}
+
+impl<'a> Look<'a> {
+    // The reason of this index.
+    fn reason_at(&self, at: usize) -> Reason<'a>
+        requires { at < length self.now.reasons.now }
+        ensures { slice_get self.now.reasons.now at ≡ Some result }
+    {
+        self.reasons[at]
+    }
+
+    // The last reason of a resource.
+    fn last_reason(&self, id: &RscId) -> Option<Reason<'a>>
+        ensures { result ≡ last_of (is_of id.now) self.now.reasons.now }
+    {
+        let mut last = None;
+        for at in 0..self.reasons.len() {
+            let reason = self.reason_at(at);
+            if reason.is_of(id) {
+                last = Some(reason);
+            }
+        }
+        last
+    }
+
+    /// The reason that is known for the last failure of a resource.
+    pub(crate) fn reason_of(&self, id: &RscId) -> Option<&'a str>
+        ensures { option_map (λ text. text.now) result ≡ reason_of self.now id.now }
+    {
+        match self.last_reason(id) {
+            Some(reason) => Some(reason.text),
+            None => None,
+        }
+    }
+
     /// Whether this resource is asked for.
     pub(crate) fn asks_for(&self, id: &RscId) -> bool
         ensures { result ≡ is_asked_for self.now id.now }

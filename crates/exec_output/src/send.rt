@@ -2,11 +2,11 @@
 ghost use Rattle.std.specs.Prelude.{◌≡◌, ◌≢◌, None, OnErr, OnOk, IfOk, IfErr, IsTrue, Err};
 ghost use Rattle.std.specs.Io.KnownBytes.{Appends};
 ghost use Rattle.std.specs.List.{flat_map};
-ghost use Rattle.exec_commands.specs.Replies.{formed_line, reply_line, request_line};
+ghost use Rattle.exec_commands.specs.Replies.{formed_line, told_reply_line, told_request_line};
 ghost use Rattle.exec_lines.specs.Fronts.{AppendsFront};
 ghost use Rattle.exec_output.specs.declared.send.IoFault.TheVariants.{InputOrOutput, Memory};
 
-use exec_commands::{LineReply, NoticeForm, write_notice, write_reply, write_request_reply};
+use exec_commands::{LineReply, NoticeForm, write_notice, write_told_reply, write_told_request};
 use exec_lines::{write_bytes, write_flushed};
 use growth::Grows;
 use ocf_types::{Notice, Reply};
@@ -55,61 +55,78 @@ fn send_line<W: Write>(writer: &mut W, line: Result<Vec<u8>, AllocError>) -> Res
     Ok(())
 }
 
-/// Writes a reply's line, and flushes it. After an error a prefix of it is written.
-pub fn send_reply<W: Write>(alloc: Global, writer: &mut W, reply: &LineReply) -> Result<(), IoFault>
+/// Writes a reply's line in a run whose notices have this form, and flushes it. After an error a prefix of it is written.
+pub fn send_reply<W: Write>(
+    alloc: Global,
+    writer: &mut W,
+    form: NoticeForm,
+    reply: &LineReply,
+) -> Result<(), IoFault>
     ensures sent { OnOk result
-        (Appends (W.contents writer.old) (W.contents writer.new) (reply_line reply.now)) }
+        (Appends (W.contents writer.old) (W.contents writer.new) (told_reply_line form.entry reply.now)) }
     ensures front { OnErr result
-        (AppendsFront (W.contents writer.old) (W.contents writer.new) (reply_line reply.now)) }
+        (AppendsFront (W.contents writer.old) (W.contents writer.new) (told_reply_line form.entry reply.now)) }
     ensures memory { IfErr result (λ f. f ≡ Memory → IsTrue ⟦<Global as Grows>⟧.refuses) }
 {
-    send_line(writer, write_reply(alloc, reply))
+    send_line(writer, write_told_reply(alloc, form, reply))
 }
 
 // Writes the line of a reply to a request.
-fn put_reply<W: Write>(alloc: Global, writer: &mut W, reply: &Reply) -> Result<(), IoFault>
+fn put_reply<W: Write>(
+    alloc: Global,
+    writer: &mut W,
+    form: NoticeForm,
+    reply: &Reply,
+) -> Result<(), IoFault>
     ensures sent { OnOk result
-        (Appends (W.contents writer.old) (W.contents writer.new) (request_line reply.now)) }
+        (Appends (W.contents writer.old) (W.contents writer.new) (told_request_line form.entry reply.now)) }
     ensures front { OnErr result
-        (AppendsFront (W.contents writer.old) (W.contents writer.new) (request_line reply.now)) }
+        (AppendsFront (W.contents writer.old) (W.contents writer.new) (told_request_line form.entry reply.now)) }
     ensures memory { IfErr result (λ f. f ≡ Memory → IsTrue ⟦<Global as Grows>⟧.refuses) }
 {
-    let line = write_request_reply(alloc, reply)?;
+    let line = write_told_request(alloc, form, reply)?;
     write_bytes(writer, line.as_slice())?;
     Ok(())
 }
 
 // Writes replies to requests, a line each.
-fn put_replies<W: Write>(alloc: Global, writer: &mut W, replies: &[Reply]) -> Result<(), IoFault>
-    ensures sent { OnOk result
-        (Appends (W.contents writer.old) (W.contents writer.new)
-        (flat_map request_line replies.now)) }
-    ensures front { OnErr result
-        (AppendsFront (W.contents writer.old) (W.contents writer.new)
-        (flat_map request_line replies.now)) }
-    ensures memory { IfErr result (λ f. f ≡ Memory → IsTrue ⟦<Global as Grows>⟧.refuses) }
-{
-    for reply in replies {
-        put_reply(alloc, writer, reply)?;
-    }
-    Ok(())
-}
-
-/// Writes replies to requests, a line each, and flushes them together. After an error a prefix of the lines is written.
-pub fn send_replies<W: Write>(
+fn put_replies<W: Write>(
     alloc: Global,
     writer: &mut W,
+    form: NoticeForm,
     replies: &[Reply],
 ) -> Result<(), IoFault>
     ensures sent { OnOk result
         (Appends (W.contents writer.old) (W.contents writer.new)
-        (flat_map request_line replies.now)) }
+        (flat_map (told_request_line form.entry) replies.now)) }
     ensures front { OnErr result
         (AppendsFront (W.contents writer.old) (W.contents writer.new)
-        (flat_map request_line replies.now)) }
+        (flat_map (told_request_line form.entry) replies.now)) }
     ensures memory { IfErr result (λ f. f ≡ Memory → IsTrue ⟦<Global as Grows>⟧.refuses) }
 {
-    put_replies(alloc, writer, replies)?;
+    for reply in replies {
+        put_reply(alloc, writer, form, reply)?;
+    }
+    Ok(())
+}
+
+/// Writes replies to requests in a run whose notices have this form, a line each, and flushes them together. After an error
+/// a prefix of the lines is written.
+pub fn send_replies<W: Write>(
+    alloc: Global,
+    writer: &mut W,
+    form: NoticeForm,
+    replies: &[Reply],
+) -> Result<(), IoFault>
+    ensures sent { OnOk result
+        (Appends (W.contents writer.old) (W.contents writer.new)
+        (flat_map (told_request_line form.entry) replies.now)) }
+    ensures front { OnErr result
+        (AppendsFront (W.contents writer.old) (W.contents writer.new)
+        (flat_map (told_request_line form.entry) replies.now)) }
+    ensures memory { IfErr result (λ f. f ≡ Memory → IsTrue ⟦<Global as Grows>⟧.refuses) }
+{
+    put_replies(alloc, writer, form, replies)?;
     writer.flush()?;
     Ok(())
 }

@@ -11,7 +11,7 @@ ghost use Rattle.exec_output.specs.Shown.{ShowsAs, answer_line, resource_lines, 
 use crate::fault::Fault;
 use crate::send::{IoFault, send_reply};
 use disk_model::Disk;
-use exec_commands::LineReply;
+use exec_commands::{LineReply, NoticeForm};
 use exec_journal::{Journal, JournalFault};
 use exec_state::State;
 use growth::Grows;
@@ -33,7 +33,7 @@ fn write_answer<W: Write>(
 {
     match state.answer(alloc, question) {
         Reply::Refused(Refusal::Memory) => Err(IoFault::Memory),
-        reply => send_reply(alloc, writer, &LineReply::Request(reply)),
+        reply => send_reply(alloc, writer, NoticeForm::Short, &LineReply::Request(reply)),
     }
 }
 
@@ -84,7 +84,7 @@ pub(crate) fn write_state<W: Write>(
     let LineReply::Request(Reply::List(ids)) = &reply else {
         return Err(IoFault::Memory);
     };
-    send_reply(alloc, writer, &reply)?;
+    send_reply(alloc, writer, NoticeForm::Short, &reply)?;
     write_resources(alloc, writer, state, ids.as_slice())
 }
 

@@ -1,6 +1,7 @@
 //! A journal's state as a table for a person: a row of each resource, with lines below it.
 ghost use Rattle.std.specs.Prelude.{◌≡◌, ◌<◌, ◌-◌, ◌++◌, [], length, OnOk, IfOk, IfSome, IfNone, IsTrue, OnErr};
-ghost use Rattle.ocf_types.specs.Places.{entry_at, at_place};
+ghost use Rattle.ocf_types.specs.Places.{entry_at, at_place, id_at};
+ghost use Rattle.exec_output.specs.Reasons.{reason_of};
 ghost use Rattle.exec_output.specs.Tables.{agent_text, AreRows, gap, IsHead, IsRow, IsTable, asked_entries};
 ghost use Rattle.exec_output.specs.Told.{now_text, queued_text, running_text, told};
 
@@ -125,7 +126,8 @@ fn add_told(
 ) -> Result<(), AllocError>
     requires { place < length state.now.state.resources }
     ensures text { OnOk result (text.new.items
-        ≡ text.old.items ++ told look.now (at_place state.now.state place)) }
+        ≡ text.old.items ++ told look.now
+        (reason_of look.now (id_at state.now.state place)) (at_place state.now.state place)) }
     ensures memory { OnErr result (IsTrue ⟦<Global as Grows>⟧.refuses) }
 {
     add_running(text, look, state.running_at(place))?;

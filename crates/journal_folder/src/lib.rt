@@ -6,7 +6,9 @@ mod files;
 mod log;
 mod look;
 mod metrics;
+mod reasons;
 mod show;
+mod status;
 
 pub use emptied::not_emptied;
 pub use files::{found, open_files, tell_device, told};

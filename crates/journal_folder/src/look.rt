@@ -32,6 +32,7 @@ pub fn look_of<'a>(rt: &HostRuntime, options: Options<'a>) -> Look<'a> {
         only: options.resource,
         colours: is_terminal(rt),
         alarms: options.exit_code,
+        reasons: &[],
     }
 }
 

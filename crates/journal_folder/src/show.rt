@@ -6,12 +6,12 @@ ghost use Rattle.journal_folder.specs.Ends.{IsFolderEnd, IsNotFound};
 use crate::emptied::not_emptied;
 use crate::files::{found, told};
 use crate::log::log_to;
-use crate::look::look_of;
 use crate::metrics::metrics_to;
+use crate::status::status_to;
 use diagnostics::{FirstError, tell_shown};
 use disk_model::Disk;
 use exec_options::{Options, Subcommand};
-use exec_output::{Fault, show, status, status_json};
+use exec_output::{Fault, show};
 use file_disk::{RamDisk, TellsError, read_parts};
 use ocf_types::Part;
 use process_ends::System;
@@ -31,10 +31,7 @@ fn show_to<D: Disk + Drop, W: Write>(
 {
     let rt = system.host();
     match options.subcommand {
-        Subcommand::Status if options.json => {
-            status_json(rt.alloc(), disk, output, &look_of(rt, options))
-        }
-        Subcommand::Status => status(rt.alloc(), disk, output, &look_of(rt, options)),
+        Subcommand::Status => status_to(system, options, disk, output),
         Subcommand::Log => {
             let mut disk = disk;
             let ended = log_to(system, options, &mut disk, output);

@@ -11,7 +11,7 @@ use crate::meta_variables::add_meta;
 use crate::site::Site;
 use crate::variables::{Pairs, push_instance, push_last, push_level, push_params, push_version};
 use growth::Grows;
-use ocf_types::{AgentType, CallId, Params, Provider, RscId, RunId, Running, Task};
+use ocf_types::{AgentType, CallId, Millis, Params, Provider, RscId, RunId, Running, Task};
 use std::alloc::{AllocError, Allocator, Global};
 
 /// An instance of an agent: its id, provider, type and parameters, which are elsewhere. `P` is the type of parameters. OCF
@@ -24,14 +24,15 @@ pub struct Instance<'a, P> {
     pub params: &'a P,
 }
 
-/// What starts an action of an instance: the call of its agent, the instance's id, and the call id and run number of
-/// the action. `I` is the type of the call.
+/// What starts an action of an instance: the call of its agent, the instance's id, and the call id, run number and timeout
+/// of the action. `I` is the type of the call.
 #[derive(Drop)]
 pub struct LaunchOf<I> {
     pub invocation: I,
     pub id: RscId,
     pub call: CallId,
     pub run: RunId,
+    pub timeout: Millis,
 }
 
 /// A launch whose texts lie in memory of the allocator.
@@ -113,9 +114,11 @@ pub fn launch<A: Grows, S: Allocator, P: Allocator>(
     ensures id { IfOk result (λ l. l.id ≡ instance.now.id.now) }
     ensures call { IfOk result (λ l. l.call ≡ running.call) }
     ensures run { IfOk result (λ l. l.run ≡ running.run) }
+    ensures timeout { IfOk result (λ l. l.timeout ≡ running.timeout) }
     ensures memory { OnErr result (IsTrue A.refuses) }
 {
     let (task, call, run) = (running.task, running.call, running.run);
+    let timeout = running.timeout;
     let environment = given_variables(alloc, site, instance, running)?;
     let file = agent_file(alloc, site, instance.provider, instance.agent)?;
     let invocation = called(alloc, site, file, task.action().word(), environment)?;
@@ -124,6 +127,7 @@ pub fn launch<A: Grows, S: Allocator, P: Allocator>(
         id: instance.id.copied(),
         call,
         run,
+        timeout,
     })
 }
 

@@ -1,4 +1,4 @@
-use Rattle.std.proofs.Common.{rules, ◌≡◌, ◌<◌, length, true, false, sym, ◌∙◌}
+use Rattle.std.proofs.Common.{rules, ◌≡◌, ◌<◌, length, true, false, sym}
 use Rattle.ocf_types.specs.Places.{entry_at}
 use Rattle.exec_output.proofs.AlarmLemmas.{asks, none_more, one_bad}
 use Rattle.exec_output.proofs.alarm.is_any_bad.Goals as goal

@@ -1,6 +1,4 @@
-use Rattle.std.proofs.Common.{ap, sym, None, ◌∙◌}
 use Rattle.ocf_types.specs.Places.{at_place}
-use Rattle.exec_output.specs.Conditions.{after}
 use Rattle.exec_output.proofs.ConditionLemmas.{known_more}
 use Rattle.exec_output.proofs.condition.known_of.Goals as goal
 

@@ -16,9 +16,9 @@ loop-place-preserved c =
           let asked : is_asked_for look (entry_at s c.loop-place.place).0 ≡ true = search rules in
           let same : c.if-asks_for.lines.items ≡ c.loop-place.lines.items ++ w.in_ok-line.line.items = search rules in
           same ∙ ap (λ t. t ++ w.in_ok-line.line.items) c.loop-place.invariant
-          ∙ lines_of_more status_line look s c.loop-place.place w.in_ok-line.line.items lt asked w.in_ok-line.ensures.line
+          ∙ lines_of_more (status_line look) look s c.loop-place.place w.in_ok-line.line.items lt asked w.in_ok-line.ensures.line
       | else-asks_for w ↦
           let asked : is_asked_for look (entry_at s c.loop-place.place).0 ≡ false = search rules in
           let same : c.if-asks_for.lines.items ≡ c.loop-place.lines.items = search rules in
-          same ∙ c.loop-place.invariant ∙ lines_of_same status_line look s c.loop-place.place lt asked
+          same ∙ c.loop-place.invariant ∙ lines_of_same (status_line look) look s c.loop-place.place lt asked
     ]

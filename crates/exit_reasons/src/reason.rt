@@ -1,0 +1,48 @@
+//! The last reason of a log.
+ghost use Rattle.std.specs.Prelude.{◌≡◌, ◌≤◌, length, option_map, IfOk, IsTrue, OnErr};
+ghost use Rattle.std.specs.List.{position_or_len};
+ghost use Rattle.exit_reasons.specs.Reasons.{is_newline, last_reason, reason_in};
+
+use crate::shown::add_shown;
+use crate::tail::{Tail, WORD};
+use growth::Grows;
+use std::alloc::{AllocError, Global};
+
+// The most bytes of a reason that are shown.
+const REASON_LIMIT: usize = 512;
+
+// How many bytes there are before the first newline.
+fn line_len(bytes: &[u8]) -> usize
+    ensures len { result ≡ position_or_len is_newline bytes.now }
+    ensures within { result ≤ length bytes.now }
+{
+    match bytes.iter().position(|byte| *byte == b'\n') {
+        Some(len) => len,
+        None => bytes.len(),
+    }
+}
+
+// The reason of a line, of which this follows its first word.
+#[tactic(auto, using(std::proofs::lemmas::List::take_min))]
+fn reason_in(alloc: Global, rest: &[u8]) -> Result<Vec<u8>, AllocError>
+    ensures reason { IfOk result (λ text. text.items ≡ reason_in rest.now) }
+    ensures memory { OnErr result (IsTrue ⟦<Global as Grows>⟧.refuses) }
+{
+    let line = &rest[..line_len(rest)];
+    let mut text = Vec::new(alloc);
+    add_shown(&mut text, &line[..REASON_LIMIT.min(line.len())])?;
+    Ok(text)
+}
+
+/// The reason of the last line with one, as it is shown: 512 bytes of it at most, each that a terminal does not show as it is by
+/// its number.
+pub fn last_reason(alloc: Global, tail: &Tail<'_>) -> Result<Option<Vec<u8>>, AllocError>
+    ensures reason { IfOk result
+        (λ found. option_map (λ text. text.items) found ≡ last_reason tail.now) }
+    ensures memory { OnErr result (IsTrue ⟦<Global as Grows>⟧.refuses) }
+{
+    let Some(at) = tail.last_offset() else {
+        return Ok(None);
+    };
+    Ok(Some(reason_in(alloc, &tail.bytes[at + WORD.len()..])?))
+}

@@ -1,0 +1,52 @@
+//! Bytes of a log as they are shown.
+ghost use Rattle.std.specs.Prelude.{◌≡◌, ◌<◌, ◌++◌, IsTrue, OnErr, OnOk};
+ghost use Rattle.std.specs.List.{flat_map};
+ghost use Rattle.exit_reasons.specs.Reasons.{hex_digit, is_plain, shown_byte};
+
+use growth::{Grows, append, push};
+use std::alloc::{AllocError, Global};
+
+// Whether a terminal shows a byte as it is.
+fn is_plain(byte: u8) -> bool
+    ensures { result ≡ is_plain byte }
+{
+    byte > 31 && byte < 127 && byte != b'\\'
+}
+
+// A digit of a hexadecimal number.
+fn hex_digit(digit: u8) -> u8
+    requires { digit < 16 }
+    ensures { result ≡ hex_digit digit }
+{
+    if digit < 10 {
+        b'0' + digit
+    } else {
+        b'a' - 10 + digit
+    }
+}
+
+fn add_shown_byte(text: &mut Vec<u8>, byte: u8) -> Result<(), AllocError>
+    ensures added { OnOk result (text.new.items ≡ text.old.items ++ shown_byte byte) }
+    ensures memory { OnErr result (IsTrue ⟦<Global as Grows>⟧.refuses) }
+{
+    if is_plain(byte) {
+        push(text, byte)
+    } else {
+        append(
+            text,
+            &[b'\\', b'x', hex_digit(byte / 16), hex_digit(byte % 16)],
+        )
+    }
+}
+
+/// Adds bytes as they are shown.
+#[tactic(auto, using(crate::proofs::Lemmas::byte_more))]
+pub fn add_shown(text: &mut Vec<u8>, bytes: &[u8]) -> Result<(), AllocError>
+    ensures added { OnOk result (text.new.items ≡ text.old.items ++ flat_map shown_byte bytes.now) }
+    ensures memory { OnErr result (IsTrue ⟦<Global as Grows>⟧.refuses) }
+{
+    for byte in bytes {
+        add_shown_byte(text, *byte)?;
+    }
+    Ok(())
+}

@@ -1,0 +1,108 @@
+//! The reasons for failures that agents have written to their logs.
+use exec_output::Reason;
+use exit_reasons::{Tail, last_reason};
+use ocf_types::RscId;
+use process_ends::System;
+use std::alloc::{AllocError, Global};
+use std::fs::{self, OpenOptions};
+use std::io::{self, ErrorKind};
+use std::os::unix::fs::FileExt;
+use std::str::from_utf8;
+
+// How many bytes of a log are read at most, from its end.
+const TAIL: u64 = 65_536;
+
+/// The last reason in the log of a resource.
+#[derive(Drop)]
+pub struct FoundReason {
+    id: RscId,
+    text: Vec<u8>,
+}
+
+impl FoundReason {
+    // It as a look has it.
+    fn as_reason(&self) -> Reason<'_> {
+        Reason {
+            id: &self.id,
+            text: from_utf8(self.text.as_slice()).unwrap_or_default(),
+        }
+    }
+}
+
+/// The reasons as a look has them.
+pub fn as_reasons<'a>(
+    alloc: Global,
+    found: &'a [FoundReason],
+) -> Result<Vec<Reason<'a>>, AllocError> {
+    let mut reasons = Vec::new(alloc);
+    for reason in found {
+        reasons.push(reason.as_reason())?;
+    }
+    Ok(reasons)
+}
+
+// The last reason in the file of this path. There is none where no file is there; it is an error where something else is.
+fn reason_at(rt: &HostRuntime, path: &str) -> io::Result<Option<Vec<u8>>> {
+    if !fs::symlink_metadata(rt, path)?.is_file() {
+        return Err(io::Error::new(ErrorKind::InvalidInput, "not a plain file"));
+    }
+    let mut options = OpenOptions::new();
+    let file = options.read(true).open(rt, path)?;
+    let size = file.metadata()?.len();
+    let start = size.saturating_sub(TAIL);
+    let mut bytes = vec![in rt.alloc(); 0; (size - start) as usize]?;
+    file.read_exact_at(&mut bytes, start)?;
+    let tail = Tail {
+        bytes: bytes.as_slice(),
+        is_whole: start == 0,
+    };
+    Ok(last_reason(rt.alloc(), &tail)?)
+}
+
+// The last reason in the log of a resource. A resource whose agent never wrote has no log.
+fn reason_of(rt: &HostRuntime, directory: &str, id: &RscId) -> io::Result<Option<FoundReason>> {
+    let name = from_utf8(id.as_bytes()).unwrap_or_default();
+    let path = format!(in rt.alloc(); "{directory}/{name}.log")?;
+    match reason_at(rt, path.as_str()) {
+        Ok(Some(text)) => Ok(Some(FoundReason {
+            id: id.copied(),
+            text,
+        })),
+        Ok(None) => Ok(None),
+        Err(error) if error.kind() == ErrorKind::NotFound => Ok(None),
+        Err(error) => Err(error),
+    }
+}
+
+// Says that the log of a resource cannot be read.
+fn tell(system: &System<'_>, directory: &str, id: &RscId, error: &io::Error) {
+    let name = from_utf8(id.as_bytes()).unwrap_or_default();
+    let _ = system.eprintln(format_args!(
+        "ocfexec: log {directory}/{name}.log cannot be read: {error}"
+    ));
+}
+
+/// The last reasons in the logs of these resources, as far as these can be read. The first one that cannot is named on standard
+/// error.
+pub fn reasons_in(
+    system: &System<'_>,
+    directory: &str,
+    ids: &[RscId],
+) -> Result<Vec<FoundReason>, AllocError> {
+    let rt = system.host();
+    let mut found = Vec::new(rt.alloc());
+    let mut is_told = false;
+    for id in ids {
+        match reason_of(rt, directory, id) {
+            Ok(Some(reason)) => found.push(reason)?,
+            Ok(None) => {}
+            Err(error) => {
+                if !is_told {
+                    tell(system, directory, id, &error);
+                }
+                is_told = true;
+            }
+        }
+    }
+    Ok(found)
+}

@@ -1,0 +1,59 @@
+//! How the resources of a journal are, as a status prints it.
+ghost use Rattle.exec_output.specs.Faults.{IsRunEnd};
+
+use crate::look::look_of;
+use crate::reasons::{FoundReason, as_reasons, reasons_in};
+use disk_model::Disk;
+use exec_options::Options;
+use exec_output::{Fault, Look, failed, status, status_json};
+use process_ends::System;
+use std::io::Write;
+
+// The reasons that the logs in the directory of the options give for the failures of the resources that are asked for.
+// There are none where the journal is not read: the status says why.
+fn reasons_for<D: Disk + Drop>(
+    system: &System<'_>,
+    options: Options,
+    disk: D,
+    look: &Look,
+) -> (D, Vec<FoundReason>) {
+    let alloc = system.host().alloc();
+    let Some(directory) = options.logs else {
+        return (disk, Vec::new(alloc));
+    };
+    let (disk, ids) = failed(alloc, disk, look);
+    let Ok(ids) = ids else {
+        return (disk, Vec::new(alloc));
+    };
+    match reasons_in(system, directory, ids.as_slice()) {
+        Ok(found) => (disk, found),
+        Err(_) => (disk, Vec::new(alloc)),
+    }
+}
+
+/// Writes how the resources are whose journal is on this disk, as a table or as lines of JSON. Where a directory of logs is named, a
+/// last failure has the last reason in the log of its resource.
+pub fn status_to<D: Disk + Drop, W: Write>(
+    system: &System<'_>,
+    options: Options,
+    disk: D,
+    output: &mut W,
+) -> (D, Result<(), Fault>)
+    ensures { IsRunEnd result.1 }
+{
+    let rt = system.host();
+    let look = look_of(rt, options);
+    let (disk, found) = reasons_for(system, options, disk, &look);
+    let Ok(reasons) = as_reasons(rt.alloc(), found.as_slice()) else {
+        return (disk, Err(Fault::ReplyMemory));
+    };
+    let look = Look {
+        reasons: reasons.as_slice(),
+        ..look
+    };
+    if options.json {
+        status_json(rt.alloc(), disk, output, &look)
+    } else {
+        status(rt.alloc(), disk, output, &look)
+    }
+}
