@@ -1,0 +1,338 @@
+#!/usr/bin/env python3
+# check: builds
+"""The program over a host that is played, `tests/trials program`: directories in memory, scripted agents, and a clock that is moved by who
+waits. So each call of the system fails in turn, and no process is started. What is wanted was counted by hand from docs/FORMAT.md and the
+manual page.
+Use: played.py [PROGRAM]"""
+import json
+import subprocess
+import sys
+
+sys.path[0] += "/../lib"
+import helper  # noqa: E402
+from helper import action, register  # noqa: E402
+from journal_format import CLOSED, LAST_EPOCH, MOST, START, STOP, event, head, record, state  # noqa: E402
+
+REG = register("r1", "Dummy", "pacemaker")
+LIST, DRAIN = {"op": "list"}, {"op": "drain"}
+OK, R1 = '{"ok":true}', '{"ok":true,"resources":["r1"]}'
+STARTED = '{"action":"start","call":1,"code":0,"id":"r1","interval":0,"name":"OCF_SUCCESS","outcome":"done","run":1}'
+ACCEPTED, IDLE = '{"call":1,"key":"r1_start_0","ok":true}', '{"end":"idle"}'
+DISK, CLOSED_NOW = '{"error":"disk","number":16}', '{"error":"closed","number":17}'
+ROOT, PATH = "/usr/lib/ocf", "/usr/sbin:/usr/bin:/sbin:/bin"
+
+
+def refusal(word, number):
+    return f'{{"error":"{word}","number":{number}}}'
+
+
+class Run:
+    """What a played program said: of each line the word that it begins with, and the rest."""
+
+    def __init__(self, lines):
+        self.lines = [line.split(" ", 1) for line in lines]
+        self.out, self.err, self.ended = self.of(">"), self.of("!"), self.of("ended")
+
+    def of(self, word):
+        return [text for first, text in self.lines if first == word]
+
+    def asked(self):
+        """What was asked for, in its order, without what was written."""
+        return [" ".join(line).rstrip() for line in self.lines if line[0] not in (">", "!")]
+
+
+def lines(*commands):
+    return [f"line {json.dumps(command)}" for command in commands]
+
+
+def part_a(*rows):
+    return "part-a /j " + (head() + b"".join(map(record, rows)) + CLOSED).hex()
+
+
+def registered(at=0, **params):
+    return event("register", at, id="r1", provider="pacemaker", type="Dummy", params=params)
+
+
+def executed(at, call, what):
+    return event("exec", at, id="r1", call=call, action=what, level=0, expect=0, timeout=20000)
+
+
+def begun(at, call, run):
+    return event("begin", at, id="r1", call=call, run=run)
+
+
+class Played(helper.Check):
+    def play(self, *plan):
+        """The runs of a plan, which is in lines."""
+        told = "".join(line + "\n" for line in plan).encode()
+        done = subprocess.run([helper.trials(), "program"], input=told, capture_output=True, timeout=300)
+        self.assertEqual((done.returncode, done.stderr), (0, b""))
+        runs, lines = [], []
+        for line in done.stdout.decode().split("\n")[:-1]:
+            lines.append(line)
+            if line.startswith("ended "):
+                runs.append(Run(lines))
+                lines = []
+        self.after = [line.split(" ", 1)[1] for line in lines]
+        return runs
+
+    def ends(self, ended, out, *plan):
+        """The last run of a plan, which ends so and writes these lines."""
+        run = self.play(*plan)[-1]
+        self.assertEqual((run.ended, run.out), ([ended], out), run.lines)
+        return run
+
+    def memory(self, out, *commands, words="ocfexec run --memory", more=()):
+        """The run of these commands in memory, which ends well."""
+        return self.ends("0", out, *more, *lines(*commands), words)
+
+
+class Rows(Played):
+    def test_registered(self):
+        """no line, a registration and a second one"""
+        self.memory([])
+        self.memory([OK, R1], REG, LIST)
+        self.memory([OK, refusal("exists", 6), R1], REG, REG, LIST)
+
+    def test_drained(self):
+        """a start through a program that ends with 0, and one that ends with 1"""
+        words = "ocfexec run --memory --root /nowhere --via echo"
+        run = self.memory([OK, ACCEPTED, STARTED, IDLE], REG, action("r1", "start"), DRAIN, words=words, more=["poll exited 0"])
+        self.assertEqual(run.of("start")[0].split(" ")[:3], ["echo", "/nowhere/resource.d/pacemaker/Dummy", "start"])
+        failed = STARTED.replace('"code":0', '"code":1').replace("OCF_SUCCESS", "OCF_ERR_GENERIC")
+        self.memory([OK, ACCEPTED, failed, IDLE], REG, action("r1", "start"), DRAIN, more=["poll exited 1"])
+
+    def test_timeout(self):
+        """a timeout is told where the clock has it: once, after one kill"""
+        late = STARTED.replace('"code":0', '"code":1').replace("OCF_SUCCESS", "OCF_ERR_GENERIC").replace('"done"', '"timed-out"')
+        run = self.memory([OK, ACCEPTED, late, IDLE], REG, action("r1", "start", timeout=1000), DRAIN)
+        self.assertEqual(run.of("kill"), ["1"])
+
+    def test_not_started(self):
+        """a start that is refused, by its code"""
+        for why, code, name in [("missing", 5, "INSTALLED"), ("denied", 4, "PERM"), ("other", 1, "GENERIC")]:
+            none = STARTED.replace('"code":0', f'"code":{code}').replace("OCF_SUCCESS", f"OCF_ERR_{name}").replace('"done"', '"not-started"')
+            self.memory([OK, ACCEPTED, none, IDLE], REG, action("r1", "start"), DRAIN, more=[f"start {why}"])
+
+    def test_limits(self):
+        """the thirty-third action, the ninth monitor, and what is too long or too large"""
+        starts = [f'{{"call":{call},"key":"r1_stop_0","ok":true}}' for call in range(1, 33)]
+        self.memory([OK, *starts, refusal("queue-full", 8)], REG, *[action("r1", "stop")] * 33)
+        monitors = [{"op": "recur", "id": "r1", "interval": interval} for interval in range(1, 10)]
+        keys = [f'{{"call":{n},"key":"r1_monitor_{n}","ok":true}}' for n in range(1, 9)]
+        self.memory([OK, *keys, refusal("recurring-full", 9)], REG, *monitors)
+        long = [{"op": "params", "id": "r1", "params": {"p": "v" * length}} for length in (1024, 1025)]
+        self.memory([OK, OK, refusal("bad-value", 4)], REG, *long)
+        letters = [dict.fromkeys("abcdefghijklmnop"[:count], "v" * 1024) for count in (15, 16)]
+        large = [register(name, "Dummy", "pacemaker", **params) for name, params in zip(("r1", "r2"), letters)]
+        self.memory([OK, refusal("too-large", 12), OK], *large, register("r1:0", "Dummy", "pacemaker"))
+        self.memory([OK] * 256 + [refusal("too-many-resources", 11)], *[register(f"r{n}", "Dummy", "pacemaker") for n in range(257)])
+
+    def test_busy(self):
+        """a resource that runs something is kept, and one that is registered again has no history"""
+        call = [REG, action("r1", "start"), {"op": "drain", "limit": 0}, {"op": "unregister", "id": "r1"}, DRAIN]
+        again = [{"op": "unregister", "id": "r1"}, REG, {"op": "history", "id": "r1"}]
+        self.memory([OK, ACCEPTED, '{"end":"limit"}', refusal("busy", 7), STARTED, IDLE, OK, OK, '{"ok":true,"results":[]}'],
+                    *call, *again, more=["poll running", "poll exited 0"])
+
+    def test_refused(self):
+        """lines that are refused, by number"""
+        told = ["nope", '{"op":"fly"}', '{"op":"exec","id":"r 1","action":"fly"}', '{"op":"exec","id":"r1","action":"fly"}',
+                '{"op":"exec","id":"r1","action":"start","timeout":0}', '{"op":"exec","id":"r1"}', '{"op":"exec","id":"zz","action":"start"}']
+        out = self.play(*[f"line {line}" for line in told], "ocfexec run --memory")[0].out
+        self.assertEqual([json.loads(line)["number"] for line in out], [1, 2, 3, 4, 4, 1, 5])
+
+    def test_metadata(self):
+        """metadata of an agent through echo, of 46 bytes with its newline, and of one that is missing"""
+        meta = {"op": "meta", "provider": "pacemaker", "type": "Dummy"}
+        self.memory(['{"meta":46}', "/nowhere/resource.d/pacemaker/Dummy meta-data", ""], meta, words="ocfexec run --memory --root /nowhere --via echo")
+        self.memory(['{"end":"missing"}'], meta)
+
+    def test_spent(self):
+        """calls, runs and epochs that are spent"""
+        row = {"id": "r1", "provider": "pacemaker", "type": "Dummy", "params": {}, "queue": [], "running": None, "recurring": [], "ended": [], "failed": None}
+        for calls, runs, wanted in [(MOST, 1, [refusal("calls-spent", 13), R1]), (1, MOST, [ACCEPTED, '{"end":"runs-spent"}'])]:
+            snapshot = state({"next_call": calls, "next_run": runs, "clock": 0, "resources": [row]})
+            told = [action("r1", "start"), LIST if calls == MOST else DRAIN]
+            self.ends("0", wanted, "directory /j", f"part-a /j {(head(snapshot=snapshot) + CLOSED).hex()}", *lines(*told), "ocfexec run --journal /j")
+        last = "part-a /j " + (head(epoch=LAST_EPOCH) + CLOSED).hex()
+        self.ends("0", ['{"end":"epoch-spent"}'], "directory /j", last, *lines({"op": "tidy"}), "ocfexec run --journal /j")
+
+    def test_damaged(self):
+        """a part that is cut, one of zeros, and two that are empty"""
+        whole = part_a(registered()).split()[2]
+        self.assertEqual(len(whole), 2 * 79)
+        self.ends("3 damaged part A at 44: cut", [], "directory /j", f"part-a /j {whole[:120]}", "ocfexec run --journal /j")
+        self.ends("3 damaged part A at 0: closed", [], "directory /j", f"part-a /j {'00' * 46}", "ocfexec run --journal /j")
+        self.ends("0", ['{"ok":true,"resources":[]}'], "directory /j", *lines(LIST), "ocfexec run --journal /j")
+
+    def test_made(self):
+        """the journal of a registration, byte by byte, and what an opening at 500 reports of a start that ran"""
+        self.play("directory /j", *lines(REG), "ocfexec run --journal /j", "parts /j")
+        self.assertEqual(self.after, [part_a(registered()).split()[2], ""])
+        running = part_a(registered(), executed(10, 1, START), begun(10, 1, 1), executed(10, 2, STOP))
+        reported = ['{"action":"start","call":1,"code":1,"id":"r1","interval":0,"name":"OCF_ERR_GENERIC","outcome":"interrupted","run":1}',
+                    '{"action":"stop","call":2,"code":1,"id":"r1","interval":0,"name":"OCF_ERR_GENERIC","outcome":"dropped","run":0}']
+        plan = ["directory /j", running, "clock 500", *lines(LIST), "ocfexec run --journal /j"]
+        self.ends("0", [*reported, R1], *plan)
+        ends = '"interval":0,"name":"OCF_ERR_GENERIC","outcome":'
+        history = (f'{{"ok":true,"results":[{{"action":"stop","at":500,"call":2,"code":1,{ends}"dropped","run":0,"since":500}},'
+                   f'{{"action":"start","at":500,"call":1,"code":1,{ends}"interrupted","run":1,"since":10}}]}}')
+        self.ends("0", [history], *plan, *lines({"op": "history", "id": "r1"}), "ocfexec run --journal /j")
+
+    def test_full(self):
+        """parameters of 15,438 bytes fill a part 541 times, and a tidy makes room"""
+        large = {"op": "params", "id": "r1", "params": dict.fromkeys("abcdefghijklmno", "v" * 1024)}
+        full = refusal("journal-full", 14)
+        self.ends("0", [*[OK] * 542, full, OK, '{"end":"done"}', OK], "directory /j",
+                  *lines(REG, *[large] * 542, {"op": "forget", "id": "r1"}, {"op": "tidy"}, large), "ocfexec run --tidy-at 8388608 --journal /j")
+
+
+class Asked(Played):
+    def test_run(self):
+        """what a run over a directory asks for, in its order"""
+        words = "ocfexec run --journal /j --root /r --path /p --via v --meta-variables --orphans 7 --leave-orphans --any-owner --log l --logs d"
+        run = self.ends("0", [OK], "directory /j", "clock 500", *lines(REG), words)
+        self.assertEqual(run.asked(), [
+            "ignored", "signals", "log l d", "files /j yes", "reader", "agents 768", "watch -", "orphans /j 7 yes 1", "site /r /p v yes",
+            "moment 500", "word /j 500", "source /r /p v yes", "writer -", "give-up", "ran well", "ended 0"])
+
+    def test_serve(self):
+        """what a run that serves asks for: its directory is watched; where no option is given agents are where the manual page says"""
+        run = self.ends("0", [OK], "directory /j", *lines(REG), "ocfexec serve --journal /j")
+        self.assertEqual(run.asked(), [
+            "ignored", "signals", "log - -", "files /j no", "reader", "agents 768", "watch /j", "orphans /j 20000 no 1", f"site {ROOT} {PATH} - no",
+            "moment 0", "word /j 0", f"source {ROOT} {PATH} - no", "writer /j", "give-up", "ran well", "ended 0"])
+
+    def test_memory(self):
+        """a run in memory asks for no directory, waits for nothing and leaves no word"""
+        run = self.ends("0", [], "ocfexec serve --memory")
+        self.assertEqual(run.asked(), ["ignored", "signals", "log - -", "reader", "agents 768", "watch -", "moment 0",
+                                       f"source {ROOT} {PATH} - no", "writer -", "give-up", "ran well", "ended 0"])
+
+    def test_site(self):
+        """an agent is called at the site of the options"""
+        call = self.memory([OK, ACCEPTED, STARTED, IDLE], REG, action("r1", "start"), DRAIN, more=["poll exited 0"],
+                           words="ocfexec run --memory --root /r --path /p --via v --meta-variables").of("start")[0].split(" ")
+        self.assertEqual(call[:3], ["v", "/r/resource.d/pacemaker/Dummy", "start"])
+        self.assertLess({"OCF_ROOT=/r", "PATH=/p", "OCF_RESKEY_CRM_meta_timeout=20000"}, set(call[3:]))
+        plain = self.memory([OK, ACCEPTED, STARTED, IDLE], REG, action("r1", "start"), DRAIN, more=["poll exited 0"]).of("start")[0].split(" ")
+        self.assertEqual(plain[:2], [f"{ROOT}/resource.d/pacemaker/Dummy", "start"])
+        self.assertNotIn("CRM_meta", " ".join(plain))
+
+    def test_looks(self):
+        """a look at a directory, at that of the environment, and at memory"""
+        self.assertEqual(self.ends("0", [R1[:24] + "]}"], "ocfexec show --memory").asked(), ["shown -", "ended 0"])
+        for more, words in [([], "ocfexec show --journal /j"), (["environment /j"], "ocfexec show")]:
+            run = self.play("directory /j", *lines(REG), "ocfexec run --journal /j", *more, words)[-1]
+            self.assertEqual((run.out[0], run.asked()), (R1, ["shown /j", "ended 0"]))
+        self.assertEqual(self.ends("5 disk", [], "ocfexec status --journal /none").asked(), ["shown /none", "ended 5 disk"])
+        self.assertEqual(self.ends("5 disk", [], "ocfexec log").asked(), ["shown /var/lib/ocfexec", "ended 5 disk"])
+
+    def test_once(self):
+        """an action that is run once has its own status, and asks for no journal"""
+        run = self.ends("77", [], "ocfexec once heartbeat:Dummy start --root /r")
+        self.assertEqual(run.asked(), ["once heartbeat:Dummy start", f"site /r {PATH} - no", "ended 77"])
+
+    def test_left(self):
+        """what lives on is named by its number in a run that serves alone, and the wait for it comes before the moment of the opening"""
+        running = part_a(registered(), executed(10, 1, START), begun(10, 1, 1))
+        for word, keys in [("run", {}), ("serve", {"lives": 4711})]:
+            run = self.play("directory /j", running, "left 1 4711", "clock 500", f"ocfexec {word} --journal /j --leave-orphans")[0]
+            told = json.loads(run.out[0])
+            self.assertEqual({key: told[key] for key in told if key == "lives"}, keys)
+            asked = run.asked()
+            self.assertLess(asked.index("orphans /j 20000 yes 2"), asked.index("moment 500"))
+
+    def test_events(self):
+        """--events: a line of each result, marked where standard error is the system's journal"""
+        for fails, mark in [([], ""), (["fail marked"], "<6>")]:
+            run = self.memory([OK, ACCEPTED, STARTED, IDLE], REG, action("r1", "start"), DRAIN, more=["poll exited 0", *fails],
+                              words="ocfexec run --memory --events")
+            self.assertEqual([line.rpartition(" in ")[0] for line in run.err], [f"{mark}r1: start ok (0)"])
+
+    def test_tidied(self):
+        """a tidy that gains less than two megabytes is not made, however little the journal may hold"""
+        for most in 50, 8388608:
+            self.play("directory /j", *lines(REG, LIST, LIST), f"ocfexec run --tidy-at {most} --journal /j", "parts /j")
+            self.assertEqual(self.after[1], "", f"part B with --tidy-at {most}")
+
+
+class Fails(Played):
+    TOLD = lines(REG, action("r1", "start"), DRAIN, LIST)
+
+    def fails(self, ended, asked, *plan):
+        """A run that writes nothing, asks for this alone, and ends so."""
+        self.assertEqual(self.ends(ended, [], *plan).asked(), [*asked, f"ended {ended}"])
+
+    def test_before(self):
+        """each call before the opening fails in turn: nothing is asked for after it, and nothing is written"""
+        run, before = "ocfexec run --journal /j --log l", ["ignored", "signals", "log l -", "files /j no", "reader", "agents 768"]
+        for word, ended, count in [("ignored", "8 SIGCHLD is ignored", 1), ("log", "7 input or output", 3), ("files", "5 disk", 4),
+                                   ("reader", "4 memory", 5), ("agents", "4 memory", 6)]:
+            self.fails(ended, before[:count], "directory /j", f"fail {word}", *self.TOLD, run)
+        self.fails("5 disk", before[:4], *self.TOLD, run)
+        unheard = ["watch -", "orphans /j 20000 no 1", f"site {ROOT} {PATH} - no", "unheard"]
+        self.fails("7 input or output", before + unheard, "directory /j", "fail orphans", *self.TOLD, run)
+
+    def test_device(self):
+        """each device call fails in turn: the run ends with 5, says what the device met, and what it acknowledged is found again"""
+        whole = [OK, ACCEPTED, STARTED, IDLE, R1]
+        for calls in range(200):
+            plan = ["directory /j", f"device {calls}", "poll exited 0", *self.TOLD, "ocfexec run --journal /j"]
+            run, again = self.play(*plan, *lines(LIST), "ocfexec run --journal /j")
+            if run.ended == ["0"]:
+                self.assertEqual(run.out, whole)
+                self.assertGreater(calls, 30)
+                return
+            self.assertEqual(run.ended, ["5 disk"], calls)
+            self.assertEqual(len(run.of("met")), 1, calls)
+            self.assertTrue(run.of("met")[0].startswith("/j "), calls)
+            well = next((count for count, pair in enumerate(zip(run.out, whole)) if pair[0] != pair[1]), len(run.out))
+            for line in run.out[well:]:
+                self.assertIn(line, [DISK, CLOSED_NOW, '{"end":"disk"}', '{"end":"closed"}'], calls)
+            if OK in run.out[:well]:
+                self.assertEqual(again.out[-1], R1, calls)
+        self.fail("there are more device calls than were thought")
+
+    def test_streams(self):
+        """standard input that fails, and standard output that takes less than the replies, end with 7"""
+        for plan in (["fail read"], ["room 0"], ["room 11"], ["room 12"]):
+            run = self.play(*plan, *lines(REG, LIST), "ocfexec run --memory")[0]
+            self.assertEqual((run.ended, run.of("ran")), (["7 input or output"], ["input or output"]), plan)
+        self.assertEqual(self.play("fail read", *lines(REG), "ocfexec run --memory")[0].out, [OK])
+
+    def test_served(self):
+        """a journal that is removed ends what serves it with 5 and a line, and a reader that goes ends it with 7; a run that serves none goes on"""
+        gone = ["directory /j", "gone /j 2000", "end 10000", *lines(REG)]
+        run = self.ends("5 disk", [OK, '{"end":"disk"}'], *gone, "ocfexec serve --journal /j")
+        self.assertEqual([run.of("check"), len(run.of("met"))], [[""], 1])
+        unread = ["unread 2000", "end 10000", *lines(REG), "ocfexec serve --memory"]
+        self.assertEqual(self.ends("7 input or output", [OK], *unread).of("check"), [])
+        self.ends("0", [OK], "end 10000", *lines(REG), "ocfexec serve --memory")
+
+    def test_texts(self):
+        """help that is printed, that nobody reads, and that cannot be written"""
+        self.assertIn("Usage:", "\n".join(self.play("ocfexec --help")[0].out))
+        self.ends("0", [], "fail unread", "ocfexec --help")
+        self.assertEqual(len(self.ends("7 input or output", [], "fail print", "ocfexec --help").of("unwritten")), 1)
+        self.assertEqual(self.play("ocfexec --version")[0].out[0].split(" ")[0], "ocfexec")
+
+    def test_usage(self):
+        """arguments that are refused, with the text and status 2"""
+        for words in ("ocfexec", "ocfexec fly", "ocfexec run --fast"):
+            run = self.ends("2 usage", [], words)
+            self.assertIn("Usage:", "\n".join(run.err))
+            self.assertEqual(run.asked(), ["ended 2 usage"])
+        choice = "2 give one of --journal and --memory"
+        for words, ended in [("run", choice), ("show --memory --journal /j", choice), ("run --memory --tidy-at x", "2 give --tidy-at a number from 0 to 8388608"),
+                             ("run --memory --root r", "2 give --root an absolute path"),
+                             ("run --memory --orphans 86400001", "2 give --orphans a number from 0 to 86400000")]:
+            self.fails(ended, [], f"ocfexec {words}")
+        for words, line in [("log --memory --since no", "give --since a moment, as 2026-11-27 or 2026-11-27T06:30"),
+                            ("once p:t start --timeout 0", "give --timeout milliseconds, from 1 to 4294967295")]:
+            self.assertEqual(self.ends("2 usage", [], f"ocfexec {words}").err, [f"ocfexec: {line}"])
+
+
+if __name__ == "__main__":
+    helper.main()

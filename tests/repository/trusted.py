@@ -1,0 +1,53 @@
+#!/usr/bin/env python3
+"""The places that are trusted, docs/TRUSTED.txt: it is what docs/trusted.py makes of this tree, and a place more or less, or a file that is
+longer, makes it old.
+Use: trusted.py PROGRAM"""
+import os
+import shutil
+import subprocess
+import sys
+
+sys.path[0] += "/../lib"
+import helper  # noqa: E402
+
+SCRIPT, HOST = "docs/trusted.py", "crates/ocfexec/src/host.rt"
+OLD = (1, "docs/TRUSTED.txt is old: docs/trusted.py writes it\n")
+
+
+def check(top):
+    """The status of a check of the list in a tree, and what it says."""
+    done = subprocess.run([sys.executable, os.path.join(top, SCRIPT), "--check"], capture_output=True, text=True)
+    return done.returncode, done.stderr
+
+
+class Trusted(helper.Check):
+    def test_fresh(self):
+        """docs/TRUSTED.txt is what docs/trusted.py writes"""
+        self.assertEqual(check(helper.TOP), (0, ""))
+
+    def test_changed(self):
+        """a place that is gone, one that says something else, and a line more make it old"""
+        for folder in ("docs", "crates"):
+            shutil.copytree(os.path.join(helper.TOP, folder), self.place(folder), ignore=shutil.ignore_patterns("out", "proofs", "must-fail"))
+        self.assertEqual(check(self.here), (0, ""))
+        with open(self.place(HOST), encoding="utf-8") as file:
+            text = file.read()
+        for new in (text.replace("// TRUSTED: agents write there.", "// agents write there."),
+                    text.replace("// TRUSTED: agents write there.", "// TRUSTED: agents write here."), text + "\n"):
+            self.assertNotEqual(new, text)
+            with open(self.place(HOST), "w", encoding="utf-8") as file:
+                file.write(new)
+            self.assertEqual(check(self.here), OLD)
+
+    def test_each_method(self):
+        """each method of the system's host that its trait promises something of says what is trusted of it"""
+        with open(os.path.join(helper.TOP, "crates/exec_program/src/host.rt"), encoding="utf-8") as file:
+            promised = {part.split("(")[0] for part in file.read().split("    fn ")[1:] if "ensures" in part.split(";")[0]}
+        with open(os.path.join(helper.TOP, HOST), encoding="utf-8") as file:
+            parts = file.read().split("impl<'a> Host for")[1].split("    fn ")
+        marked = {after.split("(")[0] for before, after in zip(parts, parts[1:]) if "// TRUSTED: " in before.rpartition("\n\n")[2]}
+        self.assertEqual(sorted(promised - marked), [])
+
+
+if __name__ == "__main__":
+    helper.main()
