@@ -14,7 +14,7 @@ test:
 	@tests/gate.sh
 
 # The checks of the built programs alone: all of them, or those that are named, as make check NAMES="serve cli"; a name is that of a
-# script or of a folder. FAST=1 leaves out what is slow, and JOBS=n runs n at once, where it is else as many as there are processors.
+# script or of a folder. FAST=1 leaves out what is slow, and JOBS=n runs n at once, where it is else two for each processor.
 check:
 	@tests/check.sh $(if $(FAST),--fast) $(NAME) $(NAMES)
 
@@ -84,4 +84,4 @@ $(AGENTS): $(shell find crates/ocf_types crates/ocf_codes crates/ocf_agents -nam
 	touch $@
 
 clean:
-	rm -rf crates/*/out tests/*/out tests/failed
+	rm -rf crates/*/out tests/out tests/*/out tests/failed

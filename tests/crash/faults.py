@@ -87,7 +87,7 @@ class Faults(helper.Check):
                 run.tell(register("a", "Quick"), *more, {"op": "list"}, {"op": "drain"})
                 self.ends_by_fault(run, began)
                 refused = {"error": "disk", "number": 16}
-                self.assertEqual(run.values()[before:], [refused] * (1 + len(more)) + [LINE])
+                self.assertEqual([helper.bare(value) for value in run.values()[before:]], [refused] * (1 + len(more)) + [LINE])
                 self.assertFalse(helper.is_alive(agent), "an agent that is left")
                 self.assertEqual(self.interrupted(journal), {("slow", "start")})
                 os.remove(self.place_of_pid("slow"))

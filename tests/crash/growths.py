@@ -248,12 +248,12 @@ class Growths(helper.Check):
         if found.status:
             return self.ended_early(steps, base, found, folder, before)
         self.assertEqual(len(found.answers), len(steps))
-        refused = [place for place, values in enumerate(found.answers) if MEMORY in values]
+        refused = [place for place, values in enumerate(found.answers) if MEMORY in map(helper.bare, values)]
         if refused:
             self.places.update(refused)
             left = self.without(words, steps, refused[0])
             (replies, notices), (wanted, told) = found.seen(), left.seen()
-            self.assertEqual((len(refused), replies.pop(refused[0])), (1, [MEMORY]))
+            self.assertEqual((len(refused), [helper.bare(value) for value in replies.pop(refused[0])]), (1, [MEMORY]))
             self.assertEqual((replies, notices), (wanted, told), "as without this command")
             return "refused"
         metas = [values for step, values in zip(steps, found.answers) if step.command["op"] == "meta"]

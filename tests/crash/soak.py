@@ -66,7 +66,7 @@ class Life:
         self.all = {name: Resource() for name in IDS}
         self.doubt = []  # the commands that were refused together, as the disk failed: they may have been recorded
         self.next_call = 1  # above each call that was told or found
-        self.opening = 13  # how many device calls an opening makes; each record costs four, and four more when it is read
+        self.opening = 13  # how many device calls an opening makes; each record costs four
         self.hourly = 4_000  # how many an hour makes behind that
         self.counts = collections.Counter()
         self.wall = 1_700_000_000_000
@@ -250,11 +250,11 @@ class Life:
             if result["at"] is None and result["call"] in moments:
                 result["at"] = result["since"] = moments[result["call"]]
 
-    def look_at_history(self, name, reply, report, exact):
-        """All that was told, at most one result more, and then what an opening ended, which it reports."""
+    def look_at_history(self, name, reply, exact):
+        """All that was told, at most one result more, and then what an opening ended, which is given."""
         known = self.all[name]
         if not known.there:
-            return
+            return []
         self.date(known, reply["results"])
         found, old = reply["results"], set(map(str, known.told))
         fresh = [result for result in found if str(result) not in old]
@@ -267,10 +267,6 @@ class Life:
                 assert self.doubts("withdraw", name, call=result["call"]), ("withdrawn by itself", name, result)
         told = [] if self.doubts("forget", name) and len(found) == len(fresh) else known.told
         assert found == [*told, *more, *booted][-KEPT:], ("a history", name, known.told, found)
-        if report:
-            # an opening that was stopped amid its record reports nothing, and the next one finds nothing to report
-            key = lambda result: result["call"]
-            assert sorted(report, key=key) == sorted(booted, key=key), (report, booted)
         for result in more + booted:
             known.newest = max(known.newest, result["run"])
             self.next_call = max(self.next_call, result["call"] + 1)
@@ -281,20 +277,20 @@ class Life:
         known.told = found
         self.counts["untold"] += len(more)
         self.counts["ended by an opening"] += len(booted)
+        return booted
 
-    def look(self, exact=False):
-        """An opening without a stop and without turns, that asks for all."""
+    def look(self, exact=False, second=False):
+        """An opening without a stop and without turns, that asks for all. It reports all that an opening ended, or nothing where one before
+        it may have ended that, which was stopped."""
         epochs = self.counts["epochs"]
         out, self.opening = self.sit(0, 0, [(0, line) for line in QUESTIONS])
         if self.counts["epochs"] > epochs:
             # it tidied behind its opening: the next opening is of the other part
             rest, self.opening = self.sit(0, 0, [])
             assert rest == [], rest
-        report = collections.defaultdict(list)
+        report, ended = [], []
         while "outcome" in out[0]:
-            line = out.pop(0)
-            assert is_booted(line), line
-            report[line["id"]].append(as_result(line))
+            report.append(out.pop(0))
         assert len(out) == len(QUESTIONS)
         for command, reply in zip(QUESTIONS, out):
             match command["op"]:
@@ -303,7 +299,9 @@ class Life:
                 case "info":
                     self.look_at_info(command["id"], reply)
                 case "history":
-                    self.look_at_history(command["id"], reply, report[command["id"]], exact)
+                    ended += [{"id": command["id"], **result} for result in self.look_at_history(command["id"], reply, exact)]
+        key = lambda line: (line["id"], line["call"])
+        assert (second and not report) or sorted(report, key=key) == sorted(ended, key=key), (report, ended)
         self.doubt = []
 
     def stopped_opening(self, calls):
@@ -322,9 +320,10 @@ class Life:
         self.hourly = self.hourly * 101 // 100 if 0 < stop <= calls else max(500, calls - self.opening)
         self.counts["hours"] += 1
         self.counts["stops"] += stops and calls >= stop
-        if stops and self.dice.random() < 0.5:
+        second = stops and self.dice.random() < 0.5
+        if second:
             self.stopped_opening(calls)
-        self.look(exact=not stops)
+        self.look(exact=not stops, second=second)
 
     def ends(self):
         self.program.stdin.close()

@@ -69,7 +69,7 @@ class Tidies(helper.Check):
     def test_kills(self):
         """kills at random moments of tidies and changes"""
         random.seed(helper.number("SEED", 20261123))
-        rounds, journal = helper.number("ROUNDS", 15), self.journal()
+        rounds, journal = helper.number("ROUNDS", 40), self.journal()
         self.session(journal, [helper.register("large", "Step", **LARGE), helper.register("count", "Step", n="-1")])
         first = helper.shown(journal).splitlines()
         number, tidies, changes = 0, 0, 0

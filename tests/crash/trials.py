@@ -2,7 +2,7 @@
 # check: builds
 """The tests of the trials, tests/trials: each call that takes memory is refused, with nothing changed, in heaps of growing size until
 there is enough for it; what children ask of a system that is played, where they are killed, outlive it, or cannot be asked or killed; and
-what a stop or a fault in each device call of an opening leaves, with each fill of what was not synced.
+what a stop or a fault in each device call of an opening leaves, with each fill of what was not synced; and runs over played ends.
 Use: trials.py [PROGRAM]"""
 import os
 import subprocess
@@ -31,6 +31,10 @@ class Trials(helper.Check):
     def test_disks(self):
         """disks in memory, and openings in which each device call is stopped or fails, lengths and reads among them"""
         self.says("disks")
+
+    def test_ends(self):
+        """readers, writers and clocks that are played: a byte at a time, a full or a closed output, half a line, a million lines, no time"""
+        self.says("ends")
 
 
 if __name__ == "__main__":

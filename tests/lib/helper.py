@@ -77,6 +77,11 @@ def replies(out):
     return [value_of(line) for line in out.split(b"\n")[:-1]]
 
 
+def bare(value):
+    """A refusal as `run` says it, without the key and the sentence of `serve`; any other value as it is."""
+    return {key: value[key] for key in ("error", "number")} if "error" in value else value
+
+
 def is_notice(value, **wanted):
     """Whether a value is a notice, with these keys as wanted."""
     return "outcome" in value and all(value[key] == part for key, part in wanted.items())

@@ -5,9 +5,10 @@ A script prints a line for each of its checks, `ok`, `failed` or `skipped`, with
 with 77. A script that prints none fails. Several run at once, and what one printed is printed whole when it has ended. A line
 `# check: MARK..` near the head of a script says `slow`, so that --fast leaves it out, `builds`, so that it begins early and may take
 longer, as it may have to build a program first, `built`, so that it begins after those, as it needs the same program, or `alone`, so that
-nothing runs beside it, as it measures time or load; in a script in Python single tests may be slow (helper.slow). A script that takes too
-long is ended, and on a busy machine it may take as many times longer as that is slower. The last lines say what was skipped and why, what
-took longest and what failed; the very last counts the checks.
+nothing runs beside it, as it measures time or load; in a script in Python single tests may be slow (helper.slow). Two run at once for each
+processor, since a script waits half of its time; the one that took longest in the last run begins first. A script that takes too long is
+ended, and on a busy machine it may take as many times longer as that is slower. The last lines say what was skipped and why, what took
+longest and what failed; the very last counts the checks.
 
 Use: runner.py [--fast] [--jobs N] [--limit SECONDS] [NAME..], with PROGRAM in the environment, and JOBS for --jobs; a NAME is that of a
 script or of a folder, and without any all are run"""
@@ -31,6 +32,11 @@ MARK = re.compile(r"# check: (.*)")
 CHECK = re.compile(r"^(ok|failed|skipped) +([0-9.]+) s  (.*)$", re.MULTILINE)
 WHY = re.compile(r"skipped: (.*)")
 SKIPPED, LATE, NOT_STARTED = 77, 124, 126
+# how many scripts run at once for each processor
+AT_ONCE = 2
+# where the seconds are kept that each script took when it last ran, and with --fast; and what a script counts as that is not there: one
+# without a mark is short
+KEPT, UNKNOWN = ("tests/out/times", "tests/out/times-fast"), 60
 # how long a script has to end after SIGTERM, in seconds, and how many of the slowest checks are named
 GRACE, SLOWEST = 5, 10
 # how many seconds more than its limit a script may take that may have to build a program first
@@ -160,6 +166,30 @@ def end(running):
             pass
 
 
+class Times:
+    """The seconds that each script took when it last ran."""
+
+    def __init__(self, path):
+        self.path, self.seconds = path, {}
+        try:
+            with open(path, encoding="utf-8") as file:
+                self.seconds = {name: float(took) for took, name in (line.split() for line in file)}
+        except (OSError, ValueError):
+            # none yet, or another text
+            pass
+
+    def order(self, script):
+        """What builds a program begins first, and then what takes longest."""
+        return "builds" not in script.marks, -self.seconds.get(script.path, UNKNOWN if script.marks else 0)
+
+    def keep(self, ended):
+        self.seconds.update((one.script.path, one.seconds) for one in ended)
+        new = self.path.with_suffix(f".{os.getpid()}")
+        self.path.parent.mkdir(exist_ok=True)
+        new.write_text("".join(f"{took:.1f} {name}\n" for name, took in sorted(self.seconds.items())), encoding="utf-8")
+        new.rename(self.path)
+
+
 class Tally:
     """The scripts that have ended, and what they say all together."""
 
@@ -215,8 +245,8 @@ def words():
     parser = argparse.ArgumentParser(prog="check.sh", description="Runs the checks of the built programs.")
     parser.add_argument("names", nargs="*", metavar="NAME", help="a check or a folder: all, if none is given")
     parser.add_argument("--fast", action="store_true", help="leave out what is marked slow")
-    jobs = int(os.environ.get("JOBS") or len(os.sched_getaffinity(0)))
-    parser.add_argument("--jobs", type=int, default=jobs, help="how many run at once: as many as there are processors, if not given")
+    jobs = int(os.environ.get("JOBS") or AT_ONCE * len(os.sched_getaffinity(0)))
+    parser.add_argument("--jobs", type=int, default=jobs, help="how many run at once: two for each processor, if not given")
     parser.add_argument("--limit", type=float, default=300, help="how many seconds each may take")
     return parser.parse_args()
 
@@ -227,11 +257,11 @@ def main():
     found = chosen(scripts(), given.names)
     left_out = [script for script in found if given.fast and "slow" in script.marks]
     found = [script for script in found if script not in left_out]
-    # what takes long begins first, and what measures comes last
-    beside = sorted([script for script in found if "alone" not in script.marks], key=lambda script: not script.marks)
-    runner, tally = Runner(os.environ["PROGRAM"], given.limit), Tally(given.jobs)
-    runner.run_all(beside, given.jobs, tally.take)
+    times, runner, tally = Times(TOP / KEPT[given.fast]), Runner(os.environ["PROGRAM"], given.limit), Tally(given.jobs)
+    # what measures comes last
+    runner.run_all(sorted([script for script in found if "alone" not in script.marks], key=times.order), given.jobs, tally.take)
     runner.run_all([script for script in found if "alone" in script.marks], 1, tally.take)
+    times.keep(tally.ended)
     return tally.show(left_out)
 
 

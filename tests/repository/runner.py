@@ -148,6 +148,17 @@ class Runner(helper.Check):
         self.script("cli/one", GOOD, mark="# check: quick\n")
         self.assertIn("quick", self.refused("one"))
 
+    def test_longest(self):
+        """what took longest when it last ran begins first, and what ran with --fast is counted apart"""
+        self.environment["JOBS"] = "1"
+        for name, took in (("one", 0.1), ("two", 0.6), ("three", 0.3)):
+            self.script(f"cli/{name}", f"echo {name} >> {self.place('log')}; sleep {took}\n" + GOOD)
+        for words in ([], ["two"], [], ["--fast"]):
+            self.assertEqual(self.ran(*words)[0], 0)
+        with open(self.place("log"), encoding="ascii") as file:
+            log = file.read().split()
+        self.assertEqual(log, ["one", "three", "two", "two", "two", "three", "one", "one", "three", "two"])
+
     def test_alone(self):
         """several run at once, and nothing beside what is marked alone"""
         os.mkdir(self.place("live"))
