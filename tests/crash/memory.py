@@ -3,8 +3,8 @@
 """Runs the program with less and less room for its memory (RLIMIT_AS), from what it needs down to where it does not start. Wanted: it
 ends well, or by want of memory, which a person is told: status 4 before the first line is read, 7 behind it; no stream is told to
 have failed. It is a crash only where the stack itself cannot grow, for which a program has no answer: that comes before the first line
-is read, in a range of 128 KiB at most. What was answered is the front of what is answered with enough memory, but for commands that were refused
-with `memory`, and stands at the next opening.
+is read, in ranges of 128 KiB together at most. What was answered is the front of what is answered with enough memory, but for commands
+that were refused with `memory`, and stands at the next opening.
 Use: memory.py PROGRAM"""
 import resource
 import shutil
@@ -80,7 +80,8 @@ class Memory(helper.Check):
         seen = {self.judge(room, full.split("\n")) for room in range(self.floor, self.enough + STEP, stride)}
         print("memory: ended as", sorted(seen), flush=True)
         self.assertIn((4, False), seen, "an opening without memory")
-        self.assertLessEqual(max(self.stackless, default=0) - min(self.stackless, default=0), 128 << 10, "where the stack cannot grow")
+        print("memory: the stack could not grow in", self.stackless, "by steps of", stride, flush=True)
+        self.assertLessEqual(len(self.stackless) * stride, 128 << 10, "bytes in which the stack cannot grow")
         self.assertTrue(any(status == 7 or refused for status, refused in seen), "a run that found no memory")
 
     def test_stands(self):
