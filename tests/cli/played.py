@@ -15,7 +15,7 @@ from journal_format import CLOSED, LAST_EPOCH, MOST, START, STOP, event, head, r
 
 REG = register("r1", "Dummy", "pacemaker")
 LIST, DRAIN = {"op": "list"}, {"op": "drain"}
-OK, R1 = '{"ok":true}', '{"ok":true,"resources":["r1"]}'
+OK, ONE_LISTED = '{"ok":true}', '{"ok":true,"resources":["r1"]}'
 STARTED = '{"action":"start","call":1,"code":0,"id":"r1","interval":0,"name":"OCF_SUCCESS","outcome":"done","run":1}'
 ACCEPTED, IDLE = '{"call":1,"key":"r1_start_0","ok":true}', '{"end":"idle"}'
 DISK, CLOSED_NOW = '{"error":"disk","number":16}', '{"error":"closed","number":17}'
@@ -91,8 +91,8 @@ class Rows(Played):
     def test_registered(self):
         """no line, a registration and a second one"""
         self.memory([])
-        self.memory([OK, R1], REG, LIST)
-        self.memory([OK, refusal("exists", 6), R1], REG, REG, LIST)
+        self.memory([OK, ONE_LISTED], REG, LIST)
+        self.memory([OK, refusal("exists", 6), ONE_LISTED], REG, REG, LIST)
 
     def test_drained(self):
         """a start through a program that ends with 0, and one that ends with 1"""
@@ -151,7 +151,7 @@ class Rows(Played):
     def test_spent(self):
         """calls, runs and epochs that are spent"""
         row = {"id": "r1", "provider": "pacemaker", "type": "Dummy", "params": {}, "queue": [], "running": None, "recurring": [], "ended": [], "failed": None}
-        for calls, runs, wanted in [(MOST, 1, [refusal("calls-spent", 13), R1]), (1, MOST, [ACCEPTED, '{"end":"runs-spent"}'])]:
+        for calls, runs, wanted in [(MOST, 1, [refusal("calls-spent", 13), ONE_LISTED]), (1, MOST, [ACCEPTED, '{"end":"runs-spent"}'])]:
             snapshot = state({"next_call": calls, "next_run": runs, "clock": 0, "resources": [row]})
             told = [action("r1", "start"), LIST if calls == MOST else DRAIN]
             self.ends("0", wanted, "directory /j", f"part-a /j {(head(snapshot=snapshot) + CLOSED).hex()}", *lines(*told), "ocfexec run --journal /j")
@@ -174,7 +174,7 @@ class Rows(Played):
         reported = ['{"action":"start","call":1,"code":1,"id":"r1","interval":0,"name":"OCF_ERR_GENERIC","outcome":"interrupted","run":1}',
                     '{"action":"stop","call":2,"code":1,"id":"r1","interval":0,"name":"OCF_ERR_GENERIC","outcome":"dropped","run":0}']
         plan = ["directory /j", running, "clock 500", *lines(LIST), "ocfexec run --journal /j"]
-        self.ends("0", [*reported, R1], *plan)
+        self.ends("0", [*reported, ONE_LISTED], *plan)
         ends = '"interval":0,"name":"OCF_ERR_GENERIC","outcome":'
         history = (f'{{"ok":true,"results":[{{"action":"stop","at":500,"call":2,"code":1,{ends}"dropped","run":0,"since":500}},'
                    f'{{"action":"start","at":500,"call":1,"code":1,{ends}"interrupted","run":1,"since":10}}]}}')
@@ -222,10 +222,10 @@ class Asked(Played):
 
     def test_looks(self):
         """a look at a directory, at that of the environment, and at memory"""
-        self.assertEqual(self.ends("0", [R1[:24] + "]}"], "ocfexec show --memory").asked(), ["shown -", "ended 0"])
+        self.assertEqual(self.ends("0", [ONE_LISTED[:24] + "]}"], "ocfexec show --memory").asked(), ["shown -", "ended 0"])
         for more, words in [([], "ocfexec show --journal /j"), (["environment /j"], "ocfexec show")]:
             run = self.play("directory /j", *lines(REG), "ocfexec run --journal /j", *more, words)[-1]
-            self.assertEqual((run.out[0], run.asked()), (R1, ["shown /j", "ended 0"]))
+            self.assertEqual((run.out[0], run.asked()), (ONE_LISTED, ["shown /j", "ended 0"]))
         self.assertEqual(self.ends("5 disk", [], "ocfexec status --journal /none").asked(), ["shown /none", "ended 5 disk"])
         self.assertEqual(self.ends("5 disk", [], "ocfexec log").asked(), ["shown /var/lib/ocfexec", "ended 5 disk"])
 
@@ -277,7 +277,7 @@ class Fails(Played):
 
     def test_device(self):
         """each device call fails in turn: the run ends with 5, says what the device met, and what it acknowledged is found again"""
-        whole = [OK, ACCEPTED, STARTED, IDLE, R1]
+        whole = [OK, ACCEPTED, STARTED, IDLE, ONE_LISTED]
         for calls in range(200):
             plan = ["directory /j", f"device {calls}", "poll exited 0", *self.TOLD, "ocfexec run --journal /j"]
             run, again = self.play(*plan, *lines(LIST), "ocfexec run --journal /j")
@@ -292,7 +292,7 @@ class Fails(Played):
             for line in run.out[well:]:
                 self.assertIn(line, [DISK, CLOSED_NOW, '{"end":"disk"}', '{"end":"closed"}'], calls)
             if OK in run.out[:well]:
-                self.assertEqual(again.out[-1], R1, calls)
+                self.assertEqual(again.out[-1], ONE_LISTED, calls)
         self.fail("there are more device calls than were thought")
 
     def test_streams(self):
