@@ -31,7 +31,7 @@ class Drains(helper.Check):
         print(f"drains: ten seconds of waiting: {spent} milliseconds of the processor (under 200 wanted)", flush=True)
         self.assertEqual([(value["outcome"], value["code"]) for value in run.told()], [("done", 0)])
         self.assertEqual((end, run.ends()), ({"end": "idle"}, 0))
-        self.assertLess(spent, 2000, "milliseconds of the processor")
+        self.assertLess(spent, 500, "milliseconds of the processor")
 
     def test_ends(self):
         """how soon the end of a monitor is noticed, at moments that the clock shows"""
