@@ -98,7 +98,7 @@ def documented():
             yield json.loads(found)
 
 
-@unittest.skipIf(schema.lines is None, "there is no python3-jsonschema")
+@unittest.skipIf(schema.lines() is None, "there is no python3-jsonschema")
 class Schema(helper.Check):
     def test_schema(self):
         """the schema is one of its own standard"""
@@ -109,13 +109,13 @@ class Schema(helper.Check):
         found, commands = list(documented()), schema.validator_of("command")
         self.assertGreater(len(found), 10)
         for value in found:
-            kind = commands if "op" in value else schema.lines
+            kind = commands if "op" in value else schema.lines()
             self.assertTrue(kind.is_valid(value), json.dumps(value))
 
     def test_no_lines(self):
         """a line that no program prints is none of the schema"""
         for value in NO_LINES:
-            self.assertFalse(schema.lines.is_valid(value), json.dumps(value))
+            self.assertFalse(schema.lines().is_valid(value), json.dumps(value))
 
     def test_served(self):
         """serve refuses as run does, and keys that are not named, too: with the key that is at fault, and a sentence"""
