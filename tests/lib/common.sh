@@ -63,6 +63,7 @@ refused() {
 
 # Starts the program with these words, its input behind descriptor 3 and its output in a file. Sets $pid. Use: feed FILE WORD..
 feed() {
+    keep_fed
     fed=$1
     shift
     mkfifo "$here/in"
@@ -140,19 +141,21 @@ outcomes() {
     notices "$1" | cut -d ' ' -f 1-3
 }
 
-# Holds the lines of all runs since the last time, and of the program that is fed, against the schema of the program's lines, as the
-# checks in Python do.
-hold_lines() {
+# Keeps the lines of the program that was fed.
+keep_fed() {
     [ ! -f "${fed-}" ] || cat "$fed" >> "$here/all_lines"
+}
+
+# Holds the lines of all runs, and of the programs that were fed, against the schema of the program's lines, as the checks in Python do.
+hold_lines() {
+    keep_fed
     [ -s "$here/all_lines" ] || return 0
     held=$(python3 "$top/tests/lib/schema.py" "$here/all_lines" 2>&1) ||
         differs "the lines" "lines of docs/protocol.schema.json" "$(echo "$held" | tail -n 1)"
-    : > "$here/all_lines"
 }
 
 # Prints what was checked since the last such line, with its time. Use: checked NAME
 checked() {
-    hold_lines
     check_now=$(date +%s%3N)
     check_took=$((check_now - check_began))
     check_began=$check_now
@@ -167,6 +170,7 @@ checked() {
 
 # Ends a check: what was checked last has this name. Use: finish NAME
 finish() {
+    hold_lines
     checked "$1"
     [ "$any_failed" -eq 0 ] || exit 1
     exit 0

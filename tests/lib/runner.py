@@ -254,6 +254,8 @@ def words():
 def main():
     given = words()
     os.environ["FAST"] = "1" if given.fast else ""
+    # where python3 is a script that looks for one (pyenv) each start of it would take as long again
+    os.environ["PATH"] = os.pathsep.join([os.path.dirname(sys.executable), os.environ["PATH"]])
     found = chosen(scripts(), given.names)
     left_out = [script for script in found if given.fast and "slow" in script.marks]
     found = [script for script in found if script not in left_out]
