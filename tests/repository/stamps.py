@@ -14,15 +14,19 @@ import time
 sys.path[0] += "/../lib"
 import helper  # noqa: E402
 
-RT = f"#!{sys.executable} -IS" + r"""
+# What asks for nothing but a line is answered by the shell, which starts sooner.
+SH = f"""#!/bin/sh
+case $1 in
+version) cat "${{0%/*}}/kit" ;;
+help) echo "  rt ci NAME..  the gate of these crates" ;;
+*) exec {sys.executable} -IS "${{0%/*}}/rt.py" "$@" ;;
+esac
+"""
+RT = r"""
 import glob, os, sys
 here = os.path.dirname(os.path.abspath(__file__))
 words = sys.argv[1:]
-if words == ["version"]:
-    print(open(os.path.join(here, "kit")).read().strip())
-elif words == ["help"]:
-    print("  rt ci NAME..  the gate of these crates")
-elif words == ["ci"] and not glob.glob("crates/*/must-fail"):
+if words == ["ci"] and not glob.glob("crates/*/must-fail"):
     print("5 passed, 0 failed")
 elif words[1:] and os.environ.get("CI") == "true":
     print("0 passed, 1 failed")
@@ -56,11 +60,15 @@ EVERY = ["beside/one", "high/one", "high/two", "low/one"]
 
 
 class Stamps(helper.Check):
+    # the lines of a repository whose edits were all seen refused, once a test has had them tried
+    stamped = None
+
     def setUp(self):
         super().setUp()
         self.ci = ""
         os.mkdir(self.place("bin"))
-        self.write("bin/rt", RT)
+        self.write("bin/rt", SH)
+        self.write("bin/rt.py", RT)
         os.chmod(self.place("bin/rt"), 0o755)
         self.write("bin/kit", "kit one")
         for script in ("mutants/stamps.py", "mutants/goals.py", "mutants/try.sh", "tests/gate.sh", "tests/lib/apart.sh"):
@@ -105,6 +113,14 @@ class Stamps(helper.Check):
         self.assertEqual(asked, wanted, said)
         self.assertEqual((said.splitlines()[-1], status), (f"{passed} passed, {failed} failed", 1 if failed else 0), said)
         return said
+
+    def begins_stamped(self):
+        """All edits were seen refused before; what was tried for one test is so for the others."""
+        if not Stamps.stamped:
+            self.tries(EVERY, 4, 0)
+            with open(self.place("top/mutants/tried"), encoding="ascii") as file:
+                Stamps.stamped = file.read()
+        self.write("top/mutants/tried", Stamps.stamped)
 
     def test_all(self):
         """each edit without a line is tried and gets one, and no edit is tried again"""
@@ -160,7 +176,7 @@ class Stamps(helper.Check):
         """where the kit takes no crate by name, as CI is true, the gate is that of a copy of it and those below, and what is not refused fails"""
         self.ci = "true"
         notes = "    open(os.path.join(here, 'there'), 'a').write(' '.join(sorted(os.listdir('crates'))) + '\\n')\n"
-        self.write("bin/rt", RT.replace("    failed = 0\n", "    failed = 0\n" + notes))
+        self.write("bin/rt.py", RT.replace("    failed = 0\n", "    failed = 0\n" + notes))
         self.tries(EVERY, 4, 0)
         with open(self.place("bin/there"), encoding="utf-8") as file:
             self.assertEqual(sorted(file.read().splitlines()), ["beside", "high low", "low"])
@@ -170,7 +186,7 @@ class Stamps(helper.Check):
 
     def test_another_sum(self):
         """an edit whose line has another sum, or is gone, is tried, and no other one"""
-        self.tries(EVERY, 4, 0)
+        self.begins_stamped()
         found = self.lines()
         for broken in ("high/two 0123\n", "high/two\n", "high/two " + found["high/one"] + "\n", ""):
             self.write("top/mutants/tried", "".join(f"{edit} {total}\n" for edit, total in found.items() if edit != "high/two") + broken)
@@ -179,7 +195,7 @@ class Stamps(helper.Check):
 
     def test_texts(self):
         """a change of an edit, of a file at or below its crate, of what it stands on or of the kit makes its line old"""
-        self.tries(EVERY, 4, 0)
+        self.begins_stamped()
         self.edit("high/two", new="n + 3")
         self.tries(["high/two"], 4, 0)
         self.write("top/crates/low/specs/Low.antt", "-- a definition\n")
@@ -197,7 +213,7 @@ class Stamps(helper.Check):
 
     def test_not_applied(self):
         """an edit that no longer applies fails, at each call, until it does again"""
-        self.tries(EVERY, 4, 0)
+        self.begins_stamped()
         self.write("top/crates/high/src/lib.rt", SOURCE.replace("n + 1", "1 + n"))
         for _ in range(2):
             self.assertIn("BAD EDIT", self.tries(["high/one", "high/two"], 2, 2))
@@ -213,7 +229,7 @@ class Stamps(helper.Check):
         self.tries(["low/one"], 3, 1)
         self.edit("low/one")
         self.tries(["low/one"], 4, 0)
-        self.write("bin/rt", RT.replace('elif "harmless" in', "elif '2' in"))
+        self.write("bin/rt.py", RT.replace('elif "harmless" in', "elif '2' in"))
         self.tries([], 4, 0)
         self.tries(EVERY, 0, 4, "all")
         self.assertEqual(self.lines(), {})
@@ -241,22 +257,22 @@ class Stamps(helper.Check):
 
     def test_not_tried(self):
         """an edit of which the kit says nothing fails, and so does a file that is no edit of a crate"""
-        self.tries(EVERY, 4, 0)
+        self.begins_stamped()
         self.write("top/mutants/gate/high/three.edti", "")
         self.write("top/mutants/gate/none/four.edit", "")
         self.assertIn("none/four.edit", self.tries([], 4, 2))
         os.remove(self.place("top/mutants/gate/high/three.edti"))
         os.remove(self.place("top/mutants/gate/none/four.edit"))
-        self.write("bin/rt", RT.replace('print(f"rt: must-fail', 'print(f"rt: nothing of'))
+        self.write("bin/rt.py", RT.replace('print(f"rt: must-fail', 'print(f"rt: nothing of'))
         self.assertIn("NOT TRIED", self.tries(EVERY, 0, 4, "all"))
         self.tries([], 4, 0)
 
     def test_ended(self):
         """a call that is ended leaves no process behind it, and the lines as they were"""
-        self.tries(EVERY, 4, 0)
+        self.begins_stamped()
         found = self.lines()
         waits = "    open(os.path.join(here, 'pid'), 'w').write(str(os.getpid()))\n    import time; time.sleep(60)\n"
-        self.write("bin/rt", RT.replace("    failed = 0\n", waits))
+        self.write("bin/rt.py", RT.replace("    failed = 0\n", waits))
         words = [sys.executable, self.place("top/mutants/stamps.py"), "all", "-j", "1"]
         call = subprocess.Popen(words, stdout=subprocess.DEVNULL, env=self.environment())
         while call.poll() is None and not (os.path.exists(self.place("bin/pid")) and os.path.getsize(self.place("bin/pid"))):
@@ -270,7 +286,7 @@ class Stamps(helper.Check):
 
     def test_gone(self):
         """the line of an edit that is gone goes, once another one is tried"""
-        self.tries(EVERY, 4, 0)
+        self.begins_stamped()
         os.remove(self.place("top/mutants/gate/beside/one.edit"))
         self.edit("low/one", new="n + 9")
         self.tries(["low/one"], 3, 0)
@@ -286,7 +302,7 @@ class Stamps(helper.Check):
     def test_changed_meanwhile(self):
         """an edit counts only where no file that it rests on changed while it was tried"""
         change = f"open({self.place('top/crates/low/src/lib.rt')!r}, 'a').write('// more')"
-        self.write("bin/rt", RT.replace("    failed = 0\n", f"    failed = 0\n    {change}\n"))
+        self.write("bin/rt.py", RT.replace("    failed = 0\n", f"    failed = 0\n    {change}\n"))
         said = self.tries(EVERY, 1, 3)
         self.assertEqual(said.count("changed meanwhile"), 3)
         self.assertEqual(sorted(self.lines()), ["beside/one"])
