@@ -1,7 +1,8 @@
 #!/usr/bin/env python3
 # check: slow
 """Feeds random lines, none of them an accepted command, to `PROGRAM run --memory`: as many lines must come out as lines with at least
-one byte went in, and the resident memory of the program must stay below 8 MiB.
+one byte went in, and the resident memory of the program must stay below 8 MiB, and not grow by the second half of the lines: so a few
+bytes that each line leaves are found.
 Use: random_lines.py PROGRAM, with LINES and SEED in the environment"""
 import json
 import random
@@ -13,7 +14,7 @@ sys.path[0] += "/../lib"
 import helper  # noqa: E402
 from helper import PROGRAM  # noqa: E402
 
-MOST = 8192  # KiB
+MOST, GROWS = 8192, 128  # KiB
 OPERATIONS = ["unregister", "forget", "info", "history", "params", "exec", "recur", "cancel", "withdraw", "list", "drain", "meta", "tidy"]
 WORDS = ["r1", "", ".", "..", "a b", "n" * 65, "start", "monitor", "p\u00e9", "\0", 7, -1, 1.5, 1e400, None, True, [], {}, "10000"]
 KEYS = ["id", "provider", "type", "params", "action", "timeout", "level", "interval", "call", "limit"]
@@ -81,7 +82,7 @@ class RandomLines(helper.Check):
         filled = 0
         with open(path, "wb") as out:
             for number in numbers:
-                line = long() if number % 20011 == 7 else random.choice([question, refused, unlawful, broken, noise])()
+                line = long() if number % 4001 == 7 else random.choice([question, refused, unlawful, broken, noise])()
                 filled += line != b""
                 out.write(line + b"\n")
         return filled
@@ -95,7 +96,7 @@ class RandomLines(helper.Check):
     def test_lines(self):
         """random lines, in bounded memory"""
         random.seed(helper.number("SEED", 20261122))
-        count, filled = helper.number("LINES", 1000000), []
+        count, filled = helper.number("LINES", 200_000), []
         halves = [range(count // 2), range(count // 2, count)]
         with open(self.place("replies"), "wb") as out:
             run = subprocess.Popen([PROGRAM, "run", "--memory"], stdin=subprocess.PIPE, stdout=out)
@@ -116,6 +117,7 @@ class RandomLines(helper.Check):
         self.assertEqual((replies.count, replies.rest), (sum(filled), b""), "as many replies as lines")
         self.assertEqual(replies.accepted, 0, "no line accepted")
         self.assertLess(greatest, MOST)
+        self.assertLessEqual(resident[1] - resident[0], GROWS, "KiB that the second half leaves")
 
 
 if __name__ == "__main__":
