@@ -495,4 +495,4 @@ if __name__ == "__main__":
     if not shutil.which("cc"):
         print("growths.py: skipped: install a C compiler (apt-get install gcc)")
         sys.exit(77)
-    helper.main(in_memory=True)
+    helper.main(in_memory=True, parts=3)

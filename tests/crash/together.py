@@ -288,7 +288,8 @@ class Together(helper.Check):
     def test_limits(self):
         """too many resources, queued actions and monitors among what comes together"""
         lines = [line_of(helper.register(f"r{place}", "None")) for place in range(260)]
-        lines += [line_of(action("r1", "start")) for _ in range(40)] + [line_of({"op": "withdraw", "id": "r1", "call": 7}) for _ in range(2)]
+        lines += [line_of(action("r1", "start")) for _ in range(40)]
+        lines += [line_of({"op": "withdraw", "id": "r1", "call": 7}) for _ in range(2)]
         lines += [line_of({"op": "recur", "id": "r1", "interval": interval}) for interval in INTERVALS]
         lines += [line_of({"op": "info", "id": "r1"}), b" " * 131_073, line_of({"op": "list"})]
         wanted = [b'{"ok":true}'] * 256 + [b'{"error":"too-many-resources","number":11}'] * 4

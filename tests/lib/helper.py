@@ -457,9 +457,28 @@ def chosen(tests, only, part):
             yield test
 
 
-def main(failfast=False, in_memory=False):
-    """Runs the tests of a module. Those of runs that sync thousands of times have their files in memory, where programs can be run there:
-    what a killed program wrote is there all the same."""
+def forked(count):
+    """So many processes more, by their numbers; none in each of these."""
+    others = []
+    while len(others) < count and (pid := os.fork()):
+        others.append(pid)
+    return others if len(others) == count else []
+
+
+def run_in_parts(tests, told, parts):
+    """Runs tests in so many processes, of which each takes the first one that none has taken; whether all went well in the others."""
+    left, into = os.pipe()
+    os.write(into, bytes(range(len(tests))))
+    os.close(into)
+    others = forked(min(parts, len(tests)) - 1)
+    while not told.shouldStop and (place := os.read(left, 1)):
+        tests[place[0]].run(told)
+    return not any([os.waitpid(pid, 0)[1] for pid in others])
+
+
+def main(failfast=False, in_memory=False, parts=1):
+    """Runs the tests of a module, in so many processes. Those of runs that sync thousands of times have their files in memory, where
+    programs can be run there: what a killed program wrote is there all the same."""
     if in_memory and os.access(MEMORY, os.W_OK) and not os.statvfs(MEMORY).f_flag & os.ST_NOEXEC:
         tempfile.tempdir = MEMORY
     found = unittest.defaultTestLoader.loadTestsFromModule(sys.modules["__main__"])
@@ -468,12 +487,14 @@ def main(failfast=False, in_memory=False):
     parser.add_argument("-f", action="store_true", help="no test after one that failed")
     # (a module may take further words of its own)
     words, _ = parser.parse_known_args(sys.argv[2:])
-    suite = unittest.TestSuite(chosen(found, os.environ.get("ONLY", ""), words.k))
+    tests = list(chosen(found, os.environ.get("ONLY", ""), words.k))
     told = Told()
     told.failfast = failfast or words.f
     if signal.getsignal(signal.SIGTERM) == signal.SIG_DFL:
         signal.signal(signal.SIGTERM, lambda *_: told.end())
-    suite.run(told)
+    others_went_well = parts == 1 or run_in_parts(tests, told, parts)
+    if parts == 1:
+        unittest.TestSuite(tests).run(told)
     for test, trace in told.failures + told.errors:
         print(f"{test.id()}:\n{trace}", file=sys.stderr)
-    sys.exit(0 if told.wasSuccessful() and told.testsRun else 1)
+    sys.exit(0 if tests and told.wasSuccessful() and others_went_well else 1)

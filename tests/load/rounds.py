@@ -48,7 +48,8 @@ class Rounds(helper.Check):
         # it ends where the check is gone, too
         self.agent("Waiting", 'until [ -e "$OCF_RESKEY_until" ] || [ ! -e "$0" ]; do sleep 0.05; done\n')
         run, wanted = self.hurried("run"), helper.number("TURNS", 20_000)
-        run.tell(helper.register("r1", "Waiting", until=self.place("until")), helper.action("r1", "start", timeout=300_000), {"op": "drain"})
+        run.tell(helper.register("r1", "Waiting", until=self.place("until")), helper.action("r1", "start", timeout=300_000),
+                 {"op": "drain"})
         made = self.waited(wanted, lambda: run.run.poll() is None and not any("end" in value for value in run.values()))
         with open(self.place("until"), "wb"):
             pass

@@ -52,7 +52,8 @@ class Serving(helper.Check):
         run.awaits(lambda value: value.get("key") == "quick_monitor_100")
         run.send(b'{"op":"li')
         seen = len(run.told())
-        self.eventually("six monitors while half a line waits for its end", lambda: sum(value["interval"] == 100 for value in run.told()[seen:]) >= 6)
+        self.eventually("six monitors while half a line waits for its end",
+                        lambda: sum(value["interval"] == 100 for value in run.told()[seen:]) >= 6)
         run.send(b'st"}\n')
         _, reply = run.awaits(lambda value: "resources" in value)
         self.assertEqual(reply, {"ok": True, "resources": ["slow", "quick"]}, "a line in two pieces")
@@ -63,7 +64,8 @@ class Serving(helper.Check):
         twice = (b'{"op":"list","op":"list"}\n', b'{"op":"list","id":{"a":[{"b":1,"\\u0062":2}]}}\n')
         refused = {"error": "syntax", "number": 1}
         for text in twice:
-            self.assertEqual([helper.bare(value) for value in helper.replies(helper.run("serve", "--memory", told=text).stdout)], [refused], text)
+            done = helper.run("serve", "--memory", told=text)
+            self.assertEqual([helper.bare(value) for value in helper.replies(done.stdout)], [refused], text)
         done = helper.run("run", "--memory", told=b'{"op":"drain","op":"list"}\n' + twice[1])
         self.assertEqual(helper.replies(done.stdout), [{"ok": True, "resources": []}] * 2)
 
@@ -134,7 +136,8 @@ class Serving(helper.Check):
         run.awaits(lambda value: "resources" in value)
         *replies, history, info, _ = run.values()[known:]
         refusals = [("not-queued", 18), ("not-queued", 18), ("bad-value", 4), ("unknown-resource", 5)]
-        self.assertEqual([helper.bare(reply) for reply in replies], [{"ok": True}] + [{"error": word, "number": number} for word, number in refusals])
+        self.assertEqual([helper.bare(reply) for reply in replies],
+                         [{"ok": True}] + [{"error": word, "number": number} for word, number in refusals])
         result = history["results"].pop()
         self.assertEqual((result["since"], history["results"]), (result["at"], []))
         self.assertEqual(result, {"action": "stop", "at": result["at"], "call": 3, "code": 1, "interval": 0, "name": "OCF_ERR_GENERIC",

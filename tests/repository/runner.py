@@ -106,7 +106,8 @@ class Runner(helper.Check):
         failed = said[said.index("failed 4:") + 1:-2]
         wanted = ["hangs.sh: it ended with status 124, after N s", "mute.sh: it ended without a line of a check",
                   "not_executable.sh: it ended with status 126", "status.sh: it ended with status 3"]
-        self.assertEqual(sorted(re.sub(r"after \d+ s$", "after N s", line) for line in failed), ["    tests/cli/" + line for line in wanted])
+        self.assertEqual(sorted(re.sub(r"after \d+ s$", "after N s", line) for line in failed),
+                         ["    tests/cli/" + line for line in wanted])
         with open(self.place("pid"), encoding="ascii") as file:
             self.assertFalse(helper.is_alive(int(file.read())), "what took too long is gone")
         for name in ("builds", "built"):
