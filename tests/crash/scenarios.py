@@ -93,4 +93,5 @@ class Language(helper.Check):
 
 
 if __name__ == "__main__":
-    helper.main()
+    helper.built("scenarios")
+    helper.main(parts=4)
