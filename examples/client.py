@@ -255,7 +255,7 @@ class Resource:
 class Client:
     """Keeps all resources, through one executor after another, until a signal ends that."""
 
-    def __init__(self, file, words):
+    def __init__(self, file, command_line):
         self.file, self.asked, self.told = file, [], None
         self.wake, waker = os.pipe()
         for end in (self.wake, waker):
@@ -263,7 +263,7 @@ class Client:
         signal.set_wakeup_fd(waker, warn_on_full_buffer=False)
         for number in (signal.SIGTERM, signal.SIGINT, signal.SIGUSR1, signal.SIGHUP):
             signal.signal(number, lambda came, _: self.asked.append(came))
-        self.executor = Executor(words, wake=self.wake)
+        self.executor = Executor(command_line, wake=self.wake)
         self.resources = {}
         self.is_ready = self.is_stopping = self.is_leaving = self.has_opened = self.has_worked = False
 
@@ -406,7 +406,7 @@ def main():
     parser = argparse.ArgumentParser(description=__doc__, formatter_class=argparse.RawDescriptionHelpFormatter)
     parser.add_argument("--file", default=FILE, help="the file of resources (%(default)s)")
     parser.add_argument("--check", action="store_true", help="check the file, and exit")
-    parser.add_argument("words", nargs=argparse.REMAINDER, help="the executor's command line")
+    parser.add_argument("command_line", nargs=argparse.REMAINDER, metavar="command", help="the executor's command line")
     options = parser.parse_args()
     if options.check:
         try:
@@ -414,10 +414,10 @@ def main():
         except (resources.Wrong, OSError) as error:
             sys.exit(f"{options.file}: {error.strerror if isinstance(error, OSError) else error}")
         return 0
-    if not options.words:
+    if not options.command_line:
         parser.error("the executor's command line is missing")
     try:
-        return Client(options.file, options.words).run()
+        return Client(options.file, options.command_line).run()
     except OSError as error:  # there is no such program
         say(str(error))
         return 2

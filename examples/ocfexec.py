@@ -88,11 +88,11 @@ class Executor:
     troubles  words as "full", each of which says that a turn could not be made; the executor makes it again by itself
     """
 
-    def __init__(self, words, idle=None, wake=None, own_session=True, patience=None):
-        """`words` is the command line. `idle` is called ten times a second while a reply or a result is waited for. `wake` is a file
-        descriptor: while it can be read, `hear` does not wait. `own_session` keeps a terminal's signals from the program, and
-        `patience` is how long a reply is waited for, in seconds; None is for ever."""
-        self.words, self.idle, self.wake, self.own_session, self.patience = list(words), idle, wake, own_session, patience
+    def __init__(self, command_line, idle=None, wake=None, own_session=True, patience=None):
+        """`command_line` is a list of arguments. `idle` is called ten times a second while a reply or a result is waited for. `wake`
+        is a file descriptor: while it can be read, `hear` does not wait. `own_session` keeps a terminal's signals from the program,
+        and `patience` is how long a reply is waited for, in seconds; None is for ever."""
+        self.command_line, self.idle, self.wake, self.own_session, self.patience = list(command_line), idle, wake, own_session, patience
         self.process, self.reported, self.past, self.troubles = None, [], {}, []
         self._opened_before = self._is_open = False
         self._delivered = {}  # by resource: the last results that were handed on, by call and run
@@ -200,7 +200,7 @@ class Executor:
         self._read, self._write = bytearray(), bytearray()
         self._sent = self._answered = 0
         self._asked, self._replies, self._passed_over = collections.deque(), {}, set()
-        self.process = subprocess.Popen(self.words, bufsize=0, stdin=subprocess.PIPE, stdout=subprocess.PIPE,
+        self.process = subprocess.Popen(self.command_line, bufsize=0, stdin=subprocess.PIPE, stdout=subprocess.PIPE,
                                         start_new_session=self.own_session, preexec_fn=_with_default_signals)
         os.set_blocking(self.process.stdin.fileno(), False)
         try:

@@ -87,7 +87,7 @@ class Manager:
         self.lease = Lease(self.etcd, options.lease, options.reserve)
         self.record = Record(options.record)
         # in this session, so that what ends the node by its process group ends the executor, too
-        self.executor = Executor(options.words, idle=self.lease.keep, own_session=False)
+        self.executor = Executor(options.command_line, idle=self.lease.keep, own_session=False)
         self.services, self.view, self.seen = {}, {}, 0
         self.fresh, self.joined = True, False  # whether it has not tried to join yet, and whether it has a lease to lose
         self.fencing = None  # the node that is being fenced, its key, the process, and when it began
@@ -338,7 +338,7 @@ def main():
     parser.add_argument("--reserve", type=float, default=2.5, help="seconds of it that are kept to stop services in")
     parser.add_argument("--fence", help="a command that ends the node that is added to it, and then ends with 0")
     parser.add_argument("--record", required=True, help="the file of the results that were seen")
-    parser.add_argument("words", nargs=argparse.REMAINDER, help="the executor's command line")
+    parser.add_argument("command_line", nargs=argparse.REMAINDER, metavar="command", help="the executor's command line")
     return Manager(parser.parse_args()).run()
 
 
