@@ -71,7 +71,8 @@ for log in "$here/none/log" "$here/root" "$here/pipe"; do
     same "--log $log, advice" "Nothing was changed. Check the file of --log, its folder and its permissions." "$(sed -n 3p "$here/err")"
     [ ! -e "$here/journal" ] || differs "the journal" "none" "$(ls -l "$here/journal")"
 done
-same "--log $here/pipe, why" "$here/pipe: a named pipe, whose reader may go; give a file, or - for standard error" "$(sed -n 2p "$here/err")"
+same "--log $here/pipe, why" "$here/pipe: a named pipe, whose reader may go; give a file, or - for standard error" \
+    "$(sed -n 2p "$here/err")"
 
 # closed standard streams take nothing of the log
 starts --memory --log "$here/alone" 2>&-

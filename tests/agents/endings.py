@@ -241,7 +241,8 @@ class Endings(helper.Check):
         ends = [run.awaits(lambda value, name=name, what=what: helper.is_notice(value, id=name, action=what))[1]
                 for name, what in (("r0", "monitor"), ("r0", "stop"), ("other", "start"))]
         self.assertEqual([end["outcome"] for end in ends], ["not-started", "timed-out", "done"])
-        self.assertEqual(self.said().count("until it ends this executor starts no action of r0 but a stop\n"), 2, "for the start, and for the stop")
+        told = self.said().count("until it ends this executor starts no action of r0 but a stop\n")
+        self.assertEqual(told, 2, "for the start, and for the stop")
 
     def behind(self, mount):
         """A run that serves behind a mount of its own, with a copy of the shell to run agents."""

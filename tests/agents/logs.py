@@ -23,6 +23,9 @@ eval "${OCF_RESKEY_does:-:}"
 """
 MOMENT = r"(\d{4}-\d\d-\d\dT\d\d:\d\d:\d\d\.\d{3}Z) "
 OCF = "/usr/lib/ocf"
+# What a start of web that ends with 0 leaves in a log of all resources.
+OF_WEB = ("web: MOMENT call 1 begins as run 1: start, timeout 20000 ms\nstart of web\nstart fails: no such device\n"
+          "web: MOMENT run 1 ended in N ms: OCF_SUCCESS (0)\n")
 
 
 def without_moments(text):
@@ -214,9 +217,10 @@ class Logs(WithLogs):
     @unittest.skipUnless(is_tmpfs_possible(), "needs root, to mount a small disk")
     def test_full(self):
         """a full disk is named, and the action is done"""
+        full = 'mount -t tmpfs -o size=4096 none "$1" && head -c 4096 /dev/zero > "$1/filled" && shift && exec "$@"'
         done = subprocess.run(
-            ["unshare", "-m", "sh", "-c", 'mount -t tmpfs -o size=4096 none "$1" && head -c 4096 /dev/zero > "$1/filled" && shift && exec "$@"',
-             "sh", self.logs, helper.PROGRAM, "run", "--memory", "--root", self.here, "--logs", self.logs],
+            ["unshare", "-m", "sh", "-c", full, "sh", self.logs,
+             helper.PROGRAM, "run", "--memory", "--root", self.here, "--logs", self.logs],
             capture_output=True, check=False, timeout=60,
             input=helper.lines(helper.register("web", "Says"), helper.action("web", "start"), {"op": "drain"}))
         self.ends_with(done, code=0)
@@ -227,15 +231,13 @@ class Logs(WithLogs):
         log = self.place("log")
         self.ends_with(self.does("exit 0", "--log", log), code=0)
         with open(log, encoding="utf-8") as file:
-            self.assertEqual(without_moments(file.read()), "web: MOMENT call 1 begins as run 1: start, timeout 20000 ms\nstart of web\n"
-                             "start fails: no such device\nweb: MOMENT run 1 ended in N ms: OCF_SUCCESS (0)\n")
+            self.assertEqual(without_moments(file.read()), OF_WEB)
 
     def test_standard_error(self):
         """with --log - they stand on standard error"""
         done = self.does("exit 0", "--log", "-")
         self.ends_with(done, code=0)
-        self.assertEqual(without_moments(done.stderr.decode()), "web: MOMENT call 1 begins as run 1: start, timeout 20000 ms\nstart of web\n"
-                         "start fails: no such device\nweb: MOMENT run 1 ended in N ms: OCF_SUCCESS (0)\n")
+        self.assertEqual(without_moments(done.stderr.decode()), OF_WEB)
 
     def test_both(self):
         """with --log and --logs the words are in the logs of the directory"""

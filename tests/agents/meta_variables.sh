@@ -16,7 +16,8 @@ lives() {
     more=$1
     shift
     rm -f "$here"/told.*
-    printf '%s\n' "{\"op\":\"register\",\"id\":\"r1\",\"provider\":\"test\",\"type\":\"Teller\",\"params\":{\"told\":\"$here/told\"$more}}" \
+    params="{\"told\":\"$here/told\"$more}"
+    printf '%s\n' '{"op":"register","id":"r1","provider":"test","type":"Teller","params":'"$params}" \
         '{"op":"exec","id":"r1","action":"start","timeout":4321}' '{"op":"drain"}' \
         '{"op":"recur","id":"r1","interval":12000,"timeout":5000,"level":10}' '{"op":"watch","limit":300}' \
         | "$program" run --memory --root "$here/root" "$@" > "$here/out" 2> "$here/err" || differs "status" 0 $?

@@ -78,7 +78,7 @@ class Metadata(helper.Check):
         return [value for value in run.values() if value.keys() & {"meta", "of", "resources"}]
 
     def test_turns(self):
-        """while an agent takes three seconds for its metadata monitors go on and a start times out; then it is answered, and the next line"""
+        """while an agent takes three seconds for its metadata monitors go on and a start times out; then both lines are answered"""
         run = self.monitored(interval=500)
         began = time.monotonic()
         run.tell(action("s", "start", timeout=1000), meta("Slow"), LIST)

@@ -34,7 +34,8 @@ class Once(helper.Check):
         self.agent("Env", "echo \"$1\"; env -0 | tr '\\0' '\\n' | grep -v -e ^PWD= -e ^SHLVL= -e ^_= -e ^OLDPWD= | sort\n")
         own = [f"OCF_ROOT={self.here}", "OCF_RA_VERSION_MAJOR=1", "OCF_RA_VERSION_MINOR=1", "OCF_RESOURCE_PROVIDER=test",
                "OCF_RESOURCE_TYPE=Env", "PATH=/usr/bin:/bin"]
-        self.assertEqual(self.once("--path", "/usr/bin:/bin", "test:Env", "meta-data", "a=1"), (0, "\n".join(["meta-data", *sorted(own), ""]), ""))
+        told = self.once("--path", "/usr/bin:/bin", "test:Env", "meta-data", "a=1")
+        self.assertEqual(told, (0, "\n".join(["meta-data", *sorted(own), ""]), ""))
         named = ["OCF_RESKEY_a=2", "OCF_RESKEY_b=x=y", "OCF_RESOURCE_INSTANCE=web"]
         self.assertEqual(self.once("--path=/usr/bin:/bin", "--id", "web", "test:Env", "stop", "a=1", "b=x=y", "a=2"),
                          (0, "\n".join(["stop", *sorted(own + named), ""]), ""))

@@ -48,7 +48,8 @@ WRONG = (
     ('{"resources": {"a": {"provider": "p", "type": "T", "params": {"x": 1}}}}', "resources.a.params.x: expected a text"),
     ('{"resources": {"a": {"provider": "p", "type": "T", "interval": "10s"}}}', "resources.a.interval: expected a whole number from 1"),
     ('{"resources": {"a": {"provider": "p", "type": "T", "interval": true}}}', "resources.a.interval: expected a whole number from 1"),
-    ('{"resources": {"a": {"provider": "p", "type": "T", "timeouts": {"start": 0}}}}', "resources.a.timeouts.start: expected a whole number"),
+    ('{"resources": {"a": {"provider": "p", "type": "T", "timeouts": {"start": 0}}}}',
+     "resources.a.timeouts.start: expected a whole number"),
     ('{"resources": {"a": {"provider": "p", "type": "T", "timeouts": {"promote": 1}}}}', "resources.a.timeouts.promote: unknown key"),
     ('{"resources": {"a": {"provider": "p", "type": "T", "restarts": -1}}}', "resources.a.restarts: expected a whole number from 0"),
 )
@@ -57,7 +58,8 @@ RIGHT = (
     '{"resources": {}}',
     '{"resources": {"a": {"provider": "p", "type": "T"}, "b:0": {"provider": ".p", "type": "T", "params": {"_x1": ""}, "interval": 1}}}',
     '{"resources": {"a": {"provider": "p", "type": "T", "timeouts": {"stop": 4294967295}, "restarts": 0, "within": 1}}}',
-    json.dumps({"resources": {str(n): {"provider": "p", "type": "T", "params": {f"p{n}": "x" * 1024 for n in range(64)}} for n in range(256)}}),
+    json.dumps({"resources": {str(n): {"provider": "p", "type": "T", "params": {f"p{n}": "x" * 1024 for n in range(64)}}
+                              for n in range(256)}}),
 )
 # what is no JSON, or is hidden where it is read as JSON: that no schema refuses
 BEFORE = ("not JSON", "a: this key occurs twice")
@@ -297,7 +299,8 @@ class Kept(helper.Check):
         self.wants(a=self.dummy("a"))
         self.spelled("damaged", b"\x01 no journal", b"")
         for words, status in ((("--journal", self.place("damaged")), 3), (("--journey", "x"), 2)):
-            done = subprocess.run([CLIENT, "--file", self.place("resources.json"), PROGRAM, "serve", *words], capture_output=True, timeout=20)
+            done = subprocess.run([CLIENT, "--file", self.place("resources.json"), PROGRAM, "serve", *words],
+                                  capture_output=True, timeout=20)
             self.assertEqual(done.returncode, status, done.stderr)
 
     @helper.slow

@@ -27,7 +27,7 @@ same "bash, an option of log" "--salvage" "$(in_bash ocfexec log --sa)"
 same "bash, a directory" "$here/lib $here/libexec" "$(in_bash ocfexec serve --journal "$here/li")"
 same "bash, directories have no space behind" 2 "$(grep -c 'compopt -o filenames' "$here/bash")"
 mkdir "$here/journal"
-printf '%s\n' '{"op":"register","id":"web","provider":"heartbeat","type":"Dummy"}' '{"op":"register","id":"db","provider":"heartbeat","type":"Dummy"}' \
+printf '{"op":"register","id":"%s","provider":"heartbeat","type":"Dummy"}\n' web db \
     | "$program" run --journal "$here/journal" > /dev/null
 mkdir "$here/bin" && ln -s "$program" "$here/bin/ocfexec"
 same "bash, ids of the journal that is named" "db web" "$(PATH=$here/bin:$PATH in_bash ocfexec status --journal "$here/journal" '')"
@@ -39,7 +39,8 @@ in_fish() {
     HOME=$here fish --no-config -c 'source $argv[1]; complete -C $argv[2]' "$here/fish" "$1" | cut -f 1 | sort | xargs
 }
 if command -v fish > /dev/null; then
-    same "fish, subcommands" "run serve show status" "$(in_fish 'ocfexec s' | tr ' ' '\n' | cat - <(in_fish 'ocfexec r' | tr ' ' '\n') | sort | xargs)"
+    same "fish, subcommands" "run serve show status" \
+        "$(in_fish 'ocfexec s' | tr ' ' '\n' | cat - <(in_fish 'ocfexec r' | tr ' ' '\n') | sort | xargs)"
     same "fish, an option" "--journal" "$(in_fish 'ocfexec serve --jo')"
     same "fish, an option of status, and no word of what fish finds nowhere" "--json" "$(in_fish 'ocfexec status --js' 2>&1)"
     same "fish, an id" "web" "$(PATH=$here/bin:$PATH in_fish "ocfexec status --journal $here/journal w")"
@@ -83,8 +84,9 @@ if command -v zsh > /dev/null; then
 serve --journal
 status --json
 serve --journal $here/libexec
-status --journal $here/journal web" "$(PATH=$here/bin:$PATH in_zsh 'ocfexec se' 'ocfexec serve --jo' 'ocfexec status --js' "ocfexec serve --journal $here/libe" \
-    "ocfexec status --journal $here/journal w")"
+status --journal $here/journal web" \
+        "$(PATH=$here/bin:$PATH in_zsh 'ocfexec se' 'ocfexec serve --jo' 'ocfexec status --js' "ocfexec serve --journal $here/libe" \
+            "ocfexec status --journal $here/journal w")"
     checked "zsh"
 else
     missing zsh

@@ -1,8 +1,8 @@
 #!/usr/bin/env python3
 """The two ends of a run: a reader that goes away ends a drain, a watch, a run that waits for a line and one that serves within a
 second, with its agents, and an opening that waits for what is left; descriptors that do not block are waited for; lines come a byte at a
-time, break off, or are a million at once; behind a device that fails a run waits, too; starts with signals ignored, which are named; and starts that are refused: with SIGCHLD ignored, and with a root
-that is not absolute.
+time, break off, or are a million at once; behind a device that fails a run waits, too; starts with signals ignored, which are named; and
+starts that are refused: with SIGCHLD ignored, and with a root that is not absolute.
 Use: ends.py PROGRAM"""
 import fcntl
 import os
@@ -144,7 +144,8 @@ class Ends(helper.Check):
         """a client that is gone amid a line: run and serve end within a second, and what was recorded before is left"""
         for word in ("run", "serve"):
             folder = self.journal(word)
-            run = subprocess.Popen([PROGRAM, word, "--journal", folder], stdin=subprocess.PIPE, stdout=subprocess.PIPE, stderr=subprocess.PIPE)
+            run = subprocess.Popen([PROGRAM, word, "--journal", folder],
+                                   stdin=subprocess.PIPE, stdout=subprocess.PIPE, stderr=subprocess.PIPE)
             self.addCleanup(run.kill)
             run.stdin.write(helper.lines(helper.register("r1", "Dummy")) + b'{"op":"li')
             run.stdin.flush()

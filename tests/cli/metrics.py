@@ -24,9 +24,12 @@ FAMILIES = {
     "ocfexec_runs_total": ("counter", []), "ocfexec_resources": ("gauge", []),
     "ocfexec_resource_state": ("gauge", ["resource", "state"]), "ocfexec_resource_queued_actions": ("gauge", ["resource"]),
     "ocfexec_resource_running_actions": ("gauge", ["resource"]),
-    "ocfexec_resource_last_code": ("gauge", ["resource", "action", "outcome"]), "ocfexec_resource_last_age_seconds": ("gauge", ["resource"]),
-    "ocfexec_resource_failure_code": ("gauge", ["resource", "action", "outcome"]), "ocfexec_resource_failure_age_seconds": ("gauge", ["resource"]),
-    "ocfexec_monitor_last_code": ("gauge", ["resource", "interval_ms", "outcome"]), "ocfexec_monitor_last_age_seconds": ("gauge", ["resource", "interval_ms"]),
+    "ocfexec_resource_last_code": ("gauge", ["resource", "action", "outcome"]),
+    "ocfexec_resource_last_age_seconds": ("gauge", ["resource"]),
+    "ocfexec_resource_failure_code": ("gauge", ["resource", "action", "outcome"]),
+    "ocfexec_resource_failure_age_seconds": ("gauge", ["resource"]),
+    "ocfexec_monitor_last_code": ("gauge", ["resource", "interval_ms", "outcome"]),
+    "ocfexec_monitor_last_age_seconds": ("gauge", ["resource", "interval_ms"]),
 }
 NAME = r"[a-zA-Z_:][a-zA-Z0-9_:]*"
 LABEL = re.compile(r'([a-zA-Z_][a-zA-Z0-9_]*)="((?:[^"\\\n]|\\["\\n])*)"')
@@ -98,7 +101,8 @@ class Metrics(helper.Check):
         for name, (_, samples) in families.items():
             for labels, _ in samples:
                 self.assertEqual([key for key, _ in labels], FAMILIES[name][1], name)
-        return {name: [(tuple(value for _, value in labels), value) for labels, value in samples] for name, (_, samples) in families.items()}
+        return {name: [(tuple(value for _, value in labels), value) for labels, value in samples]
+                for name, (_, samples) in families.items()}
 
     def is_whole(self):
         """What is printed is what `show`, `status` and the second reader tell."""
@@ -125,7 +129,8 @@ class Metrics(helper.Check):
             "ocfexec_resource_running_actions": [((name,), int(states[name]["running"] is not None)) for name in names],
             "ocfexec_resource_last_code": [((name, each["action"], each["outcome"]), each["code"]) for name, each in last],
             "ocfexec_resource_failure_code": [((name, each["action"], each["outcome"]), each["code"]) for name, each in failed],
-            "ocfexec_monitor_last_code": [((name, str(interval), each[-1]["outcome"]), each[-1]["code"]) for name, interval, each in runs if each],
+            "ocfexec_monitor_last_code": [((name, str(interval), each[-1]["outcome"]), each[-1]["code"])
+                                          for name, interval, each in runs if each],
         })
         at = {
             "ocfexec_resource_last_age_seconds": {(name,): each["at"] for name, each in last},
@@ -156,7 +161,8 @@ class Metrics(helper.Check):
         self.asks(register("web:1", "Told", code="0"), register("db", "Told", code="7"), register("none", "Told", code="0"))
         self.is_whole()
         self.asks(action("web:1", "start"), action("db", "monitor"), {"op": "drain"}, {"op": "recur", "id": "web:1", "interval": 100},
-                  {"op": "recur", "id": "web:1", "interval": 3600000}, {"op": "recur", "id": "db", "interval": 250}, {"op": "watch", "limit": 600})
+                  {"op": "recur", "id": "web:1", "interval": 3600000}, {"op": "recur", "id": "db", "interval": 250},
+                  {"op": "watch", "limit": 600})
         found = self.is_whole()
         self.assertEqual(found["ocfexec_resource_last_code"][1], (("db", "monitor", "done"), 7))
         self.assertEqual(found["ocfexec_resource_failure_code"], [(("db", "monitor", "done"), 7)])

@@ -111,7 +111,8 @@ class Rows(Played):
     def test_not_started(self):
         """a start that is refused, by its code"""
         for why, code, name in [("missing", 5, "INSTALLED"), ("denied", 4, "PERM"), ("other", 1, "GENERIC")]:
-            none = STARTED.replace('"code":0', f'"code":{code}').replace("OCF_SUCCESS", f"OCF_ERR_{name}").replace('"done"', '"not-started"')
+            failed = STARTED.replace('"code":0', f'"code":{code}').replace("OCF_SUCCESS", f"OCF_ERR_{name}")
+            none = failed.replace('"done"', '"not-started"')
             self.memory([OK, ACCEPTED, none, IDLE], REG, action("r1", "start"), DRAIN, more=[f"start {why}"])
 
     def test_limits(self):
@@ -138,23 +139,27 @@ class Rows(Played):
     def test_refused(self):
         """lines that are refused, by number"""
         told = ["nope", '{"op":"fly"}', '{"op":"exec","id":"r 1","action":"fly"}', '{"op":"exec","id":"r1","action":"fly"}',
-                '{"op":"exec","id":"r1","action":"start","timeout":0}', '{"op":"exec","id":"r1"}', '{"op":"exec","id":"zz","action":"start"}']
+                '{"op":"exec","id":"r1","action":"start","timeout":0}', '{"op":"exec","id":"r1"}',
+                '{"op":"exec","id":"zz","action":"start"}']
         out = self.play(*[f"line {line}" for line in told], "ocfexec run --memory")[0].out
         self.assertEqual([json.loads(line)["number"] for line in out], [1, 2, 3, 4, 4, 1, 5])
 
     def test_metadata(self):
         """metadata of an agent through echo, of 46 bytes with its newline, and of one that is missing"""
         meta = {"op": "meta", "provider": "pacemaker", "type": "Dummy"}
-        self.memory(['{"meta":46}', "/nowhere/resource.d/pacemaker/Dummy meta-data", ""], meta, words="ocfexec run --memory --root /nowhere --via echo")
+        self.memory(['{"meta":46}', "/nowhere/resource.d/pacemaker/Dummy meta-data", ""], meta,
+                    words="ocfexec run --memory --root /nowhere --via echo")
         self.memory(['{"end":"missing"}'], meta)
 
     def test_spent(self):
         """calls, runs and epochs that are spent"""
-        row = {"id": "r1", "provider": "pacemaker", "type": "Dummy", "params": {}, "queue": [], "running": None, "recurring": [], "ended": [], "failed": None}
+        row = {"id": "r1", "provider": "pacemaker", "type": "Dummy", "params": {}, "queue": [], "running": None, "recurring": [],
+               "ended": [], "failed": None}
         for calls, runs, wanted in [(MOST, 1, [refusal("calls-spent", 13), ONE_LISTED]), (1, MOST, [ACCEPTED, '{"end":"runs-spent"}'])]:
             snapshot = state({"next_call": calls, "next_run": runs, "clock": 0, "resources": [row]})
             told = [action("r1", "start"), LIST if calls == MOST else DRAIN]
-            self.ends("0", wanted, "directory /j", f"part-a /j {(head(snapshot=snapshot) + CLOSED).hex()}", *lines(*told), "ocfexec run --journal /j")
+            part = f"part-a /j {(head(snapshot=snapshot) + CLOSED).hex()}"
+            self.ends("0", wanted, "directory /j", part, *lines(*told), "ocfexec run --journal /j")
         last = "part-a /j " + (head(epoch=LAST_EPOCH) + CLOSED).hex()
         self.ends("0", ['{"end":"epoch-spent"}'], "directory /j", last, *lines({"op": "tidy"}), "ocfexec run --journal /j")
 
@@ -185,14 +190,15 @@ class Rows(Played):
         large = {"op": "params", "id": "r1", "params": dict.fromkeys("abcdefghijklmno", "v" * 1024)}
         full = refusal("journal-full", 14)
         self.ends("0", [*[OK] * 542, full, OK, '{"end":"done"}', OK], "directory /j",
-                  *lines(REG, *[large] * 542, {"op": "forget", "id": "r1"}, {"op": "tidy"}, large), "ocfexec run --tidy-at 8388608 --journal /j")
+                  *lines(REG, *[large] * 542, {"op": "forget", "id": "r1"}, {"op": "tidy"}, large),
+                  "ocfexec run --tidy-at 8388608 --journal /j")
 
 
 class Asked(Played):
     def test_run(self):
         """what a run over a directory asks for, in its order"""
-        words = "ocfexec run --journal /j --root /r --path /p --via v --meta-variables --orphans 7 --leave-orphans --any-owner --log l --logs d"
-        run = self.ends("0", [OK], "directory /j", "clock 500", *lines(REG), words)
+        words = "--journal /j --root /r --path /p --via v --meta-variables --orphans 7 --leave-orphans --any-owner --log l --logs d"
+        run = self.ends("0", [OK], "directory /j", "clock 500", *lines(REG), f"ocfexec run {words}")
         self.assertEqual(run.asked(), [
             "ignored", "signals", "log l d", "files /j yes", "reader", "agents 768", "watch -", "orphans /j 7 yes 1", "site /r /p v yes",
             "moment 500", "word /j 500", "source /r /p v yes", "writer -", "give-up", "ran well", "ended 0"])
@@ -201,8 +207,9 @@ class Asked(Played):
         """what a run that serves asks for: its directory is watched; where no option is given agents are where the manual page says"""
         run = self.ends("0", [OK], "directory /j", *lines(REG), "ocfexec serve --journal /j")
         self.assertEqual(run.asked(), [
-            "ignored", "signals", "log - -", "files /j no", "reader", "agents 768", "watch /j", "orphans /j 20000 no 1", f"site {ROOT} {PATH} - no",
-            "moment 0", "word /j 0", f"source {ROOT} {PATH} - no", "writer /j", "give-up", "ran well", "ended 0"])
+            "ignored", "signals", "log - -", "files /j no", "reader", "agents 768", "watch /j", "orphans /j 20000 no 1",
+            f"site {ROOT} {PATH} - no", "moment 0", "word /j 0", f"source {ROOT} {PATH} - no", "writer /j", "give-up", "ran well",
+            "ended 0"])
 
     def test_memory(self):
         """a run in memory asks for no directory, waits for nothing and leaves no word"""
@@ -212,11 +219,12 @@ class Asked(Played):
 
     def test_site(self):
         """an agent is called at the site of the options"""
-        call = self.memory([OK, ACCEPTED, STARTED, IDLE], REG, action("r1", "start"), DRAIN, more=["poll exited 0"],
-                           words="ocfexec run --memory --root /r --path /p --via v --meta-variables").of("start")[0].split(" ")
+        told, wanted, more = (REG, action("r1", "start"), DRAIN), [OK, ACCEPTED, STARTED, IDLE], ["poll exited 0"]
+        words = "ocfexec run --memory --root /r --path /p --via v --meta-variables"
+        call = self.memory(wanted, *told, more=more, words=words).of("start")[0].split(" ")
         self.assertEqual(call[:3], ["v", "/r/resource.d/pacemaker/Dummy", "start"])
         self.assertLess({"OCF_ROOT=/r", "PATH=/p", "OCF_RESKEY_CRM_meta_timeout=20000"}, set(call[3:]))
-        plain = self.memory([OK, ACCEPTED, STARTED, IDLE], REG, action("r1", "start"), DRAIN, more=["poll exited 0"]).of("start")[0].split(" ")
+        plain = self.memory(wanted, *told, more=more).of("start")[0].split(" ")
         self.assertEqual(plain[:2], [f"{ROOT}/resource.d/pacemaker/Dummy", "start"])
         self.assertNotIn("CRM_meta", " ".join(plain))
 
@@ -303,7 +311,7 @@ class Fails(Played):
         self.assertEqual(self.play("fail read", *lines(REG), "ocfexec run --memory")[0].out, [OK])
 
     def test_served(self):
-        """a journal that is removed ends what serves it with 5 and a line, and a reader that goes ends it with 7; a run that serves none goes on"""
+        """a journal that is removed ends its server with 5 and a line, and a reader that goes with 7; one that serves none goes on"""
         gone = ["directory /j", "gone /j 2000", "end 10000", *lines(REG)]
         run = self.ends("5 disk", [OK, '{"end":"disk"}'], *gone, "ocfexec serve --journal /j")
         self.assertEqual([run.of("check"), len(run.of("met"))], [[""], 1])
@@ -325,7 +333,8 @@ class Fails(Played):
             self.assertIn("Usage:", "\n".join(run.err))
             self.assertEqual(run.asked(), ["ended 2 usage"])
         choice = "2 give one of --journal and --memory"
-        for words, ended in [("run", choice), ("show --memory --journal /j", choice), ("run --memory --tidy-at x", "2 give --tidy-at a number from 0 to 8388608"),
+        for words, ended in [("run", choice), ("show --memory --journal /j", choice),
+                             ("run --memory --tidy-at x", "2 give --tidy-at a number from 0 to 8388608"),
                              ("run --memory --root r", "2 give --root an absolute path"),
                              ("run --memory --orphans 86400001", "2 give --orphans a number from 0 to 86400000")]:
             self.fails(ended, [], f"ocfexec {words}")

@@ -96,8 +96,9 @@ class Reasons(helper.Check):
         self.fails()
         far = WORD + b"far\n"
         for text in (b"", WORD, WORD + b"\n", WORD + b"x", b" " + WORD + b"x\n", b"x" + WORD + b"y\n", WORD + b"a\n" + WORD + b"b\n",
-                     WORD + b"a\nx\n\n", WORD + b"a\n" + WORD[:-1], b"ocf-exit-reason\n", b"\n\n" + WORD + b"a\r\n", WORD + bytes(range(256)),
-                     WORD + b"\x1b[2J\x1b]0;x\x07\\\xc3\xa9\n", WORD + b"l" * 511 + b"\n", WORD + b"l" * 512 + b"\n", WORD + b"l" * 600,
+                     WORD + b"a\nx\n\n", WORD + b"a\n" + WORD[:-1], b"ocf-exit-reason\n", b"\n\n" + WORD + b"a\r\n",
+                     WORD + bytes(range(256)), WORD + b"\x1b[2J\x1b]0;x\x07\\\xc3\xa9\n",
+                     WORD + b"l" * 511 + b"\n", WORD + b"l" * 512 + b"\n", WORD + b"l" * 600,
                      WORD + b"\xff" * 70000, far + b"x" * (TAIL - len(far)), far + b"x" * (TAIL - len(far) + 1), b"\n" + far + b"x" * TAIL,
                      WORD + WORD + b"x", b"\0" * 100 + b"\n" + far, b"x" * 200000 + b"\n" + far):
             with self.subTest(text[:40]):

@@ -24,7 +24,8 @@ SPOKEN = [
     (action("r1", "stop"), ("queue-full", "id", "32 actions")),
     ({"op": "unregister", "id": "r1"}, ("busy", "id", "queued or running")),
     ({"op": "recur", "id": "r1", "interval": 86400000, "timeout": 0}, ("bad-value", "timeout", "a number from 1 to 4294967295")),
-    ({"op": "exec", "id": "r1", "action": "start", "level": 10}, ("bad-value", "level", "0, 10 or 20, and 0 where the action is no monitor")),
+    ({"op": "exec", "id": "r1", "action": "start", "level": 10},
+     ("bad-value", "level", "0, 10 or 20, and 0 where the action is no monitor")),
     ({"op": "exec", "id": "r1", "action": "restart"}, ("bad-value", "action", "start, stop, monitor, promote, demote, reload-agent or")),
     ({"op": "drain", "limit": -1}, ("syntax", "limit", "a number from 0 to 86400000")),
     ({"op": "watch", "limit": 0}, ("bad-value", "limit", "a number from 1 to 4294967295")),
@@ -58,10 +59,11 @@ class Refusals(helper.Check):
         for key in ("timout", "Id", "", "interval", "x" * 100, "\u00e9\u0000\""):
             command = {"op": "exec", "id": "r1", "action": "start", key: 5}
             self.assertEqual(asked("run", command), [{"error": "unknown-resource", "number": 5}])
-            self.assertEqual(asked("serve", command), [{"error": "bad-value", "key": key, "message": "this operation has no such key", "number": 4}])
+            refused = {"error": "bad-value", "key": key, "message": "this operation has no such key", "number": 4}
+            self.assertEqual(asked("serve", command), [refused])
             self.assertEqual(asked("serve", {**command, "id": "/"})[0]["key"], "id")
-        self.assertEqual([value.get("key") for value in asked("serve", {"op": "list", "id": "r1"}, {"op": "leave", "now": True}, {"op": "list"})],
-                         ["id", "now", None])
+        values = asked("serve", {"op": "list", "id": "r1"}, {"op": "leave", "now": True}, {"op": "list"})
+        self.assertEqual([value.get("key") for value in values], ["id", "now", None])
 
     def test_broken(self):
         """a line that is no command has a sentence without a key in serve, or its op is missing"""
@@ -69,7 +71,8 @@ class Refusals(helper.Check):
             [value] = helper.replies(helper.run("serve", "--memory", told=line + b"\n").stdout)
             self.assertEqual((value["error"], value["number"]), ("syntax", 1), line[:20])
             self.assertEqual(value.get("key"), "op" if line in (b'"list"', b"[]") else None, line[:20])
-            self.assertIn("twice" if b"op" in line else "op must be" if "key" in value else "one JSON object of at most 131072 bytes", value["message"])
+            wanted = "twice" if b"op" in line else "op must be" if "key" in value else "one JSON object of at most 131072 bytes"
+            self.assertIn(wanted, value["message"])
 
 
 if __name__ == "__main__":

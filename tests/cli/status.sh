@@ -1,6 +1,6 @@
 #!/usr/bin/env bash
-# A journal as a table for a person: of nothing, of what has ended or was withdrawn, of what runs and is queued under an executor that holds the
-# journal, of one resource, as JSON of all and of one, and in colour on a terminal alone. Nothing is changed by a look.
+# A journal as a table for a person: of nothing, of what has ended or was withdrawn, of what runs and is queued under an executor that
+# holds the journal, of one resource, as JSON of all and of one, and in colour on a terminal alone. Nothing is changed by a look.
 # Use: status.sh PROGRAM
 set -u
 . "$(dirname "$0")/../lib/common.sh" "$@"
@@ -102,7 +102,8 @@ is_wanted "the states as JSON" "$here/states"
 "$program" status --json --journal "$here/journal" b > "$here/one"
 sed -n '4,5p;7p' "$here/json" | cmp -s - "$here/one" || differs "status --json b" "the lines of b" "$(cat "$here/one")"
 "$program" status --journal "$here/journal" a-longer-name --json > "$here/one"
-sed -n '2,3p;6p' "$here/json" | cmp -s - "$here/one" || differs "status a-longer-name --json" "the lines of a-longer-name" "$(cat "$here/one")"
+sed -n '2,3p;6p' "$here/json" | cmp -s - "$here/one" ||
+    differs "status a-longer-name --json" "the lines of a-longer-name" "$(cat "$here/one")"
 checked "as JSON"
 
 for name in nobody a-longer-nam B ''; do

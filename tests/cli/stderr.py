@@ -203,7 +203,8 @@ class StandardError(helper.Check):
         other = helper.journal_stream(self.reader)["JOURNAL_STREAM"]
         own = helper.journal_stream(self.writer)["JOURNAL_STREAM"]
         device, inode = own.split(":")
-        for stream in (None, "", own + "0", inode, f"{device}:", f"{device}:{inode}:", f"{inode}:{device}", f" {own}", "9" * 60, other + "1"):
+        for stream in (None, "", own + "0", inode, f"{device}:", f"{device}:{inode}:", f"{inode}:{device}", f" {own}", "9" * 60,
+                       other + "1"):
             for words, status, line, _ in self.faults() if stream is None else self.faults()[-1:]:
                 with self.subTest(stream=stream, words=words):
                     code = self.on(words, self.writer, **({} if stream is None else {"JOURNAL_STREAM": stream}))

@@ -1,6 +1,7 @@
 #!/usr/bin/env bash
 # Runs `PROGRAM` with words and with input and output that the gate cannot give it, and compares the exit status and all
-# that it writes on standard error: one line for a program, and what a person is told too where it goes to the system's journal. The statuses 3, 5 and 6 of journals in files are those of files.sh.
+# that it writes on standard error: one line for a program, and what a person is told too where it goes to the system's journal. The
+# statuses 3, 5 and 6 of journals in files are those of files.sh.
 # Use: words.sh PROGRAM
 set -u
 . "$(dirname "$0")/../lib/common.sh" "$@"
@@ -96,11 +97,13 @@ for command in register unregister params exec recur cancel withdraw forget list
 done
 ends 0 "" run --help
 holds "run --help" "--journal <DIR>" --memory "--root <DIR>" "--via <PROGRAM>" "--path <PATH>" "[default: /usr/lib/ocf]" \
-    "[default: /usr/sbin:/usr/bin:/sbin:/bin]" --any-owner "--tidy-at <BYTES>" "[default: 6291456]" "--orphans <MS>" "[default: 20000]" --leave-orphans \
-    "exactly one of --journal and --memory" Examples: "ocfexec run --memory"
+    "[default: /usr/sbin:/usr/bin:/sbin:/bin]" --any-owner "--tidy-at <BYTES>" "[default: 6291456]" "--orphans <MS>" \
+    "[default: 20000]" --leave-orphans "exactly one of --journal and --memory" Examples: "ocfexec run --memory"
 ends 0 "" show --help
-holds "show --help" Examples: "ocfexec show --journal /srv/journal" "run and serve create its files part-a and part-b if they are missing" OCFEXEC_JOURNAL
-same "show --help, options" "--help --journal --memory" "$(grep -o -e '^ *\(-., \)\?--[a-z-]*' "$here/out" | grep -o -e '--.*' | sort | xargs)"
+holds "show --help" Examples: "ocfexec show --journal /srv/journal" \
+    "run and serve create its files part-a and part-b if they are missing" OCFEXEC_JOURNAL
+same "show --help, options" "--help --journal --memory" \
+    "$(grep -o -e '^ *\(-., \)\?--[a-z-]*' "$here/out" | grep -o -e '--.*' | sort | xargs)"
 ends 0 "" status --help
 same "status --help, options" "--exit-code --help --journal --json --logs --memory" \
     "$(grep -o -e '^ *\(-., \)\?--[a-z-]*' "$here/out" | grep -o -e '--.*' | sort | xargs)"

@@ -1,10 +1,11 @@
 #!/usr/bin/env python3
 # check: slow
 """Refuses each growth of memory of whole runs, one in each run: the K-th malloc, calloc or realloc of the program answers that there
-is no memory (tests/shims/growths.c, loaded before the C library), for K = 1, 2, .. until a run has none; of the opening of a full journal only one in 199.
-Wanted of each: no signal; an opening that finds no memory ends with status 4, has answered nothing and leaves the files as they were, but for a creation; a command is refused with
-`memory`, and all else is that of a run without it; a turn ends as `memory`, or an agent is not started, and nothing that was asked
-for is lost; a reply or a notice ends the run with status 7, and what was told stands in the journal; else the run is as any other.
+is no memory (tests/shims/growths.c, loaded before the C library), for K = 1, 2, .. until a run has none; of the opening of a full journal
+only one in 199. Wanted of each: no signal; an opening that finds no memory ends with status 4, has answered nothing and leaves the files
+as they were, but for a creation; a command is refused with `memory`, and all else is that of a run without it; a turn ends as `memory`,
+or an agent is not started, and nothing that was asked for is lost; a reply or a notice ends the run with status 7, and what was told
+stands in the journal; else the run is as any other.
 Use: growths.py PROGRAM, with LINKED in the environment where tests/shims/growths.c is linked into the program"""
 import collections
 import json
@@ -328,8 +329,9 @@ class Growths(helper.Check):
         # registrations, of which the last one but one is refused, with other commands and questions between them, all written at once
         names = ["r1", "r2", "r3", "r4"]
         commands = [*[helper.register(name, "Dummy", a="b") for name in names], LIST, {"op": "params", "id": "r2", "params": {"a": "c"}},
-                    helper.register("r5", "Dummy"), {"op": "recur", "id": "r5", "interval": 3_600_000}, {"op": "cancel", "id": "r1", "interval": 1},
-                    helper.register("r1", "Dummy"), helper.register("r6", "Dummy", **{f"a{n}": "x" * 500 for n in range(20)})]
+                    helper.register("r5", "Dummy"), {"op": "recur", "id": "r5", "interval": 3_600_000},
+                    {"op": "cancel", "id": "r1", "interval": 1}, helper.register("r1", "Dummy"),
+                    helper.register("r6", "Dummy", **{f"a{n}": "x" * 500 for n in range(20)})]
         return [*[Step(command, joins=True) for command in commands], Step({"op": "info", "id": "r2"})]
 
     def prepared(self, *commands):
@@ -354,7 +356,8 @@ class Growths(helper.Check):
                 steps += [Step(DRAIN), Step(DRAIN), Step({"op": "history", "id": "r5"})]
             base = self.sweep(self.words(word, "--via", "echo"), steps, opens=False)
             accepted = {place for place, values in enumerate(base.answers) if {"ok": True} in values}
-            self.assertLessEqual({place for place in accepted if steps[place].command["op"] == "register"}, self.places, "each is refused once")
+            registered = {place for place in accepted if steps[place].command["op"] == "register"}
+            self.assertLessEqual(registered, self.places, "each is refused once")
 
     def test_start(self):
         """a start"""
@@ -456,8 +459,8 @@ class Growths(helper.Check):
     def test_signal(self):
         """a notice of a start that a signal ended"""
         self.agent("Killed", "kill -9 $$\n")
-        self.noticed(self.words("serve"), [Step(helper.register("r1", "Killed")), Step(helper.action("r1", "start"), awaits=True), Step(LIST)],
-                     "signal")
+        steps = [Step(helper.register("r1", "Killed")), Step(helper.action("r1", "start"), awaits=True), Step(LIST)]
+        self.noticed(self.words("serve"), steps, "signal")
 
     def test_lives(self):
         """a notice of a start that lives on"""

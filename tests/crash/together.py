@@ -325,7 +325,7 @@ class Together(helper.Check):
                 *[action(name, "start") for name in names]]
 
     def front(self, folder, count):
-        """How many of a batch's commands are found: in each kind those of the first names, and of a kind only behind all of the one before."""
+        """How many of a batch's commands are found: in each kind those of the first names, and of a kind only behind all of that before."""
         values = helper.replies(helper.shown(folder))
         names, infos, histories = values[0]["resources"], values[1::2], values[2::2]
         changed = [info["id"] for info in infos if info["params"]]
@@ -431,8 +431,8 @@ class Together(helper.Check):
         for count, among in ((24, plain), (8, asking)):
             seen = self.stopped_in_each(count, helper.lines(*among(self.batch(count))))
             more = [found - replied for replied, found in seen]
-            print(f"together: {3 * count} commands, {among.__name__}: killed in each of {len(seen)} device calls: in {sum(map(bool, more))} "
-                  f"of them more is found than was replied, by {max(more)} commands at most", flush=True)
+            print(f"together: {3 * count} commands, {among.__name__}: killed in each of {len(seen)} device calls: "
+                  f"in {sum(map(bool, more))} of them more is found than was replied, by {max(more)} commands at most", flush=True)
 
 
 if __name__ == "__main__":

@@ -65,12 +65,14 @@ hidden() {
 $cause" "$? $(cat err)"
 }
 
-# A journal that root opens with --any-owner alone: it is refused for this path and reason, and nothing is made. Use: distrusted DIR PATH WHY
+# A journal that root opens with --any-owner alone: it is refused for this path and reason, and nothing is made.
+# Use: distrusted DIR PATH WHY
 distrusted() {
     local before wanted
     before=$(inside "$1")
     refused "$1" 5 "ocfexec: disk" "$2: $3"
-    same "$1, advice" "Anyone who can write the journal decides what root starts. Make root its only writer, or give --any-owner." "$(tail -n 1 "$here/err")"
+    same "$1, advice" "Anyone who can write the journal decides what root starts. Make root its only writer, or give --any-owner." \
+        "$(tail -n 1 "$here/err")"
     same "$1, refused" "$before" "$(inside "$1")"
     "$program" show --journal "$1" > out 2> err
     same "show of $1" "0 " "$? $(cat err)"
@@ -96,7 +98,8 @@ same "length of part A" 79 "$(stat -c %s made/part-a)"
 same "length of part B" 0 "$(stat -c %s made/part-b)"
 # part A by the format, but for the eight bytes of the moment
 spelled=$(od -An -v -t x1 made/part-a | tr -d ' \n')
-same "part A up to the moment" "014f43464a0200000000000000010000001a0000000000000001000000000000000100000000000000000000010000001d01" "${spelled:0:100}"
+same "part A up to the moment" \
+    "014f43464a0200000000000000010000001a0000000000000001000000000000000100000000000000000000010000001d01" "${spelled:0:100}"
 same "part A behind the moment" 02723109706163656d616b65720544756d6d790000 "${spelled:116}"
 same "permissions" "600 600" "$(stat -c %a made/part-a made/part-b | tr '\n' ' ' | sed 's/ $//')"
 run made "$register" '{"op":"list"}'
@@ -117,7 +120,8 @@ checked "what is made, and what is found again"
 
 # What can't be opened
 refused nowhere 5 "ocfexec: disk" "nowhere: No such file or directory"
-same "a missing directory, advice" "Missing directory: make it, for its owner alone, or name another by --journal." "$(tail -n 1 "$here/err")"
+same "a missing directory, advice" "Missing directory: make it, for its owner alone, or name another by --journal." \
+    "$(tail -n 1 "$here/err")"
 [ ! -e nowhere ] || differs "a folder that is not there" "none" "nowhere"
 : > file
 refused file 5 "ocfexec: disk" "file: Not a directory"
@@ -166,14 +170,16 @@ if [ "$(id -u)" -ne 0 ]; then
     journal unreadable
     chmod 200 unreadable/part-a
     refused unreadable 5 "ocfexec: disk" "unreadable/part-a: Permission denied"
-    same "no permission, advice" "No permission: the journal is its owner's alone; look at it as that user, or as root." "$(tail -n 1 "$here/err")"
+    same "no permission, advice" "No permission: the journal is its owner's alone; look at it as that user, or as root." \
+        "$(tail -n 1 "$here/err")"
 fi
 checked "a part that holds no journal, is empty beside one that was tidied, or cannot be read"
 
 # One executor at a time
 hold made
 refused made 5 "ocfexec: disk" "made: in use by another executor"
-same "in use, advice" "In use: one executor at a time holds a journal; show, status, log and metrics look at it meanwhile." "$(tail -n 1 "$here/err")"
+same "in use, advice" "In use: one executor at a time holds a journal; show, status, log and metrics look at it meanwhile." \
+    "$(tail -n 1 "$here/err")"
 ln made/part-a linked_a && mkdir other && mv linked_a other/part-a && : > other/part-b
 refused other 5 "ocfexec: disk" "other/part-a: in use by another executor"
 let_go "the executor that has the journal"
@@ -326,7 +332,8 @@ journal full
 printf '%s\n' "$large" "$large" "$large" "$large" "$large" '{"op":"list"}' '{"op":"drain"}' '{"op":"watch","limit":9}' \
     '{"op":"meta","provider":"p","type":"t"}' nope > lines
 : > err
-(export JOURNAL_STREAM && JOURNAL_STREAM=$(stat -c %d:%i err) && trap '' XFSZ && ulimit -f 64 && exec "$program" run --journal full) < lines > out 2> err
+(export JOURNAL_STREAM && JOURNAL_STREAM=$(stat -c %d:%i err) && trap '' XFSZ && ulimit -f 64 &&
+    exec "$program" run --journal full) < lines > out 2> err
 same "a full device, status" 5 $?
 same "a full device, standard error" "ocfexec: started with ignored signals, which agents inherit: SIGXFSZ
 ocfexec: disk

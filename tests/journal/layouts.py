@@ -1,9 +1,9 @@
 #!/usr/bin/env python3
 """Opens journals of the first layout, which a program wrote that knew no other: tests/data/first-layout has their parts, and what
 that program's `show` printed of each. In `resting` nothing runs; in `running` the program was killed while two agents ran and an
-action was queued. Wanted: `show` prints the same, with the keys that are of the second layout, and writes nothing; an opening leaves the second layout in the other part, loses
-nothing and reports what was interrupted and dropped; the next opening of a journal at rest writes nothing. Killed at random moments
-while it goes over, the journal is always shown the same.
+action was queued. Wanted: `show` prints the same, with the keys that are of the second layout, and writes nothing; an opening leaves the
+second layout in the other part, loses nothing and reports what was interrupted and dropped; the next opening of a journal at rest writes
+nothing. Killed at random moments while it goes over, the journal is always shown the same.
 Use: layouts.py PROGRAM, with KILLS and SEED in the environment"""
 import gzip
 import json

@@ -425,7 +425,8 @@ class RealSyncs(helper.Check):
                 yield found.exception.rule
 
     def made(self):
-        """The parts of a journal that was made before. The program opens a journal twice, so neither of two syncs behind its making is needed alone."""
+        """The parts of a journal that was made before. The program opens a journal twice, so neither of two syncs behind its making is
+        needed alone."""
         journal = self.begun("made")
         self.opened(journal, "run", [])
         for path in journal.parts:

@@ -133,7 +133,8 @@ class Units(helper.Check):
         self.assertEqual((done.returncode, done.stderr), (0, ""), self.log())
 
     def log(self):
-        return subprocess.run(["journalctl", "-u", "ocfexec", "-u", "ocfexec-fifo", "-o", "cat", "-n", "30"], capture_output=True, text=True).stdout
+        words = ["journalctl", "-u", "ocfexec", "-u", "ocfexec-fifo", "-o", "cat", "-n", "30"]
+        return subprocess.run(words, capture_output=True, text=True).stdout
 
     def wants(self, **wanted):
         write("/etc/ocfexec/resources.json", json.dumps({"resources": wanted}))
@@ -161,7 +162,8 @@ class Units(helper.Check):
     def test_changes(self):
         """with no file it is up and does nothing; its file names a Dummy, and then nginx, which runs through a restart, kills and a stop"""
         self.does("start", "ocfexec")
-        self.assertEqual((shown("ActiveState"), shown("StatusText"), os.listdir("/var/lib/ocfexec")), ("active", "nothing is configured", []))
+        self.assertEqual((shown("ActiveState"), shown("StatusText")), ("active", "nothing is configured"))
+        self.assertEqual(os.listdir("/var/lib/ocfexec"), [])
         self.assertIn("nothing to do until SIGHUP", self.log())
         self.wants(web=dummy("web"), other=dummy("other"))
         self.does("reload", "ocfexec")

@@ -1,8 +1,9 @@
 """What the checks in Python share: the program, a folder for each check, its agents, the lines of commands, and runs that are asked
 and heard. A module is called as `tests/FOLDER/NAME.py PROGRAM`; each of its tests is a check, which is printed with its time. With ONLY
 in the environment, the one test of that sentence is tried; with `-k WORD` after the program those with this in their name or sentence,
-and with `-f` none after one that failed. `pytest` runs such a module, too, with PROGRAM in the environment. A test that fails says how it is played again, with the numbers that it asked
-for; one by chance, which asked for SEED, leaves its folder, with what it was given, in tests/failed."""
+and with `-f` none after one that failed. `pytest` runs such a module, too, with PROGRAM in the environment. A test that fails says how it
+is played again, with the numbers that it asked for; one by chance, which asked for SEED, leaves its folder, with what it was given, in
+tests/failed."""
 import argparse
 import contextlib
 import functools
@@ -402,7 +403,8 @@ class Check(unittest.TestCase):
         one, but once."""
         if count < least:
             slower = slowness()
-            self.assertGreaterEqual(count, max(1, least / slower), f"{what}, on a machine that is {slower:.1f} times slower than a quiet one")
+            self.assertGreaterEqual(count, max(1, least / slower),
+                                    f"{what}, on a machine that is {slower:.1f} times slower than a quiet one")
 
     def took_less(self, most, took, what):
         """That something took less than so many seconds; on a busy machine as many times more as it is slower than a quiet one."""

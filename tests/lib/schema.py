@@ -1,6 +1,6 @@
-"""The lines of the program, held against docs/protocol.schema.json where Debian's python3-jsonschema is installed. Of the lines of one form,
-which differ in nothing but numbers and texts, as many are looked at as SAMPLES says, and then one in ever more, so that a check with a
-million lines is not slow: the first one is held against all kinds of lines, which takes milliseconds, and the others against its own kind.
+"""The lines of the program, held against docs/protocol.schema.json where Debian's python3-jsonschema is installed. Of the lines of one
+form, which differ in nothing but numbers and texts, as many are looked at as SAMPLES says, and then one in ever more, so that a check with
+a million lines is not slow: the first one is held against all kinds of lines, which takes milliseconds, and the others against its own.
 Use: schema.py FILE, with lines of the program; or as a module."""
 import functools
 import json
@@ -10,6 +10,8 @@ import sys
 TOP = os.path.dirname(os.path.dirname(os.path.dirname(os.path.abspath(__file__))))
 SCHEMA = os.path.join(TOP, "docs/protocol.schema.json")
 SAMPLES = 100
+# the keys under which one word of a list stands
+WORDED = {"error", "end", "outcome", "event", "state"}
 # how many lines of a form were seen, and of which kind they are
 seen, kinds = {}, {}
 # the keys of what a check's agents give as their metadata, where that looks like a line: it is none of the program's
@@ -73,7 +75,7 @@ def lines():
 
 def form(value):
     """The form of a line: its keys, with the words under those that have a word of a list."""
-    return tuple((key, value[key] if key in ("error", "end", "outcome", "event", "state") else type(value[key]).__name__) for key in sorted(value))
+    return tuple((key, value[key] if key in WORDED else type(value[key]).__name__) for key in sorted(value))
 
 
 def is_sample(shape):

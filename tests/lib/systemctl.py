@@ -88,8 +88,8 @@ class Manager:
     def run(self, told):
         """One run of the main process. Whether another one follows."""
         with open(self.place("log"), "ab") as log:
-            main = subprocess.Popen(self.unit.words("Service.ExecStart", **self.variables), stdin=subprocess.DEVNULL, stdout=log, stderr=log,
-                                    env={**os.environ, "NOTIFY_SOCKET": self.place("notify")})
+            main = subprocess.Popen(self.unit.words("Service.ExecStart", **self.variables), stdin=subprocess.DEVNULL, stdout=log,
+                                    stderr=log, env={**os.environ, "NOTIFY_SOCKET": self.place("notify")})
         self.write("MainPID", str(main.pid))
         while main.poll() is None:
             try:

@@ -60,4 +60,5 @@ row real pacemaker-execd
 row journal "the bridge, journal"
 row memory "the bridge, memory"
 echo
-echo "$(date +%F), $(nproc) cores, $rounds rounds of $count; a synced write took $(column synced 1) ms, and the load at the end was $(cut -d ' ' -f 1 /proc/loadavg)."
+echo "$(date +%F), $(nproc) cores, $rounds rounds of $count; a synced write took $(column synced 1) ms," \
+    "and the load at the end was $(cut -d ' ' -f 1 /proc/loadavg)."

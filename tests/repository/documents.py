@@ -2,8 +2,8 @@
 """The names in the documents: each path, file, edit, item of a crate, target of make, subcommand and option that README.md,
 CONTRIBUTING.md, docs/, mutants/README.md and the crates' READMEs name in backticks is there, and each other word in backticks stands
 somewhere in the repository beside the documents; in a README, a section or a row of one crate it stands in that crate. Each label of
-a clause that a table or a list names after a function is that of a clause or of a field of a definition. Each file with a body that is proved
-by hand is named as trusted. The manual page has the options of `--help`, and no others, and fits 80 columns.
+a clause that a table or a list names after a function is that of a clause or of a field of a definition. Each file with a body that is
+proved by hand is named as trusted. The manual page has the options of `--help`, and no others, and fits 80 columns.
 Use: documents.py PROGRAM"""
 import collections
 import fnmatch
@@ -25,9 +25,10 @@ MANUAL = "docs/ocfexec.8"
 STATEMENT = "docs/STATEMENT.antt.txt"
 SUBCOMMANDS = ["run", "serve", "show", "status", "log", "metrics", "once"]
 # What others name so, what only a gate or a check leaves, and what a document says is not there.
-OUTSIDE = {"--default-signal", "--keep-size", "--length", "--pdeathsig", "/srv/hour", "ArgGroup", "clap_complete", "clone3", "crates/ocfexec/out/gate", "crates/ocfexec/out/ocfexec",
-           "fallocate", "flock", "get_ocf_metadata", "hidepid", "list_ocf_providers", "migrate_from", "migrate_to", "nohup",
-           "ocfexec run --version", "perf", "rattle-kit-13f", "rt check --fix-imports", "strace -c -w", "systemctl reload", "tests/failed", "wait4"}
+OUTSIDE = {"--default-signal", "--keep-size", "--length", "--pdeathsig", "/srv/hour", "ArgGroup", "clap_complete", "clone3",
+           "crates/ocfexec/out/gate", "crates/ocfexec/out/ocfexec", "fallocate", "flock", "get_ocf_metadata", "hidepid",
+           "list_ocf_providers", "migrate_from", "migrate_to", "nohup", "ocfexec run --version", "perf", "rattle-kit-13f",
+           "rt check --fix-imports", "strace -c -w", "systemctl reload", "tests/failed", "wait4"}
 # What stands for any name of its kind.
 ANY = re.compile(r"\b(NAME|FILE|CRATE)\b")
 FILE = re.compile(r"[\w.*-]+\.(rt|antt|py|sh|c|h|md|edit|service|jsonl|8)")
@@ -35,8 +36,8 @@ ITEM = re.compile(r"\w+(::\w+)*")
 PAIR = re.compile(r"[a-z]\w* [A-Z]\w*")
 PATH = re.compile(r"[\w.*-]+(/[\w.*-]*)+")
 OPTION = re.compile(r"(?<![\w-])--?[A-Za-z][a-z-]*")
-# The labels after a name in a table or a list, as `Journal::open`: opened, failed; and what is a label: of a clause, or a field or a case of a
-# definition.
+# The labels after a name in a table or a list, as `Journal::open`: opened, failed; and what is a label: of a clause, or a field or a case
+# of a definition.
 LABELS = re.compile(r"`[\w:]+`: ([a-z_]+(?:, [a-z_]+)*)(?=;|\)| \||, `| \(|$)")
 LABEL = re.compile(r"^ *(?:(?:ensures|requires) (\w+) \{|(?:pub )?(\w+) :)", re.MULTILINE)
 # The sections of a crate's README, in their order; what it is and how it works stands before them.
@@ -89,17 +90,20 @@ class Names:
     def near(self, place):
         """The crates that a place names in backticks, and the one whose README it is in; all where there are none."""
         readme = re.match(r"crates/(\w+)/README.md\n", place)
-        return self.crates.intersection(re.findall(r"`(\w+)", place) + [*readme.groups()] if readme else re.findall(r"`(\w+)", place)) or self.crates
+        names = re.findall(r"`(\w+)", place) + ([*readme.groups()] if readme else [])
+        return self.crates.intersection(names) or self.crates
 
     def owner(self, place):
         """The crate whose README, section or row it is."""
-        found = re.match(r"crates/(\w+)/README.md\n", place) or re.match(r"#+ `(\w+)`\n\|", place) or re.search(r"^\| `(\w+)` \|", place, re.MULTILINE)
+        found = (re.match(r"crates/(\w+)/README.md\n", place) or re.match(r"#+ `(\w+)`\n\|", place)
+                 or re.search(r"^\| `(\w+)` \|", place, re.MULTILINE))
         return found[1] if found and found[1] in self.crates else None
 
     def is_path(self, name, place):
         """From the top, in docs/, in crates/ or in a crate that the place names; or an edit."""
         crate, _, edit = name.partition("/")
-        tried = [name, f"docs/{name}", f"crates/{name}", f"mutants/{name}.edit", f"mutants/gate/{name}.edit", f"crates/{crate}/must-fail/{edit}.edit"]
+        tried = [name, f"docs/{name}", f"crates/{name}", f"mutants/{name}.edit", f"mutants/gate/{name}.edit",
+                 f"crates/{crate}/must-fail/{edit}.edit"]
         return any(map(is_any, tried + [f"crates/{crate}/{name}" for crate in self.near(place)]))
 
     def is_file(self, name, place):
@@ -153,7 +157,8 @@ class Names:
 
 
 def named(path, text):
-    """What a text names, and the place, behind the path of a crate's README: in backticks, by a link, as `crate` `File`, or in a line that calls the program or make."""
+    """What a text names, and the place, behind the path of a crate's README: in backticks, by a link, as `crate` `File`, or in a line that
+    calls the program or make."""
     fenced, heading = False, ""
     for line in text.splitlines():
         heading = line if line.startswith("#") and not fenced else heading
@@ -204,7 +209,8 @@ class Documents(helper.Check):
         """the README of a crate has sections of one form, in one order"""
         found = {path: SECTION.findall(read(path)) for path in DOCUMENTS if path.startswith("crates/")}
         self.assertGreater(len(found), 30)
-        self.assertEqual({path: sections for path, sections in found.items() if sections != [one for one in SECTIONS if one in sections]}, {})
+        other = {path: sections for path, sections in found.items() if sections != [one for one in SECTIONS if one in sections]}
+        self.assertEqual(other, {})
 
     def test_by_hand(self):
         """each file with a body that is proved by hand is named as trusted in docs/PROVED.md"""
@@ -217,13 +223,14 @@ class Documents(helper.Check):
         """nor is an item or a file of a crate in the place of another one's"""
         for name, place in (("exec_session::run_lines", ""), ("src/session.rt", "`exec_session`"), ("exec_session Breaks", "")):
             self.assertTrue(self.names.is_there(name, place), name)
-            self.assertFalse(self.names.is_there(name.replace("exec_session", "two_parts"), place.replace("exec_session", "two_parts")), name)
+            moved = [text.replace("exec_session", "two_parts") for text in (name, place)]
+            self.assertFalse(self.names.is_there(*moved), name)
 
     def test_manual(self):
         """the manual page has the options of --help, and no others"""
         wanted = set().union(*[options(text) for text in self.names.helps.values()])
-        long = [{name for name in found if name.startswith("--")} for found in (options(re.sub(r"\\f[BIP]", "", read(MANUAL)).replace("\\-", "-")), wanted)]
-        self.assertEqual(*long)
+        manual = options(re.sub(r"\\f[BIP]", "", read(MANUAL)).replace("\\-", "-"))
+        self.assertEqual(*[{name for name in found if name.startswith("--")} for found in (manual, wanted)])
 
     @unittest.skipUnless(shutil.which("man") and shutil.which("groff"), "install man-db and groff-base")
     def test_width(self):

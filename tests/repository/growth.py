@@ -1,7 +1,7 @@
 #!/usr/bin/env python3
 """What contracts say of refused growths rests on one lemma, `Refused.refuses` of crates/growth: nothing else cites it, no condition on a
-caller, invariant or ghost field claims that an allocator refuses, but the edge of a run keeps what a send that failed said; and each call of a
-library that grows memory by itself says that it is trusted.
+caller, invariant or ghost field claims that an allocator refuses, but the edge of a run keeps what a send that failed said; and each call
+of a library that grows memory by itself says that it is trusted.
 Use: growth.py PROGRAM"""
 import glob
 import os

@@ -214,7 +214,8 @@ class Runner(helper.Check):
         self.assertEqual(lasts.stdout.readline(), "9\n")
         lasts.terminate()
         said = lasts.communicate(timeout=20)[0]
-        self.assertRegex(said, r"^failed +[0-9.]+ s  throws: a throw that lasts\nthrows: once more: LASTS=1 SEED=9 ONLY='a throw that lasts' ")
+        self.assertRegex(said, r"^failed +[0-9.]+ s  throws: a throw that lasts\n"
+                         "throws: once more: LASTS=1 SEED=9 ONLY='a throw that lasts' ")
         self.assertEqual(os.listdir(self.place("tests/failed/throws")), ["test_zero"])
 
 

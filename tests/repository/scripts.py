@@ -64,6 +64,13 @@ class Scripts(helper.Check):
                 self.assertTrue(sentence and "\n" not in sentence, told(path, 1, f"a test of no sentence: {sentence}"))
                 self.assertEqual(count, 1, told(path, 1, sentence))
 
+    def test_columns(self):
+        """no line of a script is longer than 140 columns, but for one that the program writes"""
+        files = [path for ending in ("py", "sh", "c") for path in sorted((TOP / "tests").rglob(f"*.{ending}"))]
+        found = [told(path, number, line) for path in files if "out" not in path.parts
+                 for number, line in enumerate(path.read_text(encoding="utf-8").splitlines(), 1) if len(line) > 140 and line[0] != "{"]
+        self.assertEqual(found, [])
+
     def test_messages(self):
         """what is only true or false is tried with a message that says what was wanted"""
         calls = [(path, call) for path, module in modules() for call in ast.walk(module)

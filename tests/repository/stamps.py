@@ -173,7 +173,7 @@ class Stamps(helper.Check):
         self.assertEqual(self.lines(), {})
 
     def test_ci(self):
-        """where the kit takes no crate by name, as CI is true, the gate is that of a copy of it and those below, and what is not refused fails"""
+        """where the kit takes no crate by name, as CI is true, the gate is a copy's of it and those below; what is not refused fails"""
         self.ci = "true"
         notes = "    open(os.path.join(here, 'there'), 'a').write(' '.join(sorted(os.listdir('crates'))) + '\\n')\n"
         self.write("bin/rt.py", RT.replace("    failed = 0\n", "    failed = 0\n" + notes))

@@ -19,19 +19,22 @@ KEY = re.compile(r"^(?:abbrev|unfoldable|record|data) ([^\s:({]+)", re.MULTILINE
 BUILT_IN = {"Type", "Unit", "Why"}
 # A change of each kind of text in it: a file, and what is there once, with what it becomes.
 CHANGES = [
-    ("executor/src/laws.rt", "        → (zs : List Event) × FoundAs (after_all start zs) c\n        × Runs", "        → (zs : List Event) × FoundAs start c\n        × Runs"),
+    ("executor/src/laws.rt", "        → (zs : List Event) × FoundAs (after_all start zs) c\n        × Runs",
+     "        → (zs : List Event) × FoundAs start c\n        × Runs"),
     ("executor/specs/Runs.antt", "  pub ran : x.ran ≡ interrupted s (moment s x.now)\n", "  pub ran : x.ran ≡ []\n"),
     ("executor/specs/Lives.antt", "-- what its crash may have left", "-- what is left"),
     ("executor/specs/Lives.antt", "  pub acknowledged : p ≡ x.done.events ++ later\n", ""),
     ("ocf_types/specs/Limits.antt", "longest_result = 84", "longest_result = 85"),
     ("ocf_types/src/reply.rt", "    EpochSpent,\n", ""),
     ("ocf_types/src/limits.rt", "pub const RESERVE: u64 = 32_768;", "pub const RESERVE: u64 = 32_769;"),
-    ("ocf_types/specs/Names.antt", "is_ascii_alphanumeric, is_ascii_alphabetic}", "is_ascii_alphanumeric, is_ascii as is_ascii_alphabetic}"),
+    ("ocf_types/specs/Names.antt", "is_ascii_alphanumeric, is_ascii_alphabetic}",
+     "is_ascii_alphanumeric, is_ascii as is_ascii_alphabetic}"),
 ]
 # What is no text of it: a lemma, and a definition that nobody names.
 OTHERS = [
     ("gated_slots/specs/Slot.antt", "length-slot body = omega (arith, ", "length-slot body = omega (arith, arith, "),
-    ("executor/specs/Runs.antt", "-- a behaviour of the", "-- as many as there are\nabbrev pub Unnamed : ℕ\nUnnamed = 0\n\n-- a behaviour of the"),
+    ("executor/specs/Runs.antt", "-- a behaviour of the",
+     "-- as many as there are\nabbrev pub Unnamed : ℕ\nUnnamed = 0\n\n-- a behaviour of the"),
 ]
 
 
@@ -60,7 +63,8 @@ class Statement(helper.Check):
     def copied(self):
         """A copy of what the statement is made of."""
         for folder in ("docs", "crates"):
-            shutil.copytree(os.path.join(helper.TOP, folder), self.place(folder), ignore=shutil.ignore_patterns("out", "proofs", "must-fail"))
+            left_out = shutil.ignore_patterns("out", "proofs", "must-fail")
+            shutil.copytree(os.path.join(helper.TOP, folder), self.place(folder), ignore=left_out)
         self.assertEqual(check(self.here), (0, ""))
 
     def with_change(self, path, old, new):

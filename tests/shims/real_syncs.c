@@ -1,5 +1,5 @@
-/* Notes what a program does with its files, for tests/journal/real_syncs.py: loaded before the C library (LD_PRELOAD), it appends a line to the
-   file $LOG for each call that opens, reads, writes, syncs or cuts a file, writes to standard output, or starts a program. A line has
+/* Notes what a program does with its files, for tests/journal/real_syncs.py: loaded before the C library (LD_PRELOAD), it appends a line to
+   the file $LOG for each call that opens, reads, writes, syncs or cuts a file, writes to standard output, or starts a program. A line has
    the call, the path of the file (`out` for standard output), the offset, the size that was asked for, the answer (an error as its
    negative number), how many bytes were written, and in hex those that were to be. The log has what was really done; two layers may
    come between that and the program:

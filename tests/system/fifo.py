@@ -14,7 +14,8 @@ from helper import PROGRAM  # noqa: E402
 
 EXAMPLES = os.path.join(helper.TOP, "examples")
 LINES = 1000
-# Writes so many lines, each by one write of a shell, of which each sets the parameters of one resource. Use: sh -c WRITER sh NAME COUNT FIFO
+# Writes so many lines, each by one write of a shell, of which each sets the parameters of one resource.
+# Use: sh -c WRITER sh NAME COUNT FIFO
 WRITER = """exec > "$3"
 printf '{"op":"register","id":"%s","provider":"test","type":"Fast"}\\n' "$1"
 n=0

@@ -19,20 +19,26 @@ fi
 root=$here/root
 mkdir -p "$root/var/lib/dpkg/info" "$root/var/lib/dpkg/updates"
 touch "$root/var/lib/dpkg/status"
-package() { PATH=$PATH:/usr/sbin:/sbin dpkg --root="$root" --force-not-root --force-depends --force-script-chrootless --log="$here/log" "$@" > "$here/dpkg" 2>&1 || { cat "$here/dpkg"; exit 1; }; }
+package() {
+    PATH=$PATH:/usr/sbin:/sbin dpkg --root="$root" --force-not-root --force-depends --force-script-chrootless --log="$here/log" "$@" \
+        > "$here/dpkg" 2>&1 || { cat "$here/dpkg"; exit 1; }
+}
 
 package -i "$deb"
 same "the version" "$("$program" --version)" "$("$root/usr/bin/ocfexec" --version)"
 commit=$(head -n 1 "$top/crates/ocfexec/out/gate")
-before=$("$program" --version | cut -d ' ' -f 2)+$(git -C "$top" rev-list --count "$commit^").$(git -C "$top" rev-parse --short=12 "$commit^")
-dpkg --compare-versions "$(dpkg-deb -f "$deb" Version)" gt "$before" || differs "the version" "above that of the commit before" "$(dpkg-deb -f "$deb" Version)"
+before=$(git -C "$top" rev-list --count "$commit^").$(git -C "$top" rev-parse --short=12 "$commit^")
+before=$("$program" --version | cut -d ' ' -f 2)+$before
+version=$(dpkg-deb -f "$deb" Version)
+dpkg --compare-versions "$version" gt "$before" || differs "the version" "above that of the commit before" "$version"
 same "the journal's folder" 700 "$(stat -c %a "$root/var/lib/ocfexec")"
 for file in README.md docs/GUIDE.md docs/FORMAT.md docs/CLUSTER.md examples/client.py examples/ocfexec-fifo.socket; do
     [ -s "$root/usr/share/doc/ocfexec/$file" ] || differs "$file" "there" "not"
 done
 printf '{"resources": {}}\n' > "$here/resources.json"
 same "the client" "$here/resources.json: 0 resources" "$("$root/usr/libexec/ocfexec/client.py" --file "$here/resources.json" --check)"
-same "an agent's metadata" 0 "$(OCF_RESOURCE_TYPE=Stateful "$root/usr/lib/ocf/resource.d/ocfexec/Stateful" meta-data > "$here/meta"; echo $?)"
+OCF_RESOURCE_TYPE=Stateful "$root/usr/lib/ocf/resource.d/ocfexec/Stateful" meta-data > "$here/meta"
+same "an agent's metadata" 0 $?
 reply=$(printf '%s\n' '{"op":"register","id":"r1","provider":"ocfexec","type":"Dummy","params":{"state":"'"$here/state"'"}}' \
     '{"op":"exec","id":"r1","action":"start","timeout":5000}' '{"op":"drain"}' |
     "$root/usr/bin/ocfexec" run --memory --root "$root/usr/lib/ocf" | grep -c '"outcome":"done"')

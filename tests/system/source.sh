@@ -29,7 +29,8 @@ builds() {
 dpkg-source --extract "$dsc" "$here/tree" > "$here/said" 2>&1 || differs "dpkg-source" "done" "$(cat "$here/said")"
 mkdir "$here/none" "$here/played"
 ! builds "$here/none" || differs "a build without rt" "it fails" "it is done"
-grep -q -F "rt, the command of the Rattle kit, is missing" "$here/said" || differs "a build without rt" "what is missing" "$(tail -n 3 "$here/said")"
+grep -q -F "rt, the command of the Rattle kit, is missing" "$here/said" ||
+    differs "a build without rt" "what is missing" "$(tail -n 3 "$here/said")"
 cat > "$here/played/rt" << PLAYED
 #!/bin/sh
 case \$PWD in
