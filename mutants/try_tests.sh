@@ -59,13 +59,14 @@ built() {
     compile "$programs/$1/ocfexec"
 }
 
-# Whether the check that an edit names, by its script and its sentence, says this word with an edit, or with none. One that builds a
-# program itself, from the files that it stands among, stands in the copy for it. Use: says WORD EDIT NAME
+# Whether the check that an edit names, by its script and its sentence, says this word with an edit, or with none. One that needs a
+# program of tests/trials or tests/scenarios, which is built from the files that it stands among, stands in the copy for it.
+# Use: says WORD EDIT NAME
 says() {
     local script sentence
     script=$(sed -n 's/^refused by: \([^,]*\).*/\1/p' "$2")
     sentence=$(sed -n 's/^refused by: [^,]*, //p' "$2")
-    if [ "$3" != unedited ] && head -n 5 "$script" | grep -c '^# check:.* builds' > /dev/null; then
+    if [ "$3" != unedited ] && head -n 5 "$script" | grep -c -E '^# check:.* (trials|scenarios)' > /dev/null; then
         copy_edited "$3" || return 1
         script=$copy/top/$script
     fi

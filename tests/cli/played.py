@@ -1,5 +1,5 @@
 #!/usr/bin/env python3
-# check: builds
+# check: trials
 """The program over a host that is played, `tests/trials program`: directories in memory, scripted agents, and a clock that is moved by who
 waits. So each call of the system fails in turn, and no process is started. What is wanted was counted by hand from docs/FORMAT.md and the
 manual page.

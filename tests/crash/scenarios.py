@@ -1,5 +1,5 @@
 #!/usr/bin/env python3
-# check: builds
+# check: scenarios
 """The scenarios, tests/scenarios/data: text that is played through the public calls of the executor's crates, over a disk in memory whose
 crashes and faults are planned, and children that answer as planned. What is found after a crash or a fault an oracle looks at that knows
 no journal; what is printed is compared with the transcript beside each file, byte for byte. A file is played alone by

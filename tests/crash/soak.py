@@ -1,5 +1,5 @@
 #!/usr/bin/env python3
-# check: slow built
+# check: slow trials
 """A long life: hours over one journal, on a simulated clock. The program of tests/trials plays them through the program's own run, with
 a disk in memory and scripted agents; this plans them, and looks at all that is said. 64 resources have four recurring monitors each, a
 client starts, stops, withdraws and asks by chance, at times a hundred lines at once, the wall clock jumps at each opening, and journals

@@ -1,5 +1,5 @@
 #!/usr/bin/env python3
-# check: builds
+# check: trials
 """The tests of the trials, tests/trials: each call that takes memory is refused, with nothing changed, in heaps of growing size until
 there is enough for it; what children ask of a system that is played, where they are killed, outlive it, or cannot be asked or killed; and
 what a stop or a fault in each device call of an opening leaves, with each fill of what was not synced; and runs over played ends.

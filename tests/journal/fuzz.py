@@ -1,5 +1,5 @@
 #!/usr/bin/env python3
-# check: built
+# check: trials
 """What guided fuzzing found of inputs, tests/fuzz/corpus, handed once more to the readers that they were found for: none crashes,
 takes long or fails, so what is read spells the same bytes, a pair that is refused is not written, and what a run leaves opens. The
 program of tests/trials hands them over. Of each pair the program's own `show` says the damage that a second reader finds, which is

@@ -3,12 +3,12 @@
 
 A script prints a line for each of its checks, `ok`, `failed` or `skipped`, with its time; one that needs what the machine has not ends
 with 77. A script that prints none fails. Several run at once, and what one printed is printed whole when it has ended. A line
-`# check: MARK..` near the head of a script says `slow`, so that --fast leaves it out, `builds`, so that it begins early and may take
-longer, as it may have to build a program first, `built`, so that it begins after those, as it needs the same program, or `alone`, so that
-nothing runs beside it, as it measures time or load; in a script in Python single tests may be slow (helper.slow). Two run at once for each
-processor, since a script waits half of its time; the one that took longest in the last run begins first. A script that takes too long is
-ended, and on a busy machine it may take as many times longer as that is slower. The last lines say what was skipped and why, what took
-longest and what failed; the very last counts the checks.
+`# check: MARK..` near the head of a script says `slow`, so that --fast leaves it out, `alone`, so that nothing runs beside it, as it
+measures time or load, or `trials` or `scenarios`, so that tests/trials/build.sh or tests/scenarios/build.sh has built that program before
+the script begins; in a script in Python single tests may be slow (helper.slow). Two run at once for each processor, since a script waits
+half of its time; the one that took longest in the last run begins first. A script that takes too long is ended, and on a busy machine it
+may take as many times longer as that is slower. The last lines say what was skipped and why, what took longest and what failed; the very
+last counts the checks.
 
 Use: runner.py [--fast] [--jobs N] [--limit SECONDS] [NAME..], with PROGRAM in the environment, and JOBS for --jobs; a NAME is that of a
 script or of a folder, and without any all are run"""
@@ -26,8 +26,9 @@ from pathlib import Path
 
 TOP = Path(__file__).resolve().parents[2]
 FOLDERS = ["cli", "journal", "agents", "crash", "load", "system", "repository"]
-# the marks, and in how many lines they may stand
-MARKS, HEAD = {"slow", "builds", "built", "alone"}, 5
+# the programs that a mark may ask for; the marks, and in how many lines they may stand
+PROGRAMS = {"trials", "scenarios"}
+MARKS, HEAD = {"slow", "alone"} | PROGRAMS, 5
 MARK = re.compile(r"# check: (.*)")
 CHECK = re.compile(r"^(ok|failed|skipped) +([0-9.]+) s  (.*)$", re.MULTILINE)
 WHY = re.compile(r"skipped: (.*)")
@@ -39,7 +40,7 @@ AT_ONCE = 2
 KEPT, UNKNOWN = ("tests/out/times", "tests/out/times-fast"), 60
 # how long a script has to end after SIGTERM, in seconds, and how many of the slowest checks are named
 GRACE, SLOWEST = 5, 10
-# how many seconds more than its limit a script may take that may have to build a program first
+# how many seconds more than the limit of a script the build of a program may take
 BUILD = 600
 # how many times its limit a script may take on a machine that is so much slower than a quiet one
 SLOWER = 4
@@ -55,6 +56,7 @@ class Script:
         self.marks = {word for line in lines if line for word in line[1].split()}
         if not self.marks <= MARKS:
             sys.exit(f"{path}: no such mark: {' '.join(self.marks - MARKS)}")
+        self.needs = self.marks & PROGRAMS
 
     def is_named(self, name):
         name = name.removeprefix("tests/").rstrip("/")
@@ -93,21 +95,37 @@ class Runner:
 
     def __init__(self, program, limit):
         self.program, self.limit, self.live, self.is_closed = program, limit, set(), False
+        # of each program that was built for scripts: the status of its build, and what that said
+        self.built = {}
 
     def run(self, script):
-        # in a session of its own: with an action the program ends the background jobs of its session that name the same resource
         began = time.monotonic()
+        for status, output in (self.built[name] for name in script.needs):
+            if status:
+                return Ended(script, status, output, 0)
+        status, output = self.call([script.path, self.program], self.limit)
+        return Ended(script, status, output, time.monotonic() - began)
+
+    def build(self, name):
+        """Builds the program of a folder, and has the environment of the scripts say where it is, which its build says in its last line."""
+        status, output = self.call([f"tests/{name}/build.sh"], self.limit + BUILD)
+        if not status:
+            os.environ[f"BUILT_{name.upper()}"] = output.decode().splitlines()[-1]
+        self.built[name] = status, output
+
+    def call(self, words, limit):
+        """The status of a command, which is ended after so many seconds, and what it said."""
+        # in a session of its own: with an action the program ends the background jobs of its session that name the same resource
         with tempfile.TemporaryFile() as output:
             try:
-                running = subprocess.Popen([script.path, self.program], stdin=subprocess.DEVNULL, stdout=output, stderr=output, cwd=TOP,
-                                           start_new_session=True)
+                running = subprocess.Popen(words, stdin=subprocess.DEVNULL, stdout=output, stderr=output, cwd=TOP, start_new_session=True)
             except OSError as error:
-                return Ended(script, NOT_STARTED, f"{script.path}: {error.strerror}\n".encode(), 0)
+                return NOT_STARTED, f"{words[0]}: {error.strerror}\n".encode()
             self.live.add(running)
-            status = self.awaits(running, self.limit + BUILD * bool(script.marks & {"builds", "built"}))
+            status = self.awaits(running, limit)
             self.live.discard(running)
             output.seek(0)
-            return Ended(script, status, output.read(), time.monotonic() - began)
+            return status, output.read()
 
     def awaits(self, running, limit):
         began = time.monotonic()
@@ -119,30 +137,30 @@ class Runner:
         end(running)
         return LATE
 
+    def ready(self, waiting):
+        """The first script that can begin: what it needs is built."""
+        return next((script for script in waiting if script.needs <= self.built.keys()), None)
+
     def run_all(self, scripts, jobs, take):
-        """Runs these, so many at once, and hands on each as soon as it has ended."""
-        waiting, under_way = list(scripts), {}
+        """Builds what these scripts need, runs them, so many at once, and hands on each as soon as it has ended."""
+        waiting, needed = list(scripts), {name for script in scripts for name in script.needs}
         with concurrent.futures.ThreadPoolExecutor(jobs) as pool:
+            under_way = {pool.submit(self.build, name) for name in sorted(needed - self.built.keys())}
             try:
                 while waiting or under_way:
-                    while len(under_way) < jobs and (script := ready(waiting, under_way.values())):
+                    while len(under_way) < jobs and (script := self.ready(waiting)):
                         waiting.remove(script)
-                        under_way[pool.submit(self.run, script)] = script
+                        under_way.add(pool.submit(self.run, script))
                     for run in concurrent.futures.wait(under_way, return_when=concurrent.futures.FIRST_COMPLETED).done:
-                        del under_way[run]
-                        take(run.result())
+                        under_way.discard(run)
+                        if ended := run.result():
+                            take(ended)
             except BaseException:
                 self.is_closed = True
                 pool.shutdown(wait=False, cancel_futures=True)
                 for running in list(self.live):
                     end(running)
                 raise
-
-
-def ready(waiting, under_way):
-    """The first script that can begin: one that needs what others build waits for these."""
-    is_building = any("builds" in script.marks for script in [*waiting, *under_way])
-    return next((script for script in waiting if not (is_building and "built" in script.marks)), None)
 
 
 def slowness():
@@ -179,8 +197,8 @@ class Times:
             pass
 
     def order(self, script):
-        """What builds a program begins first, and then what takes longest."""
-        return "builds" not in script.marks, -self.seconds.get(script.path, UNKNOWN if script.marks else 0)
+        """What took longest begins first."""
+        return -self.seconds.get(script.path, UNKNOWN if script.marks else 0)
 
     def keep(self, ended):
         self.seconds.update((one.script.path, one.seconds) for one in ended)

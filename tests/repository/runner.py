@@ -62,7 +62,8 @@ class Runner(helper.Check):
             os.makedirs(self.place(f"tests/{folder}"))
         shutil.copy(os.path.join(helper.TOP, "tests/lib/runner.py"), self.place("tests/lib"))
         self.words = [sys.executable, self.place("tests/lib/runner.py")]
-        self.environment = {**os.environ, "PROGRAM": helper.PROGRAM, "JOBS": "2", "FAST": "1"}
+        outside = {key: value for key, value in os.environ.items() if not key.startswith("BUILT_")}
+        self.environment = {**outside, "PROGRAM": helper.PROGRAM, "JOBS": "2", "FAST": "1"}
 
     def script(self, name, body, mark="", mode=0o755):
         with open(self.place(f"tests/{name}.sh"), "w", encoding="ascii") as file:
@@ -110,21 +111,32 @@ class Runner(helper.Check):
                          ["    tests/cli/" + line for line in wanted])
         with open(self.place("pid"), encoding="ascii") as file:
             self.assertFalse(helper.is_alive(int(file.read())), "what took too long is gone")
-        for name in ("builds", "built"):
-            self.script(f"cli/{name}", "sleep 1.5\n" + GOOD, mark=f"# check: {name}\n")
-            self.assertEqual(self.ran("--limit", "1", name)[1][-1], "1 passed, 0 failed")
+
+    def build(self, name, body):
+        """The build of a program that scripts need."""
+        os.makedirs(self.place(f"tests/{name}"))
+        self.script(f"{name}/build", body)
 
     def test_built(self):
-        """what needs a program that others build begins after these, and all else before"""
-        for name, mark in (("a_built", "built"), ("b_built", "built"), ("builds", "builds"), ("other", "")):
-            self.script(f"cli/{name}", f"cd {self.here}; echo begun {name} >> log; sleep 0.3; echo ended {name} >> log\n" + GOOD,
-                        mark=f"# check: {mark}\n" if mark else "")
-        self.assertEqual(self.ran()[1][-1], "4 passed, 0 failed")
+        """what scripts need is built once before they begin, and all else begins before"""
+        self.build("trials", f"sleep 1.5; echo built >> {self.place('log')}; echo of a compiler >&2; echo /its/place\n")
+        for name, mark in (("a_needs", "# check: trials\n"), ("b_needs", "# check: trials\n"), ("other", "")):
+            self.script(f"cli/{name}", f"echo {name} $BUILT_TRIALS >> {self.place('log')}\n" + GOOD, mark=mark)
+        status, said = self.ran("--limit", "1")
+        self.assertEqual((status, said[-1], "of a compiler" in said), (0, "3 passed, 0 failed", False))
         with open(self.place("log"), encoding="ascii") as file:
-            log = file.read().splitlines()
-        self.assertEqual(sorted(log[:2]), ["begun builds", "begun other"])
-        for name in ("a_built", "b_built"):
-            self.assertLess(log.index("ended builds"), log.index(f"begun {name}"), log)
+            other, built, *needs = file.read().splitlines()
+        self.assertEqual((other, built, sorted(needs)), ("other", "built", ["a_needs /its/place", "b_needs /its/place"]))
+
+    def test_not_built(self):
+        """where a build fails each script that needs it fails, with what the build said, and all else goes on"""
+        self.build("scenarios", "echo no compiler; exit 3\n")
+        for name, mark in (("needs", "# check: scenarios\n"), ("other", "")):
+            self.script(f"cli/{name}", GOOD, mark=mark)
+        status, said = self.ran()
+        self.assertEqual((status, said[-4:]), (1, ["failed 1:", "    tests/cli/needs.sh: it ended with status 3",
+                                                   "once more: tests/check.sh needs.sh", "1 passed, 1 failed"]))
+        self.assertIn("no compiler", said)
 
     def test_skipped(self):
         """what is skipped is named with its reason, a script or one of its checks"""
