@@ -97,4 +97,4 @@ class Memory(helper.Check):
 
 
 if __name__ == "__main__":
-    helper.main()
+    helper.main(in_memory=True)

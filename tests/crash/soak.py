@@ -59,10 +59,11 @@ def is_booted(result):
 
 
 class Life:
-    """A life by chance. What the program is given is noted, and plays it again."""
+    """A life by chance, with AddressSanitizer or without; where `tidies` says so its client tidies once an hour. What the program is given
+    is noted, and plays it again."""
 
-    def __init__(self, seed, note):
-        self.dice, self.note = random.Random(seed), note
+    def __init__(self, seed, note, plain, tidies):
+        self.dice, self.note, self.tidies = random.Random(seed), note, tidies
         self.all = {name: Resource() for name in IDS}
         self.doubt = []  # the commands that were refused together, as the disk failed: they may have been recorded
         self.next_call = 1  # above each call that was told or found
@@ -71,7 +72,7 @@ class Life:
         self.counts = collections.Counter()
         self.wall = 1_700_000_000_000
         # what is given back is not kept for long, so that the memory of the process is that of the life
-        self.program = subprocess.Popen([helper.trials(), "life"], stdin=subprocess.PIPE, stdout=subprocess.PIPE,
+        self.program = subprocess.Popen([helper.trials(plain), "life"], stdin=subprocess.PIPE, stdout=subprocess.PIPE,
                                         env={**os.environ, "ASAN_OPTIONS": "quarantine_size_mb=1"})
 
     # what a client sends
@@ -313,8 +314,10 @@ class Life:
     def hour(self, stops):
         """An hour of a client, stopped or not."""
         lines = self.client()
+        # (how a tidy ended is no reply)
+        tidies = [(self.dice.randrange(2, HOUR), {"op": "tidy"})] if self.tidies else []
         stop = self.opening + self.dice.randrange(1, self.hourly) if stops else 0
-        out, calls = self.sit(stop, 1, lines)
+        out, calls = self.sit(stop, 1, sorted([*lines, *tidies], key=lambda line: line[0]))
         self.hear([line for _, line in lines], out)
         # an hour that was stopped does not tell how many calls it would have made: perhaps more than is thought
         self.hourly = self.hourly * 101 // 100 if 0 < stop <= calls else max(500, calls - self.opening)
@@ -341,29 +344,41 @@ class Soak(helper.Check):
         done = subprocess.run([helper.trials(), "life"], input=texts[0], capture_output=True, timeout=20)
         self.assertEqual((done.returncode, done.stdout, done.stderr), (0, texts[1], b""))
 
-    def test_life(self):
-        """a long life: stops each hour, and nothing told is lost"""
-        days, seed = helper.number("DAYS", 1), helper.number("SEED", 20261124)
-        began = time.monotonic()
-        life = Life(seed, lambda text: self.note("stdin", text))
+    def lived(self, stops, plain, tidies):
+        """A life of so many stops, between an hour without one and another: what it counted, and its memory after half of the stops and
+        at the end."""
+        seed, began, half = helper.number("SEED", 20261124), time.monotonic(), 0
+        life = Life(seed, lambda text: self.note("stdin", text), plain, tidies)
         self.addCleanup(life.program.kill)
         life.hour(False)
-        half = 0
-        while life.counts["stops"] < 24 * days:
+        while life.counts["stops"] < stops:
             life.hour(True)
-            if life.counts["stops"] == 12 * days:
+            if life.counts["stops"] == stops // 2:
                 half = life.memory()
         life.hour(False)
         late = life.memory()
         self.assertEqual(life.ends(), 0)
-        print(f"soak: {days} days in {time.monotonic() - began:.0f} s, seed {seed}: {dict(life.counts)};",
-              f"memory at most {half} KiB in its first half, {late} KiB in all")
+        print(f"soak: {stops} stops in {time.monotonic() - began:.0f} s, seed {seed}: {dict(life.counts)};",
+              f"memory at most {half} KiB in its first half, {late} KiB in all", flush=True)
+        return life.counts, half, late
+
+    def test_life(self):
+        """a long life: stops each hour, and nothing told is lost"""
+        days = helper.number("DAYS", 1)
+        counts, half, late = self.lived(24 * days, plain=True, tidies=False)
         # a part is tidied at some 2.2 MiB, which a day fills; by then the disk in memory has all the room that it takes
-        self.assertGreater(life.counts["epochs"], days // 3, "tidies by themselves")
-        self.assertGreater(life.counts["withdrawn"], 100 * days, "actions that were withdrawn")
+        self.assertGreater(counts["epochs"], days // 3, "tidies by themselves")
+        self.assertGreater(counts["withdrawn"], 100 * days, "actions that were withdrawn")
         if days >= 8:
             self.assertLess(late, half * 1.1, "memory that grows with the days")
 
+    def test_sanitized(self):
+        """some hours of a life whose client tidies, with AddressSanitizer"""
+        counts, _, _ = self.lived(2, plain=False, tidies=True)
+        self.assertGreater(counts["told"], 1000, "results that were told")
+        self.assertGreater(counts["epochs"], 2, "tidies")
+
 
 if __name__ == "__main__":
-    helper.main()
+    helper.trials()
+    helper.main(parts=2)

@@ -13,9 +13,9 @@ import helper  # noqa: E402
 
 
 class Trials(helper.Check):
-    def says(self, name):
-        """The tests of this name say what they have to, each of them."""
-        done = subprocess.run([helper.trials(), name], stdin=subprocess.DEVNULL, capture_output=True, text=True, timeout=300)
+    def says(self, name, plain=False):
+        """The tests of this name say what they have to, each of them, with AddressSanitizer or without."""
+        done = subprocess.run([helper.trials(plain), name], stdin=subprocess.DEVNULL, capture_output=True, text=True, timeout=300)
         self.assertEqual((done.returncode, done.stderr), (0, ""))
         with open(os.path.join(helper.TOP, "tests/trials", name + ".stdout"), encoding="ascii") as file:
             self.assertEqual(done.stdout.splitlines(), file.read().splitlines())
@@ -33,9 +33,14 @@ class Trials(helper.Check):
         self.says("disks")
 
     def test_ends(self):
-        """readers, writers and clocks that are played: a byte at a time, a full or a closed output, half a line, a million lines, no time"""
+        """readers, writers and clocks that are played: a byte at a time, a full or a closed output, half a line, many lines, no time"""
         self.says("ends")
+
+    def test_many(self):
+        """a million lines that are there at once, for run and for serve"""
+        self.says("many", plain=True)
 
 
 if __name__ == "__main__":
-    helper.main()
+    helper.trials()
+    helper.main(parts=5)

@@ -18,10 +18,10 @@ SHOWN, REFUSED, DAMAGED = 0, 5, 3
 
 
 class Fuzz(helper.Check):
-    def hand(self, reader, text, name):
+    def hand(self, text, *words, name="", said=b""):
         """Hands these bytes to a reader."""
-        done = subprocess.run([helper.trials(), reader], input=text, capture_output=True, timeout=20)
-        self.assertEqual((done.returncode, done.stdout, done.stderr), (0, b"", b""), name)
+        done = subprocess.run([helper.trials(), *words], input=text, capture_output=True, timeout=20)
+        self.assertEqual((done.returncode, done.stdout, done.stderr), (0, said, b""), name)
 
     def inputs(self, reader):
         folder = os.path.join(CORPUS, reader)
@@ -32,13 +32,20 @@ class Fuzz(helper.Check):
                 yield name, file.read()
 
     def replay(self, reader):
-        for name, text in self.inputs(reader):
-            self.hand(reader, text, name)
+        """Hands all inputs to a reader, in one process; where that fails each in a process of its own, so that the input is named."""
+        inputs = list(self.inputs(reader))
+        told = b"".join(len(text).to_bytes(4, "big") + text for _, text in inputs)
+        try:
+            self.hand(told, "each", reader, said=b"%d inputs\n" % len(inputs))
+        except (AssertionError, subprocess.TimeoutExpired):
+            for name, text in inputs:
+                self.hand(text, reader, name=name)
+            raise
 
     def test_first(self):
         """a first run, of three commands and a line that is none"""
         with open(os.path.join(helper.TOP, "tests/trials/lines.stdin"), "rb") as file:
-            self.hand("lines", file.read(), "lines.stdin")
+            self.hand(file.read(), "lines", name="lines.stdin")
 
     def test_none(self):
         """a reader that there is not is refused"""

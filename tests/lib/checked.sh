@@ -1,6 +1,6 @@
 # Builds a program of a crate that is none of the gate's, since nothing depends on it: as `rt try` compiles, unproved and with checks, but
 # optimised. So it stops at an index out of bounds, a sum that wraps, or a value that is not there; and at an access to memory that is
-# not there, unless `plain` is set: then it has no AddressSanitizer, and takes a quarter of the time.
+# not there. The same program without AddressSanitizer, which takes a quarter of the time, is beside it; with `plain` set it is alone.
 # Read by `. tests/lib/checked.sh`, at the top of the repository.
 # shellcheck shell=bash
 . tests/lib/apart.sh
@@ -34,21 +34,20 @@ compile_checked() {
     if [ -n "${plain:-}" ]; then
         keep_plain_program "$copy/kit" "$copy/$name"
     else
-        keep_module "$copy/kit" "$copy" -O2
-        keep_program "$copy/kit" "$copy/$name"
+        keep_both_programs "$copy/kit" "$copy" "$name"
     fi
     (cd "$copy/top/crates/$name" && "$copy/kit/bin/rt" try --steps 1 -- "$@" < /dev/null > "$copy/said" 2>&1) || true
-    if [ ! -x "$copy/$name" ] || { [ -z "${plain:-}" ] && [ ! -f "$copy/module.bc" ]; }; then
+    if [ ! -x "$copy/$name" ] || { [ -z "${plain:-}" ] && [ ! -x "$copy/plain" ]; }; then
         cat "$copy/said" >&2
         exit 1
     fi
     mv "$copy/$name" "$out"
-    [ -n "${plain:-}" ] || mv "$copy/module.bc" "$copy/flags" "$out"
+    [ -n "${plain:-}" ] || mv "$copy/plain" "$copy/module.bc" "$copy/flags" "$out"
 }
 
-# Has the program of a line, whose crate is in tests/NAME, as tests/NAME/out/NAME, and prints where it is. Unless `plain` is set,
-# module.bc is beside it, the whole program as the compiler hands it to its clang, and the flags. What was compiled from the same
-# texts is not compiled again, and of two calls the second waits. Its run with these words has to be short.
+# Has the program of a line, whose crate is in tests/NAME, as tests/NAME/out/NAME, and prints where it is. Unless `plain` is set, beside
+# it are that without AddressSanitizer, as `plain`, module.bc, the whole program as the compiler hands it to its clang, and the flags.
+# What was compiled from the same texts is not compiled again, and of two calls the second waits. Its run with these words has to be short.
 # Use: build_checked LINE [WORD..]
 build_checked() {
     local line=${1//$'\n   '/} out=$PWD/tests/${1%%:*}/out texts

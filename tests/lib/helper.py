@@ -146,13 +146,17 @@ def kib(pid, name):
 
 @functools.cache
 def built(name):
-    """The program of a folder, tests/trials or tests/scenarios, which is built where it is not there, or was built from other texts."""
+    """The program of a folder, tests/trials or tests/scenarios, which is built where it is not there, or was built from other texts; the
+    runner of the checks has done so before a script that needs it."""
+    if there := os.environ.get(f"BUILT_{name.upper()}"):
+        return there
     done = subprocess.run([os.path.join(TOP, "tests", name, "build.sh")], stdout=subprocess.PIPE, check=True, text=True)
     return done.stdout.strip()
 
 
-def trials():
-    return built("trials")
+def trials(plain=False):
+    """The trials with AddressSanitizer, or the same without it, which take a quarter of the time."""
+    return os.path.join(os.path.dirname(built("trials")), "plain") if plain else built("trials")
 
 
 def shim(source, folder):

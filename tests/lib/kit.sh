@@ -22,20 +22,9 @@ replace_tool() {
     chmod +x "$1/toolchain/bin/$2"
 }
 
-# Has the copy's linker keep the program that it made, as FILE. `rt try` runs a program in a folder of its own, and takes it away.
-# Use: keep_program COPY FILE
-keep_program() {
-    replace_tool "$1" ld.lld << LINKER
-"\$tool" "\$@" || exit
-for word; do
-    [ "\$last" != -o ] || cp "\$word" "$2"
-    last=\$word
-done
-LINKER
-}
-
-# The same of a program that is optimised and compiled without AddressSanitizer: it runs with a shim before the C library, as one of the
-# gate's does, and nearly as fast. Use: keep_plain_program COPY FILE
+# Has the copy keep the program that it makes, as FILE, optimised and compiled without AddressSanitizer: it runs with a shim before the
+# C library, as one of the gate's does, and nearly as fast. (`rt try` runs a program in a folder of its own, and takes it away.)
+# Use: keep_plain_program COPY FILE
 keep_plain_program() {
     replace_tool "$1" clang << 'CLANG'
 for word; do
@@ -59,24 +48,60 @@ done
 LINKER
 }
 
+# The same of two programs of one module, both optimised: FOLDER/NAME, which has AddressSanitizer, and FOLDER/plain, which has not. Beside
+# them is what the compiler hands to its clang: the whole program as FOLDER/module.bc, and the flags, a line each, as FOLDER/flags.
+# Use: keep_both_programs COPY FOLDER NAME
+keep_both_programs() {
+    replace_tool "$1" clang << CLANG
+case " \$* " in *" -fsanitize=address "*) ;; *) exec "\$tool" "\$@" ;; esac
+cp module.bc "$2/module.bc"
+printf '%s\n' "\$@" > "$2/flags"
+for word; do
+    shift
+    case \$word in -O?) word=-O2 ;; esac
+    set -- "\$@" "\$word"
+done
+"\$tool" "\$@" &
+for word; do
+    shift
+    case \$word in -fsanitize=address) continue ;; module.o) word=$2/plain.o ;; esac
+    set -- "\$@" "\$word"
+done
+"\$tool" "\$@" || exit
+wait "\$!" && cp module.o "$2/checked.o"
+CLANG
+    replace_tool "$1" ld.lld << LINKER
+"\$tool" "\$@" || exit
+for word; do
+    shift
+    case \$word in --whole-archive) whole=yes ;; esac
+    kept=\$word
+    if [ "\$last" = -o ]; then
+        made=\$word kept=$2/plain
+    elif cmp -s "\$word" "$2/checked.o"; then
+        kept=$2/plain.o
+    fi
+    [ "\$whole" = yes ] || set -- "\$@" "\$kept"
+    case \$word in --no-whole-archive) whole=no ;; esac
+    last=\$word
+done
+cp "\$made" "$2/$3" && "\$tool" "\$@"
+LINKER
+}
+
 # Has the copy check nothing beside what it compiles: a hint of names that a check will refuse is not wanted. Use: check_nothing COPY
 check_nothing() {
     ln -sf /bin/true "$1/bin/rattle"
 }
 
 # Has the copy's clang keep what the compiler hands to it: the whole program as FOLDER/module.bc, and the flags, a line each, as
-# FOLDER/flags. It optimises as a third word says, such as -O2, if there is one. Use: keep_module COPY FOLDER [LEVEL]
+# FOLDER/flags. Use: keep_module COPY FOLDER
 keep_module() {
     replace_tool "$1" clang << CLANG
 if [ -f module.bc ]; then
     cp module.bc "$2/module.bc"
     printf '%s\n' "\$@" > "$2/flags"
 fi
-for word; do
-    shift
-    case \$word in -O?) word=${3:-\$word} ;; esac
-    set -- "\$@" "\$word"
-done
 exec "\$tool" "\$@"
 CLANG
 }
