@@ -14,7 +14,8 @@ started again. Python's standard library alone, no threads.
         print(executor.result(call)["outcome"])
     executor.leave()
 
-Commands, replies and results are dictionaries, as docs/FORMAT.md describes them. `drain`, `watch` and `meta` are refused here:
+Commands, replies and results are dictionaries, as docs/FORMAT.md describes them. Only a result that came as a notice says its `key`,
+what was expected (`expect`) and whether it has `failed`, not one that was found in the journal alone. `drain`, `watch` and `meta` are refused here:
 an executor that serves runs actions by itself, and `ocfexec run` answers all three.
 """
 import collections
@@ -81,7 +82,7 @@ class Executor:
     """An executor that is started, asked, heard, ended, and started again after it ended.
 
     The program waits wherever its output is not read. So all that it has written is read in every call here, also while a command
-    is written, and is kept until it is taken; its pipe holds one MiB more, about 6,000 results, while no call is made.
+    is written, and is kept until it is taken; its pipe holds one MiB more, about 4,500 results, while no call is made.
 
     reported  the results that the last opening reported, as interrupted or dropped
     past      of each resource that was registered then, its results in the journal, oldest first

@@ -323,7 +323,7 @@ class Kept(helper.Check):
         self.assertGreater(len(runs), kills)
         # an opening reports what was interrupted before what was dropped, which a history has the other way round; of what the client
         # itself withdrew at its end there is no notice
-        told = {(value["call"], value["run"]): value for value in client.told()}
+        told = {(value["call"], value["run"]): {**helper.result_of(value), "id": value["id"]} for value in client.told()}
         for name, results in helper.results(self.place("journal")).items():
             for result in results:
                 if result["outcome"] != "cancelled":

@@ -65,6 +65,13 @@ class Events(helper.Check):
         self.assertEqual(self.events(self.commands("7", "monitor", expect=7), run=helper.explained),
                          ["<6>web: monitor not running (OCF_NOT_RUNNING, 7) in N ms"])
 
+    def test_together(self):
+        """of two results of one turn each has failed: a monitor that finds it not running, and a start of an agent that is gone by then"""
+        self.agent("Goes", 'rm "$0"\nexit 7\n')
+        told = helper.lines(helper.register("web", "Goes"), helper.action("web", "monitor"), helper.action("web", "start"), {"op": "drain"})
+        self.assertEqual(self.events(told, run=helper.explained), ["<3>web: monitor not running (OCF_NOT_RUNNING, 7) in N ms",
+                                                                   "<3>web: start failed: the agent's file is missing"])
+
     def test_recurring(self):
         """a recurring monitor that expects it to run, and finds that it does not, has failed"""
         run = self.heard("serve", "--memory", "--root", self.here, "--events", err=self.place("err"),

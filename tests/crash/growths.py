@@ -209,13 +209,11 @@ class Growths(helper.Check):
             info, history = shown[command["id"]]
             if command["op"] == "params" and command not in [step.command for step in last]:
                 self.assertEqual(info["params"], command["params"])
-            call = next((value["call"] for value in values if "call" in value and "key" in value), None)
+            call = next((value["call"] for value in values if "call" in value and "ok" in value), None)
             calls = info["queued"] + [(info["running"] or {}).get("call")] + [end["call"] for end in history["results"]]
             self.assertTrue(call is None or call in calls, f"call {call}")
         for notice in found.told():
-            # a notice alone has these
-            result = {key: part for key, part in notice.items() if key not in ("id", "signal", "lives")}
-            self.assertIn(result, shown[notice["id"]][1]["results"], "a notice that was told")
+            self.assertIn(helper.result_of(notice), shown[notice["id"]][1]["results"], "a notice that was told")
 
     def ended_early(self, steps, base, found, folder, before):
         if found.status == 4:
@@ -233,7 +231,7 @@ class Growths(helper.Check):
         starts = sum(value["outcome"] == "not-started" for value in found.told())
         ends = sum(value == {"end": "memory"} for values in found.answers for value in values)
         self.assertEqual(starts + ends, 1, "one turn that found no memory")
-        but = ("run", "outcome", "code", "name")
+        but = ("run", "outcome", "code", "name", "failed")
         told, wanted = loose(found.told(), but), loose(base.told(), but)
         missing = len(wanted) - len(told)
         self.assertTrue(0 <= missing <= lost and all(value in wanted for value in told), "what is told")

@@ -43,11 +43,6 @@ class Resource:
         self.monitors = {}  # the calls of its monitors, by their intervals
 
 
-def as_result(notice):
-    """A notice as a result of its resource: a serving run names a signal too, which no journal keeps."""
-    return {key: value for key, value in notice.items() if key not in ("id", "signal")}
-
-
 def withdrawn(command, action):
     """The result of an action that was withdrawn, in the order of a result's keys."""
     return {"action": action, "at": None, "call": command["call"], "code": 1, "interval": 0, "name": "OCF_ERR_GENERIC",
@@ -165,7 +160,7 @@ class Life:
         known = self.all[notice["id"]]
         assert known.there and notice["run"] > known.newest, ("told again, or of none", notice)
         known.newest = notice["run"]
-        known.told = [*known.told, as_result(notice)][-KEPT:]
+        known.told = [*known.told, helper.result_of(notice)][-KEPT:]
         if notice["interval"] == 0:
             assert known.queued.pop(notice["call"], None) == notice["action"], ("a result of no action", notice)
         self.counts["told"] += 1
@@ -291,7 +286,7 @@ class Life:
             assert rest == [], rest
         report, ended = [], []
         while "outcome" in out[0]:
-            report.append(out.pop(0))
+            report.append({"id": out[0]["id"], **helper.result_of(out.pop(0))})
         assert len(out) == len(QUESTIONS)
         for command, reply in zip(QUESTIONS, out):
             match command["op"]:

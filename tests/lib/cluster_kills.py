@@ -151,7 +151,7 @@ class Cluster(helper.Check):
 
         for name, results in helper.results(str(lab.folder / node / "journal")).items():
             self.assertTrue(results, f"a history of {name}")
-            seen = [{word: entry[word] for word in entry if word != "id"} for entry in entries if entry["id"] == name]
+            seen = [helper.result_of(entry) for entry in entries if entry["id"] == name]
             seen = sorted(seen, key=lambda entry: entry["at"])[-len(results):]
             self.assertEqual(sorted(seen, key=key), sorted(results, key=key), f"{name} of {node}")
         return entries

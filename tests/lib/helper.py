@@ -88,6 +88,11 @@ def is_notice(value, **wanted):
     return "outcome" in value and all(value[key] == part for key, part in wanted.items())
 
 
+def result_of(notice):
+    """A notice of `serve` as a result in its resource's history, which has none of these keys."""
+    return {key: part for key, part in notice.items() if key not in ("id", "key", "expect", "failed", "lives", "signal")}
+
+
 def run(*words, told=b"", **how):
     """A whole run, which is told all its input at once."""
     return subprocess.run([PROGRAM, *words], input=told, capture_output=True, **{"timeout": WHOLE, **how})

@@ -250,9 +250,8 @@ class Serving(helper.Check):
                 self.assertIn(command["id"], known)
                 self.stands(command, reply, *known[command["id"]])
             for notice in notices:
-                result = {key: part for key, part in notice.items() if key != "id"}
                 results = known[notice["id"]][1]
-                self.assertTrue(result in results or len(results) == 64, f"{notice} was told")
+                self.assertTrue(helper.result_of(notice) in results or len(results) == 64, f"{notice} was told")
             told += len(replies) + len(notices)
         print(f"serve: {lives} kills, {told} told lines stand", flush=True)
         self.assertGreater(told, lives, "told lines")

@@ -1,4 +1,5 @@
 pub mod FloatLemmas
+pub mod NoticeLemmas
 pub mod TextLemmas
 pub mod ParamLemmas
 pub mod ValueLemmas

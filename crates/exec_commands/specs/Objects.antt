@@ -1,6 +1,6 @@
 -- JSON objects and lists of replies: RFC 8259. The keys of an object are written down in ascending order of their bytes.
 use Rattle.std.specs.Prelude.{ℕ, List, [], ◌∷◌, map}
-use Rattle.serde_json.specs.Data.{Data, number, unsigned, string, array, object, Members, no_members, member}
+use Rattle.serde_json.specs.Data.{Data, number, unsigned, string, array, object, Members, no_members, member, put}
 use Rattle.serde_json.specs.View.{items_of}
 use Rattle.ocf_types.specs.Params.{ParamList}
 
@@ -10,6 +10,11 @@ members_from (m ∷ ms) = member m.0 m.1 (members_from ms)
 
 abbrev pub object_from : List (List ℕ × Data) → Data
 object_from ms = object (members_from ms)
+
+-- an object with one more member, in its order
+abbrev pub object_with : List ℕ → Data → Data → Data
+object_with key d (object ms) = object (put key d ms)
+object_with key d other = other
 
 -- a number without a sign
 abbrev pub natural_data : ℕ → Data

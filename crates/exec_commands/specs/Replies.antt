@@ -5,6 +5,7 @@ use Rattle.serde_json.specs.Data.{Data, null, boolean, string, object}
 use Rattle.serde_json.specs.Written.{compact_text}
 use Rattle.ocf_types.specs.Actions.{action_word, action_of, level_number}
 use Rattle.ocf_types.specs.Expected.{expect_code}
+use Rattle.ocf_types.specs.Notices.{is_failure}
 use Rattle.ocf_types.specs.Outcomes.{outcome_word}
 use Rattle.ocf_types.specs.Refusals.{refusal_row}
 use Rattle.ocf_types.specs.Kinds.{Info, Reply}
@@ -169,12 +170,15 @@ abbrev pub signal_member : Option ℕ → List (List ℕ × Data)
 signal_member None = []
 signal_member (Some signal) = (codes "signal", natural_data signal) ∷ []
 
--- the same with when it began and ended, with the process of it that lives on, where one does, and with the signal that ended it
+-- the same with when it began and ended, the key of its operation, what was expected of it and whether it has failed, with the
+-- process of it that lives on, where one does, and with the signal that ended it
 abbrev pub timed_notice_data : Option ℕ → Option ℕ → Notice → Data
 timed_notice_data lives signal n = object_from (
     (codes "action", string (action_word n.result.action)) ∷ (codes "at", natural_data n.result.at)
     ∷ (codes "call", natural_data n.result.call) ∷ (codes "code", natural_data (outcome_code n.result.outcome))
+    ∷ (codes "expect", natural_data (expect_code n.expect)) ∷ (codes "failed", boolean (is_failure n))
     ∷ (codes "id", string n.id) ∷ (codes "interval", natural_data n.result.interval)
+    ∷ (codes "key", string (key_text n.id n.result.action n.result.interval))
     ∷ (lives_member lives ++ ((codes "name", string (name_read (outcome_code n.result.outcome)))
     ∷ (codes "outcome", string (outcome_word n.result.outcome)) ∷ (codes "run", natural_data n.result.run)
     ∷ (signal_member signal ++ ((codes "since", natural_data n.result.since) ∷ [])))))

@@ -2,6 +2,7 @@
 use Rattle.std.specs.Prelude.{ℕ, ◌-◌, ◌==◌, ◌||◌, Bool, true, false, if◌then◌else◌, List, [], ◌++◌, codes, decimal}
 use Rattle.ocf_codes.specs.ExitCodes.{name_read}
 use Rattle.ocf_types.specs.Actions.{action_word}
+use Rattle.ocf_types.specs.Notices.{is_failure}
 use Rattle.ocf_types.specs.declared.action.Action.{Action}
 use Rattle.ocf_types.specs.declared.operation.Ended.{Ended}
 use Rattle.ocf_types.specs.declared.outcome.Outcome.{Outcome}
@@ -60,8 +61,8 @@ event_text n =
     ++ code_text n.result.outcome ++ time_text n.result.outcome (n.result.at - n.result.since)
 
 -- the line of a result, with its mark or without
-abbrev pub event_line : Bool → Bool → Notice → List ℕ
-event_line marks failed n = marked marks failed n.result.outcome ++ event_text n ++ codes "\n"
+abbrev pub event_line : Bool → Notice → List ℕ
+event_line marks n = marked marks (is_failure n) n.result.outcome ++ event_text n ++ codes "\n"
 
 -- the results that are sent
 abbrev pub notices_in : Told → List Notice

@@ -1,11 +1,9 @@
 //! A client that sends to another one first, and then to a person.
-ghost use Rattle.std.specs.Prelude.{◌≡◌, IfOk, OnOk};
+ghost use Rattle.std.specs.Prelude.{◌≡◌, OnOk};
 ghost use Rattle.std.specs.Io.KnownBytes.{Appends};
 ghost use Rattle.std.specs.List.{flat_map};
-ghost use Rattle.exec_events.specs.Events.{notices_in};
-ghost use Rattle.exec_events.specs.Failures.{event_of};
+ghost use Rattle.exec_events.specs.Events.{event_line, notices_in};
 
-use crate::failure::has_failed;
 use crate::lines::event_line;
 use child_model::Children;
 use disk_model::Disk;
@@ -15,7 +13,7 @@ use exec_lines::write_flushed;
 use exec_output::IoFault;
 use executor::Executor;
 use ocf_types::Notice;
-use std::alloc::{AllocError, Global};
+use std::alloc::Global;
 use std::io::Write;
 
 /// Which lines a person is given.
@@ -61,48 +59,29 @@ struct Making {
     marks: bool,
 }
 
-// The line of a result, by what the executor's state says of it.
-fn line_of<D: Disk + Drop, C: Children + Drop>(
-    making: &Making,
-    executor: &Executor<D, C>,
-    notice: &Notice,
-) -> Result<Vec<u8>, AllocError>
-    ensures line { IfOk result
-        (λ line. line.items ≡ event_of making.now.marks executor.now.state notice.now) }
-{
-    let failed = has_failed(executor, notice)?;
-    event_line(making.alloc, making.marks, failed, notice)
-}
-
 // Writes the line of a result, and flushes it.
-fn write_event<D: Disk + Drop, C: Children + Drop, W: Write>(
-    making: &Making,
-    errors: &mut W,
-    executor: &Executor<D, C>,
-    notice: &Notice,
-) -> Result<(), IoFault>
+fn write_event<W: Write>(making: &Making, errors: &mut W, notice: &Notice) -> Result<(), IoFault>
     ensures written { OnOk result
         (Appends (W.contents errors.old) (W.contents errors.new)
-        (event_of making.now.marks executor.now.state notice.now)) }
+        (event_line making.now.marks notice.now)) }
 {
-    let line = line_of(making, executor, notice)?;
+    let line = event_line(making.alloc, making.marks, notice)?;
     write_flushed(errors, line.as_slice())?;
     Ok(())
 }
 
 // Writes a line of each result.
-fn write_events<D: Disk + Drop, C: Children + Drop, W: Write>(
+fn write_events<W: Write>(
     making: &Making,
     errors: &mut W,
-    executor: &Executor<D, C>,
     notices: &[Notice],
 ) -> Result<(), IoFault>
     ensures written { OnOk result
         (Appends (W.contents errors.old) (W.contents errors.new)
-        (flat_map (event_of making.now.marks executor.now.state) notices.now)) }
+        (flat_map (event_line making.now.marks) notices.now)) }
 {
     for notice in notices {
-        write_event(making, errors, executor, notice)?;
+        write_event(making, errors, notice)?;
     }
     Ok(())
 }
@@ -141,7 +120,7 @@ impl<D: Disk + Drop, C: Children + Drop, T: Client<D, C>, W: Write> Client<D, C>
             marks,
         };
         if told.is_ok() {
-            let _ = write_events(&making, &mut self.errors, executor, notices_in(what));
+            let _ = write_events(&making, &mut self.errors, notices_in(what));
         }
         told
     }

@@ -2,7 +2,6 @@
 #![tactic(auto)]
 
 mod eventful;
-mod failure;
 mod lines;
 
 pub use eventful::{Eventful, Events};

@@ -6,7 +6,7 @@ ghost use Rattle.exec_events.specs.Events.{code_text, event_line, event_meaning,
 use exec_output::{Tone, add_span, failure_meaning, meaning, tone_of};
 use growth::Grows;
 use log_lines::{add_bytes, add_number};
-use ocf_codes::{name, read_code};
+use ocf_codes::{is_failure, name, read_code};
 use ocf_types::{Action, Notice, Outcome, RunEnd};
 use std::alloc::{AllocError, Global};
 
@@ -126,17 +126,12 @@ fn add_mark(
 }
 
 /// The line of a result, with its mark or without.
-pub fn event_line(
-    alloc: Global,
-    marks: bool,
-    failed: bool,
-    notice: &Notice,
-) -> Result<Vec<u8>, AllocError>
-    ensures line { IfOk result (λ line. line.items ≡ event_line marks failed notice.now) }
+pub fn event_line(alloc: Global, marks: bool, notice: &Notice) -> Result<Vec<u8>, AllocError>
+    ensures line { IfOk result (λ line. line.items ≡ event_line marks notice.now) }
     ensures memory { OnErr result (IsTrue ⟦<Global as Grows>⟧.refuses) }
 {
     let mut line = Vec::new(alloc);
-    add_mark(&mut line, marks, failed, notice.result.outcome)?;
+    add_mark(&mut line, marks, is_failure(notice), notice.result.outcome)?;
     add_event(&mut line, notice)?;
     add(&mut line, "\n")?;
     Ok(line)

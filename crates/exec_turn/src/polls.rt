@@ -18,7 +18,7 @@ use growth::Grows;
 use ocf_types::{
     Change, Event, EventOf, Moment, Notice, Outcome, RunEnd, Running, StateView, Step,
 };
-use op_history::ended_of;
+use op_history::run_notice;
 
 // Whether the timeout of an action has passed.
 fn is_late(running: &Running, at: Moment) -> bool
@@ -82,11 +82,11 @@ fn poll_at<C: Children, A: Grows>(
     };
     let id = state.id_at(place).copied();
     let run = running.run;
-    let result = ended_of(running, Outcome::Run(end), at);
     let change = Change::Step(id, Step::Result { run, end });
     row.push_reserved(EventOf { at, change });
     let id = state.id_at(place).copied();
-    notices.push_reserved(Notice { id, result });
+    let notice = run_notice(id, running, Outcome::Run(end), at);
+    notices.push_reserved(notice);
 }
 
 /// Polls every action that runs, in order of registration: the row of their results, and their notices. What was killed has

@@ -19,7 +19,7 @@ use exec_journal::Journal;
 use exec_state::State;
 use growth::Grows;
 use ocf_types::{Change, Event, EventOf, Moment, Notice, Outcome, RunEnd, Step};
-use op_history::ended_of;
+use op_history::run_notice;
 
 // Starts one of them: where that is refused, its result is in the row, and its notice among the notices.
 fn start_one<D: Disk + Drop, C: Children, A: Grows>(
@@ -54,13 +54,11 @@ fn start_one<D: Disk + Drop, C: Children, A: Grows>(
         return;
     };
     let (run, end) = (start.running.run, RunEnd::NotStarted(fault));
-    let result = ended_of(start.running, Outcome::Run(end), at);
     let change = Change::Step(start.launch.id.copied(), Step::Result { run, end });
     row.push_reserved(EventOf { at, change });
-    notices.push_reserved(Notice {
-        id: start.launch.id.copied(),
-        result,
-    });
+    let id = start.launch.id.copied();
+    let notice = run_notice(id, start.running, Outcome::Run(end), at);
+    notices.push_reserved(notice);
 }
 
 /// Starts each of these, in order, where the journal is settled at a state in which all of them run: the row of results of

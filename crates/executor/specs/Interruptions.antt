@@ -1,20 +1,16 @@
 -- What becomes of the actions that a crashed executor left, as an opening reports it.
 use Rattle.std.specs.Prelude.{ℕ, List, map, option_to_list}
 use Rattle.std.specs.List.{flat_map}
-use Rattle.ocf_types.specs.Resource.{Resource, dropped_of, ended_of}
+use Rattle.ocf_types.specs.Notices.{drop_notice, run_notice}
+use Rattle.ocf_types.specs.Resource.{Resource}
 use Rattle.ocf_types.specs.State.{State}
-use Rattle.ocf_types.specs.declared.operation.Op.{Op}
 use Rattle.ocf_types.specs.declared.operation.Running.{Running}
 use Rattle.ocf_types.specs.declared.outcome.Outcome.TheVariants.{Interrupted}
 use Rattle.ocf_types.specs.declared.reply.Notice.{Notice}
 
 -- a resource's action that ran is interrupted
 abbrev pub interruption : List ℕ → ℕ → Running → Notice
-interruption id at x = record { id = id; result = ended_of Interrupted at x }
-
--- a resource's action that was queued is dropped
-abbrev pub drop_notice : List ℕ → ℕ → Op → Notice
-drop_notice id at o = record { id = id; result = dropped_of at o }
+interruption id at x = run_notice id Interrupted at x
 
 abbrev pub interrupted_in : ℕ → List ℕ × Resource → List Notice
 interrupted_in at e = map (interruption e.0 at) (option_to_list e.1.history.running)

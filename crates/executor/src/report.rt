@@ -6,7 +6,7 @@ ghost use Rattle.executor.specs.Interruptions.{dropped, dropped_in, interrupted,
 use exec_state::State;
 use growth::{Grows, push};
 use ocf_types::{Moment, Notice, Outcome, StateView};
-use op_history::{dropped_of, ended_of};
+use op_history::{drop_notice, run_notice};
 use past::Past;
 use std::alloc::{AllocError, Allocator, Global};
 
@@ -49,9 +49,8 @@ fn push_interrupted<A: Grows>(
     ensures memory { OnErr result (IsTrue A.refuses) }
 {
     if let Some(running) = state.running_at(place) {
-        let result = ended_of(running, Outcome::Interrupted, at);
         let id = state.id_at(place).copied();
-        push(notices, Notice { id, result })?;
+        push(notices, run_notice(id, running, Outcome::Interrupted, at))?;
     }
     Ok(())
 }
@@ -70,9 +69,9 @@ fn push_dropped<A: Grows>(
     ensures memory { OnErr result (IsTrue A.refuses) }
 {
     for i in 0..state.queue_len(place) {
-        let result = dropped_of(state.queued_at(place, i), at);
         let id = state.id_at(place).copied();
-        push(notices, Notice { id, result })?;
+        let notice = drop_notice(id, state.queued_at(place, i), at);
+        push(notices, notice)?;
     }
     Ok(())
 }

@@ -1,8 +1,9 @@
 //! Which exit codes are expected, and which ends have failed.
 ghost use Rattle.std.specs.Prelude.{◌≡◌};
 ghost use Rattle.ocf_types.specs.Expected.{has_failed, is_expected};
+ghost use Rattle.ocf_types.specs.Notices.{is_failure};
 
-use ocf_types::{Action, Expect, Outcome, RunEnd};
+use ocf_types::{Action, Expect, Notice, Outcome, RunEnd};
 
 /// Whether an action of which this is expected may end with this exit code. A monitor may also report that what is expected
 /// is degraded; every other action is to succeed. OCF Resource Agent API 1.1 and Pacemaker Administration, exit codes.
@@ -27,4 +28,11 @@ pub fn failed(action: Action, expect: Expect, outcome: Outcome) -> bool
         Outcome::Run(_) => true,
         Outcome::Interrupted | Outcome::Dropped | Outcome::Cancelled => false,
     }
+}
+
+/// Whether a notice is of a result that has failed, by what was expected of its action.
+pub fn is_failure(notice: &Notice) -> bool
+    ensures { result ≡ is_failure notice.now }
+{
+    failed(notice.result.action, notice.expect, notice.result.outcome)
 }

@@ -7,5 +7,5 @@ pub mod laws;
 mod outcome_code;
 
 pub use exit_code::{Code, name, read_code};
-pub use expectation::{expected, failed};
+pub use expectation::{expected, failed, is_failure};
 pub use outcome_code::code_of;

@@ -13,6 +13,7 @@ pub mod StateLengths
 pub mod Lists
 pub mod Registries
 pub mod BootLemmas
+pub mod FailureLemmas
 pub mod OthersLemmas
 pub mod AskedLemmas
 pub mod LawfulParts

@@ -12,6 +12,7 @@ pub mod Kinds
 pub mod Spelling
 pub mod Lawful
 pub mod Resource
+pub mod Notices
 pub mod State
 pub mod Applies
 pub mod Boot

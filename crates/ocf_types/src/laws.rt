@@ -1,5 +1,5 @@
 //! Laws of the definitions, each the contract of a function that does nothing.
-ghost use Rattle.std.specs.Prelude.{◌≡◌, ◌≢◌, ◌↔◌, ℕ, ◌≤◌, List, length, Some, Ok, IsTrue, IsSomeAnd};
+ghost use Rattle.std.specs.Prelude.{◌≡◌, ◌≢◌, ◌↔◌, ℕ, ◌≤◌, List, length, Some, Ok, IsTrue, IsSomeAnd, false};
 ghost use Rattle.ocf_types.specs.declared.event.Step.TheVariants as step;
 ghost use Rattle.ocf_types.specs.declared.event.Change.TheVariants as change;
 ghost use Rattle.ocf_types.specs.declared.outcome.RunEnd.{RunEnd};
@@ -17,8 +17,10 @@ ghost use Rattle.ocf_types.specs.Answer.{event_of, IsRegister};
 ghost use Rattle.ocf_types.specs.LawfulState.{IsLawfulState, IsLawfulStateIn};
 ghost use Rattle.ocf_types.specs.StateSpelling.{spelled_state};
 ghost use Rattle.ocf_types.specs.Resource.{Resource, ended_of};
+ghost use Rattle.ocf_types.specs.Notices.{drop_notice, is_failure, last_failure, run_notice};
+ghost use Rattle.ocf_types.specs.declared.operation.Op.{Op};
 ghost use Rattle.ocf_types.specs.declared.operation.Running.{Running};
-ghost use Rattle.ocf_types.specs.declared.outcome.Outcome.TheVariants.{Interrupted};
+ghost use Rattle.ocf_types.specs.declared.outcome.Outcome.TheVariants.{Interrupted, Run};
 
 /// A second boot changes nothing.
 pub fn boot_is_once()
@@ -32,6 +34,22 @@ pub fn what_ran_is_interrupted()
         → resource_at s id ≡ Some r → r.history.running ≡ Some x
         → IsSomeAnd (resource_at (after s (boot_at at)) id)
         (λ q. IsLast (ended_of Interrupted at x) q.history.ended) }
+{}
+
+/// A notice that has failed is what the state then keeps as its resource's last failure; after any other what failed before is
+/// kept. So it is of what an opening reports, of which nothing has failed.
+pub fn failures_are_kept()
+    ensures result { (s : State) (at : ℕ) (id : List ℕ) (end : RunEnd) (r : Resource) (x : Running)
+        → resource_at s id ≡ Some r → r.history.running ≡ Some x
+        → IsSomeAnd
+        (resource_at (after s (record { at = at; change = change.Step id (step.Result x.run end) })) id)
+        (λ q. q.history.failed ≡ last_failure (run_notice id (Run end) at x) r.history.failed) }
+    ensures boot { (s : State) (at : ℕ) (id : List ℕ) (r : Resource) → resource_at s id ≡ Some r
+        → IsSomeAnd (resource_at (after s (boot_at at)) id)
+        (λ q. q.history.failed ≡ r.history.failed) }
+    ensures interrupted { (at : ℕ) (id : List ℕ) (x : Running)
+        → is_failure (run_notice id Interrupted at x) ≡ false }
+    ensures dropped { (at : ℕ) (id : List ℕ) (o : Op) → is_failure (drop_notice id at o) ≡ false }
 {}
 
 /// The empty state is lawful, and an event that applies in a lawful state leaves a lawful one: all that events lead to

@@ -1,6 +1,7 @@
 //! Replies to requests, notices of results, and ends of turns and tidies.
 
 use crate::agent::{AgentType, Provider};
+use crate::expect::Expect;
 use crate::items::Items;
 use crate::key::OpKey;
 use crate::limits::{QUEUE_LIMIT, RECURRING_LIMIT};
@@ -82,6 +83,8 @@ pub enum ReplyOf<P, I, H> {
 pub struct Notice {
     pub id: RscId,
     pub result: Ended,
+    /// What the action was expected to find.
+    pub expect: Expect,
 }
 
 /// An info whose parameters lie in memory of the allocator.

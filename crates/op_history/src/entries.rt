@@ -1,9 +1,10 @@
 //! What is noted of an operation as it begins, and as it ends.
 ghost use Rattle.std.specs.Prelude.{◌≡◌};
+ghost use Rattle.ocf_types.specs.Notices.{drop_notice, run_notice};
 ghost use Rattle.ocf_types.specs.Resource.{run_of_op, run_of_monitor, ended_of, dropped_of, cancelled_of, failed_of};
 
 use ocf_codes::failed;
-use ocf_types::{Ended, Moment, Op, Outcome, Recur, RunId, Running, Task};
+use ocf_types::{Ended, Moment, Notice, Op, Outcome, Recur, RscId, RunId, Running, Task};
 
 /// The run of a queued action that begins at that moment.
 pub(crate) fn run_of_op(op: Op, run: RunId, at: Moment) -> Running
@@ -34,7 +35,7 @@ pub(crate) fn run_of_monitor(monitor: Recur, run: RunId, at: Moment) -> Running
 }
 
 /// The result of a run that ended at that moment.
-pub fn ended_of(running: Running, outcome: Outcome, at: Moment) -> Ended
+pub(crate) fn ended_of(running: Running, outcome: Outcome, at: Moment) -> Ended
     ensures { result ≡ ended_of outcome at running }
 {
     Ended {
@@ -60,7 +61,7 @@ pub(crate) fn failed_of(running: Running, outcome: Outcome, at: Moment) -> Optio
 }
 
 /// The result of a queued action that is dropped at that moment: it has run number 0.
-pub fn dropped_of(op: Op, at: Moment) -> Ended
+pub(crate) fn dropped_of(op: Op, at: Moment) -> Ended
     ensures { result ≡ dropped_of at op }
 {
     Ended {
@@ -81,5 +82,29 @@ pub(crate) fn cancelled_of(op: Op, at: Moment) -> Ended
     Ended {
         outcome: Outcome::Cancelled,
         ..dropped_of(op, at)
+    }
+}
+
+/// The notice of a resource's run that ended at that moment.
+pub fn run_notice(id: RscId, running: Running, outcome: Outcome, at: Moment) -> Notice
+    ensures { result ≡ run_notice id outcome at running }
+{
+    let check = running.task.check();
+    Notice {
+        id,
+        result: ended_of(running, outcome, at),
+        expect: check.expect,
+    }
+}
+
+/// The notice of a resource's queued action that is dropped at that moment.
+pub fn drop_notice(id: RscId, op: Op, at: Moment) -> Notice
+    ensures { result ≡ drop_notice id at op }
+{
+    let check = op.task.check();
+    Notice {
+        id,
+        result: dropped_of(op, at),
+        expect: check.expect,
     }
 }

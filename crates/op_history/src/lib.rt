@@ -6,5 +6,5 @@ mod ops;
 mod queued;
 mod results;
 
-pub use entries::{dropped_of, ended_of};
+pub use entries::{drop_notice, run_notice};
 pub use ops::{NotQueued, Ops, QueueFull};

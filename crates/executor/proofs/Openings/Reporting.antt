@@ -7,10 +7,10 @@ use Rattle.ocf_types.specs.Laws.{flat_more}
 use Rattle.ocf_types.specs.declared.operation.Op.{Op}
 use Rattle.ocf_types.specs.declared.reply.Notice.{Notice}
 use Rattle.std.proofs.lemmas.Option.{get_or_from_slice_get, slice_get-get_or, slice_get_within}
+use Rattle.ocf_types.specs.Notices.{drop_notice}
 use Rattle.ocf_types.specs.Places.{entry_at, no_entry}
 use Rattle.ocf_types.specs.Resource.{Resource}
 use Rattle.ocf_types.specs.State.{State}
-use Rattle.executor.specs.Interruptions.{drop_notice}
 
 -- the entry at a place
 entry_there : (s : State) (i : ℕ) → i < length s.resources → entry_at s i ≡ get_or s.resources i (entry_at s i)

@@ -1,6 +1,7 @@
-use Rattle.std.proofs.Common.{◌≡◌, ◌∙◌, ℕ, List, [], ◌∷◌, ◌++◌, sym, subst, append-nil, Some, None}
+use Rattle.std.proofs.Common.{◌≡◌, ◌∙◌, ℕ, List, [], ◌∷◌, ◌++◌, sym, ap, subst, append-nil, Some, None}
+use Rattle.ocf_types.specs.Notices.{run_notice}
 use Rattle.ocf_types.specs.Places.{entry_at}
-use Rattle.ocf_types.specs.declared.operation.Ended.{Ended}
+use Rattle.ocf_types.specs.declared.outcome.Outcome.TheVariants.{Run}
 use Rattle.ocf_types.specs.declared.reply.Notice.{Notice}
 use Rattle.exec_ledger.specs.Actives.{Active}
 use Rattle.exec_turn.specs.Actives.{notice_of, result_of}
@@ -23,12 +24,6 @@ returns-in_default-ask-clause-polled g c =
     (sym c.running_at.ensures ∙ c.in-Some.is) h.2 h.3 h.4 in
     ([], [], one, sym (append-nil _), sym (append-nil _))
 
-abbrev notice : List ℕ → Ended → Notice
-notice id r = record { id = id; result = r }
-
-same_notice : (id other : List ℕ) (r s : Ended) → id ≡ other → r ≡ s → notice id r ≡ notice other s
-same_notice id other r s is same = cc
-
 pub returns-clause-polled : goal.returns-clause-polled
 returns-clause-polled g c =
     let e = entry_at c.args.state.now.state c.args.place in
@@ -47,6 +42,6 @@ returns-clause-polled g c =
           ≡ c.args.row.now.items ++ result_of c.args.at (record { id = id; running = c.in-Some.running }) end ∷ [])
           row_id c.push_reserved.ensures.items,
       subst (λ (n : Notice). c.push_reserved-2.new.self.items ≡ c.args.notices.now.items ++ n ∷ [])
-          (same_notice c.copied-id-2.result e.0 c.ended_of-result.result
-          (notice_of c.args.at who end).result told_id c.ended_of-result.ensures) c.push_reserved-2.ensures.items,
+          (c.run_notice-notice.ensures ∙ ap (λ (id : List ℕ). run_notice id (Run end) c.args.at c.in-Some.running) told_id)
+          c.push_reserved-2.ensures.items,
     )

@@ -1,6 +1,6 @@
 use Rattle.std.proofs.Common.{◌≡◌, ◌++◌, map, take}
 use Rattle.ocf_types.specs.Places.{entry_at}
-use Rattle.executor.specs.Interruptions.{drop_notice}
+use Rattle.ocf_types.specs.Notices.{drop_notice}
 use Rattle.executor.proofs.report.push_dropped.Given as goal
 
 abbrev pub invariant-loop-i : goal.invariant-loop-i

@@ -1,0 +1,105 @@
+#!/usr/bin/env python3
+"""What a notice of serve says besides its result: the key of its operation, the code that was expected, and whether the result has failed, which
+is what info then has as the last failure. So do the notices of an opening's report. A notice of run says none of this.
+Use: notices.py PROGRAM"""
+import sys
+
+sys.path[0] += "/../lib"
+import helper  # noqa: E402
+from helper import action, register  # noqa: E402
+
+# An agent that ends with the code that a parameter names, by a signal, or not soon.
+ENDS = """case $OCF_RESKEY_code in kill) kill -9 $$ ;; sleep) echo >> "$OCF_RESKEY_begun"; exec sleep 30 ;; *) exit "$OCF_RESKEY_code" ;; esac
+"""
+# by what is expected of a monitor the codes with which it has not failed: Pacemaker Administration, exit codes
+EXPECTED = {0: (0, 190), 7: (7,), 8: (8, 191)}
+CODES = (0, 1, 2, 5, 7, 8, 9, 77, 190, 191, 255)
+OF_RUN = {"action", "call", "code", "id", "interval", "name", "outcome", "run"}
+
+
+class Notices(helper.Check):
+    def setUp(self):
+        super().setUp()
+        self.agent("Ends", ENDS)
+
+    def serves(self, *words):
+        return self.heard("serve", *(words or ["--memory"]), "--root", self.here)
+
+    def judged(self, run, command):
+        """The notice of a command's result; info has the result as the last failure exactly where the notice says that it has failed."""
+        after = len(run.values())
+        run.tell(command)
+        _, reply = run.awaits(lambda value: "call" in value and "ok" in value, after=after)
+        _, notice = run.awaits(lambda value: helper.is_notice(value, call=reply["call"]), after=after)
+        after = len(run.values())
+        run.tell({"op": "info", "id": command["id"]})
+        _, info = run.awaits(lambda value: "failed" in value and "ok" in value, after=after)
+        self.assertEqual(notice["failed"], (info["failed"] or {}).get("call") == reply["call"], notice)
+        self.assertEqual(notice["key"], reply["key"])
+        return notice
+
+    def test_monitors(self):
+        """a monitor has failed where its code is none that was expected, degraded or not"""
+        run = self.serves()
+        for code in CODES:
+            run.tell(register(f"c{code}", "Ends", code=str(code)))
+            for expect, codes in EXPECTED.items():
+                notice = self.judged(run, action(f"c{code}", "monitor", expect=expect))
+                self.assertEqual((notice["key"], notice["expect"], notice["failed"]), (f"c{code}_monitor_0", expect, code not in codes))
+        self.assertEqual(run.ends(), 0)
+
+    def test_others(self):
+        """of every other action 0 is expected; one has also failed that was killed, or not started"""
+        run = self.serves()
+        run.tell(*[register(f"c{code}", "Ends", code=code, begun="/dev/null") for code in ("0", "190", "7", "kill", "sleep")],
+                 register("none", "NoSuchAgent"))
+        for name, what, outcome, failed in [("c0", "start", "done", False), ("c0", "stop", "done", False), ("c190", "start", "done", True),
+                                            ("c7", "stop", "done", True), ("ckill", "promote", "signaled", True),
+                                            ("csleep", "demote", "timed-out", True), ("none", "start", "not-started", True)]:
+            notice = self.judged(run, action(name, what, timeout=300 if name == "csleep" else 20000))
+            self.assertEqual((notice["key"], notice["outcome"], notice["expect"], notice["failed"]), (f"{name}_{what}_0", outcome, 0, failed))
+        self.assertEqual(run.ends(), 0)
+
+    def test_recurring(self):
+        """a recurring monitor's key has its interval; the same monitor once has another"""
+        run = self.serves()
+        run.tell(register("a", "Ends", code="7"), {"op": "recur", "id": "a", "interval": 60000, "expect": 7}, action("a", "monitor"))
+        run.awaits(lambda value: helper.is_notice(value, call=2))
+        run.awaits(lambda value: helper.is_notice(value, call=1))
+        self.assertEqual({value["call"]: (value["key"], value["expect"], value["failed"]) for value in run.told()},
+                         {1: ("a_monitor_60000", 7, False), 2: ("a_monitor_0", 0, True)})
+        self.assertEqual(run.ends(), 0)
+
+    def test_reported(self):
+        """what an opening reports has its key and what was expected, and has not failed"""
+        journal, begun = self.journal(), self.place("begun")
+        run = self.serves("--journal", journal)
+        for name in "ab":
+            run.tell(register(name, "Ends", code="sleep", begun=begun))
+        run.tell({"op": "recur", "id": "a", "interval": 60000, "expect": 8}, action("b", "monitor", expect=7), action("b", "stop"),
+                 action("b", "monitor", expect=8))
+        self.eventually("both monitors begin", lambda: self.size(begun) == 2)
+        run.killed()
+        again = self.serves("--journal", journal, "--orphans", "0")
+        again.tell({"op": "list"})
+        again.awaits(lambda value: "resources" in value)
+        self.assertEqual([(value["outcome"], value["key"], value["expect"], value["failed"]) for value in again.told()[:4]],
+                         [("interrupted", "a_monitor_60000", 8, False), ("interrupted", "b_monitor_0", 7, False),
+                          ("dropped", "b_stop_0", 0, False), ("dropped", "b_monitor_0", 8, False)])
+
+    def size(self, name):
+        try:
+            with open(name, "rb") as file:
+                return len(file.read())
+        except FileNotFoundError:
+            return 0
+
+    def test_run(self):
+        """a notice of run has none of these keys"""
+        told = helper.lines(register("a", "Ends", code="1"), action("a", "monitor", expect=7), action("a", "start"), {"op": "drain"})
+        notices = [value for value in helper.replies(helper.run("run", "--memory", "--root", self.here, told=told).stdout) if helper.is_notice(value)]
+        self.assertEqual([set(notice) for notice in notices], [OF_RUN, OF_RUN])
+
+
+if __name__ == "__main__":
+    helper.main()
