@@ -33,9 +33,10 @@ plots: $(PROGRAM)
 	@figures=$$(mktemp) && FIGURES=$$figures bench/against_execd.sh $(PROGRAM) $(or $(ROUNDS),7) rates waits answers && \
 		bench/plots.py $$figures docs/pictures/performance.svg; status=$$?; rm -f $$figures; exit $$status
 
-# What each crate costs in a gate from nothing, as the table of docs/ARCHITECTURE.md. Nothing else should run meanwhile.
+# What each crate costs in a gate from nothing, as the table of docs/ARCHITECTURE.md. Nothing else should run meanwhile. A kit whose
+# gate keeps what it proved is asked to begin from nothing; any other does so always.
 costs:
-	@bench/costs.py --into docs/ARCHITECTURE.md -- rt ci --anew
+	@bench/costs.py --into docs/ARCHITECTURE.md -- rt ci $$(rt help 2>&1 | grep -o -m 1 -e --anew)
 
 # Writes the laws of whole lives, and each definition behind them, into docs/STATEMENT.antt.txt.
 statement:

@@ -51,9 +51,13 @@ gate() {
     fi
 }
 
-# The edits alone, with their count as the gate says it.
+# The edits alone, with their count as the gate says it. Crates that are tried at once share the libraries below them: the work tree's,
+# which are built there first where they are not as its texts are.
 alone() {
     local status=0 refused
+    if ! (cd "$top/crates/$name" && rt check --only '') > "$copy/said" 2>&1; then
+        return 1
+    fi
     (cd "$top" && find crates -path '*/out/rlib' -prune -print0 | tar --null -T - -cf -) | tar -xf - -C "$copy"
     rt must-fail "$name" > "$copy/said" 2>&1 || status=$?
     refused=$(grep -c "^rt: must-fail $name/.*: refused" "$copy/said" || true)
