@@ -1,0 +1,32 @@
+//! The counts of one resource.
+ghost use Rattle.std.specs.Prelude.{◌≡◌};
+ghost use Rattle.run_counts.specs.Counts.{no_runs, one_more};
+
+/// How many runs of a resource ended, and how many of them failed. A count of 2^64 - 1 stays there.
+#[derive(Clone, Copy, Debug, PartialEq, Eq)]
+pub struct RunCount {
+    pub runs: u64,
+    pub failures: u64,
+}
+
+impl RunCount {
+    /// No run.
+    pub fn none() -> RunCount
+        ensures { result ≡ no_runs }
+    {
+        RunCount {
+            runs: 0,
+            failures: 0,
+        }
+    }
+
+    // One run more.
+    pub(crate) fn one_more(self, failed: bool) -> RunCount
+        ensures { result ≡ one_more failed self }
+    {
+        RunCount {
+            runs: self.runs.saturating_add(1),
+            failures: self.failures.saturating_add(u64::from(failed)),
+        }
+    }
+}

@@ -1,0 +1,131 @@
+//! The counts of all resources.
+ghost use Rattle.std.specs.Prelude.{◌≡◌, ◌<◌, ◌++◌, ◌∷◌, [], List, ℕ, length, IsTrue, OnErr, OnOk};
+ghost use Rattle.std.specs.List.{flat_map};
+ghost use Rattle.ocf_types.specs.Places.{entry_at};
+ghost use Rattle.run_counts.specs.Counts.{Tallies, count_at};
+ghost use Rattle.run_counts.specs.Runs.{Ran, end_of, ended_by, left_by, ran_after, ran_as, without};
+
+use crate::count::RunCount;
+use exec_state::State;
+use growth::Grows;
+use indexmap::IndexMap;
+use ocf_codes::failed;
+use ocf_types::{Change, Event, Outcome, Params, RscId, StateView, Step};
+use std::alloc::{AllocError, Global};
+
+/// The counts of the resources of which a run ended, by id.
+pub type RunCounts = IndexMap<RscId, RunCount>;
+
+/// The counts of a resource.
+pub fn count_of(counts: &RunCounts, id: &RscId) -> RunCount
+    ensures { result ≡ count_at counts.now.entries id.now }
+{
+    match counts.get(id) {
+        Some(count) => *count,
+        None => RunCount::none(),
+    }
+}
+
+// Counts one run more of a resource.
+fn add(counts: &mut RunCounts, id: &RscId, failed: bool) -> Result<(), AllocError>
+    ensures counted { (runs : List Ran) → Tallies counts.old.entries runs
+        → OnOk result (Tallies counts.new.entries (runs ++ ran_as id.now failed ∷ [])) }
+    ensures memory { OnErr result (IsTrue ⟦<Global as Grows>⟧.refuses) }
+{
+    let count = count_of(counts, id).one_more(failed);
+    Global::reserve_entries(counts, 1)?;
+    let Ok(_) = counts.insert(id.copied(), count) else {
+        unreachable!()
+    };
+    Ok(())
+}
+
+// Forgets the runs of a resource.
+fn forget(counts: &mut RunCounts, id: &RscId)
+    ensures { (runs : List Ran) → Tallies counts.old.entries runs
+        → Tallies counts.new.entries (without id.now runs) }
+{
+    counts.swap_remove(id);
+}
+
+// Forgets the runs that a change takes away: those of the resource that it unregisters.
+fn forget_by(counts: &mut RunCounts, change: &Change<Params>)
+    ensures { (runs : List Ran) → Tallies counts.old.entries runs
+        → Tallies counts.new.entries (left_by change.now runs) }
+{
+    if let Change::Unregister(id) = change {
+        forget(counts, id);
+    }
+}
+
+// How a change ends what a resource runs: none where it does not.
+fn end_of(change: &Change<Params>, id: &RscId) -> Option<Outcome>
+    ensures { result ≡ end_of change.now id.now }
+{
+    match change {
+        Change::Step(of, Step::Result { run: _, end }) => {
+            if of == id {
+                Some(Outcome::Run(*end))
+            } else {
+                None
+            }
+        }
+        Change::Boot => Some(Outcome::Interrupted),
+        _ => None,
+    }
+}
+
+// Counts the run of the resource at a place that a change ends, where it ends one.
+fn count_place(
+    counts: &mut RunCounts,
+    state: &State,
+    change: &Change<Params>,
+    place: usize,
+) -> Result<(), AllocError>
+    requires { place < length state.now.state.resources }
+    ensures counted { (runs : List Ran) → Tallies counts.old.entries runs → OnOk result
+        (Tallies counts.new.entries
+        (runs ++ ended_by change.now (entry_at state.now.state place))) }
+    ensures memory { OnErr result (IsTrue ⟦<Global as Grows>⟧.refuses) }
+{
+    let id = state.id_at(place);
+    let Some(outcome) = end_of(change, id) else {
+        return Ok(());
+    };
+    let Some(running) = state.running_at(place) else {
+        return Ok(());
+    };
+    let task = running.task;
+    add(
+        counts,
+        id,
+        failed(task.action(), task.check().expect, outcome),
+    )
+}
+
+// Counts the runs of all resources that a change ends.
+fn count_ended(
+    counts: &mut RunCounts,
+    state: &State,
+    change: &Change<Params>,
+) -> Result<(), AllocError>
+    ensures counted { (runs : List Ran) → Tallies counts.old.entries runs → OnOk result
+        (Tallies counts.new.entries
+        (runs ++ flat_map (ended_by change.now) state.now.state.resources)) }
+    ensures memory { OnErr result (IsTrue ⟦<Global as Grows>⟧.refuses) }
+{
+    for place in 0..state.len() {
+        count_place(counts, state, change, place)?;
+    }
+    Ok(())
+}
+
+/// Counts the runs that an event ends, by the state before it, and forgets those of a resource that it unregisters.
+pub fn count_event(counts: &mut RunCounts, state: &State, event: &Event) -> Result<(), AllocError>
+    ensures counted { (runs : List Ran) → Tallies counts.old.entries runs → OnOk result
+        (Tallies counts.new.entries (ran_after state.now.state runs event.now)) }
+    ensures memory { OnErr result (IsTrue ⟦<Global as Grows>⟧.refuses) }
+{
+    forget_by(counts, &event.change);
+    count_ended(counts, state, &event.change)
+}
