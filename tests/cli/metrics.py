@@ -1,7 +1,7 @@
 #!/usr/bin/env python3
 """What `metrics` prints of a journal: read by a parser of its own, after the text format of Prometheus, and by promtool where it is
 installed; compared with what `show` and `status` print, and with a second reader of the journal, at rest, while an action runs, after a
-timeout, an interruption and a tidy.
+timeout, an interruption and a tidy. How many runs ended and failed is counted anew from the journal's bytes.
 Use: metrics.py PROGRAM"""
 import os
 import re
@@ -24,6 +24,7 @@ FAMILIES = {
     "ocfexec_runs_total": ("counter", []), "ocfexec_resources": ("gauge", []),
     "ocfexec_resource_state": ("gauge", ["resource", "state"]), "ocfexec_resource_queued_actions": ("gauge", ["resource"]),
     "ocfexec_resource_running_actions": ("gauge", ["resource"]),
+    "ocfexec_resource_runs_total": ("counter", ["resource"]), "ocfexec_resource_failures_total": ("counter", ["resource"]),
     "ocfexec_resource_last_code": ("gauge", ["resource", "action", "outcome"]),
     "ocfexec_resource_last_age_seconds": ("gauge", ["resource"]),
     "ocfexec_resource_failure_code": ("gauge", ["resource", "action", "outcome"]),
@@ -75,6 +76,57 @@ def parsed(text):
     return families
 
 
+# The exit codes with which a monitor has found what is expected of it: that, or the same but degraded.
+EXPECTED = {0: (0, 190), 7: (7,), 8: (8, 191)}
+
+
+def has_failed(running, kind, code):
+    """Whether what runs has failed by the outcome of a result."""
+    if kind != journal_format.DONE:
+        return True
+    return code not in (EXPECTED[running["expect"]] if running["action"] == journal_format.MONITOR else (0,))
+
+
+def begun(resource, call):
+    """What a begin of that call makes of a resource: the action that runs."""
+    queue = resource["queue"]
+    if queue and queue[0]["call"] == call:
+        return queue.pop(0)
+    monitor = next(each for each in resource["recurring"] if each["call"] == call)
+    return {"action": journal_format.MONITOR, "expect": monitor["expect"]}
+
+
+def counted(part):
+    """How many runs of each resource ended in a part's records, and how many of them failed: by the state of its snapshot, and what each
+    event since makes of what is queued, recurs and runs."""
+    found = {each["id"]: {**each, "runs": 0, "failures": 0} for each in part.state["resources"]}
+    for event in part.events():
+        kind, resource = event["event"], found.get(event.get("id"))
+        if kind == "register":
+            found[event["id"]] = {"queue": [], "recurring": [], "running": None, "runs": 0, "failures": 0}
+        elif kind == "unregister":
+            del found[event["id"]]
+        elif kind == "exec":
+            resource["queue"].append(event)
+        elif kind == "withdraw":
+            resource["queue"] = [each for each in resource["queue"] if each["call"] != event["call"]]
+        elif kind == "recur":
+            resource["recurring"].append(event)
+        elif kind == "cancel":
+            resource["recurring"] = [each for each in resource["recurring"] if each["interval"] != event["interval"]]
+        elif kind == "begin":
+            resource["running"] = begun(resource, event["call"])
+        elif kind == "result":
+            resource["failures"] += has_failed(resource["running"], *event["outcome"])
+            resource["runs"] += 1
+            resource["running"] = None
+        elif kind == "boot":
+            for each in found.values():
+                each["runs"] += each["running"] is not None
+                each["queue"], each["running"] = [], None
+    return found
+
+
 class Metrics(helper.Check):
     def setUp(self):
         super().setUp()
@@ -116,6 +168,8 @@ class Metrics(helper.Check):
         ages = {family: dict(found.pop(family)) for family in [family for family in found if family.endswith("_age_seconds")]}
         part = journal_format.found(*helper.parts(self.folder))
         kinds = [event["event"] for event in part.events()]
+        counts = counted(part)
+        self.assertEqual(list(counts), names)
         runs = [(name, monitor["interval"], [result for result in results[name] if result["call"] == monitor["call"]])
                 for name in names for monitor in infos[name]["recurring"]]
         last = [(name, results[name][-1]) for name in names if results[name]]
@@ -127,6 +181,8 @@ class Metrics(helper.Check):
             "ocfexec_resource_state": [((name, state), int(states[name]["state"] == state)) for name in names for state in STATES],
             "ocfexec_resource_queued_actions": [((name,), states[name]["queued"]) for name in names],
             "ocfexec_resource_running_actions": [((name,), int(states[name]["running"] is not None)) for name in names],
+            "ocfexec_resource_runs_total": [((name,), counts[name]["runs"]) for name in names],
+            "ocfexec_resource_failures_total": [((name,), counts[name]["failures"]) for name in names],
             "ocfexec_resource_last_code": [((name, each["action"], each["outcome"]), each["code"]) for name, each in last],
             "ocfexec_resource_failure_code": [((name, each["action"], each["outcome"]), each["code"]) for name, each in failed],
             "ocfexec_monitor_last_code": [((name, str(interval), each[-1]["outcome"]), each[-1]["code"])
@@ -142,6 +198,16 @@ class Metrics(helper.Check):
             for series, moment in moments.items():
                 self.assertAlmostEqual(ages[family][series], now - moment / 1000, delta=5 * helper.slowness(), msg=f"{family} of {series}")
         return found
+
+    def counts(self, found):
+        """The runs and the failures of each resource."""
+        failures = dict(found["ocfexec_resource_failures_total"])
+        return {name: (runs, failures[(name,)]) for (name,), runs in found["ocfexec_resource_runs_total"]}
+
+    def has_begun(self, name):
+        """Whether a resource runs an action."""
+        lines = helper.replies(helper.run("status", "--json", "--journal", self.folder).stdout)
+        return any(line["running"] for line in lines if "state" in line and line["id"] == name)
 
     def is_cut_off(self):
         """Whether an action runs and one is queued, and one was withdrawn."""
@@ -190,6 +256,35 @@ class Metrics(helper.Check):
         time.sleep(2.1)
         self.assertGreaterEqual(dict(self.metrics()["ocfexec_resource_last_age_seconds"])[("web",)], before + 2)
 
+    def test_counts(self):
+        """runs and failures: probes that find what they expect and what they do not, a kill, an unregister, and a tidy while an action runs"""
+        self.asks(register("web", "Told", code="7"), register("db", "Told", code="0"), register("slow", "Told", code="sleep"))
+        probe = {"expect": 7}
+        self.asks(action("web", "monitor", **probe), action("web", "monitor"), action("web", "start"), action("db", "monitor", **probe),
+                  action("db", "start"), action("slow", "start", timeout=100), {"op": "drain"})
+        self.assertEqual(self.counts(self.is_whole()), {"web": (3, 2), "db": (2, 1), "slow": (1, 1)})
+        run = self.heard("serve", *self.words)
+        run.tell(action("slow", "start"), action("slow", "stop"))
+        self.eventually("a start that runs", lambda: self.has_begun("slow"))
+        self.assertEqual(self.counts(self.is_whole())["slow"], (1, 1))
+        run.killed()
+        self.asks()
+        self.assertEqual(self.counts(self.is_whole()), {"web": (3, 2), "db": (2, 1), "slow": (2, 1)}, "what was interrupted has not failed")
+        self.asks({"op": "forget", "id": "web"}, {"op": "unregister", "id": "db"})
+        self.assertEqual(self.counts(self.is_whole()), {"web": (3, 2), "slow": (2, 1)})
+        self.asks(register("db", "Told", code="7"))
+        self.assertEqual(self.counts(self.is_whole()), {"web": (3, 2), "slow": (2, 1), "db": (0, 0)})
+        run = self.heard("serve", *self.words)
+        run.tell(action("slow", "start", timeout=1500), {"op": "recur", "id": "db", "interval": 100, "expect": 7})
+        self.eventually("a start that runs", lambda: self.has_begun("slow"))
+        run.tell({"op": "tidy"})
+        run.awaits(lambda value: value.get("end") == "done")
+        self.eventually("a start that began before the snapshot ends", lambda: not self.has_begun("slow"))
+        self.assertEqual(run.ends(), 0)
+        found = self.counts(self.is_whole())
+        self.assertEqual((found["web"], found["slow"], found["db"][1]), ((0, 0), (1, 1), 0))
+        self.assertGreater(found["db"][0], 0)
+
     @unittest.skipUnless(PROMTOOL, "install prometheus, for promtool")
     def test_promtool(self):
         """promtool takes the metrics of a resource that has failed, and has nothing to say of them"""
@@ -207,6 +302,7 @@ class Metrics(helper.Check):
         after = self.is_whole()
         self.assertEqual(after["ocfexec_journal_epoch"], [((), before["ocfexec_journal_epoch"][0][1] + 1)])
         self.assertEqual(after["ocfexec_runs_total"], before["ocfexec_runs_total"])
+        self.assertEqual((self.counts(before), self.counts(after)), ({"web": (1, 0)}, {"web": (0, 0)}))
         self.assertNotEqual(after["ocfexec_journal_bytes"], before["ocfexec_journal_bytes"])
         self.assertEqual(run.ends(), 0)
 

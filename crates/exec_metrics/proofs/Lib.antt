@@ -1,4 +1,3 @@
 pub mod MetricsLemmas
-pub mod SizeLemmas
 pub mod TextLemmas
 pub mod Examples

@@ -1,31 +1,65 @@
--- What is written of a state that is found on the parts.
-use Rattle.std.proofs.Common.{ℕ, List, Option, Result, Ok, Err}
+-- What is written of a state that is found on the parts, where they were measured.
+use Rattle.std.proofs.Common.{◌≡◌, ℕ, List, Option, Result, Ok, Err, subst}
 use Rattle.ocf_types.specs.State.{State}
 use Rattle.disk_model.specs.Image.{Image}
+use Rattle.disk_model.specs.View.{View}
 use Rattle.exec_journal.specs.Found.{FoundAs}
+use Rattle.exec_journal.specs.Opening.{OpensAt}
+use Rattle.exec_journal.specs.Place.{Place}
 use Rattle.exec_output.specs.declared.fault.Fault.{Fault}
 use Rattle.exec_output.specs.declared.fault.Fault.TheVariants as fault
-use Rattle.exec_metrics.specs.Metrics.{IsWritten, WritesAs}
-use Rattle.exec_metrics.specs.declared.text.Taken.{Taken}
+use Rattle.journal_measure.specs.RanOn.{HasCounts}
+use Rattle.journal_measure.specs.Sizes.{IsSize}
+use Rattle.journal_measure.specs.declared.measuring.Size.{Size}
+use Rattle.run_counts.specs.Counts.{count_at, tally}
+use Rattle.run_counts.specs.declared.count.RunCount.{RunCount}
+use Rattle.exec_metrics.specs.Metrics.{IsWritten, WritesAs, WritesFound, metrics_text}
 
-pub writes : {T : Type 0} (reads : Image) (t : Taken) (old new : Option (List ℕ)) (s : State) (ended : Result T Fault)
-    → FoundAs s reads → IsWritten t s old new ended → WritesAs reads t old new ended
-writes reads t old new s (Ok done) found written = (s, found, written)
-writes reads t old new s (Err fault.InputOrOutput) found written = (s, found, written)
-writes reads t old new s (Err fault.ReplyMemory) found written = (s, found, written)
-writes reads t old new s (Err fault.NoResource) found written = absurd written
-writes reads t old new s (Err fault.Usage) found written = absurd written
-writes reads t old new s (Err fault.Choice) found written = absurd written
-writes reads t old new s (Err fault.TidyAt) found written = absurd written
-writes reads t old new s (Err fault.Root) found written = absurd written
-writes reads t old new s (Err fault.Orphans) found written = absurd written
-writes reads t old new s (Err fault.NotText) found written = absurd written
-writes reads t old new s (Err fault.Log) found written = absurd written
-writes reads t old new s (Err (fault.Damaged damage)) found written = absurd written
-writes reads t old new s (Err fault.Memory) found written = absurd written
-writes reads t old new s (Err fault.NotOpened) found written = absurd written
-writes reads t old new s (Err fault.NoJournal) found written = absurd written
-writes reads t old new s (Err fault.NotWell) found written = absurd written
-writes reads t old new s (Err fault.Disk) found written = absurd written
-writes reads t old new s (Err fault.Full) found written = absurd written
-writes reads t old new s (Err fault.ChildrenIgnored) found written = absurd written
+module _ {T : Type 0} (reads : Image) (now : ℕ) (old new : Option (List ℕ)) (size : Size) (counts : List (List ℕ × RunCount)) (s : State) where
+  abbrev Writes : Result T Fault → Type 0
+  Writes ended = IsWritten (metrics_text now size (count_at counts) s) old new ended
+
+  found_so : (ended : Result T Fault) → FoundAs s reads → IsSize reads size → HasCounts reads counts → Writes ended → WritesFound T reads now old new ended
+  found_so ended found is_size has written = record {
+    state = s;
+    found = found;
+    size = size;
+    is_size = is_size;
+    runs = has.0;
+    ran = has.1;
+    written =
+        let same : count_at counts ≡ tally has.0 = λ i id. has.2 id i in
+        subst (λ (counted : List ℕ → RunCount). IsWritten (metrics_text now size counted s) old new ended) same written;
+  }
+
+  pub writes : (ended : Result T Fault) → FoundAs s reads → IsSize reads size → HasCounts reads counts → Writes ended → WritesAs reads now old new ended
+  writes (Ok done) found is_size has written = found_so (Ok done) found is_size has written
+  writes (Err fault.InputOrOutput) found is_size has written = found_so (Err fault.InputOrOutput) found is_size has written
+  writes (Err fault.ReplyMemory) found is_size has written = found_so (Err fault.ReplyMemory) found is_size has written
+  writes (Err fault.NoResource) found is_size has written = absurd written
+  writes (Err fault.Usage) found is_size has written = absurd written
+  writes (Err fault.Choice) found is_size has written = absurd written
+  writes (Err fault.TidyAt) found is_size has written = absurd written
+  writes (Err fault.Root) found is_size has written = absurd written
+  writes (Err fault.Orphans) found is_size has written = absurd written
+  writes (Err fault.NotText) found is_size has written = absurd written
+  writes (Err fault.Log) found is_size has written = absurd written
+  writes (Err (fault.Damaged damage)) found is_size has written = absurd written
+  writes (Err fault.Memory) found is_size has written = absurd written
+  writes (Err fault.NotOpened) found is_size has written = absurd written
+  writes (Err fault.NoJournal) found is_size has written = absurd written
+  writes (Err fault.NotWell) found is_size has written = absurd written
+  writes (Err fault.Disk) found is_size has written = absurd written
+  writes (Err fault.Full) found is_size has written = absurd written
+  writes (Err fault.ChildrenIgnored) found is_size has written = absurd written
+
+-- the same where the journal was opened on a disk that was measured so
+pub writes_opened : {T : Type 0} (now : ℕ) (old new : Option (List ℕ)) (size : Size) (counts : List (List ℕ × RunCount)) (p : Place) (s : State)
+    (first opened last : View) (ended : Result T Fault) → OpensAt p s first opened → (first.honest → IsSize first.reads size)
+    → (first.honest → (t : State) → FoundAs t first.reads → HasCounts first.reads counts)
+    → IsWritten (metrics_text now size (count_at counts) s) old new ended → last ≡ opened → last.honest → WritesAs first.reads now old new ended
+writes_opened now old new size counts p s first opened last ended opens is_size has written same honest =
+    let h1 = subst (λ (v : View). v.honest) same honest in
+    let h0 = opens.opens.crash.passed.honest h1 in
+    let found = opens.found h1 in
+    writes first.reads now old new size counts s ended found (is_size h0) (has h0 s found) written

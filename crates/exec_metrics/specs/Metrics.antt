@@ -11,8 +11,13 @@ use Rattle.exec_metrics.specs.Families.{header, name}
 use Rattle.exec_metrics.specs.Samples.{samples}
 use Rattle.exec_metrics.specs.declared.family.Family.{Family}
 use Rattle.exec_metrics.specs.declared.family.Family.TheVariants as family
-use Rattle.exec_metrics.specs.declared.measuring.Size.{Size}
-use Rattle.exec_metrics.specs.declared.text.Taken.{Taken}
+use Rattle.exec_metrics.specs.Runs.{runs_text}
+use Rattle.journal_measure.specs.RanOn.{RanOn}
+use Rattle.journal_measure.specs.Sizes.{IsSize}
+use Rattle.journal_measure.specs.declared.measuring.Size.{Size}
+use Rattle.run_counts.specs.Counts.{tally}
+use Rattle.run_counts.specs.Runs.{Ran}
+use Rattle.run_counts.specs.declared.count.RunCount.{RunCount}
 
 -- a family of one sample without labels
 abbrev pub bare : Family → ℕ → List ℕ
@@ -32,8 +37,8 @@ size_text size = single family.Epoch size.epoch ++ single family.Bytes size.byte
 abbrev pub counts_text : State → List ℕ
 counts_text s = single family.Calls (s.next_call - 1) ++ single family.Runs (s.next_run - 1)
 
-abbrev pub journal_text : Taken → State → List ℕ
-journal_text t s = size_text t.size ++ counts_text s ++ single family.Resources (length s.resources)
+abbrev pub journal_text : Size → State → List ℕ
+journal_text size s = size_text size ++ counts_text s ++ single family.Resources (length s.resources)
 
 -- how the resources are, and what they do
 abbrev pub states_text : ℕ → State → List ℕ
@@ -52,20 +57,31 @@ monitors_text now s = of_each now s family.MonitorCode ++ of_each now s family.M
 abbrev pub results_text : ℕ → State → List ℕ
 results_text now s = last_text now s ++ failures_text now s ++ monitors_text now s
 
-abbrev pub metrics_text : Taken → State → List ℕ
-metrics_text t s = journal_text t s ++ states_text t.moment s ++ results_text t.moment s
+-- the metrics at a moment of a journal of this size, of the counts of each resource's runs, and of its state
+abbrev pub metrics_text : ℕ → Size → (List ℕ → RunCount) → State → List ℕ
+metrics_text now size counts s = journal_text size s ++ states_text now s ++ runs_text counts s ++ results_text now s
 
--- what is written of a state, by how that ended
-abbrev pub IsWritten : {T : Type 0} → Taken → State → Option (List ℕ) → Option (List ℕ) → Result T Fault → Type 0
-IsWritten t s old new (Ok done) = Appends old new (metrics_text t s)
-IsWritten t s old new (Err fault.ReplyMemory) = new ≡ old
-IsWritten t s old new (Err fault.InputOrOutput) = ⊤
-IsWritten t s old new (Err _) = ⊥
+-- what is written of a text, by how that ended
+abbrev pub IsWritten : {T : Type 0} → List ℕ → Option (List ℕ) → Option (List ℕ) → Result T Fault → Type 0
+IsWritten text old new (Ok done) = Appends old new text
+IsWritten text old new (Err fault.ReplyMemory) = new ≡ old
+IsWritten text old new (Err fault.InputOrOutput) = ⊤
+IsWritten text old new (Err _) = ⊥
 
--- the same of the state that is found on these parts, or nothing where the pair is not read; damage that is reported is the one that is
--- found
-abbrev pub WritesAs : {T : Type 0} → Image → Taken → Option (List ℕ) → Option (List ℕ) → Result T Fault → Type 0
-WritesAs reads t old new (Err (fault.Damaged damage)) = IsFound reads (Damaged damage) × (new ≡ old)
-WritesAs reads t old new (Err fault.Disk) = new ≡ old
-WritesAs reads t old new (Err fault.Memory) = new ≡ old
-WritesAs reads t old new ended = (s : State) × FoundAs s reads × IsWritten t s old new ended
+-- the state that is found on these parts, the size of the journal, and the runs since the snapshot of its current part; and the metrics
+-- of these at a moment are written
+pub record WritesFound (T : Type 0) (reads : Image) (now : ℕ) (old new : Option (List ℕ)) (ended : Result T Fault) : Type 0 where
+  pub state : State
+  pub found : FoundAs state reads
+  pub size : Size
+  pub is_size : IsSize reads size
+  pub runs : List Ran
+  pub ran : RanOn reads runs
+  pub written : IsWritten (metrics_text now size (tally runs) state) old new ended
+
+-- the same, or nothing where the pair is not read; damage that is reported is the one that is found
+abbrev pub WritesAs : {T : Type 0} → Image → ℕ → Option (List ℕ) → Option (List ℕ) → Result T Fault → Type 0
+WritesAs reads now old new (Err (fault.Damaged damage)) = IsFound reads (Damaged damage) × (new ≡ old)
+WritesAs reads now old new (Err fault.Disk) = new ≡ old
+WritesAs reads now old new (Err fault.Memory) = new ≡ old
+WritesAs {T} reads now old new ended = WritesFound T reads now old new ended

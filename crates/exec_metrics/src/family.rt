@@ -25,6 +25,10 @@ pub enum Family {
     Queued,
     /// What runs.
     Running,
+    /// How many runs of a resource ended since the snapshot.
+    ResourceRuns,
+    /// How many of them failed.
+    ResourceFailures,
     /// The code of a resource's last result.
     LastCode,
     /// Its age.
@@ -53,6 +57,8 @@ impl Family {
             Family::State => "ocfexec_resource_state",
             Family::Queued => "ocfexec_resource_queued_actions",
             Family::Running => "ocfexec_resource_running_actions",
+            Family::ResourceRuns => "ocfexec_resource_runs_total",
+            Family::ResourceFailures => "ocfexec_resource_failures_total",
             Family::LastCode => "ocfexec_resource_last_code",
             Family::LastAge => "ocfexec_resource_last_age_seconds",
             Family::FailureCode => "ocfexec_resource_failure_code",
@@ -79,6 +85,12 @@ impl Family {
             }
             Family::Queued => "Actions of a resource that wait for their turn.",
             Family::Running => "Actions of a resource that run.",
+            Family::ResourceRuns => {
+                "Runs of a resource that ended since the snapshot of the journal's current part."
+            }
+            Family::ResourceFailures => {
+                "Runs of a resource that failed since the snapshot of the journal's current part."
+            }
             Family::LastCode => "The exit code of the last result of a resource.",
             Family::LastAge => "Seconds since the last result of a resource.",
             Family::FailureCode => "The exit code of what failed last of a resource.",
@@ -93,7 +105,8 @@ impl Family {
         ensures { result.now ≡ kind self }
     {
         match self {
-            Family::Calls | Family::Runs => "counter",
+            Family::Calls | Family::Runs | Family::ResourceRuns | Family::ResourceFailures =>
+                "counter",
             _ => "gauge",
         }
     }

@@ -4,14 +4,12 @@
 mod add;
 mod family;
 mod label;
-mod measuring;
 mod monitors;
 mod results;
+mod runs;
 mod sample;
 mod states;
 mod text;
 mod writing;
 
-pub use measuring::{Size, measure};
-pub use text::Taken;
 pub use writing::metrics;

@@ -4,27 +4,29 @@ ghost use Rattle.std.specs.List.{flat_map};
 ghost use Rattle.ocf_types.specs.Places.{entry_at};
 ghost use Rattle.exec_metrics.specs.Metrics.{bare, counts_text, failures_text, journal_text, last_text, metrics_text, monitors_text, of_each, results_text, single, size_text, states_text};
 ghost use Rattle.exec_metrics.specs.Samples.{samples};
+ghost use Rattle.run_counts.specs.Counts.{count_at};
 
 use crate::add::{add, add_number};
 use crate::family::{Family, add_header};
-use crate::measuring::Size;
 use crate::monitors::{add_ages, add_codes};
 use crate::results::{add_age, add_code, age, last_result};
+use crate::runs::add_runs;
 use crate::sample::{add_plain, bit};
 use crate::states::add_states;
 use exec_output::condition_of;
 use exec_state::State;
 use growth::Grows;
+use journal_measure::{Measured, Size};
 use ocf_types::{Moment, StateView};
 use std::alloc::{AllocError, Global};
 
-/// Of what and when metrics are taken.
-#[derive(Clone, Copy)]
+/// When metrics are taken, and of which journal.
+#[derive(Drop)]
 pub struct Taken {
     /// The moment from which ages are counted.
     pub moment: Moment,
-    /// How large the journal is.
-    pub size: Size,
+    /// What is measured of the journal.
+    pub measured: Measured,
 }
 
 // A resource's place, and the family of which its samples are.
@@ -54,6 +56,7 @@ fn add_samples(text: &mut Vec<u8>, now: Moment, state: &State, row: Row) -> Resu
         Family::MonitorCode => add_codes(text, state, place),
         Family::MonitorAge => add_ages(text, now, state, place),
         Family::Epoch | Family::Bytes | Family::Calls | Family::Runs | Family::Resources => Ok(()),
+        Family::ResourceRuns | Family::ResourceFailures => Ok(()),
     }
 }
 
@@ -130,12 +133,12 @@ fn add_counts(text: &mut Vec<u8>, state: &State) -> Result<(), AllocError>
 }
 
 // Adds what is said of the journal.
-fn add_journal(text: &mut Vec<u8>, taken: &Taken, state: &State) -> Result<(), AllocError>
+fn add_journal(text: &mut Vec<u8>, size: Size, state: &State) -> Result<(), AllocError>
     ensures added { OnOk result (text.new.items
-        ≡ text.old.items ++ journal_text taken.now state.now.state) }
+        ≡ text.old.items ++ journal_text size state.now.state) }
     ensures memory { OnErr result (IsTrue ⟦<Global as Grows>⟧.refuses) }
 {
-    add_size(text, taken.size)?;
+    add_size(text, size)?;
     add_counts(text, state)?;
     add_single(text, Family::Resources, state.len() as u64)
 }
@@ -190,12 +193,14 @@ fn add_results(text: &mut Vec<u8>, now: Moment, state: &State) -> Result<(), All
 
 /// The metrics of a state.
 pub fn metrics_text(alloc: Global, taken: &Taken, state: &State) -> Result<Vec<u8>, AllocError>
-    ensures text { IfOk result (λ text. text.items ≡ metrics_text taken.now state.now.state) }
+    ensures text { IfOk result (λ text. text.items ≡ metrics_text taken.now.moment
+        taken.now.measured.size (count_at taken.now.measured.counts.entries) state.now.state) }
     ensures memory { OnErr result (IsTrue ⟦<Global as Grows>⟧.refuses) }
 {
     let mut text = Vec::new(alloc);
-    add_journal(&mut text, taken, state)?;
+    add_journal(&mut text, taken.measured.size, state)?;
     add_all_states(&mut text, taken.moment, state)?;
+    add_runs(&mut text, &taken.measured.counts, state)?;
     add_results(&mut text, taken.moment, state)?;
     Ok(text)
 }

@@ -1,9 +1,14 @@
 //! What a journal holds, as metrics.
 ghost use Rattle.std.specs.Prelude.{◌≡◌, IsErrOf, IfOk, IfErr};
+ghost use Rattle.ocf_types.specs.State.{State as PlainState};
 ghost use Rattle.disk_model.specs.View.{Increased};
+ghost use Rattle.exec_journal.specs.Found.{FoundAs};
 ghost use Rattle.exec_journal.specs.Opening.{Opens};
 ghost use Rattle.exec_output.specs.Faults.{HasCause, IsRunEnd, opening_fault};
-ghost use Rattle.exec_metrics.specs.Metrics.{IsWritten, WritesAs};
+ghost use Rattle.exec_metrics.specs.Metrics.{IsWritten, WritesAs, metrics_text};
+ghost use Rattle.journal_measure.specs.RanOn.{HasCounts};
+ghost use Rattle.journal_measure.specs.Sizes.{IsSize};
+ghost use Rattle.run_counts.specs.Counts.{count_at};
 
 use crate::text::{Taken, metrics_text};
 use disk_model::Disk;
@@ -12,6 +17,9 @@ use exec_lines::write_flushed;
 use exec_output::Fault;
 use exec_state::State;
 use growth::Grows;
+use journal_log::LogFault;
+use journal_measure::measure;
+use ocf_types::Moment;
 use std::alloc::Global;
 use std::io::Write;
 
@@ -33,8 +41,9 @@ fn write_metrics<W: Write>(
     taken: &Taken,
     state: &State,
 ) -> Result<(), Fault>
-    ensures written { IsWritten taken.now state.now.state (W.contents writer.old)
-        (W.contents writer.new) result }
+    ensures written { IsWritten (metrics_text taken.now.moment taken.now.measured.size
+        (count_at taken.now.measured.counts.entries) state.now.state)
+        (W.contents writer.old) (W.contents writer.new) result }
     ensures memory { IfErr result (HasCause ⟦<Global as Grows>⟧.refuses) }
 {
     let Ok(text) = metrics_text(alloc, taken, state) else {
@@ -46,18 +55,19 @@ fn write_metrics<W: Write>(
     }
 }
 
-/// Opens a journal without a boot and writes what it holds as metrics, in the text format of Prometheus: of each family its help, its
-/// type, and the samples of each resource, in order of registration. It is all written, or the fault is that of input or output, or of
-/// memory for the text. The disk is handed back.
-#[tactic(auto, using(crate::proofs::MetricsLemmas::writes, exec_output::proofs::TextLemmas::opening_cause))]
-pub fn metrics<D: Disk + Drop, W: Write>(
+// Opens a journal and writes what it holds, where this was measured of it.
+#[tactic(auto, using(exec_output::proofs::TextLemmas::opening_cause))]
+fn write_measured<D: Disk + Drop, W: Write>(
     alloc: Global,
     disk: D,
     writer: &mut W,
     taken: &Taken,
 ) -> (D, Result<(), Fault>)
+    requires size { (D.view disk).honest → IsSize (D.view disk).reads taken.now.measured.size }
+    requires counts { (D.view disk).honest → (s : PlainState) → FoundAs s (D.view disk).reads
+        → HasCounts (D.view disk).reads taken.now.measured.counts.entries }
     ensures written { (D.view result.0).honest
-        → WritesAs (D.view disk).reads taken.now (W.contents writer.old)
+        → WritesAs (D.view disk).reads taken.now.moment (W.contents writer.old)
         (W.contents writer.new) result.1 }
     ensures opens { Opens (D.view disk) (D.view result.0) }
     ensures cause { IsErrOf result.1 Fault.Disk
@@ -71,5 +81,35 @@ pub fn metrics<D: Disk + Drop, W: Write>(
             (journal.into_disk(), ended)
         }
         Err((fault, disk)) => (disk, Err(opening_fault(fault))),
+    }
+}
+
+/// Measures a journal, opens it without a boot and writes what it holds as metrics at a moment, in the text format of Prometheus: of
+/// each family its help, its type, and the samples of each resource, in order of registration. It is all written, or the fault is that
+/// of input or output, or of memory for the text. The disk is handed back.
+pub fn metrics<D: Disk + Drop, W: Write>(
+    alloc: Global,
+    disk: D,
+    writer: &mut W,
+    moment: Moment,
+) -> (D, Result<(), Fault>)
+    ensures written { (D.view result.0).honest
+        → WritesAs (D.view disk).reads moment (W.contents writer.old)
+        (W.contents writer.new) result.1 }
+    ensures opens { Opens (D.view disk) (D.view result.0) }
+    ensures cause { IsErrOf result.1 Fault.Disk
+        → Increased (D.view disk).failures (D.view result.0).failures }
+    ensures ends { IsRunEnd result.1 }
+    ensures memory { IfErr result.1 (HasCause ⟦<Global as Grows>⟧.refuses) }
+{
+    let mut disk = disk;
+    match measure(alloc, &mut disk) {
+        Ok(measured) => {
+            let taken = Taken { moment, measured };
+            write_measured(alloc, disk, writer, &taken)
+        }
+        Err(LogFault::Disk) => (disk, Err(Fault::Disk)),
+        Err(LogFault::Memory) => (disk, Err(Fault::Memory)),
+        Err(LogFault::Output) => unreachable!(),
     }
 }

@@ -1,10 +1,9 @@
 //! What a journal holds, as it is printed as metrics.
 ghost use Rattle.exec_output.specs.Faults.{IsRunEnd};
 
-use crate::log::told_as;
 use crate::look::moment_of;
 use disk_model::Disk;
-use exec_metrics::{Taken, measure, metrics};
+use exec_metrics::metrics;
 use exec_options::Options;
 use exec_output::Fault;
 use process_ends::System;
@@ -20,12 +19,6 @@ pub fn metrics_to<D: Disk + Drop, W: Write>(
     ensures { IsRunEnd result.1 }
 {
     let rt = system.host();
-    let mut disk = disk;
-    match measure(rt.alloc(), &mut disk) {
-        Ok(size) => {
-            let moment = moment_of(rt, options.journal);
-            metrics(rt.alloc(), disk, output, &Taken { moment, size })
-        }
-        Err(fault) => (disk, told_as(Err(fault))),
-    }
+    let moment = moment_of(rt, options.journal);
+    metrics(rt.alloc(), disk, output, moment)
 }

@@ -9,6 +9,6 @@ pub returns-clause-added : goal.returns-clause-added
 returns-clause-added c =
     let s = c.args.state.now.state in
     let r = c.add_single.result in
-    three r _ _ _ _ (size_text c.args.taken.now.size) (counts_text s) (single family.Resources (length s.resources))
+    three r _ _ _ _ (size_text c.args.size) (counts_text s) (single family.Resources (length s.resources))
     c.in_ok-add_size.ensures.added c.in_ok-add_counts.ensures.added
     (last_of r (single family.Resources) _ (length s.resources) _ _ c.len.ensures.value c.add_single.ensures.added)
