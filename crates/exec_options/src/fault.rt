@@ -1,8 +1,11 @@
 //! Arguments that give no options.
+ghost use Rattle.std.specs.Prelude.{◌≡◌, IsTrue};
 ghost use Rattle.clap.specs.Words.{HasKind, Kinds};
 ghost use Rattle.exec_options.specs.Faults.{HasFaultKind};
 
 use clap::error::ErrorKind;
+use growth::Grows;
+use std::alloc::{AllocError, Global};
 
 /// Why the arguments give no options. It has no text of its own but `clap`'s: what the program then says and ends with is
 /// the program's.
@@ -31,9 +34,12 @@ pub enum WordsFault {
 impl WordsFault {
     /// What `clap`'s error means.
     pub(crate) fn from_clap(error: clap::Error) -> WordsFault
-        ensures { (kinds : Kinds) → HasKind kinds error → HasFaultKind kinds result }
+        ensures kinds { (kinds : Kinds) → HasKind kinds error → HasFaultKind kinds result }
+        ensures memory { result ≡ WordsFault.Memory → IsTrue ⟦<Global as Grows>⟧.refuses }
     {
         if error.kind() == ErrorKind::OutOfMemory {
+            // TRUSTED: the growth that `clap` asked for was refused.
+            let _ = Global::library_growth(Err::<(), AllocError>(AllocError));
             WordsFault::Memory
         } else if error.use_stderr() {
             WordsFault::Usage(error)

@@ -3,6 +3,7 @@
 
 mod app;
 mod fault;
+mod line;
 mod once;
 mod options;
 mod texts;

@@ -1,5 +1,5 @@
 //! The options that the arguments give.
-ghost use Rattle.std.specs.Prelude.{◌≡◌, ℕ, [], true, map, string_bytes, codes, option_map, unwrap_or, IfOk, IfErr, OnOk, IfSome, IfNone};
+ghost use Rattle.std.specs.Prelude.{◌≡◌, ℕ, [], true, map, string_bytes, codes, option_map, unwrap_or, IfOk, IfErr, IsTrue, OnErr, OnOk, IfSome, IfNone};
 ghost use Rattle.clap.specs.Words.{all_of, first_of, rows_of, found_of, fault_of};
 ghost use Rattle.exec_options.specs.App.{ocfexec_app};
 ghost use Rattle.ocf_types.specs.Limits.{part_limit};
@@ -7,11 +7,13 @@ ghost use Rattle.exec_options.specs.Words.{folder_of, is_absolute, is_true_text,
 ghost use Rattle.exec_options.specs.Words.{AsksFor, IsJournalWanted, IsNumberTo, IsOnceWanted, IsReadFrom, IsSince, IsTimeout};
 ghost use Rattle.exec_options.specs.Faults.{HasFlaw, HasOnceFlaw, HasPlacedFlaw, IsFault, OrphansFlaw, RootFlaw, TidyAtFlaw, TimeoutFlaw};
 
-use crate::app::{ID, JOURNAL, ORPHANS, PATH, ROOT, TIDY_AT, TIMEOUT, ocfexec};
+use crate::app::{ID, JOURNAL, ORPHANS, PATH, ROOT, TIDY_AT, TIMEOUT};
 use crate::fault::WordsFault;
+use crate::line::command_line;
 use crate::once::OnceOptions;
 use crate::options::{JournalPlace, Options, Subcommand};
 use clap::ArgMatches;
+use growth::{Grows, vec_of};
 use log_lines::moment_begun;
 use ocf_types::{ORPHANS_LIMIT, PART_LIMIT};
 use std::alloc::{AllocError, Global};
@@ -139,6 +141,7 @@ fn since(alloc: Global, matches: &ArgMatches<'_>) -> Result<u64, WordsFault>
     ensures moment { IfOk result
         (IsSince (first_of (codes "since") (rows_of (found_of matches.now)))) }
     ensures fault { IfErr result (HasFlaw (rows_of (found_of matches.now))) }
+    ensures memory { IfErr result (λ f. f ≡ WordsFault.Memory → IsTrue ⟦<Global as Grows>⟧.refuses) }
 {
     let Some(text) = text_of(matches, "since") else {
         return Ok(0);
@@ -178,11 +181,12 @@ fn texts_of<'a, 'm>(matches: &'m ArgMatches<'a>, id: &str) -> Option<&'m [&'a st
 
 // The parameters that an action is run with.
 fn parameters<'a>(alloc: Global, matches: &ArgMatches<'a>) -> Result<Vec<&'a str>, AllocError>
-    ensures { IfOk result (λ texts. map (λ s. s.now) texts.items
+    ensures texts { IfOk result (λ texts. map (λ s. s.now) texts.items
         ≡ unwrap_or (all_of (codes "parameters") (rows_of (found_of matches.now))) []) }
+    ensures memory { OnErr result (IsTrue ⟦<Global as Grows>⟧.refuses) }
 {
     match texts_of(matches, "parameters") {
-        Some(texts) => Vec::from_slice(alloc, texts),
+        Some(texts) => vec_of(alloc, texts),
         None => Ok(Vec::new(alloc)),
     }
 }
@@ -191,6 +195,7 @@ fn parameters<'a>(alloc: Global, matches: &ArgMatches<'a>) -> Result<Vec<&'a str
 fn once_of<'a>(alloc: Global, matches: &ArgMatches<'a>) -> Result<Wanted<'a>, WordsFault>
     ensures read { IfOk result (IsOnceWanted (rows_of (found_of matches.now))) }
     ensures fault { IfErr result (HasOnceFlaw (rows_of (found_of matches.now))) }
+    ensures memory { IfErr result (λ f. f ≡ WordsFault.Memory → IsTrue ⟦<Global as Grows>⟧.refuses) }
 {
     let timeout = timeout(matches)?;
     let root = root(matches)?;
@@ -220,6 +225,7 @@ fn options_of<'a>(
     ensures read { IfOk result (λ o. (o.subcommand ≡ subcommand) × (o.journal ≡ journal.entry)
         × IsReadFrom (rows_of (found_of matches.now)) o) }
     ensures fault { IfErr result (HasFlaw (rows_of (found_of matches.now))) }
+    ensures memory { IfErr result (λ f. f ≡ WordsFault.Memory → IsTrue ⟦<Global as Grows>⟧.refuses) }
 {
     let tidy_at = tidy_at(matches)?;
     let root = root(matches)?;
@@ -260,6 +266,7 @@ fn journal_of<'a>(
     ensures fault { IfErr result
         (HasPlacedFlaw subcommand (option_map (λ s. s.now) named.entry)
         (rows_of (found_of matches.now))) }
+    ensures memory { IfErr result (λ f. f ≡ WordsFault.Memory → IsTrue ⟦<Global as Grows>⟧.refuses) }
 {
     let Some(journal) = journal_place(subcommand, named, matches) else {
         return Err(WordsFault::Choice);
@@ -282,8 +289,9 @@ pub fn read_words<'a>(
     ensures parsed { OnOk result (fault_of ocfexec_app (map string_bytes words.now) ≡ []) }
     ensures fault { IfErr result
         (IsFault (option_map (λ s. s.now) named.entry) (map string_bytes words.now)) }
+    ensures memory { IfErr result (λ f. f ≡ WordsFault.Memory → IsTrue ⟦<Global as Grows>⟧.refuses) }
 {
-    let Ok(command) = ocfexec(alloc) else {
+    let Ok(command) = command_line(alloc) else {
         return Err(WordsFault::Memory);
     };
     let matches = match command.try_get_matches_from(words) {

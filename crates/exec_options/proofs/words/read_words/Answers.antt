@@ -9,13 +9,13 @@ pub returns-in-Err-clause-fault : goal.returns-in-Err-clause-fault
 returns-in-Err-clause-fault c =
     let words = map string_bytes c.args.words.now in
     fault_kind _ words c.from_clap.result
-    (c.from_clap.ensures _ (faults c.in-Ok.command words (λ k. HasKind k c.in-Err.error) c.in-Ok.ensures c.in-Err.ensures.kinds))
+    (c.from_clap.ensures.kinds _ (faults c.in-Ok.command words (λ k. HasKind k c.in-Err.error) c.in-Ok.ensures.app c.in-Err.ensures.kinds))
 
 pub returns-then-eq-clause-ok : goal.returns-then-eq-clause-ok
 returns-then-eq-clause-ok c =
     let words = map string_bytes c.args.words.now in
     let named = met c.in-Ok.command words c.in-Ok-try_get_matches_from.matches c.in-Some.name.now
-    (rows_of (found_of c.in-Some.matches.now)) c.in-Ok.ensures c.in-Ok-try_get_matches_from.ensures.matches c.in-Some.ensures.name
+    (rows_of (found_of c.in-Some.matches.now)) c.in-Ok.ensures.app c.in-Ok-try_get_matches_from.ensures.matches c.in-Some.ensures.name
     c.in-Some.ensures.rows in
     let is : c.in-Some.name.now ≡ once_word = search rules in
     IfOk-weaker c.once_of.result _ _ (λ w h. given_once _ words _ _ w named is h) c.once_of.ensures.read
@@ -24,16 +24,16 @@ pub returns-then-eq-clause-parsed : goal.returns-then-eq-clause-parsed
 returns-then-eq-clause-parsed c =
     let words = map string_bytes c.args.words.now in
     IfOk-weaker c.once_of.result _ _
-    (λ w h. faults c.in-Ok.command words (λ k. k ≡ []) c.in-Ok.ensures c.in-Ok-try_get_matches_from.ensures.kinds)
+    (λ w h. faults c.in-Ok.command words (λ k. k ≡ []) c.in-Ok.ensures.app c.in-Ok-try_get_matches_from.ensures.kinds)
     c.once_of.ensures.read
 
 pub returns-then-eq-clause-fault : goal.returns-then-eq-clause-fault
 returns-then-eq-clause-fault c =
     let words = map string_bytes c.args.words.now in
     let named = met c.in-Ok.command words c.in-Ok-try_get_matches_from.matches c.in-Some.name.now
-    (rows_of (found_of c.in-Some.matches.now)) c.in-Ok.ensures c.in-Ok-try_get_matches_from.ensures.matches c.in-Some.ensures.name
+    (rows_of (found_of c.in-Some.matches.now)) c.in-Ok.ensures.app c.in-Ok-try_get_matches_from.ensures.matches c.in-Some.ensures.name
     c.in-Some.ensures.rows in
-    let parsed = faults c.in-Ok.command words (λ k. k ≡ []) c.in-Ok.ensures c.in-Ok-try_get_matches_from.ensures.kinds in
+    let parsed = faults c.in-Ok.command words (λ k. k ≡ []) c.in-Ok.ensures.app c.in-Ok-try_get_matches_from.ensures.kinds in
     let is : c.in-Some.name.now ≡ once_word = search rules in
     IfErr-weaker c.once_of.result _ _ (λ f h. flawed_once _ words _ _ f parsed named is h) c.once_of.ensures.fault
 
@@ -41,9 +41,9 @@ pub returns-in_default-of-clause-fault : goal.returns-in_default-of-clause-fault
 returns-in_default-of-clause-fault c =
     let words = map string_bytes c.args.words.now in
     let named = met c.in-Ok.command words c.in-Ok-try_get_matches_from.matches c.in-Some.name.now
-    (rows_of (found_of c.in-Some.matches.now)) c.in-Ok.ensures c.in-Ok-try_get_matches_from.ensures.matches c.in-Some.ensures.name
+    (rows_of (found_of c.in-Some.matches.now)) c.in-Ok.ensures.app c.in-Ok-try_get_matches_from.ensures.matches c.in-Some.ensures.name
     c.in-Some.ensures.rows in (
-      faults c.in-Ok.command words (λ k. k ≡ []) c.in-Ok.ensures c.in-Ok-try_get_matches_from.ensures.kinds,
+      faults c.in-Ok.command words (λ k. k ≡ []) c.in-Ok.ensures.app c.in-Ok-try_get_matches_from.ensures.kinds,
       inr (unnamed words _ _ named c.in_default-of.ensures.none),
     )
 
@@ -51,7 +51,7 @@ pub returns-clause-ok : goal.returns-clause-ok
 returns-clause-ok c =
     let words = map string_bytes c.args.words.now in
     let named = met c.in-Ok.command words c.in-Ok-try_get_matches_from.matches c.in-Some.name.now
-    (rows_of (found_of c.in-Some.matches.now)) c.in-Ok.ensures c.in-Ok-try_get_matches_from.ensures.matches c.in-Some.ensures.name
+    (rows_of (found_of c.in-Some.matches.now)) c.in-Ok.ensures.app c.in-Ok-try_get_matches_from.ensures.matches c.in-Some.ensures.name
     c.in-Some.ensures.rows in
     IfOk-weaker c.journal_of.result _ _ (λ w h. given _ words _ _ _ w named c.in-Some-of.ensures.found h) c.journal_of.ensures.read
 
@@ -59,15 +59,15 @@ pub returns-clause-parsed : goal.returns-clause-parsed
 returns-clause-parsed c =
     let words = map string_bytes c.args.words.now in
     IfOk-weaker c.journal_of.result _ _
-    (λ w h. faults c.in-Ok.command words (λ k. k ≡ []) c.in-Ok.ensures c.in-Ok-try_get_matches_from.ensures.kinds)
+    (λ w h. faults c.in-Ok.command words (λ k. k ≡ []) c.in-Ok.ensures.app c.in-Ok-try_get_matches_from.ensures.kinds)
     c.journal_of.ensures.read
 
 pub returns-clause-fault : goal.returns-clause-fault
 returns-clause-fault c =
     let words = map string_bytes c.args.words.now in
     let named = met c.in-Ok.command words c.in-Ok-try_get_matches_from.matches c.in-Some.name.now
-    (rows_of (found_of c.in-Some.matches.now)) c.in-Ok.ensures c.in-Ok-try_get_matches_from.ensures.matches c.in-Some.ensures.name
+    (rows_of (found_of c.in-Some.matches.now)) c.in-Ok.ensures.app c.in-Ok-try_get_matches_from.ensures.matches c.in-Some.ensures.name
     c.in-Some.ensures.rows in
-    let parsed = faults c.in-Ok.command words (λ k. k ≡ []) c.in-Ok.ensures c.in-Ok-try_get_matches_from.ensures.kinds in
+    let parsed = faults c.in-Ok.command words (λ k. k ≡ []) c.in-Ok.ensures.app c.in-Ok-try_get_matches_from.ensures.kinds in
     IfErr-weaker c.journal_of.result _ _ (λ f h. flawed _ words _ _ _ f parsed named c.in-Some-of.ensures.found h)
     c.journal_of.ensures.fault
