@@ -1,5 +1,5 @@
 -- What the program does.
-use Rattle.std.proofs.Common.{◌≡◌, ℕ, List, [], Option, Result, Ok, inl, inr, refl, subst, sym}
+use Rattle.std.proofs.Common.{◌≡◌, Bool, ℕ, IfErr, List, [], Option, Result, Ok, inl, inr, refl, subst, sym}
 use Rattle.std.specs.declared.alloc.Global.{Global}
 use Rattle.disk_model.specs.View.{View}
 use Rattle.child_model.specs.Children.{ChildrenView}
@@ -12,6 +12,7 @@ use Rattle.exec_options.specs.declared.options.JournalPlace.TheVariants.{Memory}
 use Rattle.exec_options.specs.declared.options.Options.{Options}
 use Rattle.exec_options.specs.declared.words.Wanted.{Wanted}
 use Rattle.exec_options.specs.declared.words.Wanted.TheVariants as wanted
+use Rattle.exec_output.specs.Faults.{HasCause}
 use Rattle.exec_output.specs.declared.fault.Fault.{Fault}
 use Rattle.exec_session.specs.Answers.{Source}
 use Rattle.exec_program.specs.Asked.{Asked}
@@ -19,17 +20,18 @@ use Rattle.exec_program.specs.Program.{Does, RunsAt}
 use Rattle.exec_program.specs.Runs.{RunsOn}
 
 -- a run over a fresh disk in memory
-pub runs_in_memory : {F L A S R W H : Type 0} (asked : Asked F L A S R W H) (tend : A → ChildrenView) (gives : S → Source)
+pub runs_in_memory : {F L A S R W H : Type 0} (refuses : Bool) (asked : Asked F L A S R W H) (tend : A → ChildrenView) (gives : S → Source)
     (left : R → Option (List ℕ)) (contents : W → Option (List ℕ)) (look : F → View) (o : Options) (log : L) (place : JournalPlace)
     (disk : RamDisk Global) (ended : Result Unit Fault) → place ≡ Memory → IsFresh (record { a = []; b = [] }) disk
-    → RunsOn asked tend gives left contents view_of o log disk ended → RunsAt asked tend gives left contents look o log place ended
-runs_in_memory asked tend gives left contents look o log place disk ended is fresh runs =
-    subst (λ (x : JournalPlace). RunsAt asked tend gives left contents look o log x ended) (sym is) (disk, fresh, runs)
+    → RunsOn asked tend gives left contents view_of o log disk ended → IfErr ended (HasCause refuses)
+    → RunsAt refuses asked tend gives left contents look o log place ended
+runs_in_memory refuses asked tend gives left contents look o log place disk ended is fresh runs cause =
+    subst (λ (x : JournalPlace). RunsAt refuses asked tend gives left contents look o log x ended) (sym is) (disk, fresh, runs, cause)
 
 -- an action that was run once
-pub does_once : {F L A S R W H : Type 0} (asked : Asked F L A S R W H) (tend : A → ChildrenView) (gives : S → Source)
+pub does_once : {F L A S R W H : Type 0} (refuses : Bool) (asked : Asked F L A S R W H) (tend : A → ChildrenView) (gives : S → Source)
     (left : R → Option (List ℕ)) (contents : W → Option (List ℕ)) (look : F → View) (named : Option (List ℕ)) (words : List (List ℕ))
     (w : Wanted) (o : OnceOptions) (status : ℕ) → AsksFor named words w → w ≡ wanted.Once o → asked.once o status
-    → Does asked tend gives left contents look named words (Ok status)
-does_once asked tend gives left contents look named words w o status asks is ran =
+    → Does refuses asked tend gives left contents look named words (Ok status)
+does_once refuses asked tend gives left contents look named words w o status asks is ran =
     inr (inl (o, subst (λ (x : Wanted). AsksFor named words x) is asks, (status, ran, refl)))

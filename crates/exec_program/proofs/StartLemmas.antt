@@ -1,5 +1,5 @@
 -- Why a program ends as it does.
-use Rattle.std.proofs.Common.{inl, inr, ⊎_elim, ◌||◌, ℕ, List, Result, Ok, Err, Option, ap, subst, sym, ◌≡◌, is_some, true}
+use Rattle.std.proofs.Common.{inl, inr, ⊎_elim, ◌||◌, ℕ, List, Result, Ok, Err, Option, ap, refl, subst, sym, ◌≡◌, is_some, Bool, IsTrue, true}
 use Rattle.disk_model.specs.View.{View}
 use Rattle.child_model.specs.Children.{ChildrenView}
 use Rattle.executor.specs.declared.opening.OpenError.{OpenError}
@@ -13,7 +13,7 @@ use Rattle.exec_options.specs.declared.words.Wanted.TheVariants as wanted
 use Rattle.exec_options.specs.declared.fault.WordsFault.{WordsFault}
 use Rattle.exec_options.specs.declared.fault.WordsFault.TheVariants as words_fault
 use Rattle.exec_options.specs.declared.options.Options.{Options}
-use Rattle.exec_output.specs.Faults.{IsRunEnd}
+use Rattle.exec_output.specs.Faults.{HasCause, IsRunEnd}
 use Rattle.exec_output.specs.declared.fault.Fault.{Fault}
 use Rattle.exec_output.specs.declared.fault.Fault.TheVariants as fault
 use Rattle.exec_trace.specs.Edges.{EdgeView}
@@ -68,6 +68,18 @@ opening_end T (opening.Damaged damage) = tt
 opening_end T opening.Memory = tt
 opening_end T opening.Foreign = tt
 opening_end T opening.Full = tt
+
+-- and it wants memory only where its opening did
+pub opening_cause : (refuses : Bool) (why : OpenError) → (why ≡ opening.Memory → IsTrue refuses) → HasCause refuses (opening_fault why)
+opening_cause refuses opening.Disk cause = tt
+opening_cause refuses (opening.Damaged damage) cause = tt
+opening_cause refuses opening.Memory cause = cause refl
+opening_cause refuses opening.Foreign cause = tt
+opening_cause refuses opening.Full cause = tt
+
+-- a run whose report nobody reads wants no memory
+pub unheard_cause : (refuses : Bool) (f : Fault) → f ≡ fault.InputOrOutput → HasCause refuses f
+unheard_cause refuses f is = subst (λ (x : Fault). HasCause refuses x) (sym is) tt
 
 pub opening_ends : {T : Type 0} (why : OpenError) (f : Fault) (r : Result T Fault) → f ≡ opening_fault why → r ≡ Err f → IsRunEnd r
 opening_ends {T} why f r is same =

@@ -15,8 +15,9 @@ pub record Asked (Files Log Agents Source Reader Writer Watch : Type 0) : Type 1
   -- the files of the journal in a directory, of any owner or not; why there are none
   pub files : List ℕ → Bool → Files → Type 0
   pub no_files : List ℕ → Bool → Fault → Type 0
-  -- where agents write, by the file and the directory that are named
+  -- where agents write, by the file and the directory that are named; that it was not opened
   pub log : Option (List ℕ) → Option (List ℕ) → Log → Type 0
+  pub no_log : Option (List ℕ) → Option (List ℕ) → Type 0
   pub agents : Log → Agents → Type 0
   pub source : SiteView → Source → Type 0
   -- standard input, and standard output, which counts as read while the journal of a directory is there

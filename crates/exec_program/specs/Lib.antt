@@ -1,6 +1,7 @@
 pub mod Asked
 pub mod Limits
 pub mod Program
+pub mod Requests
 pub mod Runs
 pub mod Starts
 pub mod Waits

@@ -1,5 +1,5 @@
 -- What the program does.
-use Rattle.std.specs.Prelude.{◌≡◌, ◌⊎◌, ◌||◌, ℕ, ⊤, true, false, List, [], Option, Some, None, option_map, is_some, Result, Ok, Err}
+use Rattle.std.specs.Prelude.{◌≡◌, ◌⊎◌, ◌||◌, ℕ, ⊤, Bool, true, false, IfErr, IsTrue, List, [], Option, Some, None, option_map, is_some, Result, Ok, Err}
 use Rattle.std.specs.declared.alloc.Global.{Global}
 use Rattle.disk_model.specs.View.{View}
 use Rattle.child_model.specs.Children.{ChildrenView}
@@ -15,6 +15,7 @@ use Rattle.exec_options.specs.declared.options.JournalPlace.TheVariants.{Folder,
 use Rattle.exec_options.specs.declared.options.Options.{Options}
 use Rattle.exec_options.specs.declared.options.Subcommand.{Subcommand}
 use Rattle.exec_options.specs.declared.options.Subcommand.TheVariants as subcommand
+use Rattle.exec_output.specs.Faults.{HasCause}
 use Rattle.exec_output.specs.declared.fault.Fault.{Fault}
 use Rattle.exec_output.specs.declared.fault.Fault.TheVariants as fault
 use Rattle.exec_session.specs.Answers.{Source}
@@ -28,30 +29,32 @@ Looks asked o (Folder folder) ended = asked.shown o (Some folder.now) ended
 Looks asked o Memory ended = asked.shown o None ended
 
 -- how the program ends where agents are started, which write to this log: over the files of that directory, which are not always
--- there, or over a fresh disk in memory
-abbrev pub RunsAt : {F L A S R W H : Type 0} → Asked F L A S R W H → (A → ChildrenView) → (S → Source)
+-- there, or over a fresh disk in memory; over a disk by want of memory only where the allocator refuses growths
+abbrev pub RunsAt : {F L A S R W H : Type 0} → Bool → Asked F L A S R W H → (A → ChildrenView) → (S → Source)
     → (R → Option (List ℕ)) → (W → Option (List ℕ)) → (F → View) → Options → L → JournalPlace → Result Unit Fault → Type 0
-RunsAt {F} asked tend gives left contents look o log (Folder folder) ended =
-    ((disk : F) × asked.files folder.now o.any_owner disk × RunsOn asked tend gives left contents look o log disk ended)
+RunsAt {F} refuses asked tend gives left contents look o log (Folder folder) ended =
+    ((disk : F) × asked.files folder.now o.any_owner disk × RunsOn asked tend gives left contents look o log disk ended × IfErr ended (HasCause refuses))
     ⊎ ((f : Fault) × asked.no_files folder.now o.any_owner f × (ended ≡ Err f))
-RunsAt asked tend gives left contents look o log Memory ended =
+RunsAt refuses asked tend gives left contents look o log Memory ended =
     (disk : RamDisk Global) × IsFresh (record { a = []; b = [] }) disk × RunsOn asked tend gives left contents view_of o log disk ended
+    × IfErr ended (HasCause refuses)
 
 -- the same where the end of an agent would be seen, and where agents write as the options say
-abbrev pub RunsFor : {F L A S R W H : Type 0} → Asked F L A S R W H → (A → ChildrenView) → (S → Source)
+abbrev pub RunsFor : {F L A S R W H : Type 0} → Bool → Asked F L A S R W H → (A → ChildrenView) → (S → Source)
     → (R → Option (List ℕ)) → (W → Option (List ℕ)) → (F → View) → Options → Result Unit Fault → Type 0
-RunsFor {L = L} asked tend gives left contents look o ended =
+RunsFor {L = L} refuses asked tend gives left contents look o ended =
     ((ended ≡ Err fault.ChildrenIgnored) × asked.ignored true)
-    ⊎ (((ended ≡ Err fault.Log) × ((is_some o.log || is_some o.logs) ≡ true))
+    ⊎ (((ended ≡ Err fault.Log) × ((is_some o.log || is_some o.logs) ≡ true)
+    × asked.no_log (option_map (λ s. s.now) o.log) (option_map (λ s. s.now) o.logs))
     ⊎ ((log : L) × asked.ignored false × asked.log (option_map (λ s. s.now) o.log) (option_map (λ s. s.now) o.logs) log
-    × RunsAt asked tend gives left contents look o log o.journal ended))
+    × RunsAt refuses asked tend gives left contents look o log o.journal ended))
 
 -- what a subcommand does with a journal, by these options
-abbrev pub DoesAs : {F L A S R W H : Type 0} → Asked F L A S R W H → (A → ChildrenView) → (S → Source)
+abbrev pub DoesAs : {F L A S R W H : Type 0} → Bool → Asked F L A S R W H → (A → ChildrenView) → (S → Source)
     → (R → Option (List ℕ)) → (W → Option (List ℕ)) → (F → View) → Options → Subcommand → Result Unit Fault → Type 0
-DoesAs asked tend gives left contents look o subcommand.Run ended = RunsFor asked tend gives left contents look o ended
-DoesAs asked tend gives left contents look o subcommand.Serve ended = RunsFor asked tend gives left contents look o ended
-DoesAs asked tend gives left contents look o _ ended = Looks asked o o.journal ended
+DoesAs refuses asked tend gives left contents look o subcommand.Run ended = RunsFor refuses asked tend gives left contents look o ended
+DoesAs refuses asked tend gives left contents look o subcommand.Serve ended = RunsFor refuses asked tend gives left contents look o ended
+DoesAs refuses asked tend gives left contents look o _ ended = Looks asked o o.journal ended
 
 -- the text is printed that answers arguments which give no options, where there is one
 abbrev pub Prints : {F L A S R W H : Type 0} → Asked F L A S R W H → WordsFault → Type 0
@@ -60,11 +63,13 @@ Prints asked (words_fault.Usage text) = asked.printed text
 Prints asked _ = ⊤
 
 -- The program does what its arguments ask for, where the environment names this directory for a journal, and ends so: with
--- a journal; by an action that is run once, whose status is its own; or with a text or a fault, where they give no options.
-abbrev pub Does : {F L A S R W H : Type 0} → Asked F L A S R W H → (A → ChildrenView) → (S → Source)
+-- a journal; by an action that is run once, whose status is its own; or with a text or a fault, where they give no options: with want of
+-- memory only where the allocator refuses growths.
+abbrev pub Does : {F L A S R W H : Type 0} → Bool → Asked F L A S R W H → (A → ChildrenView) → (S → Source)
     → (R → Option (List ℕ)) → (W → Option (List ℕ)) → (F → View) → Option (List ℕ) → List (List ℕ) → Result ℕ Fault → Type 0
-Does asked tend gives left contents look named words ended =
+Does refuses asked tend gives left contents look named words ended =
     ((o : Options) × Gives named words o
-    × ((r : Result Unit Fault) × DoesAs asked tend gives left contents look o o.subcommand r × (ended ≡ with_status r)))
+    × ((r : Result Unit Fault) × DoesAs refuses asked tend gives left contents look o o.subcommand r × (ended ≡ with_status r)))
     ⊎ (((o : OnceOptions) × GivesOnce words o × ((status : ℕ) × asked.once o status × (ended ≡ Ok status)))
-    ⊎ ((f : WordsFault) × IsFault named words f × ((r : Result Unit Fault) × IsToldAs f r × Prints asked f × (ended ≡ with_status r))))
+    ⊎ ((f : WordsFault) × IsFault named words f × (f ≡ words_fault.Memory → IsTrue refuses)
+    × ((r : Result Unit Fault) × IsToldAs f r × Prints asked f × (ended ≡ with_status r))))

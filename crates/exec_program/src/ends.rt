@@ -1,7 +1,8 @@
 //! How a run ends.
-ghost use Rattle.std.specs.Prelude.{◌≡◌};
-ghost use Rattle.exec_output.specs.Faults.{IsRunEnd};
-ghost use Rattle.exec_program.specs.Runs.{EndsBy};
+ghost use Rattle.std.specs.Prelude.{◌≡◌, IfErr};
+ghost use Rattle.exec_output.specs.Faults.{HasCause, IsRunEnd};
+ghost use Rattle.exec_program.specs.Requests.{Allows, IsOfStreams};
+ghost use Rattle.exec_program.specs.Runs.{EndsBy, served_folder};
 ghost use Rattle.exec_program.specs.Starts.{opening_fault};
 
 use crate::host::Host;
@@ -10,6 +11,8 @@ use exec_options::Options;
 use exec_output::Fault;
 use executor::OpenError;
 use file_disk::TellsError;
+use growth::Grows;
+use std::alloc::Global;
 
 // The last line of a run that serves and ends by its disk.
 const DISK_LINE: &[u8] = b"{\"end\":\"disk\"}\n";
@@ -51,7 +54,11 @@ pub fn ended_over<H: Host>(
     watch: &H::Watch,
     ended: Result<(), Fault>,
 ) -> Result<(), Fault>
+    requires watched { (H.asked host.now).watch (served_folder options) watch.now }
+    requires may { Allows (H.may host.now) (IsOfStreams (H.asked host.now) options) }
     ensures run { IsRunEnd ended → IsRunEnd result }
+    ensures memory { IfErr ended (HasCause ⟦<Global as Grows>⟧.refuses)
+        → IfErr result (HasCause ⟦<Global as Grows>⟧.refuses) }
     ensures ends { EndsBy (H.asked host.now) options.entry watch.now ended result }
 {
     let (Err(Fault::InputOrOutput), Some(_)) = (ended, served_folder(options)) else {

@@ -1,8 +1,9 @@
 //! The system as the program asks it.
-ghost use Rattle.std.specs.Prelude.{◌≡◌, ◌||◌, true, is_some, option_map, IfErr, IfOk, OnErr, None, Some};
+ghost use Rattle.std.specs.Prelude.{◌≡◌, ◌≤◌, ◌||◌, true, is_some, option_map, IfErr, IfOk, IsTrue, OnErr, None, Some};
 ghost use Rattle.exec_output.specs.Faults.{IsRunEnd};
 ghost use Rattle.journal_folder.specs.Ends.{IsFolderEnd, IsNotOpened};
 ghost use Rattle.exec_program.specs.Asked.{Asked, fresh_agents};
+ghost use Rattle.exec_program.specs.Requests.{Request, AskSite, AwaitOrphans, LeaveWord, MakeAgents, OpenFiles, OpenLog, OpenReader, OpenWriter, PrintText, RunOnce, ShowJournal, WatchPaths, WriteLine};
 
 use child_model::Children;
 use clap::Error;
@@ -14,6 +15,7 @@ use exec_output::Fault;
 use exec_session::Metadata;
 use exec_state::State;
 use file_disk::{FileError, TellsError};
+use growth::{GROWTH_LIMIT, Grows};
 use ocf_env::Site;
 use std::alloc::{AllocError, Global};
 use std::io::{self, Write};
@@ -34,7 +36,9 @@ pub struct Wait<'a> {
 ///
 /// A clause cannot say what a system does. So `asked` leaves open what it means to have asked for something, a relation for each
 /// method: a program that is proved for all such relations has asked for just what its contract says, since there is no other way to
-/// them. What was asked once stays asked.
+/// them. What was asked once stays asked. And `may` leaves open what may be asked for: each method that opens, starts, awaits, reads, writes
+/// or shows something requires that its request is in this set. So a program that is proved for all such sets, of which it is given the
+/// requests of its contract, makes no others.
 pub trait Host {
     /// The files of a journal.
     type Files: Disk + TellsError + Drop;
@@ -65,29 +69,38 @@ pub trait Host {
 
     ghost asked: { Self → Asked Self.Files Self.Log Self.Agents Self.Source Self.Reader Self.Writer Self.Watch };
 
+    ghost may: { Self → Request Self.Log → Type 0 };
+
     /// The allocator.
     fn alloc(&self) -> Global;
 
     /// The files of the journal in this directory, of any owner or not as the options say. Why there are none is said by the host.
     fn files(&self, options: Options, folder: &str) -> Result<Self::Files, Fault>
+        requires { may self.now (OpenFiles options folder.now) }
         ensures files { IfOk result ((asked self.now).files folder.now options.entry.any_owner) }
         ensures none { IfErr result ((asked self.now).no_files folder.now options.entry.any_owner) }
         ensures fault { IsNotOpened result };
 
     /// Where agents write: in the files of a directory, if one is named, else in one file. Why it was not opened is said by the host.
     fn log(&self, log: Option<&str>, logs: Option<&str>) -> Result<Self::Log, Fault>
+        requires { may self.now (OpenLog (option_map (λ s. s.now) log) (option_map (λ s. s.now) logs)) }
         ensures log { IfOk result
             ((asked self.now).log (option_map (λ s. s.now) log.entry) (option_map (λ s. s.now) logs.entry)) }
+        ensures none { OnErr result
+            ((asked self.now).no_log (option_map (λ s. s.now) log.entry) (option_map (λ s. s.now) logs.entry)) }
         ensures fault { IfErr result
             (λ f. (f ≡ Fault.Log) × ((is_some log.entry || is_some logs.entry) ≡ true)) };
 
     /// Agents, none yet, that write there, with a book of this many answers.
     fn agents(&self, log: Self::Log, book: usize) -> Result<Self::Agents, AllocError>
+        requires { may self.now (MakeAgents log book) }
         ensures agents { IfOk result ((asked self.now).agents log) }
-        ensures fresh { IfOk result (λ a. Self.Agents.view a ≡ fresh_agents book) };
+        ensures fresh { IfOk result (λ a. Self.Agents.view a ≡ fresh_agents book) }
+        ensures memory { OnErr result (book ≤ GROWTH_LIMIT → IsTrue ⟦<Global as Grows>⟧.refuses) };
 
     /// The metadata of the agents of this site.
     fn source(&self, site: Site) -> Self::Source
+        requires { may self.now (AskSite site) }
         ensures { (asked self.now).source site result };
 
     /// Asks no agent any more.
@@ -95,10 +108,13 @@ pub trait Host {
 
     /// Standard input.
     fn reader(&self) -> Result<Self::Reader, AllocError>
-        ensures { IfOk result (asked self.now).reader };
+        requires { may self.now OpenReader }
+        ensures reader { IfOk result (asked self.now).reader }
+        ensures memory { OnErr result (IsTrue ⟦<Global as Grows>⟧.refuses) };
 
     /// Standard output, which counts as read only while the journal of this directory, if one is named, is where it was.
     fn writer(&self, served: Option<&str>) -> Self::Writer
+        requires { may self.now (OpenWriter (option_map (λ s. s.now) served)) }
         ensures { (asked self.now).writer (option_map (λ s. s.now) served.entry) result };
 
     /// Standard error, for the lines of results.
@@ -124,15 +140,18 @@ pub trait Host {
     /// Waits for what is left of the actions that run at this state, of agents at this site. What lives on, with its run; `None`
     /// once nobody can read what would be reported.
     fn await_orphans(&self, wait: Wait<'_>, site: &Site, state: &State) -> Option<Vec<Left>>
+        requires { may self.now (AwaitOrphans wait.folder.now wait.limit wait.leave site.now state.now.state) }
         ensures { (asked self.now).orphans wait.entry.folder.now wait.entry.limit wait.entry.leave site.now
             state.now.state (option_map (λ v. v.items) result) };
 
     /// Records in this directory the executor whose clock shows this moment.
     fn leave_word(&self, folder: &str, moment: u64)
+        requires { may self.now (LeaveWord folder.now) }
         ensures { (asked self.now).word folder.now };
 
     /// The paths of the journal in this directory, if one is named, as they are now.
     fn watch(&self, served: Option<&str>) -> Self::Watch
+        requires { may self.now (WatchPaths (option_map (λ s. s.now) served)) }
         ensures { (asked self.now).watch (option_map (λ s. s.now) served.entry) result };
 
     /// It is an error if such a path leads to another file by now, or to none.
@@ -141,24 +160,29 @@ pub trait Host {
 
     /// Writes a line to standard output.
     fn write_line(&self, line: &[u8])
+        requires { may self.now (WriteLine line.now) }
         ensures { (asked self.now).line line.now };
 
     /// Shows the journal in this directory, as the options say.
     fn show_files(&self, options: Options, folder: &str) -> Result<(), Fault>
+        requires { may self.now (ShowJournal options (Some folder.now)) }
         ensures shown { (asked self.now).shown options.entry (Some folder.now) result }
         ensures ends { IsFolderEnd result };
 
     /// Shows an empty journal in memory, as the options say.
     fn show_memory(&self, options: Options) -> Result<(), Fault>
+        requires { may self.now (ShowJournal options None) }
         ensures shown { (asked self.now).shown options.entry None result }
         ensures ends { IsRunEnd result };
 
     /// Runs an action once; the exit status that says how it ended.
     fn once(&self, options: &OnceOptions<'_>) -> u8
+        requires { may self.now (RunOnce options.now) }
         ensures { (asked self.now).once options.now result };
 
     /// Prints a text of the command line: one that was asked for to standard output, another one to standard error.
     fn print(&self, text: &Error) -> io::Result<()>
+        requires { may self.now (PrintText text.now) }
         ensures { (asked self.now).printed text.now };
 
     /// Says a line on standard error.

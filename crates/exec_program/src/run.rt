@@ -1,8 +1,10 @@
 //! A run over a journal: its executor, its standard streams, and how it ends.
-ghost use Rattle.std.specs.Prelude.{◌≡◌, IfOk};
-ghost use Rattle.exec_output.specs.Faults.{IsRunEnd};
+ghost use Rattle.std.specs.Prelude.{◌≡◌, ℕ, List, Some, IfErr, IfOk, IsTrue, OnErr, option_map};
+ghost use Rattle.exec_options.specs.Words.{folder_of};
+ghost use Rattle.exec_output.specs.Faults.{HasCause, IsRunEnd};
 ghost use Rattle.exec_program.specs.Asked.{fresh_agents};
 ghost use Rattle.exec_program.specs.Limits.{book_room};
+ghost use Rattle.exec_program.specs.Requests.{Allows, IsFoundOn, IsOfRun, LeaveWord, MakeAgents};
 ghost use Rattle.exec_program.specs.Runs.{LeavesWord, RunsOn};
 ghost use Rattle.exec_program.specs.Starts.{site_of};
 
@@ -22,8 +24,9 @@ use exec_session::{LineRoom, run_lines};
 use exec_trace::Edge;
 use executor::Executor;
 use file_disk::TellsError;
+use growth::Grows;
 use ocf_env::Site;
-use std::alloc::AllocError;
+use std::alloc::{AllocError, Global};
 use std::rt::Clock;
 
 // The agents of a run; twice where they are, for its executor and for their metadata; and room for its lines.
@@ -32,9 +35,11 @@ fn prepared<H: Host>(
     options: Options,
     log: H::Log,
 ) -> Result<(H::Agents, Site, Site, LineRoom), AllocError>
+    requires may { H.may host.now (MakeAgents log book_room) }
     ensures agents { IfOk result (λ r. (H.asked host.now).agents log r.0) }
     ensures fresh { IfOk result (λ r. H.Agents.view r.0 ≡ fresh_agents book_room) }
     ensures sites { IfOk result (λ r. (r.1 ≡ site_of options.entry) × (r.2 ≡ site_of options.entry)) }
+    ensures memory { OnErr result (IsTrue ⟦<Global as Grows>⟧.refuses) }
 {
     let alloc = host.alloc();
     let agents = host.agents(log, BOOK_ROOM)?;
@@ -46,6 +51,8 @@ fn prepared<H: Host>(
 
 // Records this executor beside its journal, if that is in files, with the moment that its clock shows.
 fn leave_own_word<H: Host>(host: &H, options: Options, clock: &impl Clock)
+    requires may { (folder : List ℕ) → folder_of options.journal ≡ Some folder
+        → H.may host.now (LeaveWord folder) }
     ensures { LeavesWord (H.asked host.now) options.entry.journal }
 {
     if let JournalPlace::Folder(folder) = options.journal {
@@ -61,7 +68,12 @@ pub fn run_agents<H: Host, D: Disk + TellsError + Drop>(
     log: H::Log,
     disk: D,
 ) -> Result<(), Fault>
+    requires log { (H.asked host.now).log (option_map (λ s. s.now) options.log)
+        (option_map (λ s. s.now) options.logs) log }
+    requires may { Allows (H.may host.now)
+        (IsOfRun (IsFoundOn D.view disk) (H.asked host.now) options) }
     ensures ends { IsRunEnd result }
+    ensures memory { IfErr result (HasCause ⟦<Global as Grows>⟧.refuses) }
     ensures runs { RunsOn (H.asked host.now) H.Agents.view H.Source.gives H.Reader.remaining H.Writer.contents
         D.view options.entry log disk result }
 {

@@ -1,39 +1,71 @@
 //! Where agents are.
-ghost use Rattle.std.specs.Prelude.{◌≡◌, IfOk};
+ghost use Rattle.std.specs.Prelude.{◌≡◌, IfOk, IsTrue, OnErr, option_map};
 ghost use Rattle.exec_program.specs.Starts.{once_site_of, site_of};
 
 use exec_options::{OnceOptions, Options};
+use growth::{Grows, text_of};
 use ocf_env::{Site, Text};
 use std::alloc::{AllocError, Global};
 
+// What options of either kind say of a site.
+#[derive(Clone, Copy)]
+struct Place<'a> {
+    root: &'a str,
+    path: &'a str,
+    via: Option<&'a str>,
+    meta_variables: bool,
+}
+
 fn text(alloc: Global, text: &str) -> Result<Text, AllocError>
-    ensures { IfOk result (λ t. t ≡ text.now) }
+    ensures value { IfOk result (λ t. t ≡ text.now) }
+    ensures memory { OnErr result (IsTrue ⟦<Global as Grows>⟧.refuses) }
 {
-    Ok(Text::new(String::from_str(alloc, text)?))
+    Ok(Text::new(text_of(alloc, text)?))
+}
+
+fn site_at(alloc: Global, place: Place) -> Result<Site, AllocError>
+    ensures site { IfOk result
+        (λ s. s ≡ record {
+          root = place.entry.root.now;
+          path = place.entry.path.now;
+          via = option_map (λ t. t.now) place.entry.via;
+          meta = place.entry.meta_variables;
+        }) }
+    ensures memory { OnErr result (IsTrue ⟦<Global as Grows>⟧.refuses) }
+{
+    let root = text(alloc, place.root)?;
+    let path = text(alloc, place.path)?;
+    let via = match place.via {
+        Some(program) => Some(text(alloc, program)?),
+        None => None,
+    };
+    Ok(Site::new(root, path, via).with_meta(place.meta_variables))
 }
 
 /// Where the options say that agents are. It fails only where memory is refused.
 pub fn site_of(alloc: Global, options: Options) -> Result<Site, AllocError>
-    ensures { IfOk result (λ s. s ≡ site_of options.entry) }
+    ensures site { IfOk result (λ s. s ≡ site_of options.entry) }
+    ensures memory { OnErr result (IsTrue ⟦<Global as Grows>⟧.refuses) }
 {
-    let root = text(alloc, options.root)?;
-    let path = text(alloc, options.path)?;
-    let via = match options.via {
-        Some(program) => Some(text(alloc, program)?),
-        None => None,
+    let place = Place {
+        root: options.root,
+        path: options.path,
+        via: options.via,
+        meta_variables: options.meta_variables,
     };
-    Ok(Site::new(root, path, via).with_meta(options.meta_variables))
+    site_at(alloc, place)
 }
 
 /// The same of an action that is run once.
 pub fn site_of_once(alloc: Global, options: &OnceOptions) -> Result<Site, AllocError>
-    ensures { IfOk result (λ s. s ≡ once_site_of options.now) }
+    ensures site { IfOk result (λ s. s ≡ once_site_of options.now) }
+    ensures memory { OnErr result (IsTrue ⟦<Global as Grows>⟧.refuses) }
 {
-    let root = text(alloc, options.root)?;
-    let path = text(alloc, options.path)?;
-    let via = match options.via {
-        Some(program) => Some(text(alloc, program)?),
-        None => None,
+    let place = Place {
+        root: options.root,
+        path: options.path,
+        via: options.via,
+        meta_variables: options.meta_variables,
     };
-    Ok(Site::new(root, path, via).with_meta(options.meta_variables))
+    site_at(alloc, place)
 }

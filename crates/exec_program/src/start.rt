@@ -1,6 +1,7 @@
 //! From the arguments to a run.
 ghost use Rattle.std.specs.Prelude.{◌≡◌, map, option_map, string_bytes};
 ghost use Rattle.exec_program.specs.Program.{Does, DoesAs, Looks, Prints, RunsFor};
+ghost use Rattle.exec_program.specs.Requests.{Allows, IsAskedFor, IsFoundIn, IsOfFault, IsOfLook, IsOfRun, IsOfSubcommand};
 ghost use Rattle.exec_program.specs.Starts.{IsEndOf, IsToldAs, StartEndsFor, with_status};
 
 use crate::host::Host;
@@ -8,6 +9,8 @@ use crate::run::run_agents;
 use exec_options::{JournalPlace, Options, Subcommand, Wanted, WordsFault, read_words};
 use exec_output::Fault;
 use file_disk::RamDisk;
+use growth::Grows;
+use std::alloc::Global;
 use std::io::ErrorKind;
 
 // What ends well ends with status 0.
@@ -22,6 +25,7 @@ fn with_status(ended: Result<(), Fault>) -> Result<u8, Fault>
 
 // How the program ends where its arguments give no options. A text that was asked for is printed, and so is that of a usage fault.
 fn refuse<H: Host>(host: &H, fault: &WordsFault) -> Result<(), Fault>
+    requires may { Allows (H.may host.now) (IsOfFault fault.now) }
     ensures told { IsToldAs fault.now result }
     ensures prints { Prints (H.asked host.now) fault.now }
 {
@@ -59,8 +63,10 @@ fn refuse<H: Host>(host: &H, fault: &WordsFault) -> Result<(), Fault>
 /// exit status that it ends with.
 #[tactic(auto, using(crate::proofs::StartLemmas::starts_journal, crate::proofs::StartLemmas::starts_once, crate::proofs::StartLemmas::starts_nothing))]
 pub fn program<H: Host>(host: &H, named: Option<&str>, words: &[String]) -> Result<u8, Fault>
+    requires may { Allows (H.may host.now) (IsAskedFor (H.asked host.now) H.Files.view
+        (option_map (λ s. s.now) named) (map string_bytes words.now)) }
     ensures ends { StartEndsFor (option_map (λ s. s.now) named.entry) (map string_bytes words.now) result }
-    ensures does { Does (H.asked host.now) H.Agents.view H.Source.gives H.Reader.remaining H.Writer.contents
+    ensures does { Does ⟦<Global as Grows>⟧.refuses (H.asked host.now) H.Agents.view H.Source.gives H.Reader.remaining H.Writer.contents
         H.Files.view (option_map (λ s. s.now) named.entry) (map string_bytes words.now) result }
 {
     match read_words(host.alloc(), named, words) {
@@ -72,8 +78,10 @@ pub fn program<H: Host>(host: &H, named: Option<&str>, words: &[String]) -> Resu
 
 // Does with a journal what these options ask for.
 fn on_journal<H: Host>(host: &H, options: Options) -> Result<(), Fault>
+    requires may { Allows (H.may host.now)
+        (IsOfSubcommand (H.asked host.now) H.Files.view options options.subcommand) }
     ensures ends { IsEndOf options.entry result }
-    ensures does { DoesAs (H.asked host.now) H.Agents.view H.Source.gives H.Reader.remaining
+    ensures does { DoesAs ⟦<Global as Grows>⟧.refuses (H.asked host.now) H.Agents.view H.Source.gives H.Reader.remaining
         H.Writer.contents H.Files.view options.entry options.entry.subcommand result }
 {
     match options.subcommand {
@@ -87,6 +95,7 @@ fn on_journal<H: Host>(host: &H, options: Options) -> Result<(), Fault>
 // Shows of a journal what these options ask for.
 #[tactic(auto, using(crate::proofs::StartLemmas::ends_on_disk, crate::proofs::StartLemmas::ends_in_folder))]
 fn look<H: Host>(host: &H, options: Options) -> Result<(), Fault>
+    requires may { Allows (H.may host.now) (IsOfLook options) }
     ensures ends { IsEndOf options.entry result }
     ensures looks { Looks (H.asked host.now) options.entry options.entry.journal result }
 {
@@ -99,8 +108,10 @@ fn look<H: Host>(host: &H, options: Options) -> Result<(), Fault>
 // Starts agents as these options ask for.
 #[tactic(auto, using(crate::proofs::StartLemmas::ends_on_disk, crate::proofs::StartLemmas::ends_in_folder, crate::proofs::StartLemmas::ends_without_log))]
 fn start_agents<H: Host>(host: &H, options: Options) -> Result<(), Fault>
+    requires may { Allows (H.may host.now) (IsOfRun
+        (IsFoundIn (H.asked host.now) H.Files.view options) (H.asked host.now) options) }
     ensures ends { IsEndOf options.entry result }
-    ensures runs { RunsFor (H.asked host.now) H.Agents.view H.Source.gives H.Reader.remaining
+    ensures runs { RunsFor ⟦<Global as Grows>⟧.refuses (H.asked host.now) H.Agents.view H.Source.gives H.Reader.remaining
         H.Writer.contents H.Files.view options.entry result }
 {
     if host.children_ignored() {

@@ -1,5 +1,6 @@
 //! The wait for what is left of interrupted actions.
 ghost use Rattle.std.specs.Prelude.{◌≡◌, IfErr, IfOk};
+ghost use Rattle.exec_program.specs.Requests.{Allows, IsFoundOn, IsOfFolder};
 ghost use Rattle.exec_program.specs.Starts.{site_of};
 ghost use Rattle.exec_program.specs.Waits.{IsUnheard, WaitsFor};
 
@@ -20,6 +21,7 @@ pub fn await_interrupted<H: Host, D: Disk + Drop>(
     disk: D,
 ) -> Result<(D, Vec<Left>), Fault>
     requires site { site.now ≡ site_of options }
+    requires may { Allows (H.may host.now) (IsOfFolder (IsFoundOn D.view disk) options) }
     ensures waits { IfOk result
         (λ r. WaitsFor (H.asked host.now) D.view options.entry disk r.0 r.1.items
         options.entry.journal) }

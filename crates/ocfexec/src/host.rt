@@ -20,6 +20,7 @@ use exec_output::Fault;
 use exec_program::{Host, Wait};
 use exec_state::State;
 use file_disk::{FileDisk, FileError, JournalPaths, RamDisk};
+use growth::Grows;
 use journal_folder::{found, not_emptied, open_files, show_files, show_on, tell_device};
 use ocf_env::Site;
 use std::alloc::{AllocError, Global};
@@ -82,6 +83,7 @@ impl<'a> Host for SystemHost<'a> {
       files = λ folder any disk. ⊤;
       no_files = λ folder any fault. ⊤;
       log = λ file folder log. ⊤;
+      no_log = λ file folder. ⊤;
       agents = λ log agents. ⊤;
       source = λ site source. ⊤;
       reader = λ reader. ⊤;
@@ -98,6 +100,9 @@ impl<'a> Host for SystemHost<'a> {
       printed = λ text. ⊤;
     } };
 
+    // whatever the program is proved to ask for, it may ask for
+    ghost may = { λ host request. ⊤ };
+
     fn alloc(&self) -> Global {
         self.system.host().alloc()
     }
@@ -110,7 +115,7 @@ impl<'a> Host for SystemHost<'a> {
     }
 
     // TRUSTED: agents write there.
-    #[tactic(auto, using(crate::proofs::HostLemmas::if_ok_any))]
+    #[tactic(auto, using(crate::proofs::HostLemmas::if_ok_any, crate::proofs::HostLemmas::on_err_any))]
     fn log(&self, log: Option<&str>, logs: Option<&str>) -> Result<Log, Fault> {
         log_of(self.system, log, logs)
     }
@@ -134,10 +139,12 @@ impl<'a> Host for SystemHost<'a> {
     fn reader(&self) -> Result<BufReader<Patient<Noted<'a, StdinLock<'a>>>>, AllocError> {
         let input = self.unread.input(self.system.host().reader());
         let input = input.with_replies(libc::STDOUT_FILENO);
-        match BufReader::with_capacity(self.alloc(), READ_SIZE, input) {
+        let reader = match BufReader::with_capacity(self.alloc(), READ_SIZE, input) {
             Ok(reader) => Ok(reader),
             Err(_) => Err(AllocError),
-        }
+        };
+        // TRUSTED: it fails only where the memory that it takes is refused.
+        Global::library_growth(reader)
     }
 
     // TRUSTED: it is standard output.

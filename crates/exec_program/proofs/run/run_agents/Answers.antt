@@ -1,11 +1,41 @@
-use Rattle.std.proofs.Common.{rules, ◌∙◌, ℕ, List, Option, Result, Err, inl, inr, ap, subst}
+use Rattle.std.proofs.Common.{rules, ◌∙◌, ℕ, List, Option, Result, Err, inl, inr, ap, refl, subst}
 use Rattle.ocf_env.specs.Places.{SiteView}
 use Rattle.exec_commands.specs.declared.left.Left.{Left}
 use Rattle.exec_output.specs.declared.fault.Fault.{Fault}
 use Rattle.exec_session.specs.Rules.{rules_of}
+use Rattle.exec_program.specs.Limits.{book_room}
+use Rattle.exec_program.specs.Requests.{AskSite, LeaveWord, MakeAgents, OpenReader, OpenWriter, WatchPaths}
 use Rattle.exec_program.specs.Runs.{EndsBy, IsHeldTo}
 use Rattle.exec_program.proofs.RunLemmas.{edge_begins, ended_from}
 use Rattle.exec_program.proofs.run.run_agents.Goals as goal
+
+pub reader-requires : goal.reader-requires
+reader-requires g c = c.requires.may OpenReader (inr (inr tt))
+
+pub prepared-requires : goal.prepared-requires
+prepared-requires g c = record { may = c.requires.may (MakeAgents c.args.log book_room) (inr (inl (c.requires.log, refl))) }
+
+pub watch-watch-requires : goal.watch-watch-requires
+watch-watch-requires g c = c.requires.may (WatchPaths _) (inr (inr c.served_folder.ensures))
+
+pub await_interrupted-requires-clause-may : goal.await_interrupted-requires-clause-may
+await_interrupted-requires-clause-may g c = λ r h. c.requires.may r (inl h)
+
+pub leave_own_word-requires : goal.leave_own_word-requires
+leave_own_word-requires g c = record { may = λ folder is. c.requires.may (LeaveWord folder) (inl is) }
+
+pub source-source-requires : goal.source-source-requires
+source-source-requires g c = c.requires.may (AskSite _) (inr (inl c.in-Ok-prepared.ensures.sites.1))
+
+pub writer-requires : goal.writer-requires
+writer-requires g c = c.requires.may (OpenWriter _) (inr (inr c.served_folder-in-Ok-open.ensures))
+
+pub ended_over-ended-requires-clause-watched : goal.ended_over-ended-requires-clause-watched
+ended_over-ended-requires-clause-watched g c =
+    subst (λ (x : Option (List ℕ)). (g.H.Host.asked c.args.host.now).watch x c.watch-watch.result) c.served_folder.ensures c.watch-watch.ensures
+
+pub ended_over-ended-requires-clause-may : goal.ended_over-ended-requires-clause-may
+ended_over-ended-requires-clause-may g c = λ r h. c.requires.may r (inr (inr h))
 
 pub returns-in-Ok-open-clause-runs : goal.returns-in-Ok-open-clause-runs
 returns-in-Ok-open-clause-runs g c = inl (record {
@@ -29,7 +59,7 @@ returns-in-Ok-open-clause-runs g c = inl (record {
   at_site = c.in-Ok-open.ensures.site ∙ c.in-Ok-prepared.ensures.sites.0;
   of_site = subst (λ (x : SiteView). (g.H.Host.asked c.args.host.now).source x c.source-source.result) c.in-Ok-prepared.ensures.sites.1 c.source-source.ensures;
   word = c.leave_own_word.ensures;
-  reads = c.in-Ok.ensures;
+  reads = c.in-Ok.ensures.reader;
   writes = subst (λ (x : Option (List ℕ)). (g.H.Host.asked c.args.host.now).writer x c.writer.result) c.served_folder-in-Ok-open.ensures c.writer.ensures;
   watches = subst (λ (x : Option (List ℕ)). (g.H.Host.asked c.args.host.now).watch x c.watch-watch.result) c.served_folder.ensures c.watch-watch.ensures;
   held = subst (λ (x : List Left). IsHeldTo c.args.options x (rules_of c.context_of-context.result)) c.as_slice.ensures.value c.context_of-context.ensures.held;

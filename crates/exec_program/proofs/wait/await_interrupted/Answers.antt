@@ -1,6 +1,15 @@
+use Rattle.std.proofs.Common.{ap, refl}
 use Rattle.exec_journal.specs.Journal.{journal_disk, journal_place}
+use Rattle.exec_options.specs.Words.{folder_of}
+use Rattle.exec_program.specs.Requests.{AwaitOrphans}
 use Rattle.exec_program.proofs.WaitLemmas.{waits_in}
 use Rattle.exec_program.proofs.wait.await_interrupted.Goals as goal
+
+pub await_orphans-requires : goal.await_orphans-requires
+await_orphans-requires g c =
+    let o = c.args.options in
+    c.requires.may (AwaitOrphans c.in-Folder.folder.now o.orphans o.leave_orphans c.args.site.now c.in-Ok.state.state)
+    (ap folder_of c.in-Folder.is, refl, refl, c.requires.site, (journal_place c.in-Ok.journal, (journal_disk c.in-Ok.journal, c.in-Ok.ensures.opened)))
 
 pub returns-in-Some-clause-waits : goal.returns-in-Some-clause-waits
 returns-in-Some-clause-waits g c =

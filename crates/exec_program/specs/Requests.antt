@@ -1,0 +1,104 @@
+-- What may be asked of the system: what the arguments call for, and nothing else.
+use Rattle.std.specs.Prelude.{◌≡◌, ◌⊎◌, ℕ, ⊤, Bool, true, List, Option, Some, option_map, is_some}
+use Rattle.clap.specs.declared.error.Error.{Error}
+use Rattle.ocf_env.specs.Places.{SiteView}
+use Rattle.ocf_types.specs.State.{State}
+use Rattle.disk_model.specs.View.{View}
+use Rattle.exec_journal.specs.Opening.{OpensAt}
+use Rattle.exec_journal.specs.Place.{Place}
+use Rattle.exec_options.specs.Faults.{IsFault}
+use Rattle.exec_options.specs.Words.{Gives, GivesOnce, folder_of}
+use Rattle.exec_options.specs.declared.fault.WordsFault.{WordsFault}
+use Rattle.exec_options.specs.declared.fault.WordsFault.TheVariants as words_fault
+use Rattle.exec_options.specs.declared.once.OnceOptions.{OnceOptions}
+use Rattle.exec_options.specs.declared.options.Options.{Options}
+use Rattle.exec_options.specs.declared.options.Subcommand.{Subcommand}
+use Rattle.exec_options.specs.declared.options.Subcommand.TheVariants as subcommand
+use Rattle.exec_program.specs.Asked.{Asked}
+use Rattle.exec_program.specs.Limits.{book_room}
+use Rattle.exec_program.specs.Runs.{disk_line, served_folder}
+use Rattle.exec_program.specs.Starts.{site_of}
+
+-- A request to open, start, await, read, write or show something, with what it is given. Texts are bytes, times milliseconds.
+pub data Request (Log : Type 0) : Type 0 where
+  -- the files of the journal in a directory
+  OpenFiles : Options → List ℕ → Request Log
+  -- the wait for what is left of a state's actions, as `Asked` has it; the record of an executor in a directory
+  AwaitOrphans : List ℕ → ℕ → Bool → SiteView → State → Request Log
+  LeaveWord : List ℕ → Request Log
+  -- where agents write; agents that write there, with a book of this many answers; the metadata of those of a site
+  OpenLog : Option (List ℕ) → Option (List ℕ) → Request Log
+  MakeAgents : Log → ℕ → Request Log
+  AskSite : SiteView → Request Log
+  -- standard input, and standard output and the paths of the journal of a directory, if it is served; a line on standard output
+  OpenReader : Request Log
+  OpenWriter : Option (List ℕ) → Request Log
+  WatchPaths : Option (List ℕ) → Request Log
+  WriteLine : List ℕ → Request Log
+  -- what the options ask to see of the journal of a directory, or of one in memory; an action that is run once; a text
+  ShowJournal : Options → Option (List ℕ) → Request Log
+  RunOnce : OnceOptions → Request Log
+  PrintText : Error → Request Log
+
+-- all these requests may be made
+abbrev pub Allows : {L : Type 0} → (Request L → Type 0) → (Request L → Type 0) → Type 0
+Allows {L} may asks = (r : Request L) → asks r → may r
+
+-- a state that the journal on this disk was opened at
+abbrev pub IsFoundOn : {D : Type 0} → (D → View) → D → State → Type 0
+IsFoundOn {D} look disk state = (p : Place) × ((new : D) × OpensAt p state (look disk) (look new))
+
+-- the same on files that were asked for, of the directory that the options name
+abbrev pub IsFoundIn : {F L A S R W H : Type 0} → Asked F L A S R W H → (F → View) → Options → State → Type 0
+IsFoundIn {F} asked look o state =
+    (folder : List ℕ) × ((disk : F) × (folder_of o.journal ≡ Some folder) × asked.files folder o.any_owner disk × IsFoundOn look disk state)
+
+-- what a run asks of the directory of its journal, at which these states are found
+abbrev pub IsOfFolder : {L : Type 0} → (State → Type 0) → Options → Request L → Type 0
+IsOfFolder found o (OpenFiles given folder) = (given ≡ o) × (folder_of o.journal ≡ Some folder)
+IsOfFolder found o (AwaitOrphans folder limit leave site state) =
+    (folder_of o.journal ≡ Some folder) × (limit ≡ o.orphans) × (leave ≡ o.leave_orphans) × (site ≡ site_of o) × found state
+IsOfFolder found o (LeaveWord folder) = folder_of o.journal ≡ Some folder
+IsOfFolder found o _ = ⊥
+
+-- of agents, which write to the log that the options name
+abbrev pub IsOfAgents : {F L A S R W H : Type 0} → Asked F L A S R W H → Options → Request L → Type 0
+IsOfAgents asked o (OpenLog file folder) = (file ≡ option_map (λ s. s.now) o.log) × (folder ≡ option_map (λ s. s.now) o.logs)
+IsOfAgents asked o (MakeAgents log book) =
+    asked.log (option_map (λ s. s.now) o.log) (option_map (λ s. s.now) o.logs) log × (book ≡ book_room)
+IsOfAgents asked o (AskSite site) = site ≡ site_of o
+IsOfAgents asked o _ = ⊥
+
+-- of the standard streams: a line by itself only where the journal that is served is gone
+abbrev pub IsOfStreams : {F L A S R W H : Type 0} → Asked F L A S R W H → Options → Request L → Type 0
+IsOfStreams asked o OpenReader = ⊤
+IsOfStreams asked o (OpenWriter served) = served ≡ served_folder o
+IsOfStreams asked o (WatchPaths served) = served ≡ served_folder o
+IsOfStreams {H = H} asked o (WriteLine line) = (line ≡ disk_line) × (is_some (served_folder o) ≡ true)
+    × ((watch : H) × asked.watch (served_folder o) watch × asked.moved watch)
+IsOfStreams asked o _ = ⊥
+
+abbrev pub IsOfRun : {F L A S R W H : Type 0} → (State → Type 0) → Asked F L A S R W H → Options → Request L → Type 0
+IsOfRun found asked o r = IsOfFolder found o r ⊎ (IsOfAgents asked o r ⊎ IsOfStreams asked o r)
+
+abbrev pub IsOfLook : {L : Type 0} → Options → Request L → Type 0
+IsOfLook o (ShowJournal given place) = (given ≡ o) × (folder_of o.journal ≡ place)
+IsOfLook o _ = ⊥
+
+-- what a subcommand asks for, by these options
+abbrev pub IsOfSubcommand : {F L A S R W H : Type 0} → Asked F L A S R W H → (F → View) → Options → Subcommand → Request L → Type 0
+IsOfSubcommand asked look o subcommand.Run r = IsOfRun (IsFoundIn asked look o) asked o r
+IsOfSubcommand asked look o subcommand.Serve r = IsOfRun (IsFoundIn asked look o) asked o r
+IsOfSubcommand asked look o _ r = IsOfLook o r
+
+-- the text that answers arguments which give no options
+abbrev pub IsOfFault : {L : Type 0} → WordsFault → Request L → Type 0
+IsOfFault fault (PrintText text) = (fault ≡ words_fault.Help text) ⊎ (fault ≡ words_fault.Usage text)
+IsOfFault fault _ = ⊥
+
+-- These arguments call for this request, where the environment names this directory for a journal: as the options of a subcommand say,
+-- to run an action once, or to print a text.
+abbrev pub IsAskedFor : {F L A S R W H : Type 0} → Asked F L A S R W H → (F → View) → Option (List ℕ) → List (List ℕ) → Request L → Type 0
+IsAskedFor asked look named words r =
+    ((o : Options) × Gives named words o × IsOfSubcommand asked look o o.subcommand r)
+    ⊎ (((o : OnceOptions) × GivesOnce words o × (r ≡ RunOnce o)) ⊎ ((f : WordsFault) × IsFault named words f × IsOfFault f r))
