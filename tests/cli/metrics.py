@@ -257,7 +257,7 @@ class Metrics(helper.Check):
         self.assertGreaterEqual(dict(self.metrics()["ocfexec_resource_last_age_seconds"])[("web",)], before + 2)
 
     def test_counts(self):
-        """runs and failures: probes that find what they expect and what they do not, a kill, an unregister, and a tidy while an action runs"""
+        """runs and failures: probes that find what they expect or not, a kill, an unregister, and a tidy while an action runs"""
         self.asks(register("web", "Told", code="7"), register("db", "Told", code="0"), register("slow", "Told", code="sleep"))
         probe = {"expect": 7}
         self.asks(action("web", "monitor", **probe), action("web", "monitor"), action("web", "start"), action("db", "monitor", **probe),

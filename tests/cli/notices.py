@@ -1,6 +1,6 @@
 #!/usr/bin/env python3
-"""What a notice of serve says besides its result: the key of its operation, the code that was expected, and whether the result has failed, which
-is what info then has as the last failure. So do the notices of an opening's report. A notice of run says none of this.
+"""What a notice of serve says besides its result: the key of its operation, the code that was expected, and whether the result has failed,
+which is what info then has as the last failure. So do the notices of an opening's report. A notice of run says none of this.
 Use: notices.py PROGRAM"""
 import sys
 
@@ -9,7 +9,11 @@ import helper  # noqa: E402
 from helper import action, register  # noqa: E402
 
 # An agent that ends with the code that a parameter names, by a signal, or not soon.
-ENDS = """case $OCF_RESKEY_code in kill) kill -9 $$ ;; sleep) echo >> "$OCF_RESKEY_begun"; exec sleep 30 ;; *) exit "$OCF_RESKEY_code" ;; esac
+ENDS = """case $OCF_RESKEY_code in
+kill) kill -9 $$ ;;
+sleep) echo >> "$OCF_RESKEY_begun"; exec sleep 30 ;;
+*) exit "$OCF_RESKEY_code" ;;
+esac
 """
 # by what is expected of a monitor the codes with which it has not failed: Pacemaker Administration, exit codes
 EXPECTED = {0: (0, 190), 7: (7,), 8: (8, 191)}
@@ -57,7 +61,8 @@ class Notices(helper.Check):
                                             ("c7", "stop", "done", True), ("ckill", "promote", "signaled", True),
                                             ("csleep", "demote", "timed-out", True), ("none", "start", "not-started", True)]:
             notice = self.judged(run, action(name, what, timeout=300 if name == "csleep" else 20000))
-            self.assertEqual((notice["key"], notice["outcome"], notice["expect"], notice["failed"]), (f"{name}_{what}_0", outcome, 0, failed))
+            said = [notice[key] for key in ("key", "outcome", "expect", "failed")]
+            self.assertEqual(said, [f"{name}_{what}_0", outcome, 0, failed])
         self.assertEqual(run.ends(), 0)
 
     def test_recurring(self):
@@ -97,7 +102,8 @@ class Notices(helper.Check):
     def test_run(self):
         """a notice of run has none of these keys"""
         told = helper.lines(register("a", "Ends", code="1"), action("a", "monitor", expect=7), action("a", "start"), {"op": "drain"})
-        notices = [value for value in helper.replies(helper.run("run", "--memory", "--root", self.here, told=told).stdout) if helper.is_notice(value)]
+        said = helper.replies(helper.run("run", "--memory", "--root", self.here, told=told).stdout)
+        notices = [value for value in said if helper.is_notice(value)]
         self.assertEqual([set(notice) for notice in notices], [OF_RUN, OF_RUN])
 
 
