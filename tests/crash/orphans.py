@@ -67,6 +67,8 @@ class Orphans(helper.Check):
         running = self.opened(via=via)
         running.tell(self.register(seconds), helper.action("r1", "start", timeout=timeout), {"op": "drain"})
         self.eventually("the start is under way", lambda: os.path.exists(self.begun))
+        # (the agent, and what it waits for)
+        self.eventually("it waits for its child", lambda: len(self.living()) > 1)
         running.killed()
         return time.monotonic()
 
