@@ -103,6 +103,8 @@ class Metadata(helper.Check):
 
     def test_client(self):
         """a client that goes away while an agent is asked ends the run within a second, and the agent with its child"""
+        # (longer than the end of the processes is awaited)
+        self.takes(600)
         run = subprocess.Popen([PROGRAM, "serve", "--memory", "--root", self.here],
                                stdin=subprocess.PIPE, stdout=subprocess.PIPE, stderr=subprocess.DEVNULL)
         self.addCleanup(run.kill)
@@ -117,6 +119,8 @@ class Metadata(helper.Check):
 
     def test_journal(self):
         """a journal that is removed while an agent is asked ends the run within a second, and the agent with its child"""
+        # (longer than the end of the processes is awaited)
+        self.takes(600)
         folder = self.journal()
         run = self.heard_with("serve", "--journal", folder)
         run.tell(meta("Slow"))
