@@ -11,7 +11,7 @@ use Rattle.disk_model.specs.View.{Increased, Unwritten, View}
 use Rattle.child_model.specs.Children.{ChildrenView, given_up}
 use Rattle.gated_slots.specs.declared.append.SlotFault.{SlotFault}
 use Rattle.gated_slots.specs.declared.append.SlotFault.TheVariants as slot
-use Rattle.exec_journal.specs.Found.{Damaged, FoundAs, IsFound, IsToWrite, StandsAt}
+use Rattle.exec_journal.specs.Found.{FoundAs, HasDamage, IsToWrite, StandsAt}
 use Rattle.exec_journal.specs.Opening.{OpensLike}
 use Rattle.exec_journal.specs.Place.{Place}
 use Rattle.exec_journal.specs.Room.{AllRoomy, Roomy}
@@ -109,7 +109,7 @@ pub record NotOpened (old new : View) (from to : ChildrenView) (now : ℕ) (faul
   pub kept_unbooted :
       ((to ≡ from) × CrashesTo old new (OpensLike old)) ⊎ ((to ≡ given_up from) × (new.honest → IsOwn old.reads from))
   -- damage is what was found, and a disk fault has a cause
-  pub damaged : new.honest → (d : Damage) → fault ≡ why.Damaged d → IsFound old.reads (Damaged d)
+  pub damaged : new.honest → (d : Damage) → fault ≡ why.Damaged d → HasDamage old.reads d
   pub cause : fault ≡ why.Disk → Increased old.failures new.failures
   -- full where a boot is needed and does not fit, and the children are this journal's: never where all that a crash might
   -- have left before has room

@@ -11,9 +11,8 @@ use Rattle.disk_model.specs.View.{Lawful, View}
 use Rattle.two_parts.specs.Choice.{choice}
 use Rattle.two_parts.specs.declared.choice.Choice.{Choice}
 use Rattle.two_parts.specs.declared.choice.Choice.TheVariants.{Broken, Current, Fresh}
-use Rattle.exec_journal.specs.Found.{Damaged, Finds, FoundAs, Whole}
+use Rattle.exec_journal.specs.Found.{FoundAs, LeadsTo}
 use Rattle.exec_journal.specs.Front.{AllApplyIn}
-use Rattle.exec_journal.specs.Laws.{same_whole}
 use Rattle.executor.specs.Lives.{InOpening, InService, IsLife, LifeLeaves, Sitting}
 use Rattle.exec_ledger.specs.Laws.{WhatStands}
 use Rattle.executor.proofs.Lives.Services.{whole_leads}
@@ -43,9 +42,9 @@ module _ (laws : LawfulLaws) where
   pub found_lawful : (s : State) (c : Image) → FoundAs s c → IsLawfulState s
   found_lawful s c found = by (choice c) found
     where
-      by : (h : Choice) → Finds h c (Whole s) → IsLawfulState s
-      by (Broken d) is = absurd (let bad : Whole s ≡ Damaged d = is in cc)
-      by Fresh is = subst IsLawfulState (sym (same_whole s empty is)) laws.empty
+      by : (h : Choice) → LeadsTo h c s → IsLawfulState s
+      by (Broken d) is = absurd is
+      by Fresh is = subst IsLawfulState (sym is) laws.empty
       by (Current part head) whole =
           let front = whole.is_front in
           subst IsLawfulState (sym front.folds)

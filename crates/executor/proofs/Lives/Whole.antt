@@ -12,8 +12,7 @@ use Rattle.disk_model.specs.View.{Lawful, View}
 use Rattle.child_model.specs.Children.{ChildrenView}
 use Rattle.two_parts.specs.declared.choice.Choice.{Choice}
 use Rattle.two_parts.specs.declared.damage.Damage.{Damage}
-use Rattle.exec_journal.specs.Found.{Damaged, Finding, Finds, FoundAs, IsFirstPart, IsFound, IsFreshPair, IsToWrite, Whole}
-use Rattle.exec_journal.specs.Laws.{same_whole}
+use Rattle.exec_journal.specs.Found.{FoundAs, HasDamage, IsFirstPart, IsFreshPair, IsToWrite, LeadsTo}
 use Rattle.exec_journal.specs.Opening.{Opens, OpensLike}
 use Rattle.exec_journal.specs.Room.{Roomy}
 use Rattle.executor.specs.Lives.{BeginsAs, EndsOpening, GoesOnFrom, MayBoot, InOpening, InService, IsLife, LifeLeaves, Lived, OpensBehind, Sat, Sitting, boots}
@@ -28,8 +27,9 @@ use Rattle.exec_ledger.specs.Laws.{WhatStands}
 use Rattle.executor.proofs.Lives.Services.{service_roomy, service_stands, whole_leads}
 
 -- one thing is found on a pair of parts
-abbrev pub OneFinding : Type 0
-OneFinding = (c : Image) (f g : Finding) → IsFound c f → IsFound c g → f ≡ g
+pub record OneFinding : Type 0 where
+  pub state : (c : Image) (s t : State) → FoundAs s c → FoundAs t c → s ≡ t
+  pub either : (c : Image) (s : State) (d : Damage) → FoundAs s c → HasDamage c d → ⊥
 
 -- the state after the boot that is needed, if one is
 pub boots_is : (s : State) (now : ℕ) → after_all s (boots s now) ≡ booted s now
@@ -45,7 +45,7 @@ boots_is s now = by (any_busy s)
 -- a life begins on a fresh pair, and on one of the first layout
 module _ (law : WhatStands) where
   fresh_found : (c : Image) → IsFreshPair c → FoundAs empty c
-  fresh_found c fresh = subst (λ (h : Choice). Finds h c (Whole empty)) (sym fresh) refl
+  fresh_found c fresh = subst (λ (h : Choice). LeadsTo h c empty) (sym fresh) refl
 
   pub written_begins : (s : State) (c : Image) → FoundAs s c → IsToWrite c → BeginsAs s c
   written_begins s c found to_write = (found, λ p t stands. absurd (law.stays p t c stands to_write))
@@ -59,7 +59,7 @@ module _ (law : WhatStands) where
 module _ {D : Type 0} (look : D → View) (law : WhatStands) (once : OneFinding) (lawful : (d : D) → (look d).honest → Lawful (look d))
     (start : State) where
   pub one_state : (s t : State) (c : Image) → FoundAs s c → FoundAs t c → s ≡ t
-  one_state s t c here there = same_whole s t (once c (Whole s) (Whole t) here there)
+  one_state s t c here there = once.state c s t here there
 
   -- the state after some events and the boot that it needs
   pub behind_boots : (ys : List Event) (s : State) (now : ℕ) → s ≡ after_all start ys
@@ -166,9 +166,7 @@ module _ {D : Type 0} (look : D → View) (law : WhatStands) (once : OneFinding)
       let was_honest = fails.did.crash.passed.honest honest in
       let reads = (life_leaves life is (look old).reads (goes_on (look old).reads (lawful old was_honest).reads_now)).0 in (
         fails.never_full (λ _ c c_now. (life_leaves life is c (goes_on c c_now)).1) honest,
-        λ d bad. let same : Damaged d ≡ Whole (after_all start reads.0) =
-            once (look old).reads (Damaged d) (Whole (after_all start reads.0)) (fails.damaged honest d bad) reads.2 in
-            let none : ⊥ = cc in absurd none,
+        λ d bad. once.either (look old).reads (after_all start reads.0) d reads.2 (fails.damaged honest d bad),
       )
 
 -- an opening that was refused is an incarnation

@@ -14,7 +14,6 @@ use Rattle.disk_model.specs.View.{Passed, Unwritten, View}
 use Rattle.gated_slots.specs.declared.append.SlotFault.{SlotFault}
 use Rattle.gated_slots.specs.declared.append.SlotFault.TheVariants as slot
 use Rattle.exec_journal.specs.Found.{FoundAs, IsToWrite, StandsAt}
-pub use Rattle.exec_journal.specs.Laws.{same_whole}
 use Rattle.exec_journal.specs.Opening.{FailsToOpen, Opens, OpensAt, OpensLike}
 use Rattle.exec_journal.specs.Place.{Place}
 use Rattle.exec_journal.specs.Room.{AllRoomy, HasRoom, Roomy}

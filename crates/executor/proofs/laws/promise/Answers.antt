@@ -10,7 +10,7 @@ pub returns : goal.returns
 returns g c =
     let law : WhatStands =
     record { found = c.what_stands.ensures.found; once = c.what_stands.ensures.once; fresh = c.what_stands.ensures.fresh; stays = c.what_stands.ensures.stays } in
-    let once : OneFinding = c.found_once.ensures in
+    let once : OneFinding = record { state = c.found_once.ensures.state; either = c.found_once.ensures.either } in
     let laws : LawfulLaws =
     record { empty = c.lawful_states.ensures.empty; after = c.lawful_states.ensures.after; stays = c.layouts.ensures.stays; carried = c.layouts.ensures.lawful } in
     λ start life is image left.

@@ -6,7 +6,7 @@ pub returns : goal.returns
 returns g c =
     let law : WhatStands =
     record { found = c.what_stands.ensures.found; once = c.what_stands.ensures.once; fresh = c.what_stands.ensures.fresh; stays = c.what_stands.ensures.stays } in
-    let once : OneFinding = c.found_once.ensures in
+    let once : OneFinding = record { state = c.found_once.ensures.state; either = c.found_once.ensures.either } in
     record {
       fresh = fresh_begins law;
       first = first_begins law;
