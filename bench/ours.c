@@ -1,5 +1,5 @@
-/* ocfexec under load, by lines of JSON over two pipes. The words are the program and its words: where it serves, ends are
-   told between the replies, and otherwise in a drain. */
+/* ocfexec under load, by lines of JSON over two pipes. The words are the program and its words: where it serves, it first says that it
+   is ready, and ends are told between the replies; otherwise in a drain. */
 #define _GNU_SOURCE
 #include "load.h"
 
@@ -80,6 +80,8 @@ static void put_parameters(const struct load *load, int resource) {
 pid_t executor_open(const struct load *load, char **words) {
     start(words);
     serves = !strcmp(words[1], "serve");
+    if (serves && !strstr(next_line(), "\"ready\":true"))
+        fail("ocfexec did not say that it is ready");
     for (int n = 0; n < load->width; n++) {
         fprintf(commands, "{\"op\":\"register\",\"id\":\"r%d\",\"provider\":\"bench\",\"type\":\"%s\",\"params\":{", n, load->agent);
         put_parameters(load, n);

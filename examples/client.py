@@ -134,7 +134,7 @@ class Resource:
         self.state = "not stopped"
         if self.cancel_monitors():
             self.last = yield self.action("stop")
-            if self.last["code"] != 0:
+            if self.last["failed"]:
                 return say(f"{self.name} could not be stopped: {described(self.last)}")
             say(f"{self.name} is stopped")
         self.state = "stopped"
@@ -160,7 +160,7 @@ class Resource:
         if not self.cancel_monitors():
             return
         self.last = yield self.action("stop")
-        while self.last["code"] != 0:
+        while self.last["failed"]:
             yield from self.paused()
             self.last = yield self.action("stop")
         self.ask("unregister")
@@ -174,9 +174,9 @@ class Resource:
             is_first = False
             if (self.last["action"], self.last["code"]) != ("monitor", NOT_RUNNING):
                 self.last = yield self.action("stop")
-            if self.last["action"] != "stop" or self.last["code"] == 0:
+            if self.last["action"] != "stop" or not self.last["failed"]:
                 self.last = yield self.action("start")
-                if self.last["code"] == 0:
+                if not self.last["failed"]:
                     return
 
     def paused(self):
@@ -247,7 +247,8 @@ class Resource:
                 self.settle("not stopped" if self.state == "not stopped" else "given up", f"is given up: {refused}")
 
     def hear(self, result):
-        fails = result["interval"] and result["code"] not in RUNNING
+        # (one that is promoted runs, too; a result that was found in the journal alone is of an executor before this one)
+        fails = result["interval"] and result.get("failed") and result["code"] not in RUNNING
         if self.awaited == result["call"] or self.awaited == WATCH and fails:
             self.go_on(result)
 

@@ -1,6 +1,7 @@
 #!/bin/sh
 # Runs one resource through ocfexec for three seconds: registers and starts it, monitors it each second, withdraws what is
-# queued then, and stops it. The commands go through one FIFO and the lines come back through another. Each line that comes is printed.
+# queued then, and stops it. The commands go through one FIFO and the lines come back through another. Each line that comes is printed:
+# first that by which the executor says that it is ready.
 # Debian's agents want --meta-variables, or they take each monitor for a probe; --log - shows what they say.
 # Use: client.sh PROVIDER TYPE PARAMETER=VALUE ocfexec serve --memory --meta-variables --log -
 set -eu
@@ -33,6 +34,7 @@ ask() {
     await "$2"
 }
 
+await '{"dropped":'
 ask "{\"op\":\"register\",\"id\":\"r1\",\"provider\":\"$provider\",\"type\":\"$type\",\"params\":{\"$parameter\":\"$value\"}}" '{"ok":'
 ask '{"op":"exec","id":"r1","action":"start"}' '{"call":'
 await '{"action":"start"'
@@ -45,7 +47,8 @@ ask '{"op":"info","id":"r1"}' '{"failed":'
 queued=${line##*'"queued":['}
 for call in $(printf '%s' "${queued%%]*}" | tr , ' '); do
     # what has begun in the meantime is refused, and ends by itself
-    ask "{\"op\":\"withdraw\",\"id\":\"r1\",\"call\":$call}" '{"ok":' || [ "$line" = '{"error":"not-queued","number":18}' ]
+    ask "{\"op\":\"withdraw\",\"id\":\"r1\",\"call\":$call}" '{"ok":' ||
+        case $line in '{"error":"not-queued",'*) ;; *) exit 1 ;; esac
 done
 ask '{"op":"exec","id":"r1","action":"stop"}' '{"call":'
 await '{"action":"stop"'

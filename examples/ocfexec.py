@@ -3,6 +3,7 @@ started again. Python's standard library alone, no threads.
 
     executor = Executor(["ocfexec", "serve", "--journal", "/var/lib/ocfexec"])
     executor.start()
+    print(executor.ready["version"], "has", executor.ready["resources"], "resources")
     for result in executor.reported:  # what was interrupted or dropped when the executor before this one ended
         print(result["id"], result["action"], result["outcome"])
     executor.ask(op="register", id="r1", provider="heartbeat", type="Dummy")
@@ -14,9 +15,13 @@ started again. Python's standard library alone, no threads.
         print(executor.result(call)["outcome"])
     executor.leave()
 
-Commands, replies and results are dictionaries, as docs/FORMAT.md describes them. Only a result that came as a notice says its `key`,
-what was expected (`expect`) and whether it has `failed`, not one that was found in the journal alone. `drain`, `watch` and `meta` are refused here:
-an executor that serves runs actions by itself, and `ocfexec run` answers all three.
+Commands, replies and results are dictionaries, as docs/FORMAT.md describes them: `ask(op="status")` says how all resources are,
+`ask(op="version")` the program's version, and `ask(op="meta", provider=.., type=..)` has an agent's metadata as "metadata", or says
+as "end" why there are none. A command may have a `tag=`, a text of at most 64 bytes, which its reply and the results of its call repeat.
+
+Only a result that came as a notice says its `key`, what was expected (`expect`), whether it has `failed` and its `tag`, not one that
+was found in the journal alone; and none of an opening's report has a tag. `drain` and `watch` are refused here: an executor that serves
+runs actions by itself, and `ocfexec run` answers both.
 """
 import collections
 import fcntl
@@ -29,9 +34,9 @@ import time
 
 FOR_A_PERSON = (2, 3, 6, 8)  # wrong words, a damaged journal, a full one, SIGCHLD ignored: another start ends likewise
 REPORTED = ("interrupted", "dropped")  # outcomes that an opening alone reports
-NOT_HERE = ("drain", "watch", "meta")
-# the words of {"end":..} that reply to a command; with every other one the executor speaks of its own turns
-ENDS = {"tidy": ("done", "epoch-spent", "disk", "closed"), "leave": ("left",)}
+NOT_HERE = ("drain", "watch")
+# commands that {"end":..} may reply to: each is given a tag, since without one the executor speaks so of its own turns
+ENDING = ("tidy", "leave", "meta")
 SET_PIPE_SIZE, PIPE_SIZE = getattr(fcntl, "F_SETPIPE_SZ", 1031), 1 << 20
 KEPT = 64  # results of a resource that a journal keeps
 PIECE = 65536  # bytes that are read or written at once
@@ -84,6 +89,8 @@ class Executor:
     The program waits wherever its output is not read. So all that it has written is read in every call here, also while a command
     is written, and is kept until it is taken; its pipe holds one MiB more, about 4,500 results, while no call is made.
 
+    ready     what the program said when it had opened its journal: its version, the journal and how many resources that has, and how
+              many results of each kind it reported
     reported  the results that the last opening reported, as interrupted or dropped
     past      of each resource that was registered then, its results in the journal, oldest first
     troubles  words as "full", each of which says that a turn could not be made; the executor makes it again by itself
@@ -94,7 +101,7 @@ class Executor:
         is a file descriptor: while it can be read, `hear` does not wait. `own_session` keeps a terminal's signals from the program,
         and `patience` is how long a reply is waited for, in seconds; None is for ever."""
         self.command_line, self.idle, self.wake, self.own_session, self.patience = list(command_line), idle, wake, own_session, patience
-        self.process, self.reported, self.past, self.troubles = None, [], {}, []
+        self.process, self.ready, self.reported, self.past, self.troubles = None, None, [], {}, []
         self._opened_before = self._is_open = False
         self._delivered = {}  # by resource: the last results that were handed on, by call and run
         self._results = self._arriving = {}  # results that were not taken yet, by call and run, oldest first
@@ -102,15 +109,17 @@ class Executor:
     # Starting and ending
 
     def start(self):
-        """Starts the program, and waits until it has opened the journal and answers. From the second opening on, the results that
-        the program before had recorded and could not tell any more are handed on, too. Raises Ended where the journal cannot be
-        opened."""
+        """Starts the program, and waits until it has opened the journal, has reported, and is ready. From the second opening on, the
+        results that the program before had recorded and could not tell any more are handed on, too. Raises Ended where the journal
+        cannot be opened."""
         self._begin()
         if self._is_open:
             self.reported, self._is_open = [], False
-        self._arriving, missed = {}, {}
+        self.ready, self._arriving, missed = None, {}, {}
         try:
             names = self.ask(op="list")["resources"]
+            if self.ready is None:
+                raise Error("the program answers without having said that it is ready: it is older than this library")
             self.past = {name: self.ask(op="history", id=name)["results"] for name in names}
             missed = self._missed()
         finally:
@@ -147,7 +156,8 @@ class Executor:
     # Commands
 
     def ask(self, *allowed, **command):
-        """The reply to a command. Raises Refused, unless the reply's word of refusal is one of those that are allowed."""
+        """The reply to a command, with the command's tag if it has one. Raises Refused, unless the reply's word of refusal is one of
+        those that are allowed."""
         reply = self.ask_all([command])[0]
         if reply.get("error") not in (None, *allowed):
             raise Refused(command, reply)
@@ -220,8 +230,9 @@ class Executor:
     def _send(self, command):
         if command["op"] in NOT_HERE:
             raise ValueError(f"{command['op']}: an executor that serves acts by itself, and is not asked for this here")
-        self._write += json.dumps(command).encode() + b"\n"
-        self._asked.append(command["op"])
+        told = {"tag": "", **command} if command["op"] in ENDING else command
+        self._write += json.dumps(told).encode() + b"\n"
+        self._asked.append("tag" in command)  # whether its caller has given it a tag, and knows it
         self._sent += 1
 
     def _await(self, found, seconds):
@@ -279,10 +290,13 @@ class Executor:
             raise TypeError(value)
         if "outcome" in value:
             self._take_result(value)
-        elif "end" in value and value["end"] not in (ENDS.get(self._asked[0], ()) if self._asked else ()):
+        elif "ready" in value:
+            self.ready = value
+        elif "end" in value and "tag" not in value:
             self.troubles.append(value["end"])
         else:
-            self._asked.popleft()
+            if not self._asked.popleft():
+                value.pop("tag", None)
             if self._answered in self._passed_over:
                 self._passed_over.discard(self._answered)
             else:

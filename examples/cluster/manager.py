@@ -296,7 +296,7 @@ class Manager:
             service = self.services[name]
             if service.task and result["call"] == service.call:
                 self.go_on(service, result)
-            elif result["interval"] and not service.task and service.state == "up" and result["code"] != 0:
+            elif result["interval"] and not service.task and service.state == "up" and result["failed"]:
                 self.say(f"{name}: a monitor said {result['code']}")
                 service.state = "doubtful"
 

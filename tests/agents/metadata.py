@@ -1,8 +1,10 @@
 #!/usr/bin/env python3
 """Metadata: while a run serves, turns go on and the reply comes before those of the lines after it; a limit ends an agent with all that
 it started, and so do a client that goes away and a journal that is removed. A run of commands alone waits for its agent, without a limit
-where the line names none, and both give the same replies.
+where the line names none. It prints the bytes of metadata behind a line with their length, where one that serves has one line with their
+text; how a question without an answer ended both say alike.
 Use: metadata.py PROGRAM"""
+import json
 import shutil
 import subprocess
 import sys
@@ -21,6 +23,7 @@ wait
 printf '{{"of":"%s"}}' "$(basename "$0")"
 """
 LIST = {"op": "list"}
+SLOW_TEXT = {"metadata": '{"of":"Slow"}', "ok": True}
 # how serve refuses a limit
 REFUSED = '{"error":"%s","key":"limit","message":"limit must be a number from 0 to 86400000","number":%d}'
 
@@ -75,7 +78,7 @@ class Metadata(helper.Check):
 
     def replies(self, run):
         # what came but for notices and replies to commands
-        return [value for value in run.values() if value.keys() & {"meta", "of", "resources"}]
+        return [value for value in run.values() if value.keys() & {"metadata", "resources"}]
 
     def test_turns(self):
         """while an agent takes three seconds for its metadata monitors go on and a start times out; then both lines are answered"""
@@ -83,10 +86,10 @@ class Metadata(helper.Check):
         began = time.monotonic()
         run.tell(action("s", "start", timeout=1000), meta("Slow"), LIST)
         self.after(run, began, 0.9, 1.5, lambda value: helper.is_notice(value, id="s", outcome="timed-out"))
-        at = self.after(run, began, 2.9, 4, lambda value: "meta" in value)
+        at = self.after(run, began, 2.9, 4, lambda value: "metadata" in value)
         self.after(run, at, 0, 0.5, lambda value: "resources" in value)
         self.came_often(4, self.monitors(run, began, at), "monitors of half a second in three seconds")
-        self.assertEqual(self.replies(run), [{"meta": 13}, {"of": "Slow"}, {"ok": True, "resources": ["m", "s"]}])
+        self.assertEqual(self.replies(run), [SLOW_TEXT, {"ok": True, "resources": ["m", "s"]}])
         self.assertEqual(run.ends(), 0)
 
     def test_limit(self):
@@ -138,7 +141,7 @@ class Metadata(helper.Check):
         took = time.monotonic() - began
         self.assertGreaterEqual(took, 2, "seconds of two agents, one after the other")
         self.took_less(4, took, "two agents, one after the other")
-        wanted = [{"meta": 13}, {"of": "Slow"}, {"meta": 14}, {"of": "Other"}, {"ok": True, "resources": []}]
+        wanted = [SLOW_TEXT, {"metadata": '{"of":"Other"}', "ok": True}, {"ok": True, "resources": []}]
         self.assertEqual((done.returncode, helper.replies(done.stdout)), (0, wanted))
 
     def test_run(self):
@@ -155,7 +158,7 @@ class Metadata(helper.Check):
         """What a run of these lines answers, in its own words."""
         done = helper.run(word, "--memory", "--root", self.here, told=helper.lines(*lines))
         self.assertEqual(done.returncode, 0)
-        return done.stdout.decode().splitlines()
+        return [line for line in done.stdout.decode().splitlines() if '"ready"' not in line]
 
     @helper.slow
     def test_no_limit(self):
@@ -180,14 +183,14 @@ class Metadata(helper.Check):
             with self.subTest(limit=limit):
                 self.assertEqual(self.answers("run", meta("Brief", limit=limit)), ['{"error":"bad-value","number":4}'])
                 self.assertEqual(self.answers("serve", meta("Brief", limit=limit)), [REFUSED % ("bad-value", 4)])
-        for word in ("run", "serve"):
-            self.assertEqual(self.answers(word, meta("Brief", limit=86_400_000)), ['{"meta":5}', "brief"])
+        for word, brief in (("run", ['{"meta":5}', "brief"]), ("serve", ['{"metadata":"brief","ok":true}'])):
+            self.assertEqual(self.answers(word, meta("Brief", limit=86_400_000)), brief)
             self.assertEqual(self.answers(word, meta("Brief", limit=100)), ['{"end":"limit"}'])
             [refused] = self.answers(word, {"op": "watch"})
             self.assertEqual(helper.bare(helper.value_of(refused)), {"error": "syntax", "number": 1})
 
     def test_same(self):
-        """a run that serves gives the replies of one of commands alone, whatever an agent answers"""
+        """a run that serves gives the replies of one of commands alone, whatever an agent answers, but for the form of metadata"""
         many = "n=0; while [ $n -lt 4096 ]; do echo 123456789012345; n=$((n+1)); done\n"
         kinds = {"Long": many, "Longer": many + "echo\n", "Fails": "echo half; exit 5\n", "Dies": "kill -9 $$\n",
                  "Closes": "exec sleep 5 > /dev/null\n", "Leaves": "sleep 2 &\n", "Nothing": "exit 0\n", "Hangs": "exec sleep 5\n"}
@@ -199,7 +202,9 @@ class Metadata(helper.Check):
         ends = ['{"end":"too-long"}', '{"code":5,"end":"failed"}', '{"code":1,"end":"failed"}', '{"end":"limit"}', '{"end":"limit"}',
                 '{"meta":0}', "", '{"end":"limit"}', '{"end":"missing"}', ""]
         self.assertEqual(done.stdout, b'{"meta":65536}\n' + long + b"\n" + "\n".join(ends).encode())
-        self.assertEqual((served.returncode, served.stdout), (0, done.stdout))
+        texts = [{"metadata": text, "ok": True} for text in (long.decode(), "")]
+        texts[1:1], texts[7:] = map(json.loads, ends[:5]), map(json.loads, ends[7:9])
+        self.assertEqual((served.returncode, helper.replies(served.stdout)), (0, texts))
 
 
 if __name__ == "__main__":

@@ -22,14 +22,14 @@ sys.path.insert(1, os.path.join(helper.TOP, "examples"))
 import resources  # noqa: E402
 
 CLIENT = os.path.join(helper.TOP, "examples/client.py")
-# an agent whose service is a file, and which fails as the file `fails` beside it names its action
+# an agent whose service is a file, and which fails as the file `fails` beside it names its action; its monitor ends as the file `code` says
 AGENT = """state=$OCF_RESKEY_state
 echo "$OCF_RESOURCE_TYPE $1 $state" >> {here}/calls
 if [ -e "$state.fails" ] && grep -q -x "$1" "$state.fails"; then exit 1; fi
 case $1 in
 start) : > "$state" ;;
 stop) rm -f "$state" ;;
-monitor) [ -e "$state" ] || exit 7 ;;
+monitor) [ -e "$state" ] || exit 7; [ ! -e "$state.code" ] || exit "$(cat "$state.code")" ;;
 esac
 """
 # what a file may not hold, and how the message begins that says so
@@ -161,6 +161,25 @@ class Kept(helper.Check):
         client = self.client()
         self.comes(client, id="a", interval=100, code=0)
         self.assertEqual(self.starts(), 0)
+
+    def test_degraded(self):
+        """one that is degraded or promoted runs, and is left as it is; one whose monitor ends otherwise is started again"""
+        self.wants(a=self.dummy("a"))
+        client = self.client()
+        self.comes(client, id="a", interval=100, code=0)
+        for code, starts in ((190, 1), (8, 1), (191, 1), (9, 2)):
+            seen = len(client.values())
+            with open(self.place("a.code.new"), "w", encoding="ascii") as file:
+                file.write(str(code))
+            os.rename(self.place("a.code.new"), self.place("a.code"))
+            self.comes(client, seen, id="a", interval=100, code=code)
+            if code == 9:
+                os.remove(self.place("a.code"))
+            seen = len(client.values())
+            self.comes(client, seen, id="a", interval=100, code=0 if code == 9 else code)
+            self.waits(f"{starts} starts", lambda wanted=starts: self.starts() == wanted)
+        self.assertEqual(self.ended(client, signal.SIGTERM), 0)
+        self.assertEqual(self.said().count("does not run"), 1)
 
     def test_changed(self):
         """one whose agent changes is stopped as it was, and runs by the other one; so it is with parameters, and behind a new start"""

@@ -128,7 +128,7 @@ class Ends(helper.Check):
                 run.stdin.write(told[place:place + 1])
             found, _ = run.communicate(timeout=helper.PATIENCE)
             self.assertEqual((run.returncode, found), (0, whole.stdout), word)
-            self.assertEqual(found.count(b"\n"), 4, word)
+            self.assertEqual(len(helper.replies(found)), 4, word)
 
     def test_half_a_line(self):
         """an input that ends amid a line: its half is refused as syntax, and what was recorded before is left"""
@@ -149,6 +149,8 @@ class Ends(helper.Check):
             self.addCleanup(run.kill)
             run.stdin.write(helper.lines(helper.register("r1", "Dummy")) + b'{"op":"li')
             run.stdin.flush()
+            if word == "serve":
+                helper.opening(run.stdout)
             self.assertEqual(run.stdout.readline(), b'{"ok":true}\n', word)
             self.ends_unheard(run)
             again = helper.run("run", "--journal", folder, told=helper.lines({"op": "list"}))
@@ -228,6 +230,7 @@ class Ends(helper.Check):
         self.addCleanup(run.kill)
         run.stdin.write(helper.lines(helper.register("r1", "Brief"), helper.action("r1", "start")))
         run.stdin.flush()
+        helper.opening(run.stdout)
         run.stdout.readline(), run.stdout.readline()
         time.sleep(0.5)
         # no file of it may grow any more, so the record of the agent's end is refused

@@ -1,6 +1,6 @@
 #!/usr/bin/env python3
-"""The library for clients in Python, examples/ocfexec.py: replies and refusals, results by call, more commands than pipes hold, what an
-opening reports, and each result once, however often the executor is killed.
+"""The library for clients in Python, examples/ocfexec.py: replies and refusals, results by call, tags, more commands than pipes hold, what
+an opening says and reports, and each result once, however often the executor is killed.
 Use: library.py PROGRAM"""
 import os
 import random
@@ -18,8 +18,8 @@ sys.path.insert(1, os.path.join(helper.TOP, "examples"))
 import ocfexec  # noqa: E402
 
 KILLS = 100
-# a program that writes what is no line of an executor
-TALKS = "#!/bin/sh\nread -r line\necho 'good morning'\nread -r line\n"
+# a program that answers with this where an executor says that it is ready
+TALKS = "#!/bin/sh\nread -r line\necho '%s'\nread -r line\n"
 
 
 class Held(ocfexec.Executor):
@@ -67,11 +67,60 @@ class Library(helper.Check):
         with self.assertRaises(ocfexec.Refused) as refused:
             executor.ask(**register("a", "Fast"))
         self.assertEqual((refused.exception.word, refused.exception.number), ("exists", 6))
-        for op in ("drain", "watch", "meta"):
+        for op in ("drain", "watch"):
             self.assertRaises(ValueError, executor.ask, op=op)
         self.assertEqual(executor.ask(op="tidy"), {"end": "done"})
         self.assertEqual(executor.leave(), 0)
         self.assertRaises(ocfexec.Ended, executor.ask, op="list")
+
+    def test_ready(self):
+        """it has what the program says when it is ready, also behind a report of more than a pipe holds"""
+        folder, names, version = self.journal(), [f"r{number}" for number in range(120)], helper.run("--version").stdout.decode().split()[1]
+        executor = self.executor("--journal", folder)
+        fresh = {"dropped": 0, "interrupted": 0, "journal": folder, "ready": True, "resources": 0, "version": version}
+        self.assertEqual(executor.ready, fresh)
+        executor.ask_all([register(name, "Slow") for name in names])
+        executor.ask_all([action(name, "start", timeout=60_000) for name in names for _ in range(30)])
+        self.begun(1)
+        executor.kill()
+        executor.start()
+        found = [result["outcome"] for result in executor.reported]
+        self.assertGreater(len(found), 3000)
+        counts = {outcome: found.count(outcome) for outcome in ("dropped", "interrupted")}
+        self.assertEqual(executor.ready, {**fresh, **counts, "resources": 120})
+        self.assertEqual(executor.leave(), 0)
+
+    def test_status(self):
+        """it is asked how all resources are, for the version, and for metadata, whose end is no trouble of a turn"""
+        self.agent("Tells", "[ $1 = meta-data ] || exit 7\nprintf '<agent name=\"%s\"/>\\n' \"$OCF_RESOURCE_TYPE\"\n")
+        executor = self.executor("--journal", self.journal())
+        executor.ask_all([register("a", "Fast"), register("b", "Tells")])
+        for name in "ab":
+            executor.result(executor.ask(**action(name, "start"))["call"], 5)
+        [a, b] = executor.ask(op="status")["status"]
+        self.assertEqual(((a["id"], a["state"]), (b["id"], b["state"], b["failed"]["code"])), (("a", "started"), ("b", "failed", 7)))
+        self.assertEqual(executor.ask(op="version"), {"ok": True, "version": executor.ready["version"]})
+        kinds = [{"op": "meta", "provider": "test", "type": kind} for kind in ("Tells", "None", "Fast")]
+        ends = [{"metadata": '<agent name="Tells"/>\n', "ok": True}, {"end": "missing"}, {"metadata": "", "ok": True}]
+        self.assertEqual(executor.ask_all(kinds), ends)
+        self.assertEqual(executor.ask_all([{**kind, "tag": "m"} for kind in kinds]), [{**end, "tag": "m"} for end in ends])
+        self.assertEqual(executor.ask(op="tidy", tag=""), {"end": "done", "tag": ""})
+        self.assertEqual(executor.troubles, [])
+
+    def test_tags(self):
+        """a tag is in the reply to its command, refused or not, and in the result of its call"""
+        executor = self.executor("--memory")
+        self.assertEqual(executor.ask(**register("a", "Fast"), tag="one"), {"ok": True, "tag": "one"})
+        self.assertEqual(executor.ask("exists", **register("a", "Fast"), tag="two")["tag"], "two")
+        tags = [f"\u00e9 {number}" for number in range(20)]
+        replies = executor.ask_all([action("a", "start", tag=tag) for tag in tags] + [action("a", "stop")])
+        self.assertEqual([reply.get("tag") for reply in replies], [*tags, None])
+        results = [executor.result(reply["call"], 5) for reply in replies]
+        self.assertEqual([result.get("tag") for result in results], [*tags, None])
+        with self.assertRaises(ocfexec.Refused) as refused:
+            executor.ask(op="list", tag="x" * 65)
+        self.assertEqual(refused.exception.word, "bad-value")
+        self.assertEqual(executor.leave(), 0)
 
     def test_calls(self):
         """a result is found by its call, and the others stay; of a call whose result was taken none comes"""
@@ -155,13 +204,14 @@ class Library(helper.Check):
         self.assertEqual((ended.exception.status, ended.exception.wants_person), (5, False))
 
     def test_garbled(self):
-        """what is no line of an executor is named"""
-        with open(self.place("talks"), "w", encoding="ascii") as file:
-            file.write(TALKS)
-        os.chmod(self.place("talks"), 0o755)
-        executor = ocfexec.Executor([self.place("talks")])
-        self.addCleanup(self.gone, executor)
-        self.assertRaises(ocfexec.Garbled, executor.start)
+        """what is no line of an executor is named, and so is a program that does not say that it is ready"""
+        for line, error in (("good morning", ocfexec.Garbled), ('{"ok":true,"resources":[]}', ocfexec.Error)):
+            with open(self.place("talks"), "w", encoding="ascii") as file:
+                file.write(TALKS % line)
+            os.chmod(self.place("talks"), 0o755)
+            executor = ocfexec.Executor([self.place("talks")])
+            self.addCleanup(self.gone, executor)
+            self.assertRaises(error, executor.start)
 
     @helper.slow
     def test_kills(self):

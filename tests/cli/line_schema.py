@@ -36,6 +36,23 @@ TAKEN = [
     {"op": "watch", "limit": 1},
     {"op": "meta", "provider": "heartbeat", "type": "NoSuchAgent", "limit": 86400000},
 ]
+# commands of `serve` alone, and those with a tag, which `run` does not know
+SERVED = [
+    {"op": "version"},
+    {"op": "status"},
+    {"op": "leave"},
+    {"op": "status", "tag": "a \"quote\", a \\ and a\nnewline"},
+    {**REGISTER, "tag": ""},
+    {**REGISTER, "tag": "x" * 64},
+    {"op": "list", "tag": "\u00e9" * 32},
+]
+# and those that `serve` alone refuses as malformed, each with the key that is at fault
+SERVED_FAULTY = [
+    *(("tag", {"op": "list", "tag": tag}) for tag in (5, None, True, ["a"], {"a": "b"}, "x" * 65)),
+    ("tag", {**REGISTER, "tag": "\u20ac" * 65}),
+    ("id", {"op": "version", "id": "r1"}),
+    ("json", {"op": "status", "json": True, "tag": 5}),
+]
 # commands that are refused as malformed, each with the key that is at fault
 FAULTY = [
     ("op", {}),
@@ -75,6 +92,8 @@ FAULTY = [
     ("op", ["op"]),
 ]
 REFUSED = [command for _, command in FAULTY]
+NEVER = {"failed": None, "id": "r1", "queued": 0, "running": None, "since": None, "state": "never run"}
+READY = {"dropped": 0, "interrupted": 1, "journal": "/var/lib/ocfexec", "ready": True, "resources": 3, "version": "0.1.0"}
 NO_LINES = [
     {"ok": False},
     {"ok": True, "call": 0, "key": "r1_start_0"},
@@ -86,6 +105,38 @@ NO_LINES = [
     {"action": "start", "call": 1, "code": 0, "id": "r1", "interval": 0, "name": "OCF_SUCCESS", "outcome": "cancelled", "run": 0},
     {"action": "start", "call": 1, "code": 256, "id": "r1", "interval": 0, "name": "OCF_SUCCESS", "outcome": "done", "run": 1},
     {"at": 1, "event": "boot", "id": "r1"},
+    {"ok": True, "tag": 5},
+    {"ok": True, "tag": "x" * 65},
+    {"error": "exists", "number": 6, "tag": "a"},
+    {"action": "start", "call": 1, "code": 0, "id": "r1", "interval": 0, "name": "OCF_SUCCESS", "outcome": "done", "run": 1, "tag": "a"},
+    {"ok": True, "version": "ocfexec 0.1.0"},
+    {"ok": True, "status": [NEVER, {**NEVER, "state": "fine"}]},
+    {"ok": True, "status": NEVER},
+    {**READY, "ready": False},
+    {**READY, "journal": 5},
+    {**READY, "interrupted": 257},
+    {**READY, "tag": "a"},
+    {"ready": True},
+    {"meta": 4, "tag": "a"},
+    {"metadata": "<?xml"},
+    {"metadata": 4, "ok": True},
+    {**NEVER, "tag": "a"},
+]
+# and lines that one that serves prints
+LINES = [
+    READY,
+    {**READY, "journal": None, "interrupted": 256, "dropped": 8192, "resources": 256},
+    {"ok": True, "version": "10.20.30"},
+    {"ok": True, "status": [], "tag": ""},
+    {"ok": True, "status": [NEVER], "tag": "a"},
+    {"metadata": "", "ok": True, "tag": "a"},
+    {"end": "no-text", "tag": "a"},
+    {"code": 5, "end": "failed", "tag": "a"},
+    {"error": "exists", "message": "this id is registered already", "number": 6, "tag": "a"},
+    {"ok": True, "tag": "x" * 64},
+    {"call": 1, "key": "r1_start_0", "ok": True, "tag": "a"},
+    {"ok": True, "resources": ["r1"], "tag": "a"},
+    {"ok": True, "results": [], "tag": "a"},
 ]
 
 
@@ -116,6 +167,22 @@ class Schema(helper.Check):
         """a line that no program prints is none of the schema"""
         for value in NO_LINES:
             self.assertFalse(schema.lines().is_valid(value), json.dumps(value))
+
+    def test_lines(self):
+        """a line that one that serves prints is one of the schema"""
+        for value in LINES:
+            self.assertTrue(schema.lines().is_valid(value), json.dumps(value))
+
+    def test_served_alone(self):
+        """what is for serve alone it takes, or refuses by its key, as the schema does; to run the words are unknown, and a tag is no key"""
+        commands = schema.validator_of("served_command")
+        for key, command in [(None, command) for command in SERVED] + SERVED_FAULTY:
+            asked = json.dumps(command)[:200]
+            of_run, of_serve = [helper.replies(helper.run(word, "--memory", "--root", self.here, told=helper.lines(command)).stdout)[0]
+                                for word in ("run", "serve")]
+            self.assertEqual(commands.is_valid(command), key is None, asked)
+            self.assertEqual("error" in of_run, command["op"] in ("version", "status", "leave"), asked)
+            self.assertEqual([of_serve.get("error"), of_serve.get("key")], ["bad-value", key] if key else [None, None], asked)
 
     def test_served(self):
         """serve refuses as run does, and keys that are not named, too: with the key that is at fault, and a sentence"""

@@ -27,11 +27,14 @@ def refusal(word, number):
 
 
 class Run:
-    """What a played program said: of each line the word that it begins with, and the rest."""
+    """What a played program said: of each line the word that it begins with, and the rest. What serves says once that it is ready, and that
+    line is none of its output here."""
 
     def __init__(self, lines):
         self.lines = [line.split(" ", 1) for line in lines]
         self.out, self.err, self.ended = self.of(">"), self.of("!"), self.of("ended")
+        self.ready = [line for line in self.out if '"ready":true' in line]
+        self.out = [line for line in self.out if line not in self.ready]
 
     def of(self, word):
         return [text for first, text in self.lines if first == word]
@@ -81,6 +84,12 @@ class Played(helper.Check):
         run = self.play(*plan)[-1]
         self.assertEqual((run.ended, run.out), ([ended], out), run.lines)
         return run
+
+    def is_ready(self, run, **said):
+        """A run that serves says so, once, with this: what it found, and its version."""
+        version = self.play("ocfexec --version")[0].out[0].split(" ")[1]
+        found = {"dropped": 0, "interrupted": 0, "journal": "/j", "ready": True, "resources": 0, "version": version, **said}
+        self.assertEqual(run.ready, [json.dumps(found, separators=(",", ":"))])
 
     def memory(self, out, *commands, words="ocfexec run --memory", more=()):
         """The run of these commands in memory, which ends well."""
@@ -210,12 +219,14 @@ class Asked(Played):
             "ignored", "signals", "log - -", "files /j no", "reader", "agents 768", "watch /j", "orphans /j 20000 no 1",
             f"site {ROOT} {PATH} - no", "moment 0", "word /j 0", f"source {ROOT} {PATH} - no", "writer /j", "give-up", "ran well",
             "ended 0"])
+        self.is_ready(run)
 
     def test_memory(self):
         """a run in memory asks for no directory, waits for nothing and leaves no word"""
         run = self.ends("0", [], "ocfexec serve --memory")
         self.assertEqual(run.asked(), ["ignored", "signals", "log - -", "reader", "agents 768", "watch -", "moment 0",
                                        f"source {ROOT} {PATH} - no", "writer -", "give-up", "ran well", "ended 0"])
+        self.is_ready(run, journal=None)
 
     def test_site(self):
         """an agent is called at the site of the options"""
@@ -249,6 +260,10 @@ class Asked(Played):
             run = self.play("directory /j", running, "left 1 4711", "clock 500", f"ocfexec {word} --journal /j --leave-orphans")[0]
             told = json.loads(run.out[0])
             self.assertEqual({key: told[key] for key in told if key == "lives"}, keys)
+            if word == "serve":
+                said = run.of(">")
+                self.assertEqual(said[:2], [run.out[0], run.ready[0]], "it is ready behind the report")
+                self.is_ready(run, interrupted=1, resources=1)
             asked = run.asked()
             self.assertLess(asked.index("orphans /j 20000 yes 2"), asked.index("moment 500"))
 

@@ -230,6 +230,7 @@ class StandardError(helper.Check):
         """where nobody reads standard output any more a person is told so"""
         run = subprocess.Popen([PROGRAM, "serve", "--memory"], stdin=subprocess.PIPE, stdout=subprocess.PIPE, stderr=self.writer,
                                env={**os.environ, **helper.journal_stream(self.writer)})
+        helper.opening(run.stdout)
         run.stdout.close()
         self.assertEqual(run.wait(helper.PATIENCE), 7)
         run.stdin.close()

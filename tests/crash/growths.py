@@ -57,8 +57,8 @@ class Played:
         return [value for values in self.answers for value in values if helper.is_notice(value)]
 
     def seen(self):
-        """The replies, step by step, and all notices in one order: when one comes is a matter of time."""
-        return [[value for value in values if not helper.is_notice(value)] for values in self.answers], loose(self.told(), ())
+        """The replies, step by step, and all notices in one order: when one comes, and which resource begins first, is a matter of time."""
+        return [[value for value in values if not helper.is_notice(value)] for values in self.answers], loose(own_runs(self.told()), ())
 
 
 def plain(value):
@@ -75,6 +75,12 @@ def loose(value, but):
     if isinstance(value, list):
         return sorted((loose(part, but) for part in value), key=lambda part: json.dumps(part, sort_keys=True))
     return value
+
+
+def own_runs(notices):
+    """Notices with the runs of each resource counted from 1, in their order."""
+    runs = {name: sorted(value["run"] for value in notices if value["id"] == name and "run" in value) for name in {value["id"] for value in notices}}
+    return [{**value, "run": 1 + runs[value["id"]].index(value["run"])} if "run" in value else value for value in notices]
 
 
 def files_of(folder):
@@ -115,6 +121,8 @@ class Growths(helper.Check):
         if not line.endswith(b"\n"):
             return None
         value = helper.value_of(line)
+        if helper.is_ready(value):
+            return self.value(run)
         if "meta" in value:
             value["text"] = run.stdout.read(value["meta"] + 1).decode()
         if "error" in value or value.get("id") == "r2" and helper.is_notice(value):
@@ -168,8 +176,9 @@ class Growths(helper.Check):
             self.open_gate()
         played = Played()
         reader, writer = os.pipe()
+        # in a session of its own: a run ends the background jobs of its session that name its resource, and parts of this run at once
         run = subprocess.Popen([PROGRAM, *words], stdin=subprocess.PIPE, stdout=subprocess.PIPE, stderr=writer,
-                               env={**self.environment(refuse), **helper.journal_stream(writer)})
+                               env={**self.environment(refuse), **helper.journal_stream(writer)}, start_new_session=True)
         os.close(writer)
         guard = threading.Timer(15, run.kill)
         guard.start()
@@ -235,11 +244,14 @@ class Growths(helper.Check):
         told, wanted = loose(found.told(), but), loose(base.told(), but)
         missing = len(wanted) - len(told)
         self.assertTrue(0 <= missing <= lost and all(value in wanted for value in told), "what is told")
-        runs = [value["run"] for value in found.told()]
-        self.assertEqual(len(set(runs)), len(runs), "runs of their own")
+        self.differ(found)
         codes = [(value["outcome"], value["code"]) for value in found.told() if value["outcome"] != "done"]
         self.assertEqual(codes, [("not-started", 1)] * starts)
         return "not started" if starts else "turn"
+
+    def differ(self, found):
+        runs = [value["run"] for value in found.told() if "run" in value]
+        self.assertEqual(len(set(runs)), len(runs), "runs of their own")
 
     def judge(self, words, steps, base, found, folder, before, lost):
         """How a run with one refused growth ended, in a word."""
@@ -254,8 +266,10 @@ class Growths(helper.Check):
             (replies, notices), (wanted, told) = found.seen(), left.seen()
             self.assertEqual((len(refused), [helper.bare(value) for value in replies.pop(refused[0])]), (1, [MEMORY]))
             self.assertEqual((replies, notices), (wanted, told), "as without this command")
+            self.differ(found)
             return "refused"
-        metas = [values for step, values in zip(steps, found.answers) if step.command["op"] == "meta"]
+        metas = [[{key: part for key, part in value.items() if key != "tag"} for value in values]
+                 for step, values in zip(steps, found.answers) if step.command["op"] == "meta"]
         if metas and metas[0] in ([{"end": "memory"}], [{"end": "other"}], [{"end": "read"}]):
             return "meta " + metas[0][0]["end"]
         if found.seen() == base.seen():
@@ -453,6 +467,20 @@ class Growths(helper.Check):
                     self.stands(steps, found, folder)
             refuse += 1
         print(f"growths: {words[0]} {self._testMethodName}: {base.made} growths, by status: {dict(sorted(ends.items()))}", flush=True)
+
+    def test_tags(self):
+        """lines with tags: each reply and each notice has its own, or the run ends; of what comes together, too"""
+        def tagged(steps):
+            return [Step({**step.command, "tag": f"tag {place}"}, awaits=step.awaits, joins=step.joins) for place, step in enumerate(steps)]
+
+        base = self.sweep(self.words("serve", "--via", "echo"), tagged(self.together()), opens=False)
+        self.assertEqual([[value["tag"] for value in values if not helper.is_notice(value)] for values in base.answers],
+                         [[f"tag {place}"] for place in range(len(base.answers))])
+        steps = [*[step for step in self.started() if step.command != DRAIN], Step({"op": "status"}), Step({"op": "version"}),
+                 Step({"op": "meta", "provider": "p", "type": "t"}), Step({"op": "tidy"})]
+        base = self.sweep(self.words("serve", "--via", "echo"), tagged(steps), opens=False)
+        self.assertEqual([[value["tag"] for value in values] for values in base.answers],
+                         [[f"tag {place}"] * (2 if place == 1 else 1) for place in range(len(steps))])
 
     def test_signal(self):
         """a notice of a start that a signal ended"""

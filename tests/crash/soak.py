@@ -7,8 +7,9 @@ are tidied by the run itself. In each hour the disk stops in a random device cal
 that are stopped, too; an hour that ends before its stop is one more. Of what was not synced a stop leaves nothing, all, or other bytes.
 Wanted: what an opening finds holds every acknowledged command and every result that was told, in order, and beyond that at most the
 command that was refused for the disk and a result of each resource that was not told; each action that was queued or ran is told,
-withdrawn, or found as dropped or interrupted, and an opening reports just what it found so; the parts stay below their limit and are
-tidied; the memory does not grow with the days; at the end, behind a close, each history is just what was told.
+withdrawn, or found as dropped or interrupted, and an opening reports just what it found so; a reply has the tag of its line, and a notice
+that of a call of its hour; the parts stay below their limit and are tidied; the memory does not grow with the days; at the end, behind a
+close, each history is just what was told.
 Use: soak.py [PROGRAM], with DAYS and SEED in the environment"""
 import collections
 import json
@@ -66,6 +67,7 @@ class Life:
         self.hourly = 4_000  # how many an hour makes behind that
         self.counts = collections.Counter()
         self.wall = 1_700_000_000_000
+        self.tags = {}  # those of the calls of an hour
         # what is given back is not kept for long, so that the memory of the process is that of the life
         self.program = subprocess.Popen([helper.trials(plain), "life"], stdin=subprocess.PIPE, stdout=subprocess.PIPE,
                                         env={**os.environ, "ASAN_OPTIONS": "quarantine_size_mb=1"})
@@ -99,7 +101,9 @@ class Life:
         lines += [(self.dice.randrange(2, HOUR), self.chance_line()) for _ in range(100)]
         burst = self.dice.randrange(2, HOUR)
         lines += [(burst, self.chance_line()) for _ in range(100)]
-        return list(self.with_withdrawals(sorted(lines, key=lambda line: line[0])))
+        lines = self.with_withdrawals(sorted(lines, key=lambda line: line[0]))
+        # two lines of three have a tag
+        return [(at, {**line, "tag": f"{self.counts['hours']} {place}"} if place % 3 else line) for place, (at, line) in enumerate(lines)]
 
     def with_withdrawals(self, lines):
         """Behind each fifth action its withdrawal, in the same moment. It names the call that the action is to have, which is right as
@@ -138,8 +142,17 @@ class Life:
         for line in self.program.stdout:
             if line.startswith(b"== "):
                 return out, self.left(line)
-            out.append(helper.value_of(line))
+            if not self.is_ready(helper.value_of(line), serves, out):
+                out.append(helper.value_of(line))
         raise AssertionError(f"the program ended, with {self.program.wait()}")
+
+    def is_ready(self, value, serves, before):
+        """Whether it is the line by which a sitting that serves says that it is ready. An opening before it left nothing to report."""
+        if helper.is_ready(value):
+            there = sum(known.there for known in self.all.values())
+            found = [value[key] for key in ("interrupted", "dropped", "resources", "journal")]
+            assert serves and not before and found == [0, 0, there, None], (value, before)
+        return helper.is_ready(value)
 
     def left(self, line):
         """How many device calls a sitting had; none of its parts is too long."""
@@ -159,6 +172,7 @@ class Life:
     def take_notice(self, notice):
         known = self.all[notice["id"]]
         assert known.there and notice["run"] > known.newest, ("told again, or of none", notice)
+        assert notice.get("tag") == self.tags.get(notice["call"]), ("the tag of another call", notice)
         known.newest = notice["run"]
         known.told = [*known.told, helper.result_of(notice)][-KEPT:]
         if notice["interval"] == 0:
@@ -168,6 +182,7 @@ class Life:
     def take_reply(self, command, reply):
         name = command.get("id")
         known = self.all.get(name)
+        assert reply.get("tag") == command.get("tag"), ("the tag of another line", command, reply)
         if "error" in reply:
             self.counts[reply["error"]] += 1
             if reply["error"] == "disk":
@@ -175,6 +190,7 @@ class Life:
             return
         self.counts["acknowledged"] += command["op"] not in ("list", "info", "history")
         self.next_call = max(self.next_call, reply.get("call", 0) + 1)
+        self.tags[reply.get("call")] = reply.get("tag")
         match command["op"]:
             case "register":
                 assert not known.there
@@ -198,7 +214,7 @@ class Life:
 
     def hear(self, lines, out):
         """Replies, one to a line, and between them notices, and how turns ended that no line asked for."""
-        asked = iter(lines)
+        asked, self.tags = iter(lines), {}
         for line in out:
             if "outcome" in line:
                 self.take_notice(line)

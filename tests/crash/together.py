@@ -103,12 +103,17 @@ class Script:
 
 
 class Served(Script):
-    """Lines whose replies no turn changes: actions and monitors are of resources of their own, which are registered first."""
+    """Lines whose replies no turn changes: actions and monitors are of resources of their own, which are registered first. Two of three
+    have a tag."""
 
     def __init__(self, dice, count):
         super().__init__(dice, count)
         self.busy = [f"b{place}" for place in range(count // 32 + 1)]
         self.asked = iter(self.busy * 31)
+
+    def lines(self):
+        for place, line in enumerate(super().lines()):
+            yield line[:-1] + b',"tag":"%d"}' % place if place % 3 and line.endswith(b"}") else line
 
     def command(self, place):
         roll = self.dice.randrange(100)
@@ -141,6 +146,8 @@ def one_by_one(words, lines, hear=lambda line, reply: None):
     """What is written where each line waits for the reply to the one before it; lines without a byte have none. And the lines."""
     out, asked = [], []
     with subprocess.Popen([PROGRAM, *words], stdin=subprocess.PIPE, stdout=subprocess.PIPE) as run:
+        if words[0] == "serve":
+            helper.opening(run.stdout)
         for line in lines:
             asked.append(line)
             run.stdin.write(line + b"\n")
@@ -218,9 +225,9 @@ def timeless(text):
 
 
 def replies_alone(text):
-    """The lines that are no notices, and then those of one-time actions in one order, without their runs: when a notice comes, and
-    whether a monitor begins before its cancel, is a matter of time."""
-    found = timeless(text).split(b"\n")
+    """The lines that are no notices, but for that of what serves which says that it is ready, and then those of one-time actions in one
+    order, without their runs: when a notice comes, and whether a monitor begins before its cancel, is a matter of time."""
+    found = [line for line in timeless(text).split(b"\n") if b'"ready":true' not in line]
     told = [line for line in found if line.startswith(b'{"action"')]
     once = [re.sub(rb',"run":[0-9]+', b"", line) for line in told if b'"interval":0,' in line]
     return [line for line in found if line not in set(told)], sorted(once)
@@ -270,6 +277,8 @@ class Together(helper.Check):
                 state = state or left(helper.shown(folder))
                 self.assertEqual(left(helper.shown(folder)), state, "what is left")
         values = [helper.value_of(line) for line in wanted.split(b"\n")[:-1]]
+        tags = sum("tag" in value for value in values)
+        self.assertEqual(tags > len(lines) // 2, word == "serve", "tags are repeated by serve alone")
         accepted, refused = sum(value.get("ok", False) for value in values), sum("error" in value for value in values)
         kinds = {value["error"] for value in values if "error" in value}
         print(f"together: {word}: {len(lines)} lines, {len(text)} bytes: {accepted} accepted or answered, {refused} refused by "

@@ -24,4 +24,8 @@ LINES = [
     {"op": "meta", "provider": "p", "type": "t", "limit": 1},
     {"op": "recur", "id": "r1", "interval": 10000, "timeout": 20000, "level": 20},
     {"op": "register", "id": "r1", "provider": "p", "type": "t", "params": {"a": "1", "b": "\u00e9"}},
+    {"op": "version", "tag": ""},
+    {"op": "status", "tag": "\u00e9\\\"\u0000"},
+    {"op": "exec", "id": "r1", "action": "start", "tag": "x" * 65},
+    {"op": "leave", "tag": 5},
 ]

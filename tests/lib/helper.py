@@ -74,8 +74,37 @@ def value_of(line):
 
 
 def replies(out):
-    """The values of whole lines; what stands behind the last newline is none."""
-    return [value_of(line) for line in out.split(b"\n")[:-1]]
+    """The values of whole lines, but for that by which `serve` says that it is ready; what stands behind the last newline is none."""
+    return [value for value in map(value_of, out.split(b"\n")[:-1]) if not is_ready(value)]
+
+
+def is_ready(value):
+    """Whether a value is the line by which `serve` says that it is ready."""
+    return isinstance(value, dict) and "ready" in value
+
+
+def opened(out):
+    """What stands in a whole output of `serve` up to the line by which that says that it is ready: the report of its opening, and this
+    line."""
+    *report, ready = opening(iter(out.splitlines(keepends=True)))
+    return report, ready
+
+
+def opening(lines):
+    """The same of lines as they come, of which no further one is taken. It fails where another line comes before that one, and where that
+    one counts another report."""
+    values = []
+    for line in lines:
+        assert line.endswith(b"\n"), f"the output ends amid its opening: {line}"
+        values.append(value_of(line))
+        if not is_notice(values[-1]):
+            break
+    assert values and is_ready(values[-1]), f"it does not say behind its report that it is ready: {values[-3:]}"
+    found = [value["outcome"] for value in values[:-1]]
+    wanted = [values[-1][word] for word in ("interrupted", "dropped")]
+    assert wanted == [found.count(word) for word in ("interrupted", "dropped")] and sum(wanted) == len(found), (found, values[-1])
+    assert not any("tag" in value for value in values), "an opening has no tags"
+    return values
 
 
 def bare(value):
@@ -90,12 +119,15 @@ def is_notice(value, **wanted):
 
 def result_of(notice):
     """A notice of `serve` as a result in its resource's history, which has none of these keys."""
-    return {key: part for key, part in notice.items() if key not in ("id", "key", "expect", "failed", "lives", "signal")}
+    return {key: part for key, part in notice.items() if key not in ("id", "key", "expect", "failed", "lives", "signal", "tag")}
 
 
 def run(*words, told=b"", **how):
-    """A whole run, which is told all its input at once."""
-    return subprocess.run([PROGRAM, *words], input=told, capture_output=True, **{"timeout": WHOLE, **how})
+    """A whole run, which is told all its input at once; one that serves and ends well has said that it is ready."""
+    done = subprocess.run([PROGRAM, *words], input=told, capture_output=True, **{"timeout": WHOLE, **how})
+    if words[:1] == ("serve",) and done.returncode == 0 and "--help" not in words:
+        opened(done.stdout)
+    return done
 
 
 def journal_stream(err):
@@ -207,22 +239,26 @@ def keep(folder, into):
 
 
 class Heard:
-    """A program that runs, whose lines are kept with the moments at which they came; its standard error goes to a file, which is none of
-    the check's where none is given."""
+    """A program that runs, whose lines are kept with the moments at which they came, but for that by which `serve` says that it is ready:
+    `said` is its opening, the report and that line. Its standard error goes to a file, which is none of the check's where none is given."""
 
     def __init__(self, *words, err=None, program=None, **how):
         with open(err, "wb") if err else tempfile.TemporaryFile() as file:
             # (an open file of its own, since reading moves the place at which the program writes)
             self.err = None if err else open(f"/proc/self/fd/{file.fileno()}", "rb")
             self.run = subprocess.Popen([program or PROGRAM, *words], stdin=subprocess.PIPE, stdout=subprocess.PIPE, stderr=file, **how)
-        self.lines, self.came, self.is_over = [], threading.Condition(), False
+        self.lines, self.came, self.is_over, self.said, self.serves = [], threading.Condition(), False, None, words[:1] == ("serve",)
         self.reader = threading.Thread(target=self.read, daemon=True)
         self.reader.start()
 
     def read(self):
         for line in self.run.stdout:
             with self.came:
-                self.lines.append((time.monotonic(), line.decode()))
+                # (no other line begins so)
+                if self.serves and self.said is None and line.startswith(b'{"dropped":'):
+                    self.said = [text.encode() for _, text in self.lines] + [line]
+                else:
+                    self.lines.append((time.monotonic(), line.decode()))
                 self.came.notify_all()
         with self.came:
             self.is_over = True
@@ -283,8 +319,18 @@ class Heard:
                 if self.is_over or not self.came.wait(max(0, until - time.monotonic())):
                     return None, None
 
+    def ready(self, seconds=PATIENCE):
+        """The line by which it says that it is ready."""
+        until = time.monotonic() + seconds + more_patience(seconds)
+        with self.came:
+            while self.said is None and not self.is_over and time.monotonic() < until:
+                self.came.wait(until - time.monotonic())
+        if self.said is None:
+            raise AssertionError(f"it does not say that it is ready; {self.state()}")
+        return opening(self.said)[-1]
+
     def ends(self, seconds=PATIENCE):
-        """The exit status, after the end of its input."""
+        """The exit status, after the end of its input; one that serves and ends well has said that it is ready."""
         self.run.stdin.close()
         with contextlib.suppress(subprocess.TimeoutExpired):
             self.run.wait(seconds)
@@ -293,6 +339,8 @@ class Heard:
         except subprocess.TimeoutExpired:
             raise AssertionError(f"it did not end within {seconds} s after the end of its input; {self.state()}") from None
         self.reader.join()
+        if self.serves and status == 0:
+            self.ready()
         return status
 
     def killed(self):

@@ -14,7 +14,7 @@ SAMPLES = 100
 WORDED = {"error", "end", "outcome", "event", "state"}
 # how many lines of a form were seen, and of which kind they are
 seen, kinds = {}, {}
-# the keys of what a check's agents give as their metadata, where that looks like a line: it is none of the program's
+# the keys of what a check's agents give as their metadata, where that looks like a line: it is none of the program's, where `run` prints it
 metadata = set()
 
 

@@ -1,8 +1,8 @@
 #!/usr/bin/env python3
 # check: slow
-"""Feeds random lines, none of them an accepted command, to `PROGRAM run --memory`: as many lines must come out as lines with at least
-one byte went in, and the resident memory of the program must stay below 8 MiB, and not grow by the second half of the lines: so a few
-bytes that each line leaves are found.
+"""Feeds random lines, none of them an accepted command, to `PROGRAM run --memory`, and with tags to one that serves: as many lines must
+come out as lines with at least one byte went in, and the resident memory of the program must stay below 8 MiB, and not grow by the second
+half of the lines: so a few bytes that each line leaves are found.
 Use: random_lines.py PROGRAM, with LINES and SEED in the environment"""
 import json
 import random
@@ -15,15 +15,18 @@ import helper  # noqa: E402
 from helper import PROGRAM  # noqa: E402
 
 MOST, GROWS = 8192, 128  # KiB
-OPERATIONS = ["unregister", "forget", "info", "history", "params", "exec", "recur", "cancel", "withdraw", "list", "drain", "meta", "tidy"]
+OPERATIONS = ["unregister", "forget", "info", "history", "params", "exec", "recur", "cancel", "withdraw", "list", "drain", "meta", "tidy",
+              "status", "version"]
 WORDS = ["r1", "", ".", "..", "a b", "n" * 65, "start", "monitor", "p\u00e9", "\0", 7, -1, 1.5, 1e400, None, True, [], {}, "10000"]
-KEYS = ["id", "provider", "type", "params", "action", "timeout", "level", "interval", "call", "limit"]
+# what replies to a question have
+ANSWERS = [b'"resources":', b'"status":', b'"version":']
+KEYS = ["id", "provider", "type", "params", "action", "timeout", "level", "interval", "call", "limit", "tag"]
 
 
 def question():
     # of resources that are not there
     operation = random.choice(["list", "info", "history", "unregister", "forget"])
-    return json.dumps({"op": operation, "id": f"r{random.randrange(1000)}"}).encode()
+    return json.dumps({"op": operation, "id": f"r{random.randrange(1000)}", "tag": f"{random.randrange(1 << 60)}"}).encode()
 
 
 def refused():
@@ -67,7 +70,7 @@ class Replies:
         while part := self.file.read(1 << 20):
             *whole, self.rest = (self.rest + part).split(b"\n")
             self.count += len(whole)
-            self.accepted += sum(b'"call"' in line or line == b'{"ok":true}' for line in whole)
+            self.accepted += sum(b'"ok":true' in line and not any(word in line for word in ANSWERS) for line in whole)
 
     def awaits(self, count):
         until = time.monotonic() + 30
@@ -93,31 +96,39 @@ class RandomLines(helper.Check):
                 run.stdin.write(part)
         run.stdin.flush()
 
-    def test_lines(self):
-        """random lines, in bounded memory"""
+    def lines(self, word, more):
+        """Has one of this word answer random lines in bounded memory, each with a reply, and with so many lines more."""
         random.seed(helper.number("SEED", 20261122))
         count, filled = helper.number("LINES", 200_000), []
         halves = [range(count // 2), range(count // 2, count)]
         with open(self.place("replies"), "wb") as out:
-            run = subprocess.Popen([PROGRAM, "run", "--memory"], stdin=subprocess.PIPE, stdout=out)
+            run = subprocess.Popen([PROGRAM, word, "--memory"], stdin=subprocess.PIPE, stdout=out)
         self.addCleanup(run.kill)
         replies, resident = Replies(self.place("replies")), []
         for half in halves:
             filled.append(self.write(self.place("lines"), half))
             self.feed(run, self.place("lines"))
-            replies.awaits(sum(filled))
+            replies.awaits(sum(filled) + more)
             resident.append(helper.kib(run.pid, "VmRSS"))
         greatest = helper.kib(run.pid, "VmHWM")
         run.stdin.close()
         self.assertEqual(run.wait(helper.PATIENCE), 0)
         replies.read()
         replies.file.close()
-        print(f"random_lines: {count} lines, {sum(filled)} of them with bytes: {replies.count} replies, {replies.accepted} accepted; "
+        print(f"random_lines: {word}: {count} lines, {sum(filled)} with bytes: {replies.count} replies, {replies.accepted} accepted; "
               f"resident memory: {resident[0]} KiB after half of them, {resident[1]} KiB at the end, at most {greatest} KiB", flush=True)
-        self.assertEqual((replies.count, replies.rest), (sum(filled), b""), "as many replies as lines")
+        self.assertEqual((replies.count, replies.rest), (sum(filled) + more, b""), "as many replies as lines")
         self.assertEqual(replies.accepted, 0, "no line accepted")
         self.assertLess(greatest, MOST)
         self.assertLessEqual(resident[1] - resident[0], GROWS, "KiB that the second half leaves")
+
+    def test_run(self):
+        """random lines, in bounded memory"""
+        self.lines("run", 0)
+
+    def test_serve(self):
+        """random lines with tags, in bounded memory, of one that serves, and says once that it is ready"""
+        self.lines("serve", 1)
 
 
 if __name__ == "__main__":

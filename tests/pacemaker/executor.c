@@ -11,7 +11,7 @@ static void (*on_notice)(const char *line);
 static void (*on_opened)(void);
 static GPid child;
 static int to_child = -1, from_child = -1;
-static bool is_open, is_news;         /* a child has opened the journal, and on_opened was not called yet */
+static bool is_open, is_news;         /* a child is ready, and on_opened was not called yet */
 static int owed;                      /* replies that are passed over */
 static GString *input;                /* what was read and is no whole line yet */
 static GQueue notices = G_QUEUE_INIT; /* lines */
@@ -70,8 +70,7 @@ static gboolean tell_news(gpointer data) {
     return FALSE;
 }
 
-/* Takes a line: a notice, a reply that is passed over, or the one that is waited for. The first reply of a child is to what it was
-   told first, and says that the journal is open. */
+/* Takes a line: a notice, the one that says that the child is ready, a reply that is passed over, or the one that is waited for. */
 static void take(char *line, char **reply) {
     bool is_notice = g_str_has_prefix(line, "{\"action\":");
     crm_trace("< %s", line);
@@ -82,13 +81,14 @@ static void take(char *line, char **reply) {
     }
     if (is_notice) {
         g_queue_push_tail(&notices, line);
+    } else if (g_str_has_prefix(line, "{\"dropped\":")) {
+        is_open = is_news = true;
+        g_free(line);
     } else if (owed == 0) {
         *reply = line;
         return;
     } else {
         owed--;
-        is_news = is_news || !is_open;
-        is_open = true;
         if (!executor_did(line))
             crm_info("The executor refused: %s", line);
         g_free(line);
@@ -180,7 +180,6 @@ static void launch(void) {
     mainloop_add_fd("executor", G_PRIORITY_DEFAULT, from_child, NULL, &callbacks);
     crm_notice("Started the executor %s as process %d", command[0], (int)child);
     owed = 0;
-    executor_tell("{\"op\":\"list\"}");
 }
 
 void executor_start(char **words, void (*notice)(const char *line), void (*opened)(void)) {

@@ -3,7 +3,8 @@
 CONTRIBUTING.md, docs/, mutants/README.md and the crates' READMEs name in backticks is there, and each other word in backticks stands
 somewhere in the repository beside the documents; in a README, a section or a row of one crate it stands in that crate. Each label of
 a clause that a table or a list names after a function is that of a clause or of a field of a definition. Each file with a body that is
-proved by hand is named as trusted. The manual page has the options of `--help`, and no others, and fits 80 columns.
+proved by hand is named as trusted. ARCHITECTURE's rows are the headings of crates.txt, and no crate depends on one above its row. The
+manual page has the options of `--help`, and no others, and fits 80 columns.
 Use: documents.py PROGRAM"""
 import collections
 import fnmatch
@@ -66,6 +67,32 @@ def options(text):
 
 def is_any(pattern):
     return bool(glob.glob(pattern, root_dir=helper.TOP))
+
+
+def headings(text):
+    """The headings of crates.txt in their order, each with its crates and what these depend on."""
+    found = {}
+    for line in text.splitlines():
+        name, colon, below = line.partition(":")
+        if line.startswith("# ") and not colon:
+            crates = found[line[2:]] = {}
+        elif colon and not line.startswith("#"):
+            crates[name] = below.split()
+    return found
+
+
+def rows(text):
+    """The rows of ARCHITECTURE's first picture, the lowest first, each with its crates."""
+    picture = text.partition("```\n")[2].partition("```")[0]
+    found = [(line.split()[0], re.sub(r"\(.*?\)", "", line).split()[1:]) for line in picture.splitlines()]
+    return dict(reversed(found))
+
+
+def upward(found):
+    """Each crate that depends on one of a heading after its own, with that one."""
+    order = {name: number for number, crates in enumerate(found.values()) for name in crates}
+    return [(name, one) for crates in found.values() for name, below in crates.items() for one in below
+            if order.get(one, -1) > order[name]]
 
 
 class Names:
@@ -211,6 +238,14 @@ class Documents(helper.Check):
         self.assertGreater(len(found), 30)
         other = {path: sections for path, sections in found.items() if sections != [one for one in SECTIONS if one in sections]}
         self.assertEqual(other, {})
+
+    def test_rows(self):
+        """ARCHITECTURE's rows are the headings of crates.txt, with the same crates, and no crate depends on one above its row"""
+        listed, drawn = headings(read("crates.txt")), rows(read("docs/ARCHITECTURE.md"))
+        self.assertEqual([(name, sorted(crates)) for name, crates in listed.items()],
+                         [(name, sorted(crates)) for name, crates in drawn.items()])
+        self.assertEqual(upward(listed), [])
+        self.assertEqual(upward(headings("# one\na: c\n# two\nc: a")), [("a", "c")])
 
     def test_by_hand(self):
         """each file with a body that is proved by hand is named as trusted in docs/PROVED.md"""

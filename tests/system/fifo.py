@@ -1,6 +1,6 @@
 #!/usr/bin/env python3
 """The pair of units by which several programs share one executor, as systemd starts them: the FIFO is held open, and is the executor's
-input; its answers go to a file; and it ends by the unit's own command. Two writers write at once.
+input; its answers go to a file; and it ends by the unit's own command. Two writers write at once, and each knows what is its own by tags.
 Use: fifo.py PROGRAM"""
 import os
 import subprocess
@@ -14,16 +14,18 @@ from helper import PROGRAM  # noqa: E402
 
 EXAMPLES = os.path.join(helper.TOP, "examples")
 LINES = 1000
-# Writes so many lines, each by one write of a shell, of which each sets the parameters of one resource.
+# Writes so many lines, each by one write of a shell, of which each sets the parameters of one resource, and a registration, a line that
+# is refused, and a start with them. Each has a tag: the writer's name and a number.
 # Use: sh -c WRITER sh NAME COUNT FIFO
 WRITER = """exec > "$3"
-printf '{"op":"register","id":"%s","provider":"test","type":"Fast"}\\n' "$1"
+printf '{"op":"register","id":"%s","provider":"test","type":"Fast","tag":"%s 0"}\\n' "$1" "$1"
 n=0
 while [ $n -lt "$2" ]; do
     n=$((n + 1))
-    printf '{"op":"params","id":"%s","params":{"n":"%d"}}\\n' "$1" $n
+    printf '{"op":"params","id":"%s","params":{"n":"%d"},"tag":"%s %d"}\\n' "$1" $n "$1" $n
 done
-printf '{"op":"exec","id":"%s","action":"start"}\\n' "$1"
+printf '{"op":"exec","id":"%s","action":"fly","tag":"%s %d"}\\n' "$1" "$1" $((n + 1))
+printf '{"op":"exec","id":"%s","action":"start","tag":"%s %d"}\\n' "$1" "$1" $((n + 2))
 """
 
 
@@ -68,6 +70,14 @@ class Pair(helper.Check):
             self.assertLess(time.monotonic(), until, f"{len(found)} answers of {count}")
             time.sleep(0.05)
 
+    def are_of(self, name, count, found):
+        """These are the replies to all lines of a writer, in their order, and behind the last one its result: known by their tags alone."""
+        *replies, refused, start, result = found
+        self.assertEqual(replies, [{"ok": True, "tag": f"{name} {number}"} for number in range(count + 1)])
+        self.assertEqual((refused["key"], refused["tag"]), ("action", f"{name} {count + 1}"))
+        self.assertEqual(start, {"call": start["call"], "key": f"{name}_start_0", "ok": True, "tag": f"{name} {count + 2}"})
+        self.assertTrue(helper.is_notice(result, id=name, action="start", code=0, call=start["call"], tag=start["tag"]), result)
+
     def writers(self, count):
         run = self.starts()
         written = [subprocess.Popen(["sh", "-c", WRITER, "sh", name, str(count), self.fifo]) for name in ("one", "two")]
@@ -78,11 +88,11 @@ class Pair(helper.Check):
             self.assertIsNone(run.poll(), "it ended while lines were written")
             time.sleep(0.02)
         self.assertEqual([writer.returncode for writer in written], [0, 0])
-        # a registration, the parameters, a start and its result, of each
-        found = self.answered(run, 2 * (count + 3))
-        self.assertEqual([value for value in found if "error" in value], [])
-        self.assertEqual(sorted(value["id"] for value in found if helper.is_notice(value, action="start", code=0)), ["one", "two"])
-        self.assertEqual(found.count({"ok": True}), 2 * (count + 1))
+        # a registration, the parameters, a refusal, a start and its result, of each
+        found = self.answered(run, 2 * (count + 4))
+        self.assertEqual(len(found), 2 * (count + 4))
+        for name in ("one", "two"):
+            self.are_of(name, count, [value for value in found if value["tag"].startswith(f"{name} ")])
         shown = helper.replies(helper.shown(self.place("journal")))
         self.assertEqual([shown[place]["params"] for place in (1, 3)], [{"n": str(count)}] * 2)
         self.stops(run)
@@ -94,7 +104,8 @@ class Pair(helper.Check):
         run = self.starts()
         with open(self.fifo, "w", encoding="ascii") as commands:
             commands.write('{"op":"list"}\n')
-        self.assertEqual(sorted(self.answered(run, 48)[-1]["resources"]), ["one", "two"])
+        # (what the executor before it answered, with its end, stands before this)
+        self.assertEqual(sorted(self.answered(run, 2 * 24 + 2)[-1]["resources"]), ["one", "two"])
         self.stops(run)
 
     @helper.slow

@@ -3,7 +3,7 @@ use child_keeper::{Script, Scripted};
 use child_model::Poll;
 use disk_model::MemDisk;
 use exec_client::Teller;
-use exec_commands::NoticeForm;
+use exec_commands::{NoticeForm, Service};
 use exec_lines::{Input, Output};
 use exec_output::Fault;
 use exec_session::{LineRoom, Pace, RunContext, Way, run_lines};
@@ -43,6 +43,18 @@ fn children(alloc: Global, polls: &[Poll]) -> Option<Scripted> {
     Scripted::new(alloc, script, 768).ok()
 }
 
+// What notices say, and what a run that serves says of itself.
+fn form_of(way: Way) -> NoticeForm<'static> {
+    match way {
+        Way::Run => NoticeForm::Short,
+        Way::Serve => NoticeForm::Timed(Service {
+            version: "9.8.7",
+            journal: None,
+            left: &[],
+        }),
+    }
+}
+
 /// How a run ends over a journal that is opened at moment 5,000. Its drains make at most three turns.
 pub fn ended<R: Input + Drop, W: Output>(
     alloc: Global,
@@ -51,10 +63,11 @@ pub fn ended<R: Input + Drop, W: Output>(
     reader: R,
     writer: &mut W,
 ) -> Option<Result<(), Fault>> {
-    ended_in_way(alloc, Way::Run, disk, polls, reader, writer)
+    let (ended, _disk) = ended_in_way(alloc, Way::Run, disk, polls, reader, writer)?;
+    Some(ended)
 }
 
-// The same of a run that goes this way.
+// The same of a run that goes this way, and its disk.
 fn ended_in_way<R: Input + Drop, W: Output>(
     alloc: Global,
     way: Way,
@@ -62,13 +75,13 @@ fn ended_in_way<R: Input + Drop, W: Output>(
     polls: &[Poll],
     reader: R,
     writer: &mut W,
-) -> Option<Result<(), Fault>> {
+) -> Option<(Result<(), Fault>, MemDisk)> {
     let children = children(alloc, polls)?;
     let context = RunContext {
         alloc,
         metadata: &NoMetadata,
         way,
-        form: NoticeForm::Short,
+        form: form_of(way),
         most_turns: 3,
         tidy_at: 0,
         pace: Pace::new(),
@@ -81,7 +94,7 @@ fn ended_in_way<R: Input + Drop, W: Output>(
             };
             let edge = Edge::new(reader, client, &Standing);
             let run = run_lines(&context, edge, (executor, report), room);
-            Some(run.ended)
+            Some((run.ended, run.disk))
         }
         Err(_) => None,
     }
@@ -92,6 +105,7 @@ fn ended_in_way<R: Input + Drop, W: Output>(
 pub struct Answered {
     pub ended: Result<(), Fault>,
     written: Vec<u8>,
+    disk: MemDisk,
 }
 
 impl Answered {
@@ -109,8 +123,12 @@ fn run_in_way(
     lines: &[u8],
 ) -> Option<Answered> {
     let mut written = Vec::new(alloc);
-    let ended = ended_in_way(alloc, way, disk, polls, lines, &mut written)?;
-    Some(Answered { ended, written })
+    let (ended, disk) = ended_in_way(alloc, way, disk, polls, lines, &mut written)?;
+    Some(Answered {
+        ended,
+        written,
+        disk,
+    })
 }
 
 /// A run over these lines.
@@ -160,12 +178,22 @@ fn served(alloc: Global, polls: &[Poll], lines: &[u8]) -> Option<Answered> {
     run_in_way(alloc, Way::Serve, MemDisk::new(alloc), polls, lines)
 }
 
+const SERVED_ON: &str =
+    "{\"dropped\":0,\"interrupted\":0,\"journal\":null,\"ready\":true,\"resources\":0,\"version\":\"9.8.7\"}\n\
+    {\"ok\":true}\n{\"call\":1,\"key\":\"r1_start_0\",\"ok\":true}\n{\"end\":\"turns\"}\n";
+
+const SERVED_NOT_RUNNING: &str =
+    "{\"dropped\":0,\"interrupted\":0,\"journal\":null,\"ready\":true,\"resources\":0,\"version\":\"9.8.7\"}\n\
+    {\"ok\":true}\n{\"call\":1,\"key\":\"r1_start_0\",\"ok\":true}\n\
+    {\"action\":\"start\",\"at\":6000,\"call\":1,\"code\":7,\"expect\":0,\"failed\":true,\"id\":\"r1\",\"interval\":0,\
+    \"key\":\"r1_start_0\",\"name\":\"OCF_NOT_RUNNING\",\"outcome\":\"done\",\"run\":1,\"since\":6000}\n{\"end\":\"idle\"}\n";
+
 #[test]
-fn a_run_that_serves_answers_as_a_run_does(rt: HostRuntime) {
+fn a_run_that_serves_says_that_it_is_ready_and_answers_as_a_run_does(rt: HostRuntime) {
     let alloc = rt.alloc();
     for (polls, wanted) in [
-        ([].as_slice(), RUNS_ON),
-        (&[Poll::Running, Poll::Exited(7)], NOT_RUNNING),
+        ([].as_slice(), SERVED_ON),
+        (&[Poll::Running, Poll::Exited(7)], SERVED_NOT_RUNNING),
     ] {
         let run = served(alloc, polls, DRAIN).expect(&rt, "no run");
         assert_eq!(rt; run.text(), wanted);
@@ -182,13 +210,65 @@ const BEHIND_A_TURN: &[u8] =
     \n\n\n\n\n\n\n\n\n\n\n\n\n\n\n\n\n\n\n\n\n\n\n\n\n\n\n\n\n\n\n\n\n\n\n\n\n\n\n\n\n\n\
     {\"op\":\"list\"}\n";
 
-const REPORTED_BETWEEN: &str = "{\"ok\":true}\n{\"call\":1,\"key\":\"r1_start_0\",\"ok\":true}\n\
-    {\"action\":\"start\",\"call\":1,\"code\":7,\"id\":\"r1\",\"interval\":0,\"name\":\"OCF_NOT_RUNNING\",\"outcome\":\"done\",\"run\":1}\n\
+const REPORTED_BETWEEN: &str =
+    "{\"dropped\":0,\"interrupted\":0,\"journal\":null,\"ready\":true,\"resources\":0,\"version\":\"9.8.7\"}\n\
+    {\"ok\":true}\n{\"call\":1,\"key\":\"r1_start_0\",\"ok\":true}\n\
+    {\"action\":\"start\",\"at\":6000,\"call\":1,\"code\":7,\"expect\":0,\"failed\":true,\"id\":\"r1\",\"interval\":0,\
+    \"key\":\"r1_start_0\",\"name\":\"OCF_NOT_RUNNING\",\"outcome\":\"done\",\"run\":1,\"since\":6000}\n\
     {\"ok\":true,\"resources\":[\"r1\"]}\n";
 
 #[test]
 fn a_run_that_serves_makes_turns_between_lines(rt: HostRuntime) {
     let run = served(rt.alloc(), &[Poll::Exited(7)], BEHIND_A_TURN).expect(&rt, "no run");
     assert_eq!(rt; run.text(), REPORTED_BETWEEN);
+    assert_eq!(rt; run.ended, Ok(()));
+}
+
+// Two starts that wait, and the end of the input.
+const TWO_STARTS: &[u8] =
+    b"{\"op\":\"register\",\"id\":\"r1\",\"provider\":\"p\",\"type\":\"t\"}\n{\"op\":\"register\",\"id\":\"r2\",\"provider\":\"p\",\"type\":\"t\"}\n\
+    {\"op\":\"exec\",\"id\":\"r1\",\"action\":\"start\"}\n{\"op\":\"drain\",\"limit\":0}\n{\"op\":\"exec\",\"id\":\"r2\",\"action\":\"start\"}\n\
+    {\"op\":\"exec\",\"id\":\"r2\",\"action\":\"monitor\"}\n";
+
+// What was interrupted, what was dropped, and how many of each there were.
+const READY_AFTER_THE_REPORT: &str =
+    "{\"action\":\"start\",\"at\":6000,\"call\":1,\"code\":1,\"expect\":0,\"failed\":false,\"id\":\"r1\",\"interval\":0,\
+    \"key\":\"r1_start_0\",\"name\":\"OCF_ERR_GENERIC\",\"outcome\":\"interrupted\",\"run\":1,\"since\":6000}\n\
+    {\"action\":\"start\",\"at\":6000,\"call\":2,\"code\":1,\"expect\":0,\"failed\":false,\"id\":\"r2\",\"interval\":0,\
+    \"key\":\"r2_start_0\",\"name\":\"OCF_ERR_GENERIC\",\"outcome\":\"dropped\",\"run\":0,\"since\":6000}\n\
+    {\"action\":\"monitor\",\"at\":6000,\"call\":3,\"code\":1,\"expect\":0,\"failed\":false,\"id\":\"r2\",\"interval\":0,\
+    \"key\":\"r2_monitor_0\",\"name\":\"OCF_ERR_GENERIC\",\"outcome\":\"dropped\",\"run\":0,\"since\":6000}\n\
+    {\"dropped\":2,\"interrupted\":1,\"journal\":null,\"ready\":true,\"resources\":2,\"version\":\"9.8.7\"}\n";
+
+#[test]
+fn a_run_that_serves_says_after_the_report_how_many_lines_that_had(rt: HostRuntime) {
+    let alloc = rt.alloc();
+    let before = run_over(alloc, MemDisk::new(alloc), &[], TWO_STARTS).expect(&rt, "no run");
+    assert_eq!(rt; before.ended, Ok(()), "the end of the run before");
+    let run = run_in_way(alloc, Way::Serve, before.disk, &[], b"").expect(&rt, "no run");
+    assert_eq!(rt; run.text(), READY_AFTER_THE_REPORT);
+    assert_eq!(rt; run.ended, Ok(()));
+}
+
+// Lines with tags: commands that arrive together, one of them refused, a line that is refused in reading, a question and a drain.
+const TAGGED: &[u8] =
+    b"{\"op\":\"register\",\"id\":\"r1\",\"provider\":\"p\",\"type\":\"t\",\"tag\":\"a\"}\n\
+    {\"op\":\"exec\",\"id\":\"r2\",\"action\":\"start\",\"tag\":\"b\"}\n{\"op\":\"exec\",\"id\":\"r1\",\"action\":\"start\",\"tag\":\"\"}\n\
+    \n{\"op\":\"list\"}\n{\"op\":\"fly\",\"tag\":\"c\"}\n{\"op\":\"list\",\"tag\":\"d\"}\n{\"op\":\"drain\",\"tag\":\"e\"}\n";
+
+const TAGGED_REPLIES: &str =
+    "{\"dropped\":0,\"interrupted\":0,\"journal\":null,\"ready\":true,\"resources\":0,\"version\":\"9.8.7\"}\n\
+    {\"ok\":true,\"tag\":\"a\"}\n{\"error\":\"unknown-resource\",\"key\":\"id\",\"message\":\"no resource of this id is registered\",\"number\":5,\"tag\":\"b\"}\n\
+    {\"call\":1,\"key\":\"r1_start_0\",\"ok\":true,\"tag\":\"\"}\n{\"ok\":true,\"resources\":[\"r1\"]}\n\
+    {\"error\":\"unknown-op\",\"key\":\"op\",\"message\":\"op must be the name of an operation, a text\",\"number\":2,\"tag\":\"c\"}\n\
+    {\"ok\":true,\"resources\":[\"r1\"],\"tag\":\"d\"}\n\
+    {\"action\":\"start\",\"at\":6000,\"call\":1,\"code\":7,\"expect\":0,\"failed\":true,\"id\":\"r1\",\"interval\":0,\
+    \"key\":\"r1_start_0\",\"name\":\"OCF_NOT_RUNNING\",\"outcome\":\"done\",\"run\":1,\"since\":6000,\"tag\":\"\"}\n\
+    {\"end\":\"idle\",\"tag\":\"e\"}\n";
+
+#[test]
+fn a_reply_and_a_notice_have_the_tag_of_their_line(rt: HostRuntime) {
+    let run = served(rt.alloc(), &[Poll::Exited(7)], TAGGED).expect(&rt, "no run");
+    assert_eq!(rt; run.text(), TAGGED_REPLIES);
     assert_eq!(rt; run.ended, Ok(()));
 }

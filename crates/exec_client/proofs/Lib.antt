@@ -1,6 +1,8 @@
 pub mod Behinds
 pub mod Saying
+pub mod Along
 pub mod Lines
+pub mod TagLemmas
 pub mod CallsTold
 pub mod Growing
 pub mod Plain

@@ -1,42 +1,133 @@
 -- The lines of what is sent.
-use Rattle.std.proofs.Common.{◌≡◌, ℕ, List, [], ◌∷◌, ◌++◌, map, Result, Ok, Err, OnErr, OnOk, Option, refl, sym, ap, subst}
+use Rattle.std.proofs.Common.{◌≡◌, ℕ, ◌+◌, ◌<◌, ◌≤◌, ◌∙◌, List, [], ◌∷◌, ◌++◌, map, drop, get_or, length, Option, None, Result, OnErr, OnOk, refl, sym, ap, subst}
 use Rattle.std.specs.Io.KnownBytes.{Appends}
 use Rattle.std.specs.List.{flat_map}
 use Rattle.exec_lines.specs.Fronts.{AppendsFront}
+use Rattle.ocf_types.specs.Kinds.{Reply}
 use Rattle.ocf_types.specs.declared.reply.Notice.{Notice}
+use Rattle.ocf_types.specs.declared.reply.ReplyOf.TheVariants as reply
 use Rattle.exec_commands.specs.Replies.{formed_line}
 use Rattle.exec_commands.specs.declared.notice.NoticeForm.{NoticeForm}
-use Rattle.exec_client.specs.Said.{Said, line_of}
+use Rattle.child_model.specs.declared.answer.Entry.{Entry}
+use Rattle.exec_client.specs.Said.{Noticed, Reported, answered, line_of, lines_of, noticed_by}
+use Rattle.exec_client.specs.Signals.{signal_of}
+use Rattle.exec_client.specs.Tags.{TagsView, after_notice, after_reply, first_tag, next_line, tag_of_call}
+use Rattle.exec_client.specs.ToldTags.{after_notices, after_replies, notice_tags}
+use Rattle.exec_client.proofs.Along.{Along, along_all, along_more, along_part, drop_next, drop_none}
 
--- the lines of items that are sent in this form
-pub lines_are : {X : Type 0} (form : NoticeForm) (tell : X → Said) (xs : List X)
-    → flat_map (line_of form) (map tell xs) ≡ flat_map (λ x. line_of form (tell x)) xs
-lines_are form tell [] = refl
-lines_are form tell (x ∷ xs) = ap (λ (l : List ℕ). line_of form (tell x) ++ l) (lines_are form tell xs)
+-- bytes that are the same
+pub appends_same : (a b : Option (List ℕ)) (l m : List ℕ) → l ≡ m → Appends a b l → Appends a b m
+appends_same a b l m same written = subst (λ (t : List ℕ). Appends a b t) same written
 
--- what is written of several that are sent in this form
-pub writes_all : {X T E : Type 0} (form : NoticeForm) (tell : X → Said) (xs : List X) (more : List Said) (r : Result T E)
-    (a b : Option (List ℕ)) → more ≡ map tell xs → OnOk r (Appends a b (flat_map (λ x. line_of form (tell x)) xs))
-    → OnOk r (Appends a b (flat_map (line_of form) more))
-writes_all form tell xs more (Ok done) a b is written =
-    subst (λ (ss : List Said). Appends a b (flat_map (line_of form) ss)) (sym is)
-    (subst (λ (l : List ℕ). Appends a b l) (sym (lines_are form tell xs)) written)
-writes_all form tell xs more (Err e) a b is written = tt
+pub front_same : (a b : Option (List ℕ)) (l m : List ℕ) → l ≡ m → AppendsFront a b l → AppendsFront a b m
+front_same a b l m same part = subst (λ (t : List ℕ). AppendsFront a b t) same part
 
--- what is written of them where it breaks off
-pub breaks_off : {X T E : Type 0} (form : NoticeForm) (tell : X → Said) (xs : List X) (more : List Said) (r : Result T E)
-    (a b : Option (List ℕ)) → more ≡ map tell xs → OnErr r (AppendsFront a b (flat_map (λ x. line_of form (tell x)) xs))
-    → OnErr r (AppendsFront a b (flat_map (line_of form) more))
-breaks_off form tell xs more (Ok done) a b is front = tt
-breaks_off form tell xs more (Err e) a b is front =
-    subst (λ (ss : List Said). AppendsFront a b (flat_map (line_of form) ss)) (sym is)
-    (subst (λ (l : List ℕ). AppendsFront a b l) (sym (lines_are form tell xs)) front)
+pub ok_same : {T E : Type 0} (r : Result T E) (a b : Option (List ℕ)) (l m : List ℕ) → m ≡ l → OnOk r (Appends a b l) → OnOk r (Appends a b m)
+ok_same r a b l m same written = subst (λ (t : List ℕ). OnOk r (Appends a b t)) (sym same) written
 
--- a notice that is written with this signal, and where it breaks off
-pub sends_signaled : {T E : Type 0} (form : NoticeForm) (n : Notice) (s t : Option ℕ) (r : Result T E) (a b : Option (List ℕ)) → s ≡ t
-    → OnOk r (Appends a b (formed_line form s n)) → OnOk r (Appends a b (formed_line form t n))
-sends_signaled form n s t r a b is written = subst (λ (o : Option ℕ). OnOk r (Appends a b (formed_line form o n))) is written
+pub err_same : {T E : Type 0} (r : Result T E) (a b : Option (List ℕ)) (l m : List ℕ) → m ≡ l → OnErr r (AppendsFront a b l)
+    → OnErr r (AppendsFront a b m)
+err_same r a b l m same part = subst (λ (t : List ℕ). OnErr r (AppendsFront a b t)) (sym same) part
 
-pub front_signaled : {T E : Type 0} (form : NoticeForm) (n : Notice) (s t : Option ℕ) (r : Result T E) (a b : Option (List ℕ)) → s ≡ t
-    → OnErr r (AppendsFront a b (formed_line form s n)) → OnErr r (AppendsFront a b (formed_line form t n))
-front_signaled form n s t r a b is front = subst (λ (o : Option ℕ). OnErr r (AppendsFront a b (formed_line form o n))) is front
+-- the lines of a report have no tags
+pub report_lines : (form : NoticeForm) (ns : List Notice) → lines_of form [] (map Reported ns) ≡ flat_map (formed_line form None None) ns
+report_lines form [] = refl
+report_lines form (n ∷ ns) = ap (λ (l : List ℕ). formed_line form None None n ++ l) (report_lines form ns)
+
+-- a reply takes no line away
+reply_lines : (r : Reply) (v : TagsView) → (after_reply r v).lines ≡ v.lines
+reply_lines (reply.Refused why) v = refl
+reply_lines reply.Done v = refl
+reply_lines (reply.Accepted call key) v = refl
+reply_lines (reply.List ids) v = refl
+reply_lines (reply.Info info) v = refl
+reply_lines (reply.History results) v = refl
+reply_lines (reply.Turn end) v = refl
+
+module _ (form : NoticeForm) where
+  -- the lines of these replies
+  abbrev pub reply_rest : TagsView → List Reply → List ℕ
+  reply_rest v rs = lines_of form v.lines (map answered rs)
+
+  -- of all replies the first ones are sent, and those from this index on are left
+  pub record Answers (was now : TagsView) (rs : List Reply) (i : ℕ) (old new : Option (List ℕ)) : Type 0 where
+    pub lines : Along (reply_rest was rs) (reply_rest now (drop i rs)) old new
+    pub kept : after_replies rs was ≡ after_replies (drop i rs) now
+
+  -- the next one, and what is left then
+  next_rest : (v : TagsView) (rs : List Reply) (i : ℕ) (r : Reply) → drop i rs ≡ r ∷ drop (i + 1) rs
+      → reply_rest v (drop i rs)
+      ≡ line_of form (first_tag v.lines) (answered r) ++ reply_rest (after_reply r (next_line v)) (drop (i + 1) rs)
+  next_rest v rs i r is =
+      ap (λ (xs : List Reply). reply_rest v xs) is
+      ∙ ap (λ ts. line_of form (first_tag v.lines) (answered r) ++ lines_of form ts (map answered (drop (i + 1) rs)))
+      (sym (reply_lines r (next_line v)))
+
+  pub answers_more : (was v w : TagsView) (rs : List Reply) (i : ℕ) (r : Reply) (a b c : Option (List ℕ)) → i < length rs → r ≡ get_or rs i r
+      → Answers was v rs i a b → Appends b c (line_of form (first_tag v.lines) (answered r)) → w ≡ after_reply r (next_line v)
+      → Answers was w rs (i + 1) a c
+  answers_more was v w rs i r a b c lt at so_far sent is =
+      let next = drop_next rs i r lt at in
+      subst (λ (u : TagsView). Answers was u rs (i + 1) a c) (sym is) (record {
+        lines = along_more (reply_rest was rs) (line_of form (first_tag v.lines) (answered r))
+            (reply_rest (after_reply r (next_line v)) (drop (i + 1) rs)) a b c
+            (subst (λ (l : List ℕ). Along (reply_rest was rs) l a b) (next_rest v rs i r next) so_far.lines) sent;
+        kept = so_far.kept ∙ ap (λ (xs : List Reply). after_replies xs v) next;
+      })
+
+  pub answers_part : (was v : TagsView) (rs : List Reply) (i : ℕ) (r : Reply) (a b c : Option (List ℕ)) → i < length rs → r ≡ get_or rs i r
+      → Answers was v rs i a b → AppendsFront b c (line_of form (first_tag v.lines) (answered r)) → AppendsFront a c (reply_rest was rs)
+  answers_part was v rs i r a b c lt at so_far part =
+      along_part (reply_rest was rs) (line_of form (first_tag v.lines) (answered r))
+      (reply_rest (after_reply r (next_line v)) (drop (i + 1) rs)) a b c
+      (subst (λ (l : List ℕ). Along (reply_rest was rs) l a b) (next_rest v rs i r (drop_next rs i r lt at)) so_far.lines) part
+
+  pub answers_all : (was v : TagsView) (rs : List Reply) (i : ℕ) (a b : Option (List ℕ)) → length rs ≤ i → Answers was v rs i a b
+      → Appends a b (reply_rest was rs) × (v ≡ after_replies rs was)
+  answers_all was v rs i a b le so_far = (
+    along_all (reply_rest was rs) (reply_rest v (drop i rs)) a b (ap (λ (xs : List Reply). reply_rest v xs) (drop_none rs i le)) so_far.lines,
+    sym (so_far.kept ∙ ap (λ (xs : List Reply). after_replies xs v) (drop_none rs i le)),
+  )
+
+  -- the same of notices, with the signals of this book
+  module _ (book : List Entry) where
+    abbrev pub notice_rest : TagsView → List Notice → List ℕ
+    notice_rest v ns = lines_of form (notice_tags v ns) (map (noticed_by book) ns)
+
+    pub record Noticing (was now : TagsView) (ns : List Notice) (i : ℕ) (old new : Option (List ℕ)) : Type 0 where
+      pub lines : Along (notice_rest was ns) (notice_rest now (drop i ns)) old new
+      pub kept : after_notices ns was ≡ after_notices (drop i ns) now
+
+    -- the line of the next one
+    abbrev pub notice_line : TagsView → Notice → List ℕ
+    notice_line v n = line_of form (tag_of_call n.result.call v.calls) (noticed_by book n)
+
+    -- it is the line of a notice with this signal
+    pub signaled_line : (v : TagsView) (m n : Notice) (s : Option ℕ) → m ≡ n → s ≡ signal_of book n.result.run
+        → line_of form (tag_of_call m.result.call v.calls) (Noticed m s) ≡ notice_line v n
+    signaled_line v m n s same is =
+        ap (λ (k : Notice). line_of form (tag_of_call k.result.call v.calls) (Noticed k s)) same
+        ∙ ap (λ (t : Option ℕ). line_of form (tag_of_call n.result.call v.calls) (Noticed n t)) is
+
+    pub notices_more : (was v w : TagsView) (ns : List Notice) (i : ℕ) (n : Notice) (a b c : Option (List ℕ)) → i < length ns → n ≡ get_or ns i n
+        → Noticing was v ns i a b → Appends b c (notice_line v n) → w ≡ after_notice n v → Noticing was w ns (i + 1) a c
+    notices_more was v w ns i n a b c lt at so_far sent is =
+        let next = drop_next ns i n lt at in
+        subst (λ (u : TagsView). Noticing was u ns (i + 1) a c) (sym is) (record {
+          lines = along_more (notice_rest was ns) (notice_line v n) (notice_rest (after_notice n v) (drop (i + 1) ns)) a b c
+              (subst (λ (xs : List Notice). Along (notice_rest was ns) (notice_rest v xs) a b) next so_far.lines) sent;
+          kept = so_far.kept ∙ ap (λ (xs : List Notice). after_notices xs v) next;
+        })
+
+    pub notices_part : (was v : TagsView) (ns : List Notice) (i : ℕ) (n : Notice) (a b c : Option (List ℕ)) → i < length ns → n ≡ get_or ns i n
+        → Noticing was v ns i a b → AppendsFront b c (notice_line v n) → AppendsFront a c (notice_rest was ns)
+    notices_part was v ns i n a b c lt at so_far part =
+        along_part (notice_rest was ns) (notice_line v n) (notice_rest (after_notice n v) (drop (i + 1) ns)) a b c
+        (subst (λ (xs : List Notice). Along (notice_rest was ns) (notice_rest v xs) a b) (drop_next ns i n lt at) so_far.lines) part
+
+    pub notices_all : (was v : TagsView) (ns : List Notice) (i : ℕ) (a b : Option (List ℕ)) → length ns ≤ i → Noticing was v ns i a b
+        → Appends a b (notice_rest was ns) × (v ≡ after_notices ns was)
+    notices_all was v ns i a b le so_far = (
+      along_all (notice_rest was ns) (notice_rest v (drop i ns)) a b (ap (λ (xs : List Notice). notice_rest v xs) (drop_none ns i le)) so_far.lines,
+      sym (so_far.kept ∙ ap (λ (xs : List Notice). after_notices xs v) (drop_none ns i le)),
+    )

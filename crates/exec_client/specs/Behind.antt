@@ -1,7 +1,6 @@
 -- The events that back what is sent: each acknowledgement and each notice of a result has an event of its own.
 use Rattle.std.specs.Prelude.{◌≡◌, Bool, true, false, List, [], ◌∷◌}
 use Rattle.ocf_types.specs.Kinds.{Event}
-use Rattle.ocf_types.specs.declared.reply.Notice.{Notice}
 use Rattle.ocf_types.specs.declared.reply.ReplyOf.TheVariants.{Accepted, Done}
 use Rattle.exec_ledger.specs.Replies.{KeepsRunning, acknowledged}
 use Rattle.executor.specs.Promise.{IsOfResult}

@@ -1,5 +1,8 @@
 pub mod Signals
+pub mod Tags
+pub mod Waiting
 pub mod Said
+pub mod ToldTags
 pub mod Behind
 pub mod Tells
 pub mod Heard

@@ -1,5 +1,5 @@
 -- When a client may be sent something.
-use Rattle.std.specs.Prelude.{◌≡◌, ◌⊎◌, true, ⊤, List, [], ◌∷◌, ◌++◌}
+use Rattle.std.specs.Prelude.{◌≡◌, ◌⊎◌, true, ⊤, List, [], ◌∷◌, ◌++◌, length}
 use Rattle.std.specs.List.{AllByRecursion}
 use Rattle.ocf_types.specs.Answer.{reply_to}
 use Rattle.ocf_types.specs.Kinds.{Reply}
@@ -10,8 +10,11 @@ use Rattle.disk_model.specs.View.{View}
 use Rattle.executor.specs.Lives.{Calls, Exchange}
 use Rattle.executor.specs.Sessions.{Effects}
 use Rattle.executor.specs.Sights.{Sight}
+use Rattle.exec_commands.specs.Replies.{statuses_in}
 use Rattle.exec_commands.specs.declared.reply.LineReply.{LineReply}
-use Rattle.exec_commands.specs.declared.reply.LineReply.TheVariants.{Request}
+use Rattle.exec_commands.specs.declared.reply.LineReply.TheVariants as line
+use Rattle.exec_commands.specs.declared.service.Counts.{Counts}
+use Rattle.exec_output.specs.StatusLines.{statuses_of}
 use Rattle.exec_client.specs.Behind.{Behind}
 use Rattle.exec_client.specs.Heard.{Heard}
 use Rattle.exec_client.specs.Said.{Answered, Said, said_in}
@@ -39,8 +42,17 @@ MayAnswer x (reply.Info info) = IsAnswer x (reply.Info info)
 MayAnswer x (reply.History results) = IsAnswer x (reply.History results)
 MayAnswer x _ = ⊤
 
+-- the resources of this executor are so many, and so many results its opening reported as interrupted and as dropped
+abbrev pub IsCounted : {D : Type 0} → Sight D → Counts → Type 0
+IsCounted x counts =
+    (counts.resources ≡ length x.state.resources) × (counts.interrupted ≡ length x.reported.interrupted)
+    × (counts.dropped ≡ length x.reported.dropped)
+
+-- the same of the reply to a line: how all resources are is said from the state, too
 abbrev pub MayReply : {D : Type 0} → Sight D → LineReply → Type 0
-MayReply x (Request given) = MayAnswer x given
+MayReply x (line.Request given) = MayAnswer x given
+MayReply x (line.Status statuses) = (x.is_open ≡ true) × (statuses_in statuses ≡ statuses_of x.state)
+MayReply x (line.Ready counts) = IsCounted x counts
 MayReply x _ = ⊤
 
 -- the opening of this executor reported these as interrupted, or as dropped
@@ -50,6 +62,7 @@ IsReported x notices = (notices ≡ x.reported.interrupted) ⊎ (notices ≡ x.r
 -- answers are from the state at which the executor is settled, a report is that of its opening
 abbrev pub MaySay : {D : Type 0} → Sight D → Told → Type 0
 MaySay x (told.Reply given) = MayReply x given.now
+MaySay x (told.News given) = MayReply x given.now
 MaySay x (told.Replies given) = AllByRecursion (MayAnswer x) given.now
 MaySay x (told.Notices turn) = ⊤
 MaySay x (told.Report notices) = IsReported x notices.now

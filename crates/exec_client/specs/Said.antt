@@ -1,5 +1,5 @@
 -- What a client is sent.
-use Rattle.std.specs.Prelude.{ℕ, List, [], ◌∷◌, map, Option, None}
+use Rattle.std.specs.Prelude.{ℕ, List, [], ◌∷◌, ◌++◌, drop, map, Option, None}
 use Rattle.ocf_types.specs.Kinds.{Reply}
 use Rattle.ocf_types.specs.declared.reply.Notice.{Notice}
 use Rattle.exec_commands.specs.Replies.{formed_line, told_reply_line}
@@ -8,10 +8,11 @@ use Rattle.exec_commands.specs.declared.reply.LineReply.{LineReply}
 use Rattle.exec_commands.specs.declared.reply.LineReply.TheVariants.{Request}
 use Rattle.child_model.specs.declared.answer.Entry.{Entry}
 use Rattle.exec_client.specs.Signals.{signal_of}
+use Rattle.exec_client.specs.Tags.{LineTag, first_tag}
 use Rattle.exec_client.specs.declared.told.Told.{Told}
 use Rattle.exec_client.specs.declared.told.Told.TheVariants as told
 
--- the reply to a line, a notice of a turn with the signal that ended its run, where one did, or a line of what the opening reports
+-- the reply to a line or news of another kind, a notice of a turn with the signal that ended its run, where one did, or a line of what the opening reports
 pub data Said : Type 0 where
   Answered : LineReply → Said
   Noticed : Notice → Option ℕ → Said
@@ -28,12 +29,18 @@ noticed_by book notice = Noticed notice (signal_of book notice.result.run)
 -- all that is sent at once, in its order
 abbrev pub said_in : Told → List Said
 said_in (told.Reply reply) = Answered reply.now ∷ []
+said_in (told.News reply) = Answered reply.now ∷ []
 said_in (told.Replies replies) = map answered replies.now
 said_in (told.Notices turn) = map (noticed_by turn.book.now) turn.notices.now
 said_in (told.Report notices) = map Reported notices.now
 
--- the line that says it in a run whose notices have this form
-abbrev pub line_of : NoticeForm → Said → List ℕ
-line_of form (Answered reply) = told_reply_line form reply
-line_of form (Noticed notice signal) = formed_line form signal notice
-line_of form (Reported notice) = formed_line form None notice
+-- the line that says it in a run whose notices have this form, with this tag
+abbrev pub line_of : NoticeForm → LineTag → Said → List ℕ
+line_of form tag (Answered reply) = told_reply_line form tag reply
+line_of form tag (Noticed notice signal) = formed_line form tag signal notice
+line_of form tag (Reported notice) = formed_line form tag None notice
+
+-- the lines that say these, the first with the first of these tags and so on; where there are fewer tags, the others have none
+abbrev pub lines_of : NoticeForm → List LineTag → List Said → List ℕ
+lines_of form tags [] = []
+lines_of form tags (s ∷ ss) = line_of form (first_tag tags) s ++ lines_of form (drop 1 tags) ss

@@ -2,13 +2,19 @@
 #![tactic(auto)]
 
 mod client;
+mod kept_calls;
 pub mod laws;
+mod notices;
+mod replies;
 mod seen;
 mod signals;
+mod tags;
 mod teller;
 mod telling;
 mod told;
+mod waiting;
 
 pub use client::Client;
+pub use tags::Tags;
 pub use teller::Teller;
 pub use told::{Told, TurnNotices};

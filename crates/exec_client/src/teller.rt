@@ -1,26 +1,27 @@
 //! A client over a writer.
 ghost use Rattle.std.specs.Prelude.{◌≡◌, [], IfErr, IsTrue, OnErr, OnOk};
 ghost use Rattle.std.specs.Io.KnownBytes.{Appends};
-ghost use Rattle.std.specs.List.{flat_map};
 ghost use Rattle.exec_lines.specs.Fronts.{AppendsFront};
 ghost use Rattle.exec_output.specs.declared.send.IoFault.TheVariants.{Memory};
 ghost use Rattle.exec_client.specs.Heard.{Heard};
-ghost use Rattle.exec_client.specs.Said.{line_of, noticed_by, said_in};
+ghost use Rattle.exec_client.specs.Said.{lines_of, said_in};
+ghost use Rattle.exec_client.specs.ToldTags.{after_told, told_tags};
 
 use crate::client::Client;
+use crate::notices::send_turn;
+use crate::replies::{Making, send_answer, send_answers, send_news};
 use crate::seen::Seen;
-use crate::signals::signal_of;
+use crate::tags::Tags;
 use crate::telling::Telling;
 use crate::told::Told;
-use child_model::{Children, Entry};
+use child_model::Children;
 use disk_model::Disk;
-use exec_commands::NoticeForm;
+use exec_commands::{NoticeForm, Tag};
 use exec_lines::Output;
-use exec_output::{IoFault, send_notice, send_notices, send_replies, send_reply};
+use exec_output::{IoFault, send_notices};
 use executor::Executor;
 use growth::Grows;
-use ocf_types::Notice;
-use std::alloc::Global;
+use std::alloc::{AllocError, Global};
 use std::io::Write;
 
 /// A client of an executor of this type to which lines are written. Nobody else holds the writer.
@@ -30,72 +31,31 @@ pub struct Teller<E, W> {
     pub(crate) writer: W,
     pub(crate) opened: Seen<E>,
     pub(crate) telling: Telling,
-}
-
-// Writes the line of a notice, with the signal that ended its run by this book, and flushes it. After an error a prefix of
-// it is written.
-fn send_noticed<W: Write>(
-    alloc: Global,
-    writer: &mut W,
-    form: NoticeForm,
-    notice: &Notice,
-    book: &[Entry],
-) -> Result<(), IoFault>
-    ensures sent { OnOk result
-        (Appends (W.contents writer.old) (W.contents writer.new)
-        (line_of form.entry (noticed_by book.now notice.now))) }
-    ensures front { OnErr result
-        (AppendsFront (W.contents writer.old) (W.contents writer.new)
-        (line_of form.entry (noticed_by book.now notice.now))) }
-    ensures memory { IfErr result (λ f. f ≡ Memory → IsTrue ⟦<Global as Grows>⟧.refuses) }
-{
-    let signal = signal_of(book, notice.result.run);
-    send_notice(alloc, writer, form, notice, signal)
-}
-
-// Writes a turn's notices, a line each with the signal that ended its run by this book, and flushes each line. After an
-// error a prefix of the lines is written.
-fn send_turn<W: Write>(
-    alloc: Global,
-    writer: &mut W,
-    form: NoticeForm,
-    notices: &[Notice],
-    book: &[Entry],
-) -> Result<(), IoFault>
-    ensures sent { OnOk result
-        (Appends (W.contents writer.old) (W.contents writer.new)
-        (flat_map (λ n. line_of form.entry (noticed_by book.now n)) notices.now)) }
-    ensures front { OnErr result
-        (AppendsFront (W.contents writer.old) (W.contents writer.new)
-        (flat_map (λ n. line_of form.entry (noticed_by book.now n)) notices.now)) }
-    ensures memory { IfErr result (λ f. f ≡ Memory → IsTrue ⟦<Global as Grows>⟧.refuses) }
-{
-    for notice in notices {
-        send_noticed(alloc, writer, form, notice, book)?;
-    }
-    Ok(())
+    tags: Tags,
 }
 
 // Writes the lines of a message, and flushes them. After an error a prefix of them is written.
 fn write_told<W: Output>(
-    alloc: Global,
+    making: &Making,
     writer: &mut W,
-    form: NoticeForm,
+    tags: &mut Tags,
     what: &Told,
 ) -> Result<(), IoFault>
     ensures sent { OnOk result
         (Appends (W.contents writer.old) (W.contents writer.new)
-        (flat_map (line_of form.entry) (said_in what.now))) }
+        (lines_of making.now.form (told_tags tags.old what.now) (said_in what.now))) }
     ensures front { OnErr result
         (AppendsFront (W.contents writer.old) (W.contents writer.new)
-        (flat_map (line_of form.entry) (said_in what.now))) }
+        (lines_of making.now.form (told_tags tags.old what.now) (said_in what.now))) }
+    ensures kept { OnOk result (tags.new ≡ after_told what.now tags.old) }
     ensures memory { IfErr result (λ f. f ≡ Memory → IsTrue ⟦<Global as Grows>⟧.refuses) }
 {
     match what {
-        Told::Reply(reply) => send_reply(alloc, writer, form, reply),
-        Told::Replies(replies) => send_replies(alloc, writer, form, replies),
-        Told::Notices(turn) => send_turn(alloc, writer, form, turn.notices, turn.book),
-        Told::Report(notices) => send_notices(alloc, writer, form, notices),
+        Told::Reply(reply) => send_answer(making, writer, tags, reply),
+        Told::Replies(replies) => send_answers(making, writer, tags, replies),
+        Told::Notices(turn) => send_turn(making, writer, tags, turn),
+        Told::News(reply) => send_news(making, writer, reply),
+        Told::Report(notices) => send_notices(making.alloc, writer, making.form, notices),
     }
 }
 
@@ -111,6 +71,7 @@ impl<E, W: Output> Teller<E, W> {
             writer,
             opened: Seen::of(executor),
             telling: Telling::new(),
+            tags: Tags::new(alloc),
         }
     }
 
@@ -134,7 +95,15 @@ impl<D: Disk + Drop, C: Children + Drop, W: Output> Client<D, C> for Teller<Exec
         what: &Told,
     ) -> Result<(), IoFault> {
         self.telling.note(what);
-        write_told(self.alloc, &mut self.writer, form, what)
+        let making = Making {
+            alloc: self.alloc,
+            form,
+        };
+        write_told(&making, &mut self.writer, &mut self.tags, what)
+    }
+
+    fn note_tag(&mut self, tag: Option<Tag>) -> Result<(), AllocError> {
+        self.tags.note(tag)
     }
 
     fn is_heard(&self) -> bool {

@@ -1,6 +1,8 @@
 //! What was sent, for contracts alone.
 ghost use Rattle.std.specs.Prelude.{◌≡◌, List, [], ◌++◌};
 ghost use Rattle.std.specs.Borrow.{ftrue};
+ghost use Rattle.std.specs.Coded.{codes};
+ghost use Rattle.serde_json.specs.contracts.value.Value as json_value;
 ghost use Rattle.exec_client.specs.Said.{Said};
 
 use crate::told::Told;
@@ -11,7 +13,7 @@ use std::marker::Model;
 /// Nothing of it is kept when the program runs. So `new` and `with` have no body to speak of, and are proved by hand.
 #[derive(Drop)]
 pub struct Telling {
-    pub ghost said: { List Said },
+    pub ghost said: { List Said } by { Prim.hlevel (codes, json_value.the_row.coded) },
 }
 
 impl Model for Telling {

@@ -41,6 +41,8 @@ pub enum Told<'a> {
     Replies(&'a [Reply]),
     /// A turn's notices.
     Notices(TurnNotices<'a>),
+    /// What answers no line: how an own turn ended, or that the run is ready.
+    News(&'a LineReply),
     /// What the opening reports, or a part of that.
     Report(&'a [Notice]),
 }

@@ -1,5 +1,8 @@
 -- No reply and no notice has a float.
-use Rattle.std.proofs.Common.{◌≡◌, ℕ, false, List, [], ◌∷◌, map, Option, Some, None, Ok, Err, refl}
+use Rattle.std.proofs.Common.{◌≡◌, ℕ, Bool, true, false, if◌then◌else◌, Bor, List, [], ◌∷◌, map, Option, Some, None, Result, Ok, Err}
+use Rattle.std.proofs.Common.{refl}
+use Rattle.std.specs.Global.{Vec}
+use Rattle.std.specs.Str.{is_utf8}
 use Rattle.serde_json.specs.Data.{Data, string}
 use Rattle.serde_json.specs.View.{items_of}
 use Rattle.serde_json.specs.Written.{has_float, items_have_float, members_have_float}
@@ -11,7 +14,8 @@ use Rattle.ocf_types.specs.declared.reply.Notice.{Notice}
 use Rattle.ocf_types.specs.declared.reply.ReplyOf.TheVariants as reply
 use Rattle.exec_commands.specs.Objects.{natural_data, param_members}
 use Rattle.exec_commands.specs.Replies.{recur_data, running_data, failed_data, info_data, ended_data, formed_data, lives_of, timed_notice_data, request_data}
-use Rattle.exec_commands.specs.Replies.{keyed_data, refused_data, served_data, served_request_data}
+use Rattle.exec_commands.specs.Replies.{keyed_data, refused_data, served_meta_data, served_request_data}
+use Rattle.exec_commands.specs.Service.{journal_data, no_text_data, ready_data, text_data}
 use Rattle.ocf_types.specs.Refusals.{refusal_row}
 use Rattle.line_keys.specs.Messages.{about_key, message_of}
 use Rattle.line_keys.specs.declared.refused.About.TheVariants.{Whole}
@@ -22,6 +26,8 @@ use Rattle.ocf_types.specs.declared.outcome.MetaFault.{MetaFault}
 use Rattle.ocf_types.specs.declared.outcome.MetaFault.TheVariants as fault
 use Rattle.exec_commands.specs.declared.notice.NoticeForm.{NoticeForm}
 use Rattle.exec_commands.specs.declared.notice.NoticeForm.TheVariants as notice_form
+use Rattle.exec_commands.specs.declared.service.Counts.{Counts}
+use Rattle.exec_commands.specs.declared.service.Service.{Service}
 use Rattle.exec_commands.specs.declared.reply.LineReply.{LineReply}
 use Rattle.exec_commands.specs.declared.reply.LineReply.TheVariants as line
 
@@ -87,6 +93,9 @@ reply_has_no_float line.Left = refl
 reply_has_no_float (line.Meta (Ok metadata)) = refl
 reply_has_no_float (line.Meta (Err f)) = fault_no_float f
 reply_has_no_float (line.Direct (Refused refused)) = refused_no_float refused
+reply_has_no_float line.Version = refl
+reply_has_no_float (line.Status statuses) = refl
+reply_has_no_float (line.Ready counts) = refl
 
 pub served_request_no_float : (r : Reply) → has_float (served_request_data r) ≡ false
 served_request_no_float (reply.Refused e) = refused_no_float (record { why = e; about = Whole })
@@ -97,14 +106,20 @@ served_request_no_float (reply.Info i) = info_no_float i
 served_request_no_float (reply.History es) = request_has_no_float (reply.History es)
 served_request_no_float (reply.Turn end) = refl
 
-pub served_has_no_float : (r : LineReply) → has_float (served_data r) ≡ false
-served_has_no_float (line.Request r) = served_request_no_float r
-served_has_no_float (line.Drain end) = refl
-served_has_no_float (line.Tidy end) = refl
-served_has_no_float line.Left = refl
-served_has_no_float (line.Meta (Ok metadata)) = refl
-served_has_no_float (line.Meta (Err f)) = fault_no_float f
-served_has_no_float (line.Direct (Refused refused)) = refused_no_float refused
+text_no_float : (metadata : List ℕ) (is_text : Bool) → has_float (if is_text then text_data metadata else no_text_data) ≡ false
+text_no_float metadata true = refl
+text_no_float metadata false = refl
+
+pub served_meta_no_float : (found : Result (Vec ℕ) MetaFault) → has_float (served_meta_data found) ≡ false
+served_meta_no_float (Ok metadata) = text_no_float metadata.items (is_utf8 metadata.items)
+served_meta_no_float (Err f) = fault_no_float f
+
+journal_no_float : (journal : Option (Bor (List ℕ))) → has_float (journal_data journal) ≡ false
+journal_no_float None = refl
+journal_no_float (Some directory) = refl
+
+pub ready_no_float : (service : Service) (counts : Counts) → has_float (ready_data service counts) ≡ false
+ready_no_float service counts = rw (journal_no_float service.journal) refl
 
 timed_no_float : (lives : Option ℕ) (n : Notice) → has_float (timed_notice_data lives None n) ≡ false
 timed_no_float None n = refl
@@ -112,5 +127,5 @@ timed_no_float (Some pid) n = refl
 
 pub notice_has_no_float : (form : NoticeForm) (signal : Option ℕ) (n : Notice) → has_float (formed_data form signal n) ≡ false
 notice_has_no_float notice_form.Short signal n = refl
-notice_has_no_float (notice_form.Timed left) None n = timed_no_float (lives_of left.now n.result.run) n
-notice_has_no_float (notice_form.Timed left) (Some signal) n = refl
+notice_has_no_float (notice_form.Timed service) None n = timed_no_float (lives_of service.left.now n.result.run) n
+notice_has_no_float (notice_form.Timed service) (Some signal) n = refl

@@ -1,4 +1,6 @@
 pub mod FloatLemmas
+pub mod StatusLemmas
+pub mod TagLemmas
 pub mod NoticeLemmas
 pub mod TextLemmas
 pub mod ParamLemmas

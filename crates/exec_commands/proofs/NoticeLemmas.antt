@@ -1,5 +1,5 @@
 -- A notice's object with a process that lives on, and with the signal that ended its agent.
-use Rattle.std.proofs.Common.{◌≡◌, ℕ, List, Option, Some, None, refl, sym, ap, ◌∙◌}
+use Rattle.std.proofs.Common.{◌≡◌, ℕ, List, Some, None, refl, ap, ◌∙◌}
 use Rattle.std.specs.Prelude.{codes}
 use Rattle.serde_json.specs.Data.{Data, Members, null, boolean, number, string, array, object, put}
 use Rattle.serde_json.specs.Find.{as_object}

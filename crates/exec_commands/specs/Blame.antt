@@ -1,5 +1,5 @@
 -- Which key of a refused line is at fault, by the table of the keys and what each may hold.
-use Rattle.std.specs.Prelude.{ℕ, ◌==◌, ◌&&◌, ◌||◌, Bool, true, false, not, nat_le, is_none, is_some, List, [], ◌∷◌, Option, None, Some}
+use Rattle.std.specs.Prelude.{ℕ, ◌==◌, ◌&&◌, ◌||◌, Bool, true, false, not, nat_le, is_none, is_some, List, Option, None, Some}
 use Rattle.std.specs.Prelude.{option_map, option_and_then, if◌then◌else◌, codes}
 use Rattle.std.specs.List.{find}
 use Rattle.std.specs.Option.{option_map_or}
@@ -20,6 +20,7 @@ use Rattle.line_keys.specs.declared.refused.About.{About}
 use Rattle.line_keys.specs.declared.refused.About.TheVariants as about
 use Rattle.exec_commands.specs.Keys.{natural}
 use Rattle.exec_commands.specs.Rules.{is_known, is_needed, key_in, rules_in}
+use Rattle.exec_commands.specs.Tags.{tag_in}
 use Rattle.exec_commands.specs.declared.rules.KeyRule.{KeyRule}
 
 -- The value of a key is of another type. Parameters are looked at last: they are at fault where nothing before them is.
@@ -32,6 +33,7 @@ is_mistyped range.Operation v = is_none (as_str v)
 is_mistyped range.Id v = is_none (as_str v)
 is_mistyped range.Name v = is_none (as_str v)
 is_mistyped range.Action v = is_none (as_str v)
+is_mistyped range.Tag v = false
 
 -- it is no name
 abbrev pub is_misnamed : Range → Data → Bool
@@ -64,6 +66,7 @@ is_outside range.Level d v = not (is_level d v)
 is_outside range.Expect d v = not (is_expect d v)
 is_outside range.Action d v = not (is_action v)
 is_outside range.Params d v = true
+is_outside range.Tag d v = is_none (tag_in v)
 is_outside _ d v = false
 
 -- the value of a key of a line is at fault where the line is refused so

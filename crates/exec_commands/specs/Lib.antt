@@ -6,4 +6,6 @@ pub mod Replies
 pub mod Twice
 pub mod Rules
 pub mod Blame
+pub mod Tags
+pub mod Service
 pub mod Served

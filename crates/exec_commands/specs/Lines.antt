@@ -157,10 +157,13 @@ served_meta_in d =
     given (limit_of limit) (λ limit.
     Ok (line.Meta provider agent (Some limit))))))))
 
--- what a value asks a run for that serves: it may also be asked to end in order
+-- what a value asks a run for that serves: it may also be asked to end in order, for its version, and how all resources are
 abbrev pub served_for : List ℕ → Data → Result Line Refusal
 served_for word d =
-    if bytes_eq word (codes "leave") then Ok line.Leave else (if bytes_eq word (codes "meta") then served_meta_in d else line_of d)
+    if bytes_eq word (codes "leave") then Ok line.Leave
+    else (if bytes_eq word (codes "version") then Ok line.Version
+    else (if bytes_eq word (codes "status") then Ok line.Status
+    else (if bytes_eq word (codes "meta") then served_meta_in d else line_of d)))
 
 abbrev pub served_line_of : Data → Result Line Refusal
 served_line_of d = given (text_at (codes "op") d) (λ word. served_for word d)

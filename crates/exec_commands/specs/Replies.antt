@@ -1,7 +1,9 @@
 -- The JSON values of replies and notices, and their lines.
-use Rattle.std.specs.Prelude.{ℕ, List, [], ◌∷◌, ◌++◌, length, true, ◌==◌, Option, Some, None, option_map, Ok, Err, codes}
+use Rattle.std.specs.Prelude.{ℕ, List, [], ◌∷◌, ◌++◌, length, true, ◌==◌, Option, Some, None, option_map, Result, Ok, Err, map, codes}
+use Rattle.std.specs.Global.{Vec}
 use Rattle.std.specs.List.{find}
 use Rattle.serde_json.specs.Data.{Data, null, boolean, string, object}
+use Rattle.serde_json.specs.View.{view}
 use Rattle.serde_json.specs.Written.{compact_text}
 use Rattle.ocf_types.specs.Actions.{action_word, action_of, level_number}
 use Rattle.ocf_types.specs.Expected.{expect_code}
@@ -15,6 +17,7 @@ use Rattle.ocf_types.specs.declared.operation.Ended.{Ended}
 use Rattle.ocf_types.specs.declared.outcome.StartFault.{StartFault}
 use Rattle.ocf_types.specs.declared.outcome.StartFault.TheVariants as start
 use Rattle.ocf_types.specs.declared.refusal.Refusal.{Refusal}
+use Rattle.ocf_types.specs.declared.refusal.Refusal.TheVariants.{UnknownOp}
 use Rattle.ocf_types.specs.declared.reply.Notice.{Notice}
 use Rattle.ocf_types.specs.declared.reply.ReplyOf.TheVariants as reply
 use Rattle.ocf_types.specs.declared.reply.TidyEnd.{TidyEnd}
@@ -29,6 +32,8 @@ use Rattle.line_keys.specs.declared.refused.About.TheVariants.{Whole}
 use Rattle.line_keys.specs.declared.refused.LineRefusal.{LineRefusal}
 use Rattle.exec_commands.specs.declared.direct.Direct.TheVariants.{Refused}
 use Rattle.exec_commands.specs.Objects.{object_from, natural_data, array_from, param_members}
+use Rattle.exec_commands.specs.Service.{metadata_data, ready_data, statuses_data, version_data}
+use Rattle.exec_commands.specs.Tags.{formed_tag, with_tag}
 use Rattle.exec_commands.specs.declared.ends.DrainEnd.{DrainEnd}
 use Rattle.exec_commands.specs.declared.ends.DrainEnd.TheVariants as drain
 use Rattle.ocf_types.specs.declared.outcome.MetaFault.{MetaFault}
@@ -36,6 +41,8 @@ use Rattle.ocf_types.specs.declared.outcome.MetaFault.TheVariants as fault
 use Rattle.exec_commands.specs.declared.left.Left.{Left}
 use Rattle.exec_commands.specs.declared.notice.NoticeForm.{NoticeForm}
 use Rattle.exec_commands.specs.declared.notice.NoticeForm.TheVariants as notice_form
+use Rattle.exec_commands.specs.declared.service.Service.{Service}
+use Rattle.exec_commands.specs.declared.statuses.Statuses.{Statuses}
 use Rattle.exec_commands.specs.declared.reply.LineReply.{LineReply}
 use Rattle.exec_commands.specs.declared.reply.LineReply.TheVariants as line
 
@@ -187,10 +194,10 @@ timed_notice_data lives signal n = object_from (
 -- which no signal is known to have ended.
 abbrev pub formed_data : NoticeForm → Option ℕ → Notice → Data
 formed_data notice_form.Short signal n = notice_data n
-formed_data (notice_form.Timed left) None n = timed_notice_data (lives_of left.now n.result.run) None n
-formed_data (notice_form.Timed left) (Some signal) n = timed_notice_data None (Some signal) n
+formed_data (notice_form.Timed service) None n = timed_notice_data (lives_of service.left.now n.result.run) None n
+formed_data (notice_form.Timed service) (Some signal) n = timed_notice_data None (Some signal) n
 
--- the reply to a request, and to a line
+-- The reply to a request, and to a line of a run that does not serve. What only a run that serves is asked for is refused there.
 abbrev pub request_data : Reply → Data
 request_data (reply.Refused refusal) = refusal_data refusal
 request_data reply.Done = done_data
@@ -208,42 +215,59 @@ reply_data line.Left = end_data (codes "left")
 reply_data (line.Meta (Ok metadata)) = length_data metadata.items
 reply_data (line.Meta (Err why)) = fault_data why
 reply_data (line.Direct (Refused refused)) = refused_data refused
+reply_data line.Version = refusal_data UnknownOp
+reply_data (line.Status statuses) = refusal_data UnknownOp
+reply_data (line.Ready counts) = refusal_data UnknownOp
 
 -- the reply of a run that serves, which says of each refusal what it is about
 abbrev pub served_request_data : Reply → Data
 served_request_data (reply.Refused why) = refused_data (record { why = why; about = Whole })
 served_request_data r = request_data r
 
-abbrev pub served_data : LineReply → Data
-served_data (line.Request r) = served_request_data r
-served_data r = reply_data r
+-- metadata in a run that serves, or why there are none
+abbrev pub served_meta_data : Result (Vec ℕ) MetaFault → Data
+served_meta_data (Ok metadata) = metadata_data metadata.items
+served_meta_data (Err why) = fault_data why
 
--- what follows the line of a reply: metadata, and a newline
+-- how the resources are, each as JSON
+abbrev pub statuses_in : Statuses → List Data
+statuses_in statuses = map view statuses.values.items
+
+abbrev pub served_data : Service → LineReply → Data
+served_data service (line.Request r) = served_request_data r
+served_data service (line.Meta found) = served_meta_data found
+served_data service line.Version = version_data service
+served_data service (line.Status statuses) = statuses_data (statuses_in statuses)
+served_data service (line.Ready counts) = ready_data service counts
+served_data service r = reply_data r
+
+-- what follows the line of a reply in a run that does not serve: metadata, and a newline
 abbrev pub behind : LineReply → List ℕ
 behind (line.Meta (Ok metadata)) = metadata.items ++ 10 ∷ []
 behind _ = []
 
--- the bytes that a reply and a notice are written as: the compact text of its value, a newline, and what follows
+-- the bytes that a reply is written as: the compact text of its value, a newline, and what follows
 abbrev pub reply_line : LineReply → List ℕ
 reply_line reply = compact_text (reply_data reply) ++ 10 ∷ behind reply
 
-abbrev pub formed_line : NoticeForm → Option ℕ → Notice → List ℕ
-formed_line form signal notice = compact_text (formed_data form signal notice) ++ 10 ∷ []
+-- a notice of a call that has this tag
+abbrev pub formed_line : NoticeForm → Option (List ℕ) → Option ℕ → Notice → List ℕ
+formed_line form tag signal notice = compact_text (with_tag (formed_tag form tag) (formed_data form signal notice)) ++ 10 ∷ []
 
--- the same of a run that serves
-abbrev pub served_reply_line : LineReply → List ℕ
-served_reply_line reply = compact_text (served_data reply) ++ 10 ∷ behind reply
+-- a reply, in a run that serves, to a line that has this tag: one line, which nothing follows
+abbrev pub served_reply_line : Service → Option (List ℕ) → LineReply → List ℕ
+served_reply_line service tag reply = compact_text (with_tag tag (served_data service reply)) ++ 10 ∷ []
 
--- the line of a reply in a run whose notices have this form
-abbrev pub told_reply_line : NoticeForm → LineReply → List ℕ
-told_reply_line notice_form.Short r = reply_line r
-told_reply_line (notice_form.Timed left) r = served_reply_line r
+abbrev pub served_request_line : Option (List ℕ) → Reply → List ℕ
+served_request_line tag reply = compact_text (with_tag tag (served_request_data reply)) ++ 10 ∷ []
 
-abbrev pub served_request_line : Reply → List ℕ
-served_request_line reply = served_reply_line (line.Request reply)
+-- the same in a run whose notices have this form
+abbrev pub told_reply_line : NoticeForm → Option (List ℕ) → LineReply → List ℕ
+told_reply_line notice_form.Short tag r = reply_line r
+told_reply_line (notice_form.Timed service) tag r = served_reply_line service tag r
 
-abbrev pub told_request_line : NoticeForm → Reply → List ℕ
-told_request_line form r = told_reply_line form (line.Request r)
+abbrev pub told_request_line : NoticeForm → Option (List ℕ) → Reply → List ℕ
+told_request_line form tag r = told_reply_line form tag (line.Request r)
 
 -- the line of a reply to a request
 abbrev pub request_line : Reply → List ℕ

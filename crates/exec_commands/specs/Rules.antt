@@ -21,7 +21,7 @@ abbrev pub is_needed : KeyRule → Bool
 is_needed (Needed k) = true
 is_needed (Free k) = false
 
--- the keys of an operation's lines beside `op`, in the order in which they are looked at
+-- the keys of an operation's lines beside `op` and `tag`, in the order in which they are looked at
 abbrev pub rules_of : Operation → List KeyRule
 rules_of operation.Register = Needed key.Id ∷ Needed key.Provider ∷ Needed key.Type ∷ Free key.Params ∷ []
 rules_of operation.Unregister = Needed key.Id ∷ []
@@ -39,8 +39,12 @@ rules_of operation.Watch = Needed key.WatchLimit ∷ []
 rules_of operation.Meta = Needed key.Provider ∷ Needed key.Type ∷ Free key.Limit ∷ []
 rules_of operation.Tidy = []
 
+-- a word names what only a run that serves may be asked for; such a line has no keys of its own
+abbrev pub is_of_service : List ℕ → Bool
+is_of_service word = bytes_eq word (codes "leave") || bytes_eq word (codes "version") || bytes_eq word (codes "status")
+
 abbrev pub rules_named : List ℕ → Option (List KeyRule)
-rules_named word = if bytes_eq word (codes "leave") then Some [] else option_map rules_of (operation_named word)
+rules_named word = if is_of_service word then Some [] else option_map rules_of (operation_named word)
 
 -- the same of the operation that a line names, if it names one
 abbrev pub rules_in : Data → Option (List KeyRule)
@@ -49,6 +53,6 @@ rules_in d = option_and_then rules_named (option_and_then as_str (get (codes "op
 abbrev pub is_one_of : List KeyRule → List ℕ → Bool
 is_one_of rules name = list_any (λ r. bytes_eq name (key_word (key_in r))) rules
 
--- a key is `op` or one of these
+-- a key is `op`, `tag` or one of these
 abbrev pub is_known : List KeyRule → List ℕ → Bool
-is_known rules name = bytes_eq name (codes "op") || is_one_of rules name
+is_known rules name = bytes_eq name (codes "op") || bytes_eq name (codes "tag") || is_one_of rules name

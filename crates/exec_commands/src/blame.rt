@@ -8,6 +8,7 @@ ghost use Rattle.exec_commands.specs.Blame.{about_line, is_action, is_at_fault, 
 ghost use Rattle.exec_commands.specs.Blame.{is_of_monitor, is_outside, key_at_fault, unknown_in, unknown_key};
 
 use crate::rules::{KeyRule, is_known, rules_in};
+use crate::tag::tag_in;
 use crate::values::{provider, rsc_id};
 use line_keys::{About, Key, Range};
 use ocf_types::{Action, Expect, Level, Refusal};
@@ -20,6 +21,7 @@ fn is_mistyped(range: Range, found: &Value) -> bool
         Range::Number { .. } | Range::Level | Range::Expect => found.as_u64().is_none(),
         Range::Params => true,
         Range::Operation | Range::Id | Range::Name | Range::Action => found.as_str().is_none(),
+        Range::Tag => false,
     }
 }
 
@@ -110,6 +112,7 @@ fn is_outside(range: Range, line: &Value, found: &Value) -> bool
         Range::Expect => !is_expect(line, found),
         Range::Action => !is_action(found),
         Range::Params => true,
+        Range::Tag => tag_in(found).is_none(),
         _ => false,
     }
 }

@@ -1,9 +1,10 @@
 //! Lines read.
-ghost use Rattle.std.specs.Prelude.{◌≡◌, ◌≢◌, ◌<◌, length, None, Some, Err, Ok, IfOk, IfErr, IsTrue, OnErr, IfSome, IfNone};
+ghost use Rattle.std.specs.Prelude.{◌≡◌, ◌≢◌, ◌<◌, false, length, None, Some, Err, Ok, IfOk, IfErr, IsTrue, OnErr, IfSome, IfNone};
 ghost use Rattle.std.specs.Str.{IsUtf8};
 ghost use Rattle.serde_json.specs.Read.{read};
 ghost use Rattle.serde_json.specs.View.{view};
 ghost use Rattle.ocf_types.specs.declared.refusal.Refusal.TheVariants.{Syntax, Memory};
+ghost use Rattle.exec_commands.specs.Served.{is_service_line};
 ghost use Rattle.exec_commands.specs.Lines.{drain_in, watch_in, meta_in, line_for, line_of, value_of, line_read, commanded, asked};
 
 use crate::commands::{
@@ -163,12 +164,14 @@ pub fn value_of(alloc: Global, bytes: &[u8]) -> Result<Value, Refusal>
 
 /// What a line, without its newline, asks for, or why it is refused: the first of syntax, unknown-op, bad-name and
 /// bad-value that holds. Any answer but that to a line of more than 131,072 bytes may be want of memory instead, where the
-/// allocator refused it. No line asks the run to end, and a question for metadata has no limit but one that it names.
+/// allocator refused it. No line is one that only a run that serves reads, as one that asks the run to end, and a question for metadata
+/// has no limit but one that it names.
 pub fn read_command(alloc: Global, bytes: &[u8]) -> Result<Line, Refusal>
     ensures ok { IfOk result (λ l. line_read bytes.now ≡ Ok l) }
     ensures refused { IfErr result (λ e. e ≢ Memory → line_read bytes.now ≡ Err e) }
     ensures long { LINE_LIMIT < length bytes.now → result ≡ Err Syntax }
     ensures stays { result ≢ Ok Line.Leave }
+    ensures plain { IfOk result (λ l. is_service_line l ≡ false) }
     ensures memory { IfErr result (λ e. e ≡ Memory → IsTrue ⟦<Global as Grows>⟧.refuses) }
 {
     line_of(alloc, &value_of(alloc, bytes)?)

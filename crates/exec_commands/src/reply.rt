@@ -12,6 +12,8 @@ use crate::info::info_value;
 use crate::names::id_text;
 use crate::refused::refused_value;
 use crate::results::ended_values;
+use crate::service::Counts;
+use crate::statuses::Statuses;
 use growth::{Grows, append, push};
 use ocf_types::{CallId, Ended, MetaFault, OpKey, Refusal, Reply, RscId, TidyEnd};
 use serde_json::{Value, json};
@@ -32,6 +34,12 @@ pub enum LineReply {
     Meta(Result<Vec<u8>, MetaFault>),
     /// What a line is answered by what it is alone.
     Direct(Direct),
+    /// The version of the program. Only a run that serves says it, and what follows.
+    Version,
+    /// How all resources are.
+    Status(Statuses),
+    /// The run has opened its journal, and takes lines from now on.
+    Ready(Counts),
 }
 
 fn refusal_value(alloc: Global, refusal: Refusal) -> Result<Value, AllocError>
@@ -124,7 +132,7 @@ fn length_value(alloc: Global, metadata: &[u8]) -> Result<Value, AllocError>
     Global::library_growth(json!(in alloc; {"meta": length}))
 }
 
-/// The JSON value of a reply.
+/// The JSON value of a reply in a run that does not serve.
 pub fn reply_value(alloc: Global, reply: &LineReply) -> Result<Value, AllocError>
     ensures value { IfOk result (λ v. view v ≡ reply_data reply.now) }
     ensures memory { OnErr result (IsTrue ⟦<Global as Grows>⟧.refuses) }
@@ -137,6 +145,9 @@ pub fn reply_value(alloc: Global, reply: &LineReply) -> Result<Value, AllocError
         LineReply::Meta(Ok(metadata)) => length_value(alloc, metadata.as_slice()),
         LineReply::Meta(Err(fault)) => fault_value(alloc, *fault),
         LineReply::Direct(Direct::Refused(refusal)) => refused_value(alloc, refusal),
+        LineReply::Version | LineReply::Status(_) | LineReply::Ready(_) => {
+            refusal_value(alloc, Refusal::UnknownOp)
+        }
     }
 }
 
@@ -154,8 +165,8 @@ pub fn write_line(alloc: Global, value: &Value) -> Result<Vec<u8>, AllocError>
     Ok(bytes)
 }
 
-/// Adds what follows the line of a reply: metadata, and a newline.
-pub fn push_behind(bytes: &mut Vec<u8>, reply: &LineReply) -> Result<(), AllocError>
+// Adds what follows the line of a reply: metadata, and a newline.
+fn push_behind(bytes: &mut Vec<u8>, reply: &LineReply) -> Result<(), AllocError>
     ensures value { OnOk result (bytes.new.items ≡ bytes.old.items ++ behind reply.now) }
     ensures memory { OnErr result (IsTrue ⟦<Global as Grows>⟧.refuses) }
 {
@@ -166,8 +177,8 @@ pub fn push_behind(bytes: &mut Vec<u8>, reply: &LineReply) -> Result<(), AllocEr
     Ok(())
 }
 
-/// The line of a reply: the compact text of its JSON value, keys ascending by their bytes, and a newline. Metadata follow
-/// it, and a newline.
+/// The line of a reply in a run that does not serve: the compact text of its JSON value, keys ascending by their bytes, and a newline.
+/// Metadata follow it, and a newline.
 #[tactic(auto, using(crate::proofs::FloatLemmas::reply_has_no_float))]
 pub fn write_reply(alloc: Global, reply: &LineReply) -> Result<Vec<u8>, AllocError>
     ensures line { IfOk result (λ b. b.items ≡ reply_line reply.now) }

@@ -1,13 +1,13 @@
 //! Which keys the lines of an operation have.
 ghost use Rattle.std.specs.Prelude.{◌≡◌, option_map};
-ghost use Rattle.exec_commands.specs.Rules.{is_known, is_needed, is_one_of, key_in, rules_in, rules_named, rules_of};
+ghost use Rattle.exec_commands.specs.Rules.{is_known, is_needed, is_of_service, is_one_of, key_in, rules_in, rules_named, rules_of};
 ghost use Rattle.serde_json.specs.View.{view};
 
 use crate::operation::{Operation, operation_named};
 use line_keys::Key;
 use serde_json::Value;
 
-/// A key that the lines of an operation have beside `op`.
+/// A key that the lines of an operation have beside `op` and `tag`.
 #[derive(Clone, Copy)]
 pub enum KeyRule {
     /// It has to be there.
@@ -86,10 +86,17 @@ fn rules_of(operation: Operation) -> &'static [KeyRule]
     }
 }
 
+// Whether only a run that serves may be asked for what the word names, by a line that has no keys of its own.
+fn is_of_service(word: &str) -> bool
+    ensures { result ≡ is_of_service word.now }
+{
+    word == "leave" || word == "version" || word == "status"
+}
+
 fn rules_named(word: &str) -> Option<&'static [KeyRule]>
     ensures { option_map (λ rules. rules.now) result ≡ rules_named word.now }
 {
-    if word == "leave" {
+    if is_of_service(word) {
         return Some(&[]);
     }
     match operation_named(word) {
@@ -117,9 +124,9 @@ fn is_one_of(rules: &[KeyRule], name: &str) -> bool
     rules.iter().any(|rule| name == rule.key().word())
 }
 
-/// Whether a key is `op` or one of these.
+/// Whether a key is `op`, `tag` or one of these.
 pub fn is_known(rules: &[KeyRule], name: &str) -> bool
     ensures { result ≡ is_known rules.now name.now }
 {
-    name == "op" || is_one_of(rules, name)
+    name == "op" || name == "tag" || is_one_of(rules, name)
 }

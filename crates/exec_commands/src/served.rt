@@ -3,16 +3,17 @@ ghost use Rattle.std.specs.Prelude.{◌≡◌, ◌≢◌, Ok, Err, IfOk, IfErr, 
 ghost use Rattle.serde_json.specs.View.{view};
 ghost use Rattle.ocf_types.specs.declared.refusal.Refusal.TheVariants.{Memory};
 ghost use Rattle.exec_commands.specs.Lines.{served_line_of, served_meta_in};
-ghost use Rattle.exec_commands.specs.Served.{known_line, refused_line, served_line};
+ghost use Rattle.exec_commands.specs.Served.{known_line, refused_line, served_line, tagged_line};
 
 use crate::blame::{about_line, unknown_key};
 use crate::direct::Direct;
 use crate::keys::{number_or, text_at};
 use crate::line::Line;
 use crate::read::line_of;
+use crate::tag::is_mistagged;
 use crate::values::{agent_type, limit, provider};
 use growth::{Grows, text_of};
-use line_keys::{About, LineRefusal};
+use line_keys::{About, Key, LineRefusal};
 use ocf_env::Text;
 use ocf_types::Refusal;
 use serde_json::Value;
@@ -43,6 +44,8 @@ fn served_line_of(alloc: Global, value: &Value) -> Result<Line, Refusal>
 {
     match text_at(value, "op")? {
         "leave" => Ok(Line::Leave),
+        "version" => Ok(Line::Version),
+        "status" => Ok(Line::Status),
         "meta" => served_meta_in(value),
         _ => line_of(alloc, value),
     }
@@ -55,7 +58,17 @@ pub fn refused_line(why: Refusal, about: About) -> Line
     Line::Direct(Direct::Refused(LineRefusal { why, about }))
 }
 
-// A line that asks for this, unless its operation has not all of its keys.
+// A line that asks for this, unless it has what is no tag under that key.
+fn tagged_line(value: &Value, line: Line) -> Line
+    ensures { result ≡ tagged_line (view value.now) line }
+{
+    if is_mistagged(value) {
+        return refused_line(Refusal::BadValue, About::Key(Key::Tag));
+    }
+    line
+}
+
+// The same, unless its operation has not all of its keys.
 fn known_line(alloc: Global, value: &Value, line: Line) -> Result<Line, AllocError>
     ensures line { IfOk result (λ l. l ≡ known_line (view value.now) line) }
     ensures memory { OnErr result (IsTrue ⟦<Global as Grows>⟧.refuses) }
@@ -65,7 +78,7 @@ fn known_line(alloc: Global, value: &Value, line: Line) -> Result<Line, AllocErr
             let name = Text::new(text_of(alloc, name)?);
             Ok(refused_line(Refusal::BadValue, About::Unknown(name)))
         }
-        None => Ok(line),
+        None => Ok(tagged_line(value, line)),
     }
 }
 

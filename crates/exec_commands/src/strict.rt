@@ -1,12 +1,14 @@
 //! Lines in which no key may come twice.
-ghost use Rattle.std.specs.Prelude.{◌≡◌, true, false, Ok, IfOk, IfErr, IsTrue, OnErr};
+ghost use Rattle.std.specs.Prelude.{◌≡◌, true, false, None, Ok, IfOk, IfErr, IsTrue, OnErr};
 ghost use Rattle.ocf_types.specs.declared.refusal.Refusal.TheVariants.{Memory};
-ghost use Rattle.exec_commands.specs.Served.{IsServedAs, served_read};
+ghost use Rattle.exec_commands.specs.Served.{IsServedAs, line_in, served_read};
+ghost use Rattle.exec_commands.specs.Tags.{IsTaggedAs, tag_read};
 ghost use Rattle.exec_commands.specs.Twice.{HasKeyTwice};
 
-use crate::line::Line;
+use crate::line::{Line, Served};
 use crate::read::value_of;
 use crate::served::{refused_line, served_line};
+use crate::tag::tag_of;
 use growth::Grows;
 use json::{Error, Scratch, Value};
 use line_keys::About;
@@ -42,38 +44,56 @@ fn has_key_twice(alloc: Global, bytes: &[u8]) -> Result<bool, AllocError>
     }
 }
 
+// A line that has no tag.
+fn untagged(line: Line) -> Served
+    ensures line { result.line ≡ line }
+    ensures tag { result.tag ≡ None }
+{
+    Served { line, tag: None }
+}
+
 // The line of these bytes, in which no key comes twice.
-fn served_read(alloc: Global, bytes: &[u8]) -> Result<Line, AllocError>
-    ensures line { IfOk result (λ l. l ≡ served_read bytes.now) }
+fn served_read(alloc: Global, bytes: &[u8]) -> Result<Served, AllocError>
+    ensures line { IfOk result (λ s. s.line ≡ served_read bytes.now) }
+    ensures tag { IfOk result (λ s. s.tag ≡ tag_read bytes.now) }
     ensures memory { OnErr result (IsTrue ⟦<Global as Grows>⟧.refuses) }
 {
     match value_of(alloc, bytes) {
-        Ok(value) => served_line(alloc, &value),
+        Ok(value) => {
+            let line = served_line(alloc, &value)?;
+            Ok(Served {
+                line,
+                tag: tag_of(&value),
+            })
+        }
         Err(Refusal::Memory) => Err(AllocError),
-        Err(_) => Ok(refused_line(Refusal::Syntax, About::Whole)),
+        Err(_) => Ok(untagged(refused_line(Refusal::Syntax, About::Whole))),
     }
 }
 
 // The line of these bytes, in which a key may come twice.
-fn line_of_bytes(alloc: Global, bytes: &[u8]) -> Result<Line, AllocError>
-    ensures served { IfOk result (λ l. IsServedAs bytes.now (Ok l)) }
+fn line_of_bytes(alloc: Global, bytes: &[u8]) -> Result<Served, AllocError>
+    ensures served { IfOk result (λ s. IsServedAs bytes.now (Ok s.line)) }
+    ensures tag { IfOk result (λ s. IsTaggedAs bytes.now s.tag) }
     ensures memory { OnErr result (IsTrue ⟦<Global as Grows>⟧.refuses) }
 {
     if has_key_twice(alloc, bytes)? {
-        return Ok(refused_line(Refusal::Syntax, About::Twice));
+        return Ok(untagged(refused_line(Refusal::Syntax, About::Twice)));
     }
     served_read(alloc, bytes)
 }
 
 /// The line of a run that serves that these bytes are: what it asks for, or why it is refused and for which key. It may ask the run to
 /// end, a question for metadata has 30,000 milliseconds where it names no limit, and a line in which an object has a key twice, or
-/// that has a key which its operation has not, is refused. It fails only where the allocator refused memory.
-pub fn read_strictly(alloc: Global, bytes: &[u8]) -> Result<Line, Refusal>
-    ensures served { IsServedAs bytes.now result }
+/// that has a key which its operation has not, is refused. With it goes its tag, also where it is refused, unless a key comes twice in
+/// it. It fails only where the allocator refused memory.
+pub fn read_strictly(alloc: Global, bytes: &[u8]) -> Result<Served, Refusal>
+    ensures served { IsServedAs bytes.now (line_in result) }
+    ensures tag { IfOk result (λ s. IsTaggedAs bytes.now s.tag) }
     ensures memory { IfErr result (λ e. (e ≡ Memory) × IsTrue ⟦<Global as Grows>⟧.refuses) }
 {
     match line_of_bytes(alloc, bytes) {
-        Ok(line) => Ok(line),
+        Ok(served) => Ok(served),
         Err(_) => Err(Refusal::Memory),
     }
 }

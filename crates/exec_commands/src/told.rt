@@ -1,17 +1,22 @@
 //! Replies, as a run of this form writes them.
-ghost use Rattle.std.specs.Prelude.{◌≡◌, IfOk, IsTrue, OnErr};
+ghost use Rattle.std.specs.Prelude.{◌≡◌, false, option_map, IfOk, IsTrue, OnErr};
 ghost use Rattle.serde_json.specs.View.{view};
-ghost use Rattle.exec_commands.specs.Replies.{served_data, served_reply_line, served_request_data, served_request_line, told_reply_line, told_request_line};
+ghost use Rattle.serde_json.specs.Written.{has_float};
+ghost use Rattle.exec_commands.specs.Replies.{served_data, served_meta_data, served_reply_line, served_request_data, served_request_line, told_reply_line, told_request_line};
+ghost use Rattle.exec_commands.specs.Tags.{told_tag};
 
+use crate::ends::fault_value;
 use crate::notice::NoticeForm;
 use crate::refused::refused_value;
 use crate::reply::{
-    LineReply, push_behind, reply_value, request_value, write_line, write_reply,
-    write_request_reply,
+    LineReply, reply_value, request_value, write_line, write_reply, write_request_reply,
 };
+use crate::service::{Service, metadata_value, ready_value, version_value};
+use crate::statuses::statuses_value;
+use crate::tagged::{Tagged, put_tag};
 use growth::Grows;
 use line_keys::{About, LineRefusal};
-use ocf_types::Reply;
+use ocf_types::{MetaFault, Reply};
 use serde_json::Value;
 use std::alloc::{AllocError, Global};
 
@@ -31,69 +36,96 @@ fn served_request_value(alloc: Global, reply: &Reply) -> Result<Value, AllocErro
     }
 }
 
-fn served_value(alloc: Global, reply: &LineReply) -> Result<Value, AllocError>
-    ensures value { IfOk result (λ v. view v ≡ served_data reply.now) }
+fn served_meta_value(alloc: Global, found: &Result<Vec<u8>, MetaFault>) -> Result<Value, AllocError>
+    ensures value { IfOk result (λ v. view v ≡ served_meta_data found.now) }
+    ensures memory { OnErr result (IsTrue ⟦<Global as Grows>⟧.refuses) }
+{
+    match found {
+        Ok(metadata) => metadata_value(alloc, metadata.as_slice()),
+        Err(fault) => fault_value(alloc, *fault),
+    }
+}
+
+#[tactic(auto, using(crate::proofs::FloatLemmas::reply_has_no_float, crate::proofs::FloatLemmas::served_request_no_float, crate::proofs::FloatLemmas::served_meta_no_float, crate::proofs::FloatLemmas::ready_no_float))]
+fn served_value(alloc: Global, service: Service, reply: &LineReply) -> Result<Value, AllocError>
+    ensures value { IfOk result (λ v. view v ≡ served_data service.entry reply.now) }
+    ensures exact { IfOk result (λ v. has_float (view v) ≡ false) }
     ensures memory { OnErr result (IsTrue ⟦<Global as Grows>⟧.refuses) }
 {
     match reply {
         LineReply::Request(reply) => served_request_value(alloc, reply),
+        LineReply::Meta(found) => served_meta_value(alloc, found),
+        LineReply::Version => version_value(alloc, service),
+        LineReply::Status(statuses) => statuses_value(alloc, statuses),
+        LineReply::Ready(counts) => ready_value(alloc, service, *counts),
         _ => reply_value(alloc, reply),
     }
 }
 
-#[tactic(auto, using(crate::proofs::FloatLemmas::served_has_no_float))]
-fn write_served_reply(alloc: Global, reply: &LineReply) -> Result<Vec<u8>, AllocError>
-    ensures line { IfOk result (λ b. b.items ≡ served_reply_line reply.now) }
+#[tactic(auto, using(crate::proofs::TagLemmas::tagged_no_float))]
+fn write_served_reply(
+    alloc: Global,
+    service: Service,
+    tag: Option<&str>,
+    reply: &LineReply,
+) -> Result<Vec<u8>, AllocError>
+    ensures line { IfOk result
+        (λ b. b.items ≡ served_reply_line service.entry (option_map (λ tag. tag.now) tag.entry) reply.now) }
     ensures memory { OnErr result (IsTrue ⟦<Global as Grows>⟧.refuses) }
 {
-    let Ok(value) = served_value(alloc, reply) else {
+    let Ok(mut value) = served_value(alloc, service, reply) else {
         return Err(AllocError);
     };
-    let Ok(mut bytes) = write_line(alloc, &value) else {
-        return Err(AllocError);
-    };
-    push_behind(&mut bytes, reply)?;
-    Ok(bytes)
+    put_tag(alloc, &mut value, tag)?;
+    write_line(alloc, &value)
 }
 
-#[tactic(auto, using(crate::proofs::FloatLemmas::served_request_no_float))]
-fn write_served_request(alloc: Global, reply: &Reply) -> Result<Vec<u8>, AllocError>
-    ensures line { IfOk result (λ b. b.items ≡ served_request_line reply.now) }
+#[tactic(auto, using(crate::proofs::TagLemmas::tagged_request))]
+fn write_served_request(
+    alloc: Global,
+    tag: Option<&str>,
+    reply: &Reply,
+) -> Result<Vec<u8>, AllocError>
+    ensures line { IfOk result (λ b. b.items
+        ≡ served_request_line (option_map (λ tag. tag.now) tag.entry) reply.now) }
     ensures memory { OnErr result (IsTrue ⟦<Global as Grows>⟧.refuses) }
 {
-    let Ok(value) = served_request_value(alloc, reply) else {
+    let Ok(mut value) = served_request_value(alloc, reply) else {
         return Err(AllocError);
     };
+    put_tag(alloc, &mut value, tag)?;
     write_line(alloc, &value)
 }
 
 /// The line of a reply in a run whose notices have this form: one that serves says of a refusal also the key of the line that it is
-/// about, and a sentence.
+/// about, and a sentence, gives metadata as a text in the line, and repeats the tag of the line that is answered.
 pub fn write_told_reply(
     alloc: Global,
-    form: NoticeForm,
+    tagged: Tagged,
     reply: &LineReply,
 ) -> Result<Vec<u8>, AllocError>
-    ensures line { IfOk result (λ b. b.items ≡ told_reply_line form.entry reply.now) }
+    ensures line { IfOk result
+        (λ b. b.items ≡ told_reply_line tagged.entry.form (told_tag tagged.entry) reply.now) }
     ensures memory { OnErr result (IsTrue ⟦<Global as Grows>⟧.refuses) }
 {
-    match form {
+    match tagged.form {
         NoticeForm::Short => write_reply(alloc, reply),
-        NoticeForm::Timed(_) => write_served_reply(alloc, reply),
+        NoticeForm::Timed(service) => write_served_reply(alloc, service, tagged.tag, reply),
     }
 }
 
 /// The line of a reply to a request.
 pub fn write_told_request(
     alloc: Global,
-    form: NoticeForm,
+    tagged: Tagged,
     reply: &Reply,
 ) -> Result<Vec<u8>, AllocError>
-    ensures line { IfOk result (λ b. b.items ≡ told_request_line form.entry reply.now) }
+    ensures line { IfOk result
+        (λ b. b.items ≡ told_request_line tagged.entry.form (told_tag tagged.entry) reply.now) }
     ensures memory { OnErr result (IsTrue ⟦<Global as Grows>⟧.refuses) }
 {
-    match form {
+    match tagged.form {
         NoticeForm::Short => write_request_reply(alloc, reply),
-        NoticeForm::Timed(_) => write_served_request(alloc, reply),
+        NoticeForm::Timed(_) => write_served_request(alloc, tagged.tag, reply),
     }
 }

@@ -1,5 +1,5 @@
 -- The lines of results, computed on examples.
-use Rattle.std.proofs.Common.{◌≡◌, ℕ, ◌+◌, List, true, false, refl}
+use Rattle.std.proofs.Common.{◌≡◌, ℕ, ◌+◌, true, false, refl}
 use Rattle.std.specs.Prelude.{codes}
 use Rattle.std.specs.Fmt.{digits}
 use Rattle.ocf_types.specs.declared.action.Action.{Action}

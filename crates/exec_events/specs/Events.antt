@@ -4,9 +4,8 @@ use Rattle.ocf_codes.specs.ExitCodes.{name_read}
 use Rattle.ocf_types.specs.Actions.{action_word}
 use Rattle.ocf_types.specs.Notices.{is_failure}
 use Rattle.ocf_types.specs.declared.action.Action.{Action}
-use Rattle.ocf_types.specs.declared.operation.Ended.{Ended}
 use Rattle.ocf_types.specs.declared.outcome.Outcome.{Outcome}
-use Rattle.ocf_types.specs.declared.outcome.Outcome.TheVariants.{Run, Interrupted, Dropped, Cancelled}
+use Rattle.ocf_types.specs.declared.outcome.Outcome.TheVariants.{Run, Interrupted, Dropped}
 use Rattle.ocf_types.specs.declared.outcome.RunEnd.TheVariants.{Done, TimedOut, Signaled, Lost}
 use Rattle.ocf_types.specs.declared.reply.Notice.{Notice}
 use Rattle.exec_client.specs.declared.told.Told.{Told}
@@ -68,5 +67,6 @@ event_line marks n = marked marks (is_failure n) n.result.outcome ++ event_text 
 abbrev pub notices_in : Told → List Notice
 notices_in (told.Reply reply) = []
 notices_in (told.Replies replies) = []
+notices_in (told.News reply) = []
 notices_in (told.Notices turn) = turn.notices.now
 notices_in (told.Report notices) = notices.now

@@ -8,12 +8,12 @@ use crate::lines::event_line;
 use child_model::Children;
 use disk_model::Disk;
 use exec_client::{Client, Told};
-use exec_commands::NoticeForm;
+use exec_commands::{NoticeForm, Tag};
 use exec_lines::write_flushed;
 use exec_output::IoFault;
 use executor::Executor;
 use ocf_types::Notice;
-use std::alloc::Global;
+use std::alloc::{AllocError, Global};
 use std::io::Write;
 
 /// Which lines a person is given.
@@ -91,7 +91,7 @@ fn notices_in<'a>(what: &Told<'a>) -> &'a [Notice]
     ensures { result.now ≡ notices_in what.now }
 {
     match what {
-        Told::Reply(_) | Told::Replies(_) => &[],
+        Told::Reply(_) | Told::Replies(_) | Told::News(_) => &[],
         Told::Notices(turn) => turn.notices,
         Told::Report(notices) => notices,
     }
@@ -123,6 +123,10 @@ impl<D: Disk + Drop, C: Children + Drop, T: Client<D, C>, W: Write> Client<D, C>
             let _ = write_events(&making, &mut self.errors, notices_in(what));
         }
         told
+    }
+
+    fn note_tag(&mut self, tag: Option<Tag>) -> Result<(), AllocError> {
+        self.client.note_tag(tag)
     }
 
     fn is_heard(&self) -> bool {

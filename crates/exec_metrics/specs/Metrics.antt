@@ -4,7 +4,7 @@ use Rattle.std.specs.List.{flat_map}
 use Rattle.std.specs.Io.KnownBytes.{Appends}
 use Rattle.ocf_types.specs.State.{State}
 use Rattle.disk_model.specs.Image.{Image}
-use Rattle.exec_journal.specs.Found.{Damaged, FoundAs, IsFound}
+use Rattle.exec_journal.specs.Found.{FoundAs, HasDamage}
 use Rattle.exec_output.specs.declared.fault.Fault.{Fault}
 use Rattle.exec_output.specs.declared.fault.Fault.TheVariants as fault
 use Rattle.exec_metrics.specs.Families.{header, name}
@@ -81,7 +81,7 @@ pub record WritesFound (T : Type 0) (reads : Image) (now : ℕ) (old new : Optio
 
 -- the same, or nothing where the pair is not read; damage that is reported is the one that is found
 abbrev pub WritesAs : {T : Type 0} → Image → ℕ → Option (List ℕ) → Option (List ℕ) → Result T Fault → Type 0
-WritesAs reads now old new (Err (fault.Damaged damage)) = IsFound reads (Damaged damage) × (new ≡ old)
+WritesAs reads now old new (Err (fault.Damaged damage)) = HasDamage reads damage × (new ≡ old)
 WritesAs reads now old new (Err fault.Disk) = new ≡ old
 WritesAs reads now old new (Err fault.Memory) = new ≡ old
 WritesAs {T} reads now old new ended = WritesFound T reads now old new ended

@@ -22,6 +22,11 @@ pub const COMMANDS: &str =
   watch       limit                                       runs agents, recurring monitors too, until its limit
   meta        provider, type      limit                   gives an agent's metadata
   tidy                                                    writes the whole state as the journal's snapshot
+serve alone reads:
+  status                                                  shows how all resources are
+  version                                                 gives the program's version
+  leave                                                   ends in order: what runs ends, and nothing begins
+and repeats the key tag of any line in its reply and in its results.
 
 Example:
   echo '{\"op\":\"list\"}' | ocfexec run --memory
@@ -37,7 +42,8 @@ Examples:
 
 /// What follows the help of `serve`.
 pub const SERVE: &str = "Give exactly one of --journal and --memory. The commands: ocfexec --help.
-Each result is a line of its own, and these alone have the key outcome; no drain or watch is needed.
+A line with the key ready says that it takes commands. Each result is a line of its own, and these alone have the key outcome;
+no drain or watch is needed.
 
 Example:
   ocfexec serve --journal /var/lib/ocfexec";

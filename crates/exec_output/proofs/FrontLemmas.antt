@@ -10,7 +10,7 @@ use Rattle.exec_output.specs.declared.send.IoFault.{IoFault}
 use Rattle.exec_output.specs.declared.send.IoFault.TheVariants.{Memory}
 
 -- nothing is a prefix
-front_none : (a b : Option (List ℕ)) (bytes : List ℕ) → b ≡ a → AppendsFront a b bytes
+pub front_none : (a b : Option (List ℕ)) (bytes : List ℕ) → b ≡ a → AppendsFront a b bytes
 front_none a b bytes same =
     record { front = []; rest = bytes; parts = refl; written = subst (λ (o : Option (List ℕ)). Appends a o []) (sym same) (Appends-nil a) }
 

@@ -1,5 +1,9 @@
 -- The lines of a status, for a program.
-use Rattle.std.proofs.Common.{◌≡◌, ℕ, false, List, Option, Some, None, Result, Ok, Err, refl}
+use Rattle.std.proofs.Common.{◌≡◌, ◌++◌, ℕ, false, List, [], ◌∷◌, map, Option, Some, None, Result, Ok, Err, refl, ap, ◌∙◌}
+use Rattle.std.proofs.lemmas.List.{map-append}
+use Rattle.serde_json.specs.Data.{Data}
+use Rattle.serde_json.specs.View.{view}
+use Rattle.serde_json.specs.declared.value.Value.{Value}
 use Rattle.serde_json.specs.Written.{has_float}
 use Rattle.disk_model.specs.Image.{Image}
 use Rattle.exec_journal.specs.Found.{FoundAs}
@@ -9,7 +13,7 @@ use Rattle.ocf_types.specs.declared.operation.Ended.{Ended}
 use Rattle.ocf_types.specs.declared.operation.Running.{Running}
 use Rattle.exec_output.specs.Conditions.{known_of}
 use Rattle.exec_output.specs.Reasons.{reason_of}
-use Rattle.exec_output.specs.StatusLines.{IsFrontTold, IsLinesTold, TellsLinesAs, doing_data, failure_data, reason_data, since_data, status_data}
+use Rattle.exec_output.specs.StatusLines.{IsFrontTold, IsLinesTold, TellsLinesAs, doing_data, failure_data, reason_data, resource_data, since_data, status_data}
 use Rattle.exec_output.specs.declared.condition.Known.{Known}
 use Rattle.exec_output.specs.declared.look.Look.{Look}
 use Rattle.exec_output.specs.declared.fault.Fault.{Fault}
@@ -31,9 +35,17 @@ since_no_float : (k : Option Known) → has_float (since_data k) ≡ false
 since_no_float None = refl
 since_no_float (Some k) = refl
 
+pub resource_has_no_float : (reason : Option (List ℕ)) (e : List ℕ × Resource) → has_float (resource_data reason e) ≡ false
+resource_has_no_float reason e =
+    rw (failure_no_float reason e.1.history.failed, doing_no_float e.1.history.running, since_no_float (known_of e.1.history.ended)) refl
+
 pub status_has_no_float : (look : Look) (e : List ℕ × Resource) → has_float (status_data look e) ≡ false
-status_has_no_float look e =
-    rw (failure_no_float (reason_of look e.0) e.1.history.failed, doing_no_float e.1.history.running, since_no_float (known_of e.1.history.ended)) refl
+status_has_no_float look e = resource_has_no_float (reason_of look e.0) e
+
+-- the values of resources, and one more
+pub status_more : (xs ys : List Value) (v : Value) (d : Data) → ys ≡ xs ++ v ∷ [] → view v ≡ d → map view ys ≡ map view xs ++ d ∷ []
+status_more xs ys v d more is =
+    ap (map view) more ∙ map-append view xs (v ∷ []) ∙ ap (λ (e : Data). map view xs ++ e ∷ []) is
 
 -- where the lines of show are not written, that is how it ends
 pub unwritten : (T : Type 0) (look : Look) (s : State) (old new : Option (List ℕ)) (f : Fault)

@@ -8,7 +8,7 @@ use Rattle.ocf_types.specs.State.{State}
 use Rattle.ocf_types.specs.declared.command.Question.{Question}
 use Rattle.ocf_types.specs.declared.command.Question.TheVariants as question
 use Rattle.disk_model.specs.Image.{Image}
-use Rattle.exec_journal.specs.Found.{Damaged, FoundAs, IsFound}
+use Rattle.exec_journal.specs.Found.{FoundAs, HasDamage}
 use Rattle.exec_commands.specs.declared.reply.LineReply.TheVariants.{Request}
 use Rattle.exec_commands.specs.Replies.{reply_line}
 use Rattle.exec_output.specs.declared.fault.Fault.{Fault}
@@ -30,7 +30,7 @@ shown s = answer_line s question.List ++ flat_map (resource_lines s) (map (λ e.
 -- read; damage that is reported is the one that is found
 abbrev pub ShowsAs : {T : Type 0} → Image → Option (List ℕ) → Option (List ℕ) → Result T Fault → Type 0
 ShowsAs reads old new (Ok done) = (s : State) × FoundAs s reads × Appends old new (shown s)
-ShowsAs reads old new (Err (fault.Damaged damage)) = IsFound reads (Damaged damage) × (new ≡ old)
+ShowsAs reads old new (Err (fault.Damaged damage)) = HasDamage reads damage × (new ≡ old)
 ShowsAs reads old new (Err fault.Disk) = new ≡ old
 ShowsAs reads old new (Err fault.Memory) = new ≡ old
 ShowsAs reads old new (Err fault.InputOrOutput) = ⊤

@@ -1,5 +1,5 @@
 -- What a status shows to a program: what `show` prints, and then a line of each resource, by keys.
-use Rattle.std.specs.Prelude.{◌≡◌, ℕ, ⊤, true, false, List, [], ◌∷◌, ◌++◌, length, Option, Some, None, codes, Result, Ok, Err}
+use Rattle.std.specs.Prelude.{◌≡◌, ℕ, ⊤, true, false, List, [], ◌∷◌, ◌++◌, length, map, Option, Some, None, codes, Result, Ok, Err}
 use Rattle.std.specs.List.{flat_map}
 use Rattle.std.specs.Borrow.{Bor}
 use Rattle.std.specs.Io.KnownBytes.{Appends}
@@ -14,7 +14,7 @@ use Rattle.ocf_types.specs.declared.operation.Running.{Running}
 use Rattle.ocf_codes.specs.ExitCodes.{name_read}
 use Rattle.ocf_codes.specs.OutcomeCodes.{outcome_code}
 use Rattle.disk_model.specs.Image.{Image}
-use Rattle.exec_journal.specs.Found.{Damaged, FoundAs, IsFound}
+use Rattle.exec_journal.specs.Found.{FoundAs, HasDamage}
 use Rattle.exec_commands.specs.Objects.{natural_data, object_from}
 use Rattle.exec_output.specs.Conditions.{condition_of, condition_word, known_of}
 use Rattle.exec_output.specs.Reasons.{reason_of}
@@ -52,12 +52,20 @@ abbrev pub since_data : Option Known → Data
 since_data None = null
 since_data (Some k) = natural_data k.since
 
--- how a resource is, what it does now, and what failed last
-abbrev pub status_data : Look → List ℕ × Resource → Data
-status_data look e = object_from (
-    (codes "failed", failure_data (reason_of look e.0) e.1.history.failed) ∷ (codes "id", string e.0)
+-- how a resource is, what it does now, and what failed last, for this reason
+abbrev pub resource_data : Option (List ℕ) → List ℕ × Resource → Data
+resource_data reason e = object_from (
+    (codes "failed", failure_data reason e.1.history.failed) ∷ (codes "id", string e.0)
     ∷ (codes "queued", natural_data (length e.1.history.queue)) ∷ (codes "running", doing_data e.1.history.running)
     ∷ (codes "since", since_data (known_of e.1.history.ended)) ∷ (codes "state", string (condition_word (condition_of e.1.history))) ∷ [])
+
+-- the same, with the reason that a look knows
+abbrev pub status_data : Look → List ℕ × Resource → Data
+status_data look e = resource_data (reason_of look e.0) e
+
+-- how all resources are, in order of registration; no reason is known
+abbrev pub statuses_of : State → List Data
+statuses_of s = map (resource_data None) s.resources
 
 abbrev pub status_line : Look → List ℕ × Resource → List ℕ
 status_line look e = compact_text (status_data look e) ++ 10 ∷ []
@@ -104,7 +112,7 @@ IsLinesTold look s old new (Err _) = ⊥
 -- the same of the state that is found on these parts, or nothing where the pair is not read; damage that is reported is the
 -- one that is found
 abbrev pub TellsLinesAs : {T : Type 0} → Image → Look → Option (List ℕ) → Option (List ℕ) → Result T Fault → Type 0
-TellsLinesAs reads look old new (Err (fault.Damaged damage)) = IsFound reads (Damaged damage) × (new ≡ old)
+TellsLinesAs reads look old new (Err (fault.Damaged damage)) = HasDamage reads damage × (new ≡ old)
 TellsLinesAs reads look old new (Err fault.Disk) = new ≡ old
 TellsLinesAs reads look old new (Err fault.Memory) = new ≡ old
 TellsLinesAs reads look old new ended = (s : State) × FoundAs s reads × IsLinesTold look s old new ended

@@ -7,7 +7,7 @@ use Rattle.std.specs.Io.KnownBytes.{Appends}
 use Rattle.ocf_types.specs.Resource.{Resource}
 use Rattle.ocf_types.specs.State.{State}
 use Rattle.disk_model.specs.Image.{Image}
-use Rattle.exec_journal.specs.Found.{Damaged, FoundAs, IsFound}
+use Rattle.exec_journal.specs.Found.{FoundAs, HasDamage}
 use Rattle.exec_output.specs.ConditionTexts.{condition_text}
 use Rattle.exec_output.specs.Conditions.{condition_of, is_bad}
 use Rattle.exec_output.specs.Reasons.{reason_of}
@@ -91,7 +91,7 @@ IsToldAs {T} look s old new (Err f) = IsTableTold {T = T} look s old new (Err f)
 -- what is written, by how it ended: what is shown of the state that is found on these parts, or nothing where the pair is
 -- not read; damage that is reported is the one that is found
 abbrev pub TellsAs : {T : Type 0} → Image → Look → Option (List ℕ) → Option (List ℕ) → Result T Fault → Type 0
-TellsAs reads look old new (Err (fault.Damaged damage)) = IsFound reads (Damaged damage) × (new ≡ old)
+TellsAs reads look old new (Err (fault.Damaged damage)) = HasDamage reads damage × (new ≡ old)
 TellsAs reads look old new (Err fault.Disk) = new ≡ old
 TellsAs reads look old new (Err fault.Memory) = new ≡ old
 TellsAs reads look old new ended = (s : State) × FoundAs s reads × IsToldAs look s old new ended

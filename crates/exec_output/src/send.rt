@@ -3,10 +3,13 @@ ghost use Rattle.std.specs.Prelude.{◌≡◌, ◌≢◌, None, OnErr, OnOk, IfO
 ghost use Rattle.std.specs.Io.KnownBytes.{Appends};
 ghost use Rattle.std.specs.List.{flat_map};
 ghost use Rattle.exec_commands.specs.Replies.{formed_line, told_reply_line, told_request_line};
+ghost use Rattle.exec_commands.specs.Tags.{told_tag};
 ghost use Rattle.exec_lines.specs.Fronts.{AppendsFront};
 ghost use Rattle.exec_output.specs.declared.send.IoFault.TheVariants.{InputOrOutput, Memory};
 
-use exec_commands::{LineReply, NoticeForm, write_notice, write_told_reply, write_told_request};
+use exec_commands::{
+    LineReply, NoticeForm, Tagged, write_notice, write_told_reply, write_told_request,
+};
 use exec_lines::{write_bytes, write_flushed};
 use growth::Grows;
 use ocf_types::{Notice, Reply};
@@ -55,103 +58,66 @@ fn send_line<W: Write>(writer: &mut W, line: Result<Vec<u8>, AllocError>) -> Res
     Ok(())
 }
 
-/// Writes a reply's line in a run whose notices have this form, and flushes it. After an error a prefix of it is written.
+/// Writes a reply's line in this form and with this tag, and flushes it. After an error a prefix of it is written.
 pub fn send_reply<W: Write>(
     alloc: Global,
     writer: &mut W,
-    form: NoticeForm,
+    tagged: Tagged,
     reply: &LineReply,
 ) -> Result<(), IoFault>
     ensures sent { OnOk result
-        (Appends (W.contents writer.old) (W.contents writer.new) (told_reply_line form.entry reply.now)) }
+        (Appends (W.contents writer.old) (W.contents writer.new)
+        (told_reply_line tagged.entry.form (told_tag tagged.entry) reply.now)) }
     ensures front { OnErr result
-        (AppendsFront (W.contents writer.old) (W.contents writer.new) (told_reply_line form.entry reply.now)) }
+        (AppendsFront (W.contents writer.old) (W.contents writer.new)
+        (told_reply_line tagged.entry.form (told_tag tagged.entry) reply.now)) }
     ensures memory { IfErr result (λ f. f ≡ Memory → IsTrue ⟦<Global as Grows>⟧.refuses) }
 {
-    send_line(writer, write_told_reply(alloc, form, reply))
+    send_line(writer, write_told_reply(alloc, tagged, reply))
 }
 
-// Writes the line of a reply to a request.
-fn put_reply<W: Write>(
+/// Writes the line of a reply to a request in this form and with this tag, and does not flush it. After an error a prefix of it is
+/// written.
+pub fn put_reply<W: Write>(
     alloc: Global,
     writer: &mut W,
-    form: NoticeForm,
+    tagged: Tagged,
     reply: &Reply,
 ) -> Result<(), IoFault>
     ensures sent { OnOk result
-        (Appends (W.contents writer.old) (W.contents writer.new) (told_request_line form.entry reply.now)) }
+        (Appends (W.contents writer.old) (W.contents writer.new)
+        (told_request_line tagged.entry.form (told_tag tagged.entry) reply.now)) }
     ensures front { OnErr result
-        (AppendsFront (W.contents writer.old) (W.contents writer.new) (told_request_line form.entry reply.now)) }
+        (AppendsFront (W.contents writer.old) (W.contents writer.new)
+        (told_request_line tagged.entry.form (told_tag tagged.entry) reply.now)) }
     ensures memory { IfErr result (λ f. f ≡ Memory → IsTrue ⟦<Global as Grows>⟧.refuses) }
 {
-    let line = write_told_request(alloc, form, reply)?;
+    let line = write_told_request(alloc, tagged, reply)?;
     write_bytes(writer, line.as_slice())?;
     Ok(())
 }
 
-// Writes replies to requests, a line each.
-fn put_replies<W: Write>(
-    alloc: Global,
-    writer: &mut W,
-    form: NoticeForm,
-    replies: &[Reply],
-) -> Result<(), IoFault>
-    ensures sent { OnOk result
-        (Appends (W.contents writer.old) (W.contents writer.new)
-        (flat_map (told_request_line form.entry) replies.now)) }
-    ensures front { OnErr result
-        (AppendsFront (W.contents writer.old) (W.contents writer.new)
-        (flat_map (told_request_line form.entry) replies.now)) }
-    ensures memory { IfErr result (λ f. f ≡ Memory → IsTrue ⟦<Global as Grows>⟧.refuses) }
-{
-    for reply in replies {
-        put_reply(alloc, writer, form, reply)?;
-    }
-    Ok(())
-}
-
-/// Writes replies to requests in a run whose notices have this form, a line each, and flushes them together. After an error
-/// a prefix of the lines is written.
-pub fn send_replies<W: Write>(
-    alloc: Global,
-    writer: &mut W,
-    form: NoticeForm,
-    replies: &[Reply],
-) -> Result<(), IoFault>
-    ensures sent { OnOk result
-        (Appends (W.contents writer.old) (W.contents writer.new)
-        (flat_map (told_request_line form.entry) replies.now)) }
-    ensures front { OnErr result
-        (AppendsFront (W.contents writer.old) (W.contents writer.new)
-        (flat_map (told_request_line form.entry) replies.now)) }
-    ensures memory { IfErr result (λ f. f ≡ Memory → IsTrue ⟦<Global as Grows>⟧.refuses) }
-{
-    put_replies(alloc, writer, form, replies)?;
-    writer.flush()?;
-    Ok(())
-}
-
-/// Writes the line of a notice in this form, of an action whose agent this signal ended, if one did, and flushes it. After an error
-/// a prefix of it is written.
+/// Writes the line of a notice in this form and with this tag, of an action whose agent this signal ended, if one did, and flushes
+/// it. After an error a prefix of it is written.
 pub fn send_notice<W: Write>(
     alloc: Global,
     writer: &mut W,
-    form: NoticeForm,
+    tagged: Tagged,
     notice: &Notice,
     signal: Option<u8>,
 ) -> Result<(), IoFault>
     ensures sent { OnOk result
         (Appends (W.contents writer.old) (W.contents writer.new)
-        (formed_line form.entry signal notice.now)) }
+        (formed_line tagged.entry.form (told_tag tagged.entry) signal notice.now)) }
     ensures front { OnErr result
         (AppendsFront (W.contents writer.old) (W.contents writer.new)
-        (formed_line form.entry signal notice.now)) }
+        (formed_line tagged.entry.form (told_tag tagged.entry) signal notice.now)) }
     ensures memory { IfErr result (λ f. f ≡ Memory → IsTrue ⟦<Global as Grows>⟧.refuses) }
 {
-    send_line(writer, write_notice(alloc, form, notice, signal))
+    send_line(writer, write_notice(alloc, tagged, notice, signal))
 }
 
-/// Writes notices in this form, none of them with a signal, a line each, and flushes each line. After an error a prefix of the
+/// Writes notices in this form, none of them with a tag or a signal, a line each, and flushes each line. After an error a prefix of the
 /// lines is written.
 pub fn send_notices<W: Write>(
     alloc: Global,
@@ -161,14 +127,15 @@ pub fn send_notices<W: Write>(
 ) -> Result<(), IoFault>
     ensures sent { OnOk result
         (Appends (W.contents writer.old) (W.contents writer.new)
-        (flat_map (formed_line form.entry None) notices.now)) }
+        (flat_map (formed_line form.entry None None) notices.now)) }
     ensures front { OnErr result
         (AppendsFront (W.contents writer.old) (W.contents writer.new)
-        (flat_map (formed_line form.entry None) notices.now)) }
+        (flat_map (formed_line form.entry None None) notices.now)) }
     ensures memory { IfErr result (λ f. f ≡ Memory → IsTrue ⟦<Global as Grows>⟧.refuses) }
 {
+    let tagged = Tagged { form, tag: None };
     for notice in notices {
-        send_notice(alloc, writer, form, notice, None)?;
+        send_notice(alloc, writer, tagged, notice, None)?;
     }
     Ok(())
 }

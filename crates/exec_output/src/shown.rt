@@ -3,6 +3,7 @@ ghost use Rattle.std.specs.Prelude.{◌≡◌, IsErrOf, OnOk, IsTrue, IfErr};
 ghost use Rattle.std.specs.Io.KnownBytes.{Appends};
 ghost use Rattle.std.specs.List.{flat_map};
 ghost use Rattle.disk_model.specs.View.{Increased};
+ghost use Rattle.exec_commands.specs.Replies.{reply_line};
 ghost use Rattle.exec_journal.specs.Opening.{Opens};
 ghost use Rattle.exec_output.specs.Faults.{HasCause, IsRunEnd, opening_fault};
 ghost use Rattle.exec_output.specs.declared.send.IoFault.TheVariants.{Memory};
@@ -11,13 +12,30 @@ ghost use Rattle.exec_output.specs.Shown.{ShowsAs, answer_line, resource_lines, 
 use crate::fault::Fault;
 use crate::send::{IoFault, send_reply};
 use disk_model::Disk;
-use exec_commands::{LineReply, NoticeForm};
+use exec_commands::{LineReply, NoticeForm, Tagged};
 use exec_journal::{Journal, JournalFault};
 use exec_state::State;
 use growth::Grows;
 use ocf_types::{Question, Refusal, Reply, RscId};
 use std::alloc::Global;
 use std::io::Write;
+
+// Writes a reply's line as a run that does not serve writes it.
+pub(crate) fn send_plain<W: Write>(
+    alloc: Global,
+    writer: &mut W,
+    reply: &LineReply,
+) -> Result<(), IoFault>
+    ensures sent { OnOk result
+        (Appends (W.contents writer.old) (W.contents writer.new) (reply_line reply.now)) }
+    ensures memory { IfErr result (λ f. f ≡ Memory → IsTrue ⟦<Global as Grows>⟧.refuses) }
+{
+    let tagged = Tagged {
+        form: NoticeForm::Short,
+        tag: None,
+    };
+    send_reply(alloc, writer, tagged, reply)
+}
 
 // Answers a question.
 fn write_answer<W: Write>(
@@ -33,7 +51,7 @@ fn write_answer<W: Write>(
 {
     match state.answer(alloc, question) {
         Reply::Refused(Refusal::Memory) => Err(IoFault::Memory),
-        reply => send_reply(alloc, writer, NoticeForm::Short, &LineReply::Request(reply)),
+        reply => send_plain(alloc, writer, &LineReply::Request(reply)),
     }
 }
 
@@ -84,7 +102,7 @@ pub(crate) fn write_state<W: Write>(
     let LineReply::Request(Reply::List(ids)) = &reply else {
         return Err(IoFault::Memory);
     };
-    send_reply(alloc, writer, NoticeForm::Short, &reply)?;
+    send_plain(alloc, writer, &reply)?;
     write_resources(alloc, writer, state, ids.as_slice())
 }
 

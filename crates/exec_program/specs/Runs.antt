@@ -1,5 +1,5 @@
 -- A run over a disk, and how it ends.
-use Rattle.std.specs.Prelude.{◌≡◌, ◌⊎◌, ℕ, ⊤, true, codes, List, [], Option, Some, None, Result, Err, is_some}
+use Rattle.std.specs.Prelude.{◌≡◌, ◌⊎◌, ℕ, ⊤, true, codes, List, [], Option, Some, None, option_map, Result, Err, is_some}
 use Rattle.std.specs.declared.alloc.Global.{Global}
 use Rattle.disk_model.specs.View.{View}
 use Rattle.child_model.specs.Children.{ChildrenView}
@@ -10,6 +10,7 @@ use Rattle.executor.specs.declared.report.Report.{Report}
 use Rattle.exec_commands.specs.declared.left.Left.{Left}
 use Rattle.exec_commands.specs.declared.notice.NoticeForm.{NoticeForm}
 use Rattle.exec_commands.specs.declared.notice.NoticeForm.TheVariants.{Short, Timed}
+use Rattle.exec_options.specs.declared.texts.TheConstants.{VERSION}
 use Rattle.exec_options.specs.declared.options.JournalPlace.{JournalPlace}
 use Rattle.exec_options.specs.declared.options.JournalPlace.TheVariants.{Folder, Memory}
 use Rattle.exec_options.specs.declared.options.Options.{Options}
@@ -42,20 +43,29 @@ served_at _ _ = None
 abbrev pub served_folder : Options → Option (List ℕ)
 served_folder o = served_at o.subcommand o.journal
 
--- which processes notices name that live on: none where they are short
-abbrev pub named_in : NoticeForm → Option (List Left)
-named_in Short = None
-named_in (Timed left) = Some left.now
+-- what a run that serves says of itself: its version, the directory of its journal, if it has one, and which processes live on of
+-- interrupted actions
+pub record ServiceView : Type 0 where
+  pub version : List ℕ
+  pub journal : Option (List ℕ)
+  pub left : List Left
 
--- a client that is served is sent which processes live on
-abbrev pub told_of : Way → List Left → Option (List Left)
-told_of way.Run left = None
-told_of way.Serve left = Some left
+-- the same, as the lines of this form say it: nothing where they are short
+abbrev pub service_in : NoticeForm → Option ServiceView
+service_in Short = None
+service_in (Timed s) =
+    Some (record { version = s.version.now; journal = option_map (λ folder. folder.now) s.journal; left = s.left.now })
+
+-- a client that is served is sent the version of the program, the directory that the options name, as they name it, and which processes
+-- live on
+abbrev pub service_of : Options → List Left → Way → Option ServiceView
+service_of o left way.Run = None
+service_of o left way.Serve = Some (record { version = VERSION.now; journal = served_folder o; left = left })
 
 -- a run is held to what these options ask for, where these processes live on
 pub record IsHeldTo (o : Options) (left : List Left) (rules : Rules) : Type 0 where
   pub way : rules.way ≡ way_of o.subcommand
-  pub form : named_in rules.form ≡ told_of (way_of o.subcommand) left
+  pub form : service_in rules.form ≡ service_of o left (way_of o.subcommand)
   pub most_turns : rules.most_turns ≡ most_turns
   pub tidy_at : rules.tidy_at ≡ o.tidy_at
 

@@ -1,13 +1,13 @@
 //! What a run is held to by its options.
 ghost use Rattle.std.specs.Prelude.{◌≡◌, option_map};
-ghost use Rattle.exec_program.specs.Runs.{IsHeldTo, named_in, served_folder, told_of, way_of};
+ghost use Rattle.exec_program.specs.Runs.{IsHeldTo, served_folder, service_in, service_of, way_of};
 ghost use Rattle.exec_session.specs.Rules.{rules_of};
 
 use crate::host::Host;
 use crate::limits::MOST_TURNS;
-use exec_commands::{Left, NoticeForm};
+use exec_commands::{Left, NoticeForm, Service};
 use exec_events::Events;
-use exec_options::{JournalPlace, Options, Subcommand};
+use exec_options::{JournalPlace, Options, Subcommand, VERSION};
 use exec_session::{Pace, RunContext, Way};
 use std::alloc::Global;
 
@@ -35,32 +35,36 @@ pub fn served_folder<'a>(options: Options<'a>) -> Option<&'a str>
     }
 }
 
-// What a notice says: a client that is served need not ask when an action began and ended, and which process lives on of it.
-fn form_of(way: Way, left: &[Left]) -> NoticeForm<'_>
-    ensures { named_in result ≡ told_of way left.now }
+// What a notice says, and what a run says of itself: a client that is served need not ask when an action began and ended, which process
+// lives on of it, and of which version and which journal the run is.
+fn form_of<'a>(options: Options<'a>, left: &'a [Left]) -> NoticeForm<'a>
+    ensures { service_in result ≡ service_of options.entry left.now (way_of options.entry.subcommand) }
 {
-    match way {
+    match way_of(options.subcommand) {
         Way::Run => NoticeForm::Short,
-        Way::Serve => NoticeForm::Timed(left),
+        Way::Serve => NoticeForm::Timed(Service {
+            version: VERSION,
+            journal: served_folder(options),
+            left,
+        }),
     }
 }
 
 /// What a run is given besides its executor and its edge, where these processes live on.
 pub fn context_of<'a, M>(
     alloc: Global,
-    options: Options,
+    options: Options<'a>,
     metadata: &'a M,
     left: &'a [Left],
 ) -> RunContext<'a, M>
     ensures held { IsHeldTo options.entry left.now (rules_of result) }
     ensures metadata { result.metadata.now ≡ metadata.now }
 {
-    let way = way_of(options.subcommand);
     RunContext {
         alloc,
         metadata,
-        way,
-        form: form_of(way, left),
+        way: way_of(options.subcommand),
+        form: form_of(options, left),
         most_turns: MOST_TURNS,
         tidy_at: options.tidy_at,
         pace: Pace::new(),

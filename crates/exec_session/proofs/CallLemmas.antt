@@ -38,7 +38,7 @@ use Rattle.exec_session.specs.Together.{AnswersTogether}
 use Rattle.exec_session.specs.declared.drain.Terms.{Terms}
 use Rattle.exec_session.proofs.DrainLemmas.{closes, still_open}
 use Rattle.exec_session.proofs.LeaveLemmas.{finish_told}
-use Rattle.exec_session.proofs.TellLemmas.{Plain, cleared_room, closed_plain, is_plain, refused_stand, request_stands}
+use Rattle.exec_session.proofs.TellLemmas.{Plain, cleared_room, closed_plain, is_plain, refused_stand, request_stands, status_plain}
 use Rattle.exec_session.proofs.TellLemmas.{together_stand, turn_behind_room}
 
 -- room is made by a call, or by none, and nothing is sent
@@ -216,6 +216,12 @@ module _ {D : Type 0} (look : D → View) where
     open_goes source p s q (Ok line.Leave) reply is_open (is, same) tells =
         both_go p s q (stays p s same)
         (plain_go rules.form s q reply (is_plain s.executor reply (answer.Request (Refused UnknownOp)) is (refl, tt)) tells)
+    open_goes source p s q (Ok line.Version) reply is_open (is, same) tells =
+        both_go p s q (stays p s same) (plain_go rules.form s q reply (is_plain s.executor reply answer.Version is (refl, tt)) tells)
+    open_goes source p s q (Ok line.Status) reply is_open (is, same) tells =
+        let plain = status_plain p.executor reply is_open is in
+        both_go p s q (stays p s same)
+        (plain_go rules.form s q reply (subst (λ (t : Spot D). Plain t.executor reply) (sym same) plain) tells)
     open_goes source p s q (Ok (line.Meta provider agent limit)) reply is_open ((meta, gives, is), same) tells =
         both_go p s q (stays p s same)
         (plain_go rules.form s q reply (is_plain s.executor reply (answer.Meta meta) is (refl, tt)) tells)

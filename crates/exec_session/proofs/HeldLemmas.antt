@@ -26,6 +26,8 @@ line_at_once way is (Ok (line.Drain limit)) = tt
 line_at_once way is (Ok (line.Watch limit)) = tt
 line_at_once way is (Ok line.Tidy) = tt
 line_at_once way is (Ok line.Leave) = is
+line_at_once way is (Ok line.Version) = tt
+line_at_once way is (Ok line.Status) = tt
 line_at_once way is (Ok (line.Direct direct)) = tt
 line_at_once way is (Err why) = tt
 

@@ -12,3 +12,4 @@ pub mod StepLemmas
 pub mod BreakLemmas
 pub mod RoomLemmas
 pub mod LastLemmas
+pub mod ReadyLemmas

@@ -1,5 +1,5 @@
 -- What may be sent of what a run did.
-use Rattle.std.proofs.Common.{◌≡◌, ◌↔◌, ℕ, zero, suc, Bool, true, false, List, [], ◌∷◌, map, Result, Ok, Err, refl, sym, subst}
+use Rattle.std.proofs.Common.{◌≡◌, ◌↔◌, ℕ, zero, suc, Bool, true, false, List, [], ◌∷◌, map, Result, Ok, Err, inl, inr, refl, sym, subst}
 use Rattle.std.specs.Prelude.{replicate}
 use Rattle.std.specs.List.{AllByRecursion}
 use Rattle.ocf_types.specs.Answer.{event_of}
@@ -28,7 +28,7 @@ use Rattle.exec_client.proofs.Behinds.{says_none}
 use Rattle.exec_client.proofs.Growing.{both_stand, cleared_stands, commands_stand, none_stands, serves_stands, turn_stands}
 use Rattle.exec_client.proofs.Plain.{commands_plain, obeys_plain, refused_plain}
 use Rattle.exec_client.proofs.Saying.{may_answer}
-use Rattle.exec_session.specs.Answers.{IsClosedReply, Source}
+use Rattle.exec_session.specs.Answers.{IsClosedReply, IsStatusReply, Source}
 use Rattle.exec_session.specs.Runs.{IsNew}
 
 -- refusals for the disk
@@ -51,9 +51,16 @@ closed_plain x source (Ok (line.Drain limit)) given is = is_plain x given _ is (
 closed_plain x source (Ok (line.Watch limit)) given is = is_plain x given _ is (refl, tt)
 closed_plain x source (Ok line.Tidy) given is = is_plain x given _ is (refl, tt)
 closed_plain x source (Ok line.Leave) given is = is_plain x given _ is (refl, tt)
+closed_plain x source (Ok line.Version) given is = is_plain x given _ is (refl, tt)
+closed_plain x source (Ok line.Status) given is = is_plain x given _ is (refl, tt)
 closed_plain x source (Ok (line.Request request)) given is = is_plain x given _ is (refl, tt)
 closed_plain x source (Ok (line.Direct direct)) given is = is_plain x given _ is (refl, tt)
 closed_plain x source (Err why) given is = is_plain x given _ is (refl, tt)
+
+-- what an open executor answers to a question for the status of all resources
+pub status_plain : {D : Type 0} (x : Sight D) (given : LineReply) → x.is_open ≡ true → IsStatusReply x given → Plain x given
+status_plain x given is_open (inl (statuses, is, same)) = is_plain x given (answer.Status statuses) is (refl, (is_open, same))
+status_plain x given is_open (inr (is, refuses)) = is_plain x given _ is (refl, tt)
 
 module _ {D : Type 0} (look : D → View) where
   -- one more thing is sent, which says nothing of what is recorded

@@ -1,5 +1,5 @@
 -- What a line is answered.
-use Rattle.std.specs.Prelude.{◌≡◌, ◌≢◌, ◌↔◌, ℕ, ◌+◌, Bool, List, [], ◌∷◌, true, false, Option, Result, Ok, Err}
+use Rattle.std.specs.Prelude.{◌≡◌, ◌≢◌, ◌↔◌, ◌⊎◌, ℕ, ◌+◌, Bool, List, [], ◌∷◌, true, false, IsTrue, Option, Result, Ok, Err}
 use Rattle.std.specs.Global.{Vec}
 use Rattle.ocf_types.specs.Kinds.{Reply, Request}
 use Rattle.ocf_types.specs.declared.refusal.Refusal.{Refusal}
@@ -13,6 +13,7 @@ use Rattle.executor.specs.Commands.{Serves}
 use Rattle.executor.specs.Sights.{Sight}
 use Rattle.executor.specs.TidyCalls.{Tidies}
 use Rattle.exec_commands.specs.Lines.{line_read}
+use Rattle.exec_commands.specs.Replies.{statuses_in}
 use Rattle.exec_commands.specs.Served.{IsServedAs}
 use Rattle.exec_commands.specs.declared.ends.DrainEnd.{DrainEnd}
 use Rattle.exec_commands.specs.declared.ends.DrainEnd.TheVariants.{Turn}
@@ -21,6 +22,8 @@ use Rattle.exec_commands.specs.declared.line.Line.{Line}
 use Rattle.exec_commands.specs.declared.line.Line.TheVariants as line
 use Rattle.exec_commands.specs.declared.reply.LineReply.{LineReply}
 use Rattle.exec_commands.specs.declared.reply.LineReply.TheVariants as answer
+use Rattle.exec_commands.specs.declared.statuses.Statuses.{Statuses}
+use Rattle.exec_output.specs.StatusLines.{statuses_of}
 use Rattle.exec_client.specs.Said.{Answered}
 use Rattle.exec_trace.specs.declared.event.IoEvent.TheVariants.{Shown}
 use Rattle.exec_session.specs.Drains.{Drains}
@@ -50,6 +53,12 @@ closed_drain = answer.Drain (Turn turn_end.Closed)
 abbrev pub closed_tidy : LineReply
 closed_tidy = answer.Tidy tidy_end.Closed
 
+-- how all resources are at the state of this executor, or that memory was refused for that: only where its allocator refuses growths
+abbrev pub IsStatusReply : {D : Type 0} → Sight D → LineReply → Type 0
+IsStatusReply x reply =
+    ((statuses : Statuses) × (reply ≡ answer.Status statuses) × (statuses_in statuses ≡ statuses_of x.state))
+    ⊎ ((reply ≡ refused refusal.Memory) × IsTrue x.refuses)
+
 -- the metadata that were asked for, or why there are none
 abbrev pub IsMetaReply : Source → List ℕ → List ℕ → Option ℕ → LineReply → Type 0
 IsMetaReply source provider agent limit reply =
@@ -63,6 +72,8 @@ IsClosedReply source (Ok (line.Drain limit)) reply = reply ≡ closed_drain
 IsClosedReply source (Ok (line.Watch limit)) reply = reply ≡ closed_drain
 IsClosedReply source (Ok line.Tidy) reply = reply ≡ closed_tidy
 IsClosedReply source (Ok line.Leave) reply = reply ≡ refused refusal.Closed
+IsClosedReply source (Ok line.Version) reply = reply ≡ refused refusal.Closed
+IsClosedReply source (Ok line.Status) reply = reply ≡ refused refusal.Closed
 IsClosedReply source (Ok (line.Request request)) reply = reply ≡ refused refusal.Closed
 IsClosedReply source (Ok (line.Direct direct)) reply = reply ≡ refused refusal.Closed
 IsClosedReply source (Err why) reply = reply ≡ refused refusal.Closed
@@ -109,6 +120,8 @@ IsOpenReply look source rules p q (Ok (line.Drain limit)) reply = DrainsFor look
 IsOpenReply look source rules p q (Ok (line.Watch limit)) reply = DrainsFor look false limit rules p q reply
 IsOpenReply look source rules p q (Ok line.Tidy) reply = TidiesNow look p q reply
 IsOpenReply look source rules p q (Ok line.Leave) reply = (reply ≡ refused refusal.UnknownOp) × (q ≡ p)
+IsOpenReply look source rules p q (Ok line.Version) reply = (reply ≡ answer.Version) × (q ≡ p)
+IsOpenReply look source rules p q (Ok line.Status) reply = IsStatusReply p.executor reply × (q ≡ p)
 IsOpenReply look source rules p q (Ok (line.Meta provider agent limit)) reply =
     IsMetaReply source provider agent limit reply × (q ≡ p)
 IsOpenReply look source rules p q (Ok (line.Direct direct)) reply = (reply ≡ answer.Direct direct) × (q ≡ p)

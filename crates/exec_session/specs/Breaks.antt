@@ -17,7 +17,7 @@ use Rattle.exec_session.specs.Broken.{ReplyBreaks, RowBreaks}
 use Rattle.exec_session.specs.Drains.{MakesTurn, TurnHeard}
 use Rattle.exec_session.specs.Leaving.{LeaveBreaks}
 use Rattle.exec_session.specs.Progress.{Answers, AnswersSo}
-use Rattle.exec_session.specs.Reports.{ReportBreaks, TellsReport, ended}
+use Rattle.exec_session.specs.Reports.{ReadyBreaks, ReportBreaks, TellsReady, TellsReport, ended}
 use Rattle.exec_session.specs.Rules.{Rules}
 use Rattle.exec_session.specs.Looks.{Lines}
 use Rattle.exec_session.specs.Runs.{Finishes, MakesTurns, MayGoOn, MayTurn, NewsSo, OwnTurn, Reaches, of_command}
@@ -77,9 +77,12 @@ abbrev pub EndsOrBreaks : {D E : Type 0} → (D → View) → Source → Rules �
 EndsOrBreaks look source rules p q (Ok done) = Finishes look source rules p q
 EndsOrBreaks look source rules p q (Err fault) = BreaksOff look source rules p q.at
 
--- A run broke off while it sent the report, or after that.
+-- A run broke off while it sent the report, or that it is ready, or after that.
 pub data RunBreaks {D N : Type 0} (look : D → View) (source : Source) (rules : Rules) (report : Report N)
     (p : Position D) (q : Spot D) : Type 0 where
   in_report : ReportBreaks rules.form report p.at q → RunBreaks look source rules report p q
-  behind_report : (reported : Spot D) → TellsReport rules.form report p.at reported
-      → BreaksOff look source rules (record p { at = reported }) q → RunBreaks look source rules report p q
+  in_ready : (reported : Spot D) → TellsReport rules.form report p.at reported
+      → ReadyBreaks rules.way rules.form reported q → RunBreaks look source rules report p q
+  behind_ready : (reported begun : Spot D) → TellsReport rules.form report p.at reported
+      → TellsReady rules.way rules.form reported begun
+      → BreaksOff look source rules (record p { at = begun }) q → RunBreaks look source rules report p q

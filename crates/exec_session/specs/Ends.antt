@@ -11,17 +11,20 @@ use Rattle.exec_output.specs.declared.fault.Fault.{Fault}
 use Rattle.exec_output.specs.declared.fault.Fault.TheVariants.{Disk, InputOrOutput, ReplyMemory}
 use Rattle.exec_session.specs.Answers.{Source}
 use Rattle.exec_session.specs.Breaks.{RunBreaks}
-use Rattle.exec_session.specs.Reports.{TellsReport}
+use Rattle.exec_session.specs.Reports.{TellsReady, TellsReport}
 use Rattle.exec_session.specs.Rules.{Rules}
 use Rattle.exec_session.specs.Runs.{Finishes}
 use Rattle.exec_session.specs.Spots.{Position, Spot, position, spot}
 
--- the report is sent first, and then all lines are answered, or a disk fault ends a run that serves
+-- the report is sent first, then that a run which serves is ready, and then all lines are answered, or a disk fault ends a run that
+-- serves
 pub record Runs {D N : Type 0} (look : D → View) (source : Source) (rules : Rules) (report : Report N)
     (p q : Position D) : Type 0 where
   pub reported : Spot D
   pub report_first : TellsReport rules.form report p.at reported
-  pub lines : Finishes look source rules (record p { at = reported }) q
+  pub begun : Spot D
+  pub ready : TellsReady rules.way rules.form reported begun
+  pub lines : Finishes look source rules (record p { at = begun }) q
 
 -- how a run ends that leads from one place to another
 abbrev pub EndsAs : {D N T : Type 0} → (D → View) → Source → Rules → Report N → Position D

@@ -1,9 +1,11 @@
 -- How a run goes on, line by line of the input.
-use Rattle.std.specs.Prelude.{◌≡◌, ◌≢◌, ℕ, ◌<◌, ⊤, List, [], ◌∷◌, length, Option, Some, None, Result}
+use Rattle.std.specs.Prelude.{◌≡◌, ◌≢◌, ◌⊎◌, ℕ, ◌<◌, ⊤, Bool, IsTrue, List, [], ◌∷◌, length, Option, Some, None, Result, Ok, Err}
 use Rattle.std.specs.Io.KnownBytes.{IsAtEnd}
 use Rattle.ocf_types.specs.declared.refusal.Refusal.{Refusal}
+use Rattle.ocf_types.specs.declared.refusal.Refusal.TheVariants.{Memory}
 use Rattle.disk_model.specs.View.{View}
 use Rattle.exec_lines.specs.Lines.{first_line, after_first_line}
+use Rattle.exec_commands.specs.Tags.{IsTaggedAs}
 use Rattle.exec_commands.specs.declared.line.Line.{Line}
 use Rattle.exec_commands.specs.declared.reply.LineReply.{LineReply}
 use Rattle.exec_client.specs.Said.{Answered}
@@ -13,6 +15,7 @@ use Rattle.exec_session.specs.Answers.{Source, IsReadAs, IsReply}
 use Rattle.exec_session.specs.Spots.{Spot, Telling, Tells}
 use Rattle.exec_session.specs.Rules.{Rules}
 use Rattle.exec_session.specs.declared.context.Way.{Way}
+use Rattle.exec_session.specs.declared.context.Way.TheVariants.{Serve}
 
 -- where it is known what a reader has left: the next line has no bytes, and what comes after it is left
 abbrev pub PassesLine : Option (List ℕ) → Option (List ℕ) → Type 0
@@ -23,6 +26,17 @@ PassesLine (Some xs) new = (0 < length xs) × (first_line xs ≡ []) × (new ≡
 abbrev pub ReadsLine : Way → Option (List ℕ) → Option (List ℕ) → Result Line Refusal → Type 0
 ReadsLine way None new found = ⊤
 ReadsLine way (Some xs) new found = (first_line xs ≢ []) × (new ≡ Some (after_first_line xs)) × IsReadAs way (first_line xs) found
+
+-- a line that a run which serves has read has the tag that these bytes give it; nothing else has one
+abbrev pub HasTagOf : Way → List ℕ → Found → Option (List ℕ) → Type 0
+HasTagOf Serve bytes (found.Line (Ok line)) tag = IsTaggedAs bytes tag
+HasTagOf way bytes next tag = tag ≡ None
+
+-- What was found stays as it was, but that a line of a run that serves is refused where no memory was there to note that it was read:
+-- only where the allocator of what the client is sent refuses growths.
+abbrev pub IsNotedAs : Bool → Way → Found → Found → Type 0
+IsNotedAs refuses Serve (found.Line line) now = (now ≡ found.Line line) ⊎ ((now ≡ found.Line (Err Memory)) × IsTrue refuses)
+IsNotedAs refuses way old now = now ≡ old
 
 -- what comes next in the input, from what a reader has left to what it has left then
 abbrev pub ReadsInput : Way → Option (List ℕ) → Option (List ℕ) → Found → Type 0

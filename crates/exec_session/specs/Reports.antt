@@ -1,14 +1,17 @@
--- What is sent of an opening's report, and of how a turn ended.
-use Rattle.std.specs.Prelude.{◌≡◌, ◌⊎◌, map}
+-- What is sent of an opening's report, that a run is ready, and how a turn ended.
+use Rattle.std.specs.Prelude.{◌≡◌, ◌⊎◌, [], ◌∷◌, length, map}
 use Rattle.executor.specs.Reports.{report_of}
 use Rattle.executor.specs.Sights.{Sight}
 use Rattle.executor.specs.declared.report.Report.{Report}
 use Rattle.ocf_types.specs.declared.reply.TurnEnd.{TurnEnd}
 use Rattle.exec_commands.specs.declared.ends.DrainEnd.TheVariants.{Turn}
 use Rattle.exec_commands.specs.declared.notice.NoticeForm.{NoticeForm}
-use Rattle.exec_commands.specs.declared.reply.LineReply.TheVariants.{Drain}
+use Rattle.exec_commands.specs.declared.service.Counts.{Counts}
+use Rattle.exec_commands.specs.declared.reply.LineReply.TheVariants.{Drain, Ready}
 use Rattle.exec_client.specs.Said.{Answered, Reported, Said}
 use Rattle.exec_session.specs.Spots.{Spot, Tells, TellsPart}
+use Rattle.exec_session.specs.declared.context.Way.{Way}
+use Rattle.exec_session.specs.declared.context.Way.TheVariants.{Run, Serve}
 
 -- the report is that of the opening that gave this executor
 abbrev pub IsReportOf : {D M : Type 0} → Sight D → Report M → Type 0
@@ -24,6 +27,28 @@ abbrev pub ReportBreaks : {D M : Type 0} → NoticeForm → Report M → Spot D 
 ReportBreaks {D} form r p q =
     TellsPart form p q (map Reported r.interrupted.items)
     ⊎ ((m : Spot D) × Tells form p m (map Reported r.interrupted.items) × TellsPart form m q (map Reported r.dropped.items))
+
+-- how many resources are registered, and how many lines the report of its opening has of what was interrupted and of what was dropped
+abbrev pub counts_of : {D : Type 0} → Sight D → Counts
+counts_of x = record {
+  resources = length x.state.resources;
+  interrupted = length x.reported.interrupted;
+  dropped = length x.reported.dropped;
+}
+
+-- the line that says that a run which serves is ready
+abbrev pub readied : {D : Type 0} → Sight D → Said
+readied x = Answered (Ready (counts_of x))
+
+-- the client is sent that a run which serves is ready, which it receives so; nothing of a run by lines alone
+abbrev pub TellsReady : {D : Type 0} → Way → NoticeForm → Spot D → Spot D → Type 0
+TellsReady Run form p q = q ≡ p
+TellsReady Serve form p q = Tells form p q (readied p.executor ∷ [])
+
+-- that broke off
+abbrev pub ReadyBreaks : {D : Type 0} → Way → NoticeForm → Spot D → Spot D → Type 0
+ReadyBreaks Run form p q = ⊥
+ReadyBreaks Serve form p q = TellsPart form p q (readied p.executor ∷ [])
 
 -- the line that says how a turn ended, as a drain says it
 abbrev pub ended : TurnEnd → Said

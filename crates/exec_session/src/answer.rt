@@ -8,8 +8,8 @@ ghost use Rattle.executor.specs.Rows.{TakesCommands};
 ghost use Rattle.exec_commands.specs.declared.line.Line.TheVariants as line;
 ghost use Rattle.exec_commands.specs.declared.reply.LineReply.TheVariants as answer;
 ghost use Rattle.exec_client.specs.MayTell.{MayAnswer, StandsBehind};
-ghost use Rattle.exec_client.specs.Said.{answered};
-ghost use Rattle.exec_session.specs.Answers.{IsClosedReply, IsMetaReply, TidiesNow};
+ghost use Rattle.exec_client.specs.Said.{Answered, answered};
+ghost use Rattle.exec_session.specs.Answers.{IsClosedReply, IsMetaReply, IsStatusReply, TidiesNow};
 ghost use Rattle.exec_session.specs.Answers.{closed_drain, closed_tidy, refused};
 ghost use Rattle.exec_session.specs.Breaks.{AnswersLine};
 ghost use Rattle.exec_session.specs.Broken.{RowBreaks};
@@ -18,7 +18,7 @@ ghost use Rattle.exec_session.specs.Held.{AnswersHeld, MayAnswerAtOnce, MayTakeA
 ghost use Rattle.exec_session.specs.Progress.{Answers, AnswersSo};
 ghost use Rattle.exec_session.specs.Rules.{rules_of};
 ghost use Rattle.exec_session.specs.Spots.{Keeps, TellsPart};
-ghost use Rattle.exec_session.specs.Steps.{Steps};
+ghost use Rattle.exec_session.specs.Steps.{Sends, Steps};
 ghost use Rattle.exec_session.specs.Together.{AnswersAll};
 ghost use Rattle.exec_session.specs.Waiting.{TakesFound};
 
@@ -32,11 +32,13 @@ use crate::worker::Worker;
 use child_model::Children;
 use disk_model::Disk;
 use exec_client::{Client, Told};
-use exec_commands::{DrainEnd, Line, LineReply};
+use exec_commands::{Direct, DrainEnd, Line, LineReply};
 use exec_lines::Input;
+use exec_output::statuses_of;
 use exec_trace::Failed;
 use executor::Executor;
 use ocf_types::{AgentType, Provider, Refusal, Reply, Request, TidyEnd, TurnEnd};
+use std::alloc::Global;
 use std::rt::Clock;
 
 fn refused(refusal: Refusal) -> LineReply
@@ -88,7 +90,8 @@ fn closed_reply<M: Metadata>(context: &RunContext<M>, line: &Result<Line, Refusa
         ) => meta_reply(context, provider, agent, *limit),
         Ok(Line::Drain(_) | Line::Watch(_)) => closed_drain(),
         Ok(Line::Tidy) => closed_tidy(),
-        Ok(Line::Request(_) | Line::Leave | Line::Direct(_)) | Err(_) => refused(Refusal::Closed),
+        Ok(Line::Request(_) | Line::Leave | Line::Version | Line::Status | Line::Direct(_))
+        | Err(_) => refused(Refusal::Closed),
     }
 }
 
@@ -110,6 +113,20 @@ fn request_reply<D: Disk + Drop, C: Children + Drop>(
         return Reply::Refused(Refusal::Disk);
     }
     executor.command(now, request)
+}
+
+// The status of each resource, or that there is no memory for it.
+fn status_reply<D: Disk + Drop, C: Children + Drop>(
+    alloc: Global,
+    executor: &Executor<D, C>,
+) -> LineReply
+    ensures status { IsStatusReply executor.now result }
+{
+    executor.known();
+    match statuses_of(alloc, executor.state()) {
+        Ok(statuses) => LineReply::Status(statuses),
+        Err(_) => refused(Refusal::Memory),
+    }
 }
 
 // Does what the commands ask at this moment, after room was made. Where the disk failed as room was made each is refused for that.
@@ -173,7 +190,65 @@ impl<'a, R: Input, D: Disk + Drop, C: Children + Drop, T: Client<D, C>, K: Clock
             .tell(&self.executor, context.form, &Told::Reply(&reply))
     }
 
-    // Answers a line while the executor is open.
+    // Refuses a line.
+    fn refuse<M>(&mut self, context: &RunContext<M>, refusal: Refusal) -> Result<(), Failed>
+        ensures sends { Sends context.now.form (Answered (refused refusal) ∷ []) self.old self.new result }
+    {
+        self.tell_reply(context, &refused(refusal))
+    }
+
+    // Tidies the journal, and sends how that ended.
+    fn answer_tidy<M: Metadata>(&mut self, context: &RunContext<M>) -> Result<(), Failed>
+        requires open { self.old.at.executor.is_open ≡ true }
+        ensures answers { AnswersLine D.view (M.gives context.now.metadata.now) (rules_of context.now)
+            (Ok line.Tidy) self.old self.new result }
+    {
+        let end = self.tidy(context);
+        self.tell_reply(context, &LineReply::Tidy(end))
+    }
+
+    // Waits for an agent's metadata, which a run does that answers lines alone, and sends it.
+    fn answer_meta<M: Metadata>(
+        &mut self,
+        context: &RunContext<M>,
+        provider: &Provider,
+        agent: &AgentType,
+        limit: Option<u32>,
+    ) -> Result<(), Failed>
+        requires open { self.old.at.executor.is_open ≡ true }
+        requires runs { context.now.way ≡ Way.Run }
+        ensures answers { AnswersLine D.view (M.gives context.now.metadata.now) (rules_of context.now)
+            (Ok (line.Meta provider.now agent.now limit)) self.old self.new result }
+    {
+        self.tell_reply(context, &meta_reply(context, provider, agent, limit))
+    }
+
+    // Sends what a line is answered by what it is alone.
+    fn answer_direct<M>(&mut self, context: &RunContext<M>, direct: Direct) -> Result<(), Failed>
+        ensures sends { Sends context.now.form (Answered (answer.Direct direct) ∷ []) self.old self.new result }
+    {
+        self.tell_reply(context, &LineReply::Direct(direct))
+    }
+
+    // Sends the version of the program.
+    fn answer_version<M>(&mut self, context: &RunContext<M>) -> Result<(), Failed>
+        ensures sends { Sends context.now.form (Answered answer.Version ∷ []) self.old self.new result }
+    {
+        self.tell_reply(context, &LineReply::Version)
+    }
+
+    // Sends the status of each resource, or that there is no memory for it.
+    fn answer_status<M: Metadata>(&mut self, context: &RunContext<M>) -> Result<(), Failed>
+        requires open { self.old.at.executor.is_open ≡ true }
+        ensures answers { AnswersLine D.view (M.gives context.now.metadata.now) (rules_of context.now)
+            (Ok line.Status) self.old self.new result }
+    {
+        let reply = status_reply(context.alloc, &self.executor);
+        self.tell_reply(context, &reply)
+    }
+
+    // Answers a line while the executor is open. Each reply is made in a function of its own: whenever a function is called it
+    // clears the room of every reply that it may make, 824 bytes each, and most lines are requests.
     fn answer_open<M: Metadata>(
         &mut self,
         context: &RunContext<M>,
@@ -188,21 +263,34 @@ impl<'a, R: Input, D: Disk + Drop, C: Children + Drop, T: Client<D, C>, K: Clock
             Ok(Line::Request(request)) => self.answer_request(context, request),
             Ok(Line::Drain(limit)) => self.answer_drain(context, true, limit),
             Ok(Line::Watch(limit)) => self.answer_drain(context, false, limit),
-            Ok(Line::Tidy) => {
-                let end = self.tidy(context);
-                self.tell_reply(context, &LineReply::Tidy(end))
-            }
-            Ok(Line::Leave) => self.tell_reply(context, &refused(Refusal::UnknownOp)),
+            Ok(Line::Tidy) => self.answer_tidy(context),
+            Ok(Line::Leave) => self.refuse(context, Refusal::UnknownOp),
+            Ok(Line::Version) => self.answer_version(context),
+            Ok(Line::Status) => self.answer_status(context),
             Ok(
                 Line::Meta {
                     provider,
                     agent,
                     limit,
                 },
-            ) => self.tell_reply(context, &meta_reply(context, &provider, &agent, limit)),
-            Ok(Line::Direct(direct)) => self.tell_reply(context, &LineReply::Direct(direct)),
-            Err(refusal) => self.tell_reply(context, &refused(refusal)),
+            ) => self.answer_meta(context, &provider, &agent, limit),
+            Ok(Line::Direct(direct)) => self.answer_direct(context, direct),
+            Err(refusal) => self.refuse(context, refusal),
         }
+    }
+
+    // Answers a line once a disk fault has closed the executor.
+    fn answer_closed<M: Metadata>(
+        &mut self,
+        context: &RunContext<M>,
+        line: &Result<Line, Refusal>,
+    ) -> Result<(), Failed>
+        requires closed { self.old.at.executor.is_open ≡ false }
+        requires at_once { MayAnswerAtOnce context.now.way line.now }
+        ensures answers { AnswersLine D.view (M.gives context.now.metadata.now) (rules_of context.now) line.now
+            self.old self.new result }
+    {
+        self.tell_reply(context, &closed_reply(context, line))
     }
 
     // Answers a line, as it was read: the client is sent a drain's notices, and then the reply.
@@ -218,7 +306,7 @@ impl<'a, R: Input, D: Disk + Drop, C: Children + Drop, T: Client<D, C>, K: Clock
         if self.is_open() {
             self.answer_open(context, line)
         } else {
-            self.tell_reply(context, &closed_reply(context, &line))
+            self.answer_closed(context, &line)
         }
     }
 

@@ -148,7 +148,7 @@ impl<'a, R: Input, D: Disk + Drop, C: Children + Drop, T: Client<D, C>, K: Clock
         Err(Failed)
     }
 
-    // Sends the report, and then answers all lines.
+    // Sends the report, and that a run which serves is ready, and then answers all lines.
     fn report_and_answer<M: Metadata>(
         &mut self,
         context: &RunContext<'_, M>,
@@ -165,6 +165,7 @@ impl<'a, R: Input, D: Disk + Drop, C: Children + Drop, T: Client<D, C>, K: Clock
             (rules_of context.now) report.now self.old.desk.worker self.new.desk.worker.at) }
     {
         self.desk.worker.tell_report(context, report)?;
+        self.desk.worker.tell_ready(context, report)?;
         self.answer_all(context)?;
         Ok(())
     }
@@ -193,8 +194,8 @@ impl<'a, R: Input, D: Disk + Drop, C: Children + Drop, T: Client<D, C>, K: Clock
     }
 }
 
-/// Sends a client what the opening reports, and then answers each line of the input, up to its end; a run that serves makes turns
-/// by itself, too, and sends how they ended. Commands whose lines were read whole, one after the other, are recorded together, and
+/// Sends a client what the opening reports, and then answers each line of the input, up to its end; a run that serves sends that it is
+/// ready before that, and makes turns by itself, too, and sends how they ended. Commands whose lines were read whole, one after the other, are recorded together, and
 /// their replies flushed together; any other reply is flushed before the next line is answered, and a turn's notices before the
 /// next turn. Where the disk failed the end of the input is a fault, and a run that serves ends at once by it, with the line of a
 /// turn that ended so; input or output that fails is another, and so is a reply that finds no memory. In any case all children are

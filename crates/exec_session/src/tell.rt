@@ -1,21 +1,21 @@
-//! What a run sends that says nothing of what is recorded since, or what an opening reports.
+//! What a run sends that says nothing of what is recorded since, what an opening reports, and that a run is ready.
 ghost use Rattle.std.specs.Prelude.{◌≡◌, [], ◌∷◌, false};
 ghost use Rattle.exec_client.specs.Behind.{claims};
 ghost use Rattle.exec_client.specs.MayTell.{MayReply, MaySay, StandsBehind};
 ghost use Rattle.exec_client.specs.Said.{Answered, said_in};
-ghost use Rattle.exec_session.specs.Reports.{IsReportOf, ReportBreaks, TellsReport, ended};
+ghost use Rattle.exec_session.specs.Reports.{IsReportOf, ReadyBreaks, ReportBreaks, TellsReady, TellsReport, counts_of, ended};
 ghost use Rattle.exec_session.specs.Steps.{Sends, Steps};
 
-use crate::context::RunContext;
+use crate::context::{RunContext, Way};
 use crate::worker::Worker;
 use child_model::Children;
 use disk_model::Disk;
 use exec_client::{Client, Told};
-use exec_commands::{DrainEnd, LineReply, NoticeForm};
+use exec_commands::{Counts, DrainEnd, LineReply, NoticeForm};
 use exec_lines::Input;
 use exec_trace::Failed;
 use executor::Report;
-use ocf_types::TurnEnd;
+use ocf_types::{StateView, TurnEnd};
 use std::rt::Clock;
 
 impl<'a, R: Input, D: Disk + Drop, C: Children + Drop, T: Client<D, C>, K: Clock> Worker<
@@ -49,11 +49,20 @@ impl<'a, R: Input, D: Disk + Drop, C: Children + Drop, T: Client<D, C>, K: Clock
         self.tell(context.form, &Told::Reply(reply))
     }
 
+    // Sends the client a line that answers none, and says nothing of what is recorded.
+    fn tell_aside<M>(&mut self, context: &RunContext<M>, news: &LineReply) -> Result<(), Failed>
+        requires plain { claims (Answered news.now) ≡ false }
+        requires says { MayReply self.old.at.executor news.now }
+        ensures sends { Sends context.now.form (Answered news.now ∷ []) self.old self.new result }
+    {
+        self.tell(context.form, &Told::News(news))
+    }
+
     /// Sends the line that says how a turn ended.
     pub fn tell_end<M>(&mut self, context: &RunContext<M>, end: TurnEnd) -> Result<(), Failed>
         ensures sends { Sends context.now.form (ended end ∷ []) self.old self.new result }
     {
-        self.tell_reply(context, &LineReply::Drain(DrainEnd::Turn(end)))
+        self.tell_aside(context, &LineReply::Drain(DrainEnd::Turn(end)))
     }
 
     /// Sends what an opening reports: what was interrupted, and then what was dropped.
@@ -66,5 +75,32 @@ impl<'a, R: Input, D: Disk + Drop, C: Children + Drop, T: Client<D, C>, K: Clock
         self.tell(context.form, &interrupted)?;
         let dropped = Told::Report(report.dropped.as_slice());
         self.tell(context.form, &dropped)
+    }
+
+    // How many resources are registered, and how many lines the report has.
+    fn counts(&self, report: &Report) -> Counts
+        requires reported { IsReportOf self.now.at.executor report.now }
+        ensures { result ≡ counts_of self.now.at.executor }
+    {
+        Counts {
+            resources: self.executor.state().len(),
+            interrupted: report.interrupted.len(),
+            dropped: report.dropped.len(),
+        }
+    }
+
+    /// Sends the line that says that a run which serves is ready; a run by lines alone has none.
+    pub fn tell_ready<M>(&mut self, context: &RunContext<M>, report: &Report) -> Result<(), Failed>
+        requires reported { IsReportOf self.old.at.executor report.now }
+        ensures told { Steps (TellsReady context.now.way context.now.form self.old.at)
+            (ReadyBreaks context.now.way context.now.form self.old.at) self.old self.new result }
+    {
+        match context.way {
+            Way::Run => Ok(()),
+            Way::Serve => {
+                let counts = self.counts(report);
+                self.tell_aside(context, &LineReply::Ready(counts))
+            }
+        }
     }
 }

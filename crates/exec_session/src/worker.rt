@@ -9,14 +9,18 @@ ghost use Rattle.exec_client.specs.MayTell.{AllStand};
 ghost use Rattle.exec_lines.specs.Buffer.{line_bytes};
 ghost use Rattle.exec_lines.specs.Pieces.{IsMidLine, IsNext};
 ghost use Rattle.exec_session.specs.Pausing.{IsQuietSince};
+ghost use Rattle.exec_session.specs.Progress.{IsNotedAs};
 ghost use Rattle.exec_session.specs.Runs.{IsNew};
 ghost use Rattle.exec_session.specs.Spots.{Pauses, at_of, behind, noted, paused, position};
 ghost use Rattle.exec_trace.specs.declared.event.IoEvent.TheVariants.{Asked, Looked, Peeked, Read, Shown};
 
+use crate::context::Way;
+use crate::lines::Found;
 use crate::pause::Pause;
 use child_model::Children;
 use disk_model::Disk;
 use exec_client::Client;
+use exec_commands::Tag;
 use exec_lines::{Input, LineBuffer, Next};
 use exec_trace::{Edge, Failed};
 use executor::Executor;
@@ -35,8 +39,12 @@ impl<'a, R: Input, D: Disk + Drop, C: Children + Drop, T: Client<D, C>, K: Clock
     for Worker<'a, R, D, C, T, K> {
     ghost use Rattle.exec_client.specs.MayTell.{AllStand};
     ghost use Rattle.exec_session.specs.Spots.{Position, at_of};
+    ghost use Rattle.serde_json.specs.contracts.value.Value as json_value;
+    ghost use Rattle.std.specs.Coded.{codes};
 
     ghost Value = { Position D };
+
+    ghost coded = { Prim.hlevel (codes, json_value.the_row.coded) };
 
     ghost view = { λ w. at_of w.executor w.edge };
 
@@ -135,6 +143,22 @@ impl<'a, R: Input, D: Disk + Drop, C: Children + Drop, T: Client<D, C>, K: Clock
         ensures noted { self.new.at ≡ behind self.old.at (Read (is_ok result)) }
     {
         self.edge.read(buffer)
+    }
+
+    /// Notes that a line was read, with its tag, where a run serves: the reply to it has that tag. The line is refused where no memory was
+    /// there to note it.
+    #[tactic(auto, using(crate::proofs::ReadyLemmas::noted_same, crate::proofs::ReadyLemmas::noted_refused))]
+    pub fn note_found(&mut self, way: Way, found: &mut Found, tag: Option<Tag>)
+        ensures same { self.new ≡ self.old }
+        ensures found { IsNotedAs T.refuses way found.old found.new }
+    {
+        let (Way::Serve, Found::Line(_)) = (way, &*found) else {
+            return;
+        };
+        let Err(_) = self.edge.note_tag(tag) else {
+            return;
+        };
+        found.run_out();
     }
 
     /// Pauses for this many microseconds: not at all for none.

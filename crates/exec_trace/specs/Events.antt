@@ -1,7 +1,7 @@
 -- What a run asked of the world around it, and what it was answered: a list of events, the oldest first.
-use Rattle.std.specs.Prelude.{◌≡◌, ◌≤◌, ℕ, Bool, true, false, not, List, [], ◌∷◌, ◌++◌, Option, Some, None}
+use Rattle.std.specs.Prelude.{◌≡◌, ℕ, Bool, true, false, not, List, [], ◌∷◌, ◌++◌, Option, Some, None}
 use Rattle.exec_trace.specs.declared.event.IoEvent.{IoEvent}
-use Rattle.exec_trace.specs.declared.event.IoEvent.TheVariants.{Asked, Looked, Peeked, Read, Rested, Sent, Shown}
+use Rattle.exec_trace.specs.declared.event.IoEvent.TheVariants.{Asked, Read, Sent, Shown}
 
 -- the last of two moments, of which either may be none
 abbrev pub later_of : ℕ → Option ℕ → Option ℕ

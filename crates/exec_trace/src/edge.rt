@@ -14,11 +14,12 @@ use crate::failed::Failed;
 use child_model::Children;
 use disk_model::Disk;
 use exec_client::{Client, Told};
-use exec_commands::NoticeForm;
+use exec_commands::{NoticeForm, Tag};
 use exec_lines::{Input, LineBuffer, Next, gather_line, moment_now};
 use exec_output::IoFault;
 use executor::Executor;
 use past::Past;
+use std::alloc::AllocError;
 use std::marker::{Model, PhantomData};
 use std::rt::Clock;
 use std::thread::sleep;
@@ -41,8 +42,12 @@ impl<'a, R: Input, D: Disk + Drop, C: Children + Drop, T: Client<D, C>, K: Clock
     ghost use Rattle.std.specs.Prelude.{◌≡◌, IsTrue};
     ghost use Rattle.exec_output.specs.declared.send.IoFault.TheVariants.{Memory};
     ghost use Rattle.exec_trace.specs.Edges.{EdgeView};
+    ghost use Rattle.std.specs.Coded.{codes};
+    ghost use Rattle.serde_json.specs.contracts.value.Value as json_value;
 
     ghost Value = { EdgeView D };
+
+    ghost coded = { Prim.hlevel (codes, json_value.the_row.coded) };
 
     ghost view = { λ e. record { left = R.remaining e.reader; heard = T.heard e.client; events = e.past.items } };
 
@@ -160,6 +165,15 @@ impl<'a, R: Input, D: Disk + Drop, C: Children + Drop, T: Client<D, C>, K: Clock
                 Err(Failed)
             }
         }
+    }
+
+    /// A line was read that has this tag, or none: its reply and the notices of its call repeat it. Where memory is refused, the line
+    /// counts as one without a tag. It asks nobody, so it is no event.
+    pub fn note_tag(&mut self, tag: Option<Tag>) -> Result<(), AllocError>
+        ensures unchanged { self.new ≡ self.old }
+        ensures memory { OnErr result (IsTrue T.refuses) }
+    {
+        self.client.note_tag(tag)
     }
 
     /// Whether the client failed last for want of memory.

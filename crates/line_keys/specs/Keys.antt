@@ -21,6 +21,7 @@ key_word key.Interval = codes "interval"
 key_word key.Call = codes "call"
 key_word key.Limit = codes "limit"
 key_word key.WatchLimit = codes "limit"
+key_word key.Tag = codes "tag"
 
 -- what a key may hold
 abbrev pub range_of : Key → Range
@@ -37,6 +38,7 @@ range_of key.Interval = range.Number 1 4294967295
 range_of key.Call = range.Number 1 num_max
 range_of key.Limit = range.Number 0 86400000
 range_of key.WatchLimit = range.Number 1 4294967295
+range_of key.Tag = range.Tag
 
 -- the same as a part of a sentence
 abbrev pub range_text : Range → List ℕ
@@ -47,4 +49,5 @@ range_text range.Params = codes "an object of at most 64 texts of 1024 bytes, no
 range_text range.Action = codes "start, stop, monitor, promote, demote, reload-agent or validate-all"
 range_text range.Level = codes "the number 0, 10 or 20, and 0 where the action is no monitor"
 range_text range.Expect = codes "the number 0, 7 or 8, and 0 where the action is no monitor"
+range_text range.Tag = codes "a text of at most 64 bytes"
 range_text (range.Number from to) = codes "a number from " ++ decimal from ++ codes " to " ++ decimal to

@@ -23,6 +23,8 @@ pub enum Key {
     Limit,
     /// The limit of a watch.
     WatchLimit,
+    /// What a client knows the reply and the notices of its line by.
+    Tag,
 }
 
 const MILLIS: Range = Range::Number {
@@ -48,6 +50,7 @@ impl Key {
             Key::Interval => "interval",
             Key::Call => "call",
             Key::Limit | Key::WatchLimit => "limit",
+            Key::Tag => "tag",
         }
     }
 
@@ -63,6 +66,7 @@ impl Key {
             Key::Action => Range::Action,
             Key::Level => Range::Level,
             Key::Expect => Range::Expect,
+            Key::Tag => Range::Tag,
             Key::Timeout | Key::Interval | Key::WatchLimit => MILLIS,
             Key::Call => Range::Number {
                 from: 1,

@@ -26,6 +26,8 @@ pub enum Range {
     Level,
     /// The exit code that is expected of a monitor.
     Expect,
+    /// A text of a client's own, in UTF-8.
+    Tag,
     /// A number from one to another, both of them included.
     Number { from: u64, to: u64 },
 }
@@ -83,6 +85,7 @@ impl Range {
                 text,
                 "the number 0, 7 or 8, and 0 where the action is no monitor",
             ),
+            Range::Tag => push_text(text, "a text of at most 64 bytes"),
             Range::Number { from, to } => add_numbers(text, from, to),
         }
     }

@@ -1,33 +1,26 @@
-use Rattle.std.proofs.Common.{ap}
-use Rattle.exec_client.specs.Said.{Reported, answered, noticed_by, said_in}
-use Rattle.exec_client.proofs.Lines.{breaks_off, writes_all}
+use Rattle.std.proofs.Common.{◌≡◌, None, ap, ◌∙◌}
+use Rattle.std.specs.List.{flat_map}
+use Rattle.exec_commands.specs.Replies.{formed_line}
+use Rattle.exec_client.specs.Said.{lines_of, said_in}
+use Rattle.exec_client.specs.ToldTags.{told_tags}
+use Rattle.exec_client.specs.declared.told.Told.{Told}
+use Rattle.exec_client.proofs.Lines.{err_same, ok_same, report_lines}
 use Rattle.exec_client.proofs.teller.write_told.Goals as goal
 
-pub returns-in-Replies : goal.returns-in-Replies
-returns-in-Replies g c =
-    let is = ap said_in c.in-Replies.is in
-    record {
-      sent = writes_all c.args.form answered c.in-Replies.replies.now (said_in c.args.what.now) c.send_replies.result _ _ is c.send_replies.ensures.sent;
-      front = breaks_off c.args.form answered c.in-Replies.replies.now (said_in c.args.what.now) c.send_replies.result _ _ is c.send_replies.ensures.front;
-      memory = c.send_replies.ensures.memory;
-    }
+pub returns-in-Report-clause-sent : goal.returns-in-Report-clause-sent
+returns-in-Report-clause-sent g c =
+    let form = c.args.making.now.form in
+    let ns = c.in-Report.notices.now in
+    let lines : lines_of form (told_tags c.args.tags.now c.args.what.now) (said_in c.args.what.now) ≡ flat_map (formed_line form None None) ns =
+    ap (λ (w : Told). lines_of form (told_tags c.args.tags.now w) (said_in w)) c.in-Report.is ∙ report_lines form ns
+    in
+    ok_same c.send_notices.result _ _ _ _ lines c.send_notices.ensures.sent
 
-pub returns-in-Notices : goal.returns-in-Notices
-returns-in-Notices g c =
-    let is = ap said_in c.in-Notices.is in
-    let turn = c.in-Notices.turn in
-    record {
-      sent = writes_all c.args.form (noticed_by turn.book.now) turn.notices.now (said_in c.args.what.now) c.send_turn.result _ _ is c.send_turn.ensures.sent;
-      front = breaks_off c.args.form (noticed_by turn.book.now) turn.notices.now (said_in c.args.what.now) c.send_turn.result _ _ is c.send_turn.ensures.front;
-      memory = c.send_turn.ensures.memory;
-    }
-
-pub returns-in-Report : goal.returns-in-Report
-returns-in-Report g c =
-    let is = ap said_in c.in-Report.is in
-    let sent = c.send_notices in
-    record {
-      sent = writes_all c.args.form Reported c.in-Report.notices.now (said_in c.args.what.now) sent.result _ _ is sent.ensures.sent;
-      front = breaks_off c.args.form Reported c.in-Report.notices.now (said_in c.args.what.now) sent.result _ _ is sent.ensures.front;
-      memory = sent.ensures.memory;
-    }
+pub returns-in-Report-clause-front : goal.returns-in-Report-clause-front
+returns-in-Report-clause-front g c =
+    let form = c.args.making.now.form in
+    let ns = c.in-Report.notices.now in
+    let lines : lines_of form (told_tags c.args.tags.now c.args.what.now) (said_in c.args.what.now) ≡ flat_map (formed_line form None None) ns =
+    ap (λ (w : Told). lines_of form (told_tags c.args.tags.now w) (said_in w)) c.in-Report.is ∙ report_lines form ns
+    in
+    err_same c.send_notices.result _ _ _ _ lines c.send_notices.ensures.front

@@ -6,4 +6,4 @@ use Rattle.exec_output.proofs.send.send_notices.Given as goal
 
 abbrev pub invariant-loop-notice : goal.invariant-loop-notice
 invariant-loop-notice g l =
-    Appends (g.W.Write.contents l.fn.writer) (g.W.Write.contents l.writer) (flat_map (formed_line l.form None) (take l.notice-index l.notices))
+    Appends (g.W.Write.contents l.fn.writer) (g.W.Write.contents l.writer) (flat_map (formed_line l.form None None) (take l.notice-index l.notices))

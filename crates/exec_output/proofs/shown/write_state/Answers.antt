@@ -10,4 +10,4 @@ returns-clause-written g c =
     let ids = c.as_slice.ensures in
     let is : c.answer.result ≡ reply.List c.as_slice.result.now = cc in
     shows c.args.state.now.state c.as_slice.result.now c.answer.result c.write_resources.result _ _ _ c.answer.ensures.reply is
-    c.in_ok-send_reply.ensures.sent c.write_resources.ensures.written
+    c.in_ok-send_plain.ensures.sent c.write_resources.ensures.written

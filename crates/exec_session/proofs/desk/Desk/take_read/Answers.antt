@@ -1,12 +1,13 @@
-use Rattle.std.proofs.Common.{◌+◌, Some, true, false, arith, ap, refl, subst, sym}
+use Rattle.std.proofs.Common.{◌+◌, ◌∙◌, Some, true, false, arith, ap, refl, subst, sym}
 use Rattle.exec_lines.specs.Buffer.{line_bytes}
 use Rattle.exec_trace.specs.declared.event.IoEvent.TheVariants.{Peeked, Read}
 use Rattle.exec_session.specs.Gathered.{waiting}
 use Rattle.exec_session.specs.Rules.{rules_of}
-use Rattle.exec_session.specs.Spots.{Spot}
+use Rattle.exec_session.specs.Spots.{Position, Spot}
 use Rattle.exec_session.specs.Waiting.{HasFound}
 use Rattle.exec_session.specs.declared.lines.Found.{Found}
 use Rattle.exec_session.proofs.LastLemmas.{lasts_both, lasts_event, lasts_noted, one_read, read_then}
+use Rattle.exec_session.proofs.ReadyLemmas.{noted_reads}
 use Rattle.exec_session.proofs.RoundLemmas.{at_none, at_some}
 use Rattle.exec_session.proofs.WaitLemmas.{come_more, comes_err, event_breaks, found_held, found_looked, found_next, mid_before, ok_always, read_part}
 use Rattle.exec_session.proofs.desk.Desk.take_read.Goals as goal
@@ -40,12 +41,16 @@ returns-in-Ok-clause-takes g c = λ p own most may come.
     let place' = c.read.new.self in
     let mid = mid_before held c.requires.free come.left kept old.worker.left come.mid in
     let next = at_some c.in_ok-next.field-0 c.in-Some.next _ _ c.in-Some.is (c.in_ok-next.ensures.gathers come.left mid) in
-    let found = c.found_in-found.result in
+    let read = c.found_in-found.result in
+    let found = c.note_found.new.found in
+    let reads = noted_reads g.T.Client.refuses rules.way come.left place'.left read found
+    (c.found_in-found.ensures.found come.left place'.left next) c.note_found.ensures.found in
+    let finds = found_next look source rules p own most commands held kept old.worker place' found c.requires.free
+    c.requires.there c.in_ok-next.ensures.noted come reads in
     c.answer_rest-in-Ok.ensures.takes p own most may
-    (found_held look source rules p own most commands (Some c.in-Ok.held) (line_bytes c.clear.new.self) c.in-Ok.held found place'
-    c.in-Ok.ensures.held refl c.clear.ensures
-    (found_next look source rules p own most commands held kept old.worker place' found c.requires.free c.requires.there
-    c.in_ok-next.ensures.noted come (c.found_in-found.ensures.found come.left place'.left next)))
+    (found_held look source rules p own most commands (Some c.in-Ok.held) (line_bytes c.clear.new.self) c.in-Ok.held found
+    c.note_found.new.self c.in-Ok.ensures.held refl c.clear.ensures
+    (subst (λ (w : Position _). HasFound look source rules p own most commands found w) (sym c.note_found.ensures.same) finds))
 
 pub returns-clause-takes : goal.returns-clause-takes
 returns-clause-takes g c = λ p own most may come.
@@ -59,12 +64,21 @@ returns-clause-takes g c = λ p own most may come.
     let place' = c.read.new.self in
     let mid = mid_before held c.requires.free come.left kept old.worker.left come.mid in
     let next = at_some c.in_ok-next.field-0 c.in-Some.next _ _ c.in-Some.is (c.in_ok-next.ensures.gathers come.left mid) in
-    let finds = found_next look source rules p own most commands held kept old.worker place' c.found_in-found.result c.requires.free
-    c.requires.there c.in_ok-next.ensures.noted come (c.found_in-found.ensures.found come.left place'.left next) in
+    let read = c.found_in-found.result in
+    let found = c.note_found.new.found in
+    let reads = noted_reads g.T.Client.refuses rules.way come.left place'.left read found
+    (c.found_in-found.ensures.found come.left place'.left next) c.note_found.ensures.found in
+    let finds = found_next look source rules p own most commands held kept old.worker place' found c.requires.free
+    c.requires.there c.in_ok-next.ensures.noted come reads in
+    let at_note = c.note_found.new.self in
+    let finds' = subst (λ (w : Position _). HasFound look source rules p own most commands found w) (sym c.note_found.ensures.same) finds in
     c.take_found.ensures.takes.comes p own most may
-    (found_looked look source rules p own most commands c.in-Err.other place' c.has_line-has_next.new.self (Peeked c.has_line-has_next.result)
-    (old.worker.at.events, ap (λ (s : Spot _). s.events) c.in_ok-next.ensures.noted) c.has_line-has_next.ensures.noted
-    (subst (λ (f : Found). HasFound look source rules p own most commands f place') (sym c.in-Err.ensures.same) finds))
+    (found_looked look source rules p own most commands c.in-Err.other at_note c.has_line-has_next.new.self (Peeked c.has_line-has_next.result) (
+      old.worker.at.events,
+      ap (λ (w : Position _). w.at.events) c.note_found.ensures.same ∙ ap (λ (s : Spot _). s.events) c.in_ok-next.ensures.noted,
+    )
+    c.has_line-has_next.ensures.noted
+    (subst (λ (f : Found). HasFound look source rules p own most commands f at_note) (sym c.in-Err.ensures.same) finds'))
 
 pub returns-in_err-next-clause-takes : goal.returns-in_err-next-clause-takes
 returns-in_err-next-clause-takes g c = λ p own most may come.
@@ -86,26 +100,29 @@ returns-in_default-clause-reads g c =
 pub returns-in-Ok-clause-reads : goal.returns-in-Ok-clause-reads
 returns-in-Ok-clause-reads g c =
     let old = c.args.self.now.worker.at in
-    read_then old c.read.new.self.at c.answer_rest-in-Ok.new.self.worker.at
-    (one_read old c.read.new.self.at true c.in_ok-next.ensures.noted) c.answer_rest-in-Ok.ensures.lasts
+    let at_note = c.note_found.new.self.at in
+    let is_read = ap (λ (w : Position _). w.at) c.note_found.ensures.same ∙ c.in_ok-next.ensures.noted in
+    read_then old at_note c.answer_rest-in-Ok.new.self.worker.at (one_read old at_note true is_read) c.answer_rest-in-Ok.ensures.lasts
 
 pub returns-clause-reads : goal.returns-clause-reads
 returns-clause-reads g c =
     let old = c.args.self.now.worker.at in
-    let read = c.read.new.self in
+    let read = c.note_found.new.self in
     let looked = c.has_line-has_next.new.self in
     let new = c.take_found.new.self.worker.at in
-    read_then old read.at new (one_read old read.at true c.in_ok-next.ensures.noted)
+    let is_read = ap (λ (w : Position _). w.at) c.note_found.ensures.same ∙ c.in_ok-next.ensures.noted in
+    read_then old read.at new (one_read old read.at true is_read)
     (lasts_both read.at looked.at new (lasts_noted read looked (Peeked c.has_line-has_next.result) c.has_line-has_next.ensures.noted)
     c.take_found.ensures.takes.lasts)
 
 pub returns-clause-lasts : goal.returns-clause-lasts
 returns-clause-lasts g c =
     let old = c.args.self.now.worker.at in
-    let read = c.read.new.self in
+    let read = c.note_found.new.self in
     let looked = c.has_line-has_next.new.self in
     let new = c.take_found.new.self.worker.at in
-    lasts_both old read.at new (lasts_event old read.at (Read true) c.in_ok-next.ensures.noted)
+    let is_read = ap (λ (w : Position _). w.at) c.note_found.ensures.same ∙ c.in_ok-next.ensures.noted in
+    lasts_both old read.at new (lasts_event old read.at (Read true) is_read)
     (lasts_both read.at looked.at new (lasts_noted read looked (Peeked c.has_line-has_next.result) c.has_line-has_next.ensures.noted)
     c.take_found.ensures.takes.lasts)
 

@@ -1,6 +1,8 @@
 use Rattle.std.proofs.Common.{Ok, Err, true, false, ap, inl, sym, subst, refl, ◌∙◌}
+use Rattle.ocf_types.specs.declared.refusal.Refusal.TheVariants as refusal
 use Rattle.exec_commands.specs.declared.line.Line.TheVariants as line
 use Rattle.exec_commands.specs.declared.reply.LineReply.TheVariants as answer
+use Rattle.exec_session.specs.Answers.{refused}
 use Rattle.exec_session.specs.Breaks.{AnswersLine}
 use Rattle.exec_session.specs.Rules.{rules_of}
 use Rattle.exec_session.proofs.AnswerLemmas.{answers_step, drain_step, open_answered}
@@ -50,14 +52,8 @@ returns-in-Ok-Tidy g c = record {
       let look = g.D.Disk.view in
       let source = g.M.Metadata.gives c.args.context.now.metadata.now in
       let rules = rules_of c.args.context.now in
-      let p = c.args.self.now in
-      let m = c.tidy-end.new.self in
-      let q = c.tell_reply.new.self in
-      let found = Ok line.Tidy in
-      subst (λ l. AnswersLine look source rules l p q c.tell_reply.result) (sym (c.in-Ok-Tidy.is ∙ ap Ok c.in-Ok-Tidy.field-0-is))
-      (answers_step look source rules c.tell_reply.result found (answer.Tidy c.tidy-end.result) p m q c.tidy-end.ensures.keeps
-      (λ tells_so tells. open_answered look source rules tells_so found (answer.Tidy c.tidy-end.result) p.at m.at q.at c.requires.«open» c.tidy-end.ensures.tidies tells)
-      c.tell_reply.ensures.sends);
+      subst (λ l. AnswersLine look source rules l c.args.self.now c.answer_tidy.new.self c.answer_tidy.result)
+      (sym (c.in-Ok-Tidy.is ∙ ap Ok c.in-Ok-Tidy.field-0-is)) c.answer_tidy.ensures.answers;
 }
 
 pub returns-in-Ok-Leave : goal.returns-in-Ok-Leave
@@ -67,13 +63,39 @@ returns-in-Ok-Leave g c = record {
       let source = g.M.Metadata.gives c.args.context.now.metadata.now in
       let rules = rules_of c.args.context.now in
       let p = c.args.self.now in
-      let m = p in
-      let q = c.tell_reply-in-Ok-Leave.new.self in
+      let q = c.refuse.new.self in
       let found = Ok line.Leave in
-      subst (λ l. AnswersLine look source rules l p q c.tell_reply-in-Ok-Leave.result) (sym (c.in-Ok-Leave.is ∙ ap Ok c.in-Ok-Leave.field-0-is))
-      (answers_step look source rules c.tell_reply-in-Ok-Leave.result found c.refused.result p m q (here_keeps p)
-      (λ tells_so tells. open_answered look source rules tells_so found c.refused.result p.at m.at q.at c.requires.«open» (c.refused.ensures, refl) tells)
-      c.tell_reply-in-Ok-Leave.ensures.sends);
+      let reply = refused refusal.UnknownOp in
+      subst (λ l. AnswersLine look source rules l p q c.refuse.result) (sym (c.in-Ok-Leave.is ∙ ap Ok c.in-Ok-Leave.field-0-is))
+      (answers_step look source rules c.refuse.result found reply p p q (here_keeps p)
+      (λ tells_so tells. open_answered look source rules tells_so found reply p.at p.at q.at c.requires.«open» (refl, refl) tells)
+      c.refuse.ensures.sends);
+}
+
+pub returns-in-Ok-Version : goal.returns-in-Ok-Version
+returns-in-Ok-Version g c = record {
+  answers =
+      let look = g.D.Disk.view in
+      let source = g.M.Metadata.gives c.args.context.now.metadata.now in
+      let rules = rules_of c.args.context.now in
+      let p = c.args.self.now in
+      let q = c.answer_version.new.self in
+      let found = Ok line.Version in
+      let reply = answer.Version in
+      subst (λ l. AnswersLine look source rules l p q c.answer_version.result) (sym (c.in-Ok-Version.is ∙ ap Ok c.in-Ok-Version.field-0-is))
+      (answers_step look source rules c.answer_version.result found reply p p q (here_keeps p)
+      (λ tells_so tells. open_answered look source rules tells_so found reply p.at p.at q.at c.requires.«open» (refl, refl) tells)
+      c.answer_version.ensures.sends);
+}
+
+pub returns-in-Ok-Status : goal.returns-in-Ok-Status
+returns-in-Ok-Status g c = record {
+  answers =
+      let look = g.D.Disk.view in
+      let source = g.M.Metadata.gives c.args.context.now.metadata.now in
+      let rules = rules_of c.args.context.now in
+      subst (λ l. AnswersLine look source rules l c.args.self.now c.answer_status.new.self c.answer_status.result)
+      (sym (c.in-Ok-Status.is ∙ ap Ok c.in-Ok-Status.field-0-is)) c.answer_status.ensures.answers;
 }
 
 pub returns-in-Ok-Meta : goal.returns-in-Ok-Meta
@@ -82,14 +104,8 @@ returns-in-Ok-Meta g c = record {
       let look = g.D.Disk.view in
       let source = g.M.Metadata.gives c.args.context.now.metadata.now in
       let rules = rules_of c.args.context.now in
-      let p = c.args.self.now in
-      let m = p in
-      let q = c.tell_reply-in-Ok-Meta.new.self in
-      let found = Ok (line.Meta c.in-Ok-Meta.provider c.in-Ok-Meta.agent c.in-Ok-Meta.limit) in
-      subst (λ l. AnswersLine look source rules l p q c.tell_reply-in-Ok-Meta.result) (sym (c.in-Ok-Meta.is ∙ ap Ok c.in-Ok-Meta.field-0-is))
-      (answers_step look source rules c.tell_reply-in-Ok-Meta.result found c.meta_reply.result p m q (here_keeps p)
-      (λ tells_so tells. open_answered look source rules tells_so found c.meta_reply.result p.at m.at q.at c.requires.«open» (c.meta_reply.ensures, refl) tells)
-      c.tell_reply-in-Ok-Meta.ensures.sends);
+      subst (λ l. AnswersLine look source rules l c.args.self.now c.answer_meta.new.self c.answer_meta.result)
+      (sym (c.in-Ok-Meta.is ∙ ap Ok c.in-Ok-Meta.field-0-is)) c.answer_meta.ensures.answers;
 }
 
 pub returns-in-Ok-Direct : goal.returns-in-Ok-Direct
@@ -99,14 +115,13 @@ returns-in-Ok-Direct g c = record {
       let source = g.M.Metadata.gives c.args.context.now.metadata.now in
       let rules = rules_of c.args.context.now in
       let p = c.args.self.now in
-      let m = p in
-      let q = c.tell_reply-in-Ok-Direct.new.self in
+      let q = c.answer_direct.new.self in
       let direct = c.in-Ok-Direct.direct in
       let found = Ok (line.Direct direct) in
-      subst (λ l. AnswersLine look source rules l p q c.tell_reply-in-Ok-Direct.result) (sym (c.in-Ok-Direct.is ∙ ap Ok c.in-Ok-Direct.field-0-is))
-      (answers_step look source rules c.tell_reply-in-Ok-Direct.result found (answer.Direct direct) p m q (here_keeps p)
-      (λ tells_so tells. open_answered look source rules tells_so found (answer.Direct direct) p.at m.at q.at c.requires.«open» (refl, refl) tells)
-      c.tell_reply-in-Ok-Direct.ensures.sends);
+      subst (λ l. AnswersLine look source rules l p q c.answer_direct.result) (sym (c.in-Ok-Direct.is ∙ ap Ok c.in-Ok-Direct.field-0-is))
+      (answers_step look source rules c.answer_direct.result found (answer.Direct direct) p p q (here_keeps p)
+      (λ tells_so tells. open_answered look source rules tells_so found (answer.Direct direct) p.at p.at q.at c.requires.«open» (refl, refl) tells)
+      c.answer_direct.ensures.sends);
 }
 
 pub returns-in-Err : goal.returns-in-Err
@@ -116,11 +131,11 @@ returns-in-Err g c = record {
       let source = g.M.Metadata.gives c.args.context.now.metadata.now in
       let rules = rules_of c.args.context.now in
       let p = c.args.self.now in
-      let m = p in
-      let q = c.tell_reply-in-Err.new.self in
+      let q = c.refuse-in-Err.new.self in
       let found = Err c.in-Err.refusal in
-      subst (λ l. AnswersLine look source rules l p q c.tell_reply-in-Err.result) (sym c.in-Err.is)
-      (answers_step look source rules c.tell_reply-in-Err.result found c.refused-in-Err.result p m q (here_keeps p)
-      (λ tells_so tells. open_answered look source rules tells_so found c.refused-in-Err.result p.at m.at q.at c.requires.«open» (c.refused-in-Err.ensures, refl) tells)
-      c.tell_reply-in-Err.ensures.sends);
+      let reply = refused c.in-Err.refusal in
+      subst (λ l. AnswersLine look source rules l p q c.refuse-in-Err.result) (sym c.in-Err.is)
+      (answers_step look source rules c.refuse-in-Err.result found reply p p q (here_keeps p)
+      (λ tells_so tells. open_answered look source rules tells_so found reply p.at p.at q.at c.requires.«open» (refl, refl) tells)
+      c.refuse-in-Err.ensures.sends);
 }

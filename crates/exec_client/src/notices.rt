@@ -1,0 +1,97 @@
+//! Lines of notices, each with the tag of its call and the signal that ended its run.
+ghost use Rattle.std.specs.Prelude.{◌≡◌, IfErr, IsTrue, OnErr, OnOk, map};
+ghost use Rattle.std.specs.Io.KnownBytes.{Appends};
+ghost use Rattle.exec_lines.specs.Fronts.{AppendsFront};
+ghost use Rattle.exec_output.specs.declared.send.IoFault.TheVariants.{Memory};
+ghost use Rattle.exec_client.specs.Said.{Noticed, line_of, lines_of, noticed_by};
+ghost use Rattle.exec_client.specs.Signals.{signal_of};
+ghost use Rattle.exec_client.specs.Tags.{after_notice, tag_of_call};
+ghost use Rattle.exec_client.specs.ToldTags.{after_notices, notice_tags};
+
+use crate::replies::Making;
+use crate::signals::signal_of;
+use crate::tags::Tags;
+use crate::told::TurnNotices;
+use child_model::Entry;
+use exec_commands::Tagged;
+use exec_output::{IoFault, send_notice};
+use growth::Grows;
+use ocf_types::Notice;
+use std::alloc::Global;
+use std::io::Write;
+
+// A notice, and the number of the signal that ended its run, where one did.
+#[derive(Clone, Copy)]
+struct Signaled<'a> {
+    notice: &'a Notice,
+    signal: Option<u8>,
+}
+
+// A notice, and the signal that ended its run by this book.
+fn with_signal<'a>(notice: &'a Notice, book: &[Entry]) -> Signaled<'a>
+    ensures notice { result.notice.now ≡ notice.now }
+    ensures signal { result.signal ≡ signal_of book.now notice.now.result.run }
+{
+    Signaled {
+        notice,
+        signal: signal_of(book, notice.result.run),
+    }
+}
+
+// Writes the line of a notice, and flushes it. After an error a prefix of it is written.
+fn send_signaled<W: Write>(
+    making: &Making,
+    writer: &mut W,
+    tags: &mut Tags,
+    signaled: &Signaled,
+) -> Result<(), IoFault>
+    ensures sent { OnOk result
+        (Appends (W.contents writer.old) (W.contents writer.new)
+        (line_of making.now.form (tag_of_call signaled.now.notice.now.result.call tags.old.calls)
+        (Noticed signaled.now.notice.now signaled.now.signal))) }
+    ensures front { OnErr result
+        (AppendsFront (W.contents writer.old) (W.contents writer.new)
+        (line_of making.now.form (tag_of_call signaled.now.notice.now.result.call tags.old.calls)
+        (Noticed signaled.now.notice.now signaled.now.signal))) }
+    ensures kept { OnOk result (tags.new ≡ after_notice signaled.now.notice.now tags.old) }
+    ensures memory { IfErr result (λ f. f ≡ Memory → IsTrue ⟦<Global as Grows>⟧.refuses) }
+{
+    let tagged = Tagged {
+        form: making.form,
+        tag: tags.of_call(signaled.notice.result.call),
+    };
+    send_notice(
+        making.alloc,
+        writer,
+        tagged,
+        signaled.notice,
+        signaled.signal,
+    )?;
+    tags.forget_by(signaled.notice);
+    Ok(())
+}
+
+/// Writes a turn's notices, a line each, and flushes each line. After an error a prefix of the lines is written.
+pub(crate) fn send_turn<W: Write>(
+    making: &Making,
+    writer: &mut W,
+    tags: &mut Tags,
+    turn: &TurnNotices,
+) -> Result<(), IoFault>
+    ensures sent { OnOk result
+        (Appends (W.contents writer.old) (W.contents writer.new)
+        (lines_of making.now.form (notice_tags tags.old turn.now.notices.now)
+        (map (noticed_by turn.now.book.now) turn.now.notices.now))) }
+    ensures front { OnErr result
+        (AppendsFront (W.contents writer.old) (W.contents writer.new)
+        (lines_of making.now.form (notice_tags tags.old turn.now.notices.now)
+        (map (noticed_by turn.now.book.now) turn.now.notices.now))) }
+    ensures kept { OnOk result (tags.new ≡ after_notices turn.now.notices.now tags.old) }
+    ensures memory { IfErr result (λ f. f ≡ Memory → IsTrue ⟦<Global as Grows>⟧.refuses) }
+{
+    let (notices, book) = (turn.notices, turn.book);
+    for notice in notices {
+        send_signaled(making, writer, tags, &with_signal(notice, book))?;
+    }
+    Ok(())
+}

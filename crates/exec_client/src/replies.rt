@@ -1,0 +1,140 @@
+//! Lines that answer lines, each with the tag of its own.
+ghost use Rattle.std.specs.Prelude.{◌≡◌, IfErr, IsTrue, None, OnErr, OnOk, map};
+ghost use Rattle.std.specs.Io.KnownBytes.{Appends};
+ghost use Rattle.exec_lines.specs.Fronts.{AppendsFront};
+ghost use Rattle.exec_output.specs.declared.send.IoFault.TheVariants.{Memory};
+ghost use Rattle.exec_client.specs.Said.{Answered, answered, line_of, lines_of};
+ghost use Rattle.exec_client.specs.Tags.{after_line_reply, after_reply, first_tag, next_line};
+ghost use Rattle.exec_client.specs.ToldTags.{after_replies};
+
+use crate::tags::Tags;
+use exec_commands::{LineReply, NoticeForm, Tagged};
+use exec_output::{IoFault, put_reply, send_reply};
+use growth::Grows;
+use ocf_types::Reply;
+use std::alloc::Global;
+use std::io::Write;
+
+/// How lines are made.
+#[derive(Clone, Copy)]
+pub(crate) struct Making<'a> {
+    pub(crate) alloc: Global,
+    pub(crate) form: NoticeForm<'a>,
+}
+
+/// Writes the line of a reply to the oldest line that waits, and flushes it. After an error a prefix of it is written.
+pub(crate) fn send_answer<W: Write>(
+    making: &Making,
+    writer: &mut W,
+    tags: &mut Tags,
+    reply: &LineReply,
+) -> Result<(), IoFault>
+    ensures sent { OnOk result
+        (Appends (W.contents writer.old) (W.contents writer.new)
+        (line_of making.now.form (first_tag tags.old.lines) (Answered reply.now))) }
+    ensures front { OnErr result
+        (AppendsFront (W.contents writer.old) (W.contents writer.new)
+        (line_of making.now.form (first_tag tags.old.lines) (Answered reply.now))) }
+    ensures kept { OnOk result (tags.new ≡ after_line_reply reply.now (next_line tags.old)) }
+    ensures memory { IfErr result (λ f. f ≡ Memory → IsTrue ⟦<Global as Grows>⟧.refuses) }
+{
+    tags.next();
+    let tagged = Tagged {
+        form: making.form,
+        tag: tags.given(),
+    };
+    send_reply(making.alloc, writer, tagged, reply)?;
+    tags.keep_by_line(reply);
+    Ok(())
+}
+
+// Writes the line of a reply to the oldest line that waits, which made a request. After an error a prefix of it is written.
+fn put_answer<W: Write>(
+    making: &Making,
+    writer: &mut W,
+    tags: &mut Tags,
+    reply: &Reply,
+) -> Result<(), IoFault>
+    ensures sent { OnOk result
+        (Appends (W.contents writer.old) (W.contents writer.new)
+        (line_of making.now.form (first_tag tags.old.lines) (answered reply.now))) }
+    ensures front { OnErr result
+        (AppendsFront (W.contents writer.old) (W.contents writer.new)
+        (line_of making.now.form (first_tag tags.old.lines) (answered reply.now))) }
+    ensures kept { OnOk result (tags.new ≡ after_reply reply.now (next_line tags.old)) }
+    ensures memory { IfErr result (λ f. f ≡ Memory → IsTrue ⟦<Global as Grows>⟧.refuses) }
+{
+    tags.next();
+    let tagged = Tagged {
+        form: making.form,
+        tag: tags.given(),
+    };
+    put_reply(making.alloc, writer, tagged, reply)?;
+    tags.keep_by(reply);
+    Ok(())
+}
+
+// Writes the lines of replies to the oldest lines that wait, which made requests.
+fn put_answers<W: Write>(
+    making: &Making,
+    writer: &mut W,
+    tags: &mut Tags,
+    replies: &[Reply],
+) -> Result<(), IoFault>
+    ensures sent { OnOk result
+        (Appends (W.contents writer.old) (W.contents writer.new)
+        (lines_of making.now.form tags.old.lines (map answered replies.now))) }
+    ensures front { OnErr result
+        (AppendsFront (W.contents writer.old) (W.contents writer.new)
+        (lines_of making.now.form tags.old.lines (map answered replies.now))) }
+    ensures kept { OnOk result (tags.new ≡ after_replies replies.now tags.old) }
+    ensures memory { IfErr result (λ f. f ≡ Memory → IsTrue ⟦<Global as Grows>⟧.refuses) }
+{
+    for reply in replies {
+        put_answer(making, writer, tags, reply)?;
+    }
+    Ok(())
+}
+
+/// Writes the lines of replies to the oldest lines that wait, which made requests, and flushes them together. After an error a prefix
+/// of the lines is written.
+pub(crate) fn send_answers<W: Write>(
+    making: &Making,
+    writer: &mut W,
+    tags: &mut Tags,
+    replies: &[Reply],
+) -> Result<(), IoFault>
+    ensures sent { OnOk result
+        (Appends (W.contents writer.old) (W.contents writer.new)
+        (lines_of making.now.form tags.old.lines (map answered replies.now))) }
+    ensures front { OnErr result
+        (AppendsFront (W.contents writer.old) (W.contents writer.new)
+        (lines_of making.now.form tags.old.lines (map answered replies.now))) }
+    ensures kept { OnOk result (tags.new ≡ after_replies replies.now tags.old) }
+    ensures memory { IfErr result (λ f. f ≡ Memory → IsTrue ⟦<Global as Grows>⟧.refuses) }
+{
+    put_answers(making, writer, tags, replies)?;
+    writer.flush()?;
+    Ok(())
+}
+
+/// Writes the line of news, which answer no line, and flushes it. After an error a prefix of it is written.
+pub(crate) fn send_news<W: Write>(
+    making: &Making,
+    writer: &mut W,
+    news: &LineReply,
+) -> Result<(), IoFault>
+    ensures sent { OnOk result
+        (Appends (W.contents writer.old) (W.contents writer.new)
+        (line_of making.now.form None (Answered news.now))) }
+    ensures front { OnErr result
+        (AppendsFront (W.contents writer.old) (W.contents writer.new)
+        (line_of making.now.form None (Answered news.now))) }
+    ensures memory { IfErr result (λ f. f ≡ Memory → IsTrue ⟦<Global as Grows>⟧.refuses) }
+{
+    let tagged = Tagged {
+        form: making.form,
+        tag: None,
+    };
+    send_reply(making.alloc, writer, tagged, news)
+}

@@ -1,0 +1,46 @@
+-- A tag adds no float to an object.
+use Rattle.std.proofs.Common.{◌≡◌, ℕ, false, List, Option, Some, None, codes, refl}
+use Rattle.std.specs.Cmp.Lexicographic.{slice_cmp}
+use Rattle.std.specs.Ordering.{match_ordering, nat_cmp}
+use Rattle.std.specs.declared.cmp.Ordering.{Ordering}
+use Rattle.std.specs.declared.cmp.Ordering.TheVariants.{Less, Equal, Greater}
+use Rattle.serde_json.specs.Data.{Data, Members, array, boolean, member, no_members, null, number, object, put, string}
+use Rattle.serde_json.specs.Written.{has_float, members_have_float}
+use Rattle.ocf_types.specs.Kinds.{Reply}
+use Rattle.ocf_types.specs.declared.reply.Notice.{Notice}
+use Rattle.exec_commands.specs.Replies.{formed_data, served_request_data}
+use Rattle.exec_commands.specs.Tags.{with_tag}
+use Rattle.exec_commands.specs.declared.notice.NoticeForm.{NoticeForm}
+use Rattle.exec_commands.proofs.FloatLemmas.{notice_has_no_float, served_request_no_float}
+use Rattle.exec_commands.proofs.StatusLemmas.{neither}
+
+put_no_float : (key text : List ℕ) (ms : Members) → members_have_float ms ≡ false → members_have_float (put key (string text) ms) ≡ false
+put_no_float key text no_members none = refl
+put_no_float key text (member other d ms) none = by (slice_cmp nat_cmp key other) (put_no_float key text ms none_in.1)
+  where
+    none_in : (has_float d ≡ false) × (members_have_float ms ≡ false)
+    none_in = neither (has_float d) (members_have_float ms) none
+
+    by : (o : Ordering) → members_have_float (put key (string text) ms) ≡ false
+        → members_have_float (match_ordering o (member key (string text) (member other d ms)) (member other (string text) ms)
+        (member other d (put key (string text) ms))) ≡ false
+    by Less later = none
+    by Equal later = none_in.1
+    by Greater later = rw none_in.0 later
+
+-- a tag is no float
+pub tagged_no_float : (tag : Option (List ℕ)) (d : Data) → has_float d ≡ false → has_float (with_tag tag d) ≡ false
+tagged_no_float None d none = none
+tagged_no_float (Some tag) null none = none
+tagged_no_float (Some tag) (boolean b) none = none
+tagged_no_float (Some tag) (number n) none = none
+tagged_no_float (Some tag) (string t) none = none
+tagged_no_float (Some tag) (array ds) none = none
+tagged_no_float (Some tag) (object ms) none = put_no_float (codes "tag") tag ms none
+
+pub tagged_request : (tag : Option (List ℕ)) (r : Reply) → has_float (with_tag tag (served_request_data r)) ≡ false
+tagged_request tag r = tagged_no_float tag (served_request_data r) (served_request_no_float r)
+
+pub tagged_notice : (tag : Option (List ℕ)) (form : NoticeForm) (signal : Option ℕ) (n : Notice)
+    → has_float (with_tag tag (formed_data form signal n)) ≡ false
+tagged_notice tag form signal n = tagged_no_float tag (formed_data form signal n) (notice_has_no_float form signal n)

@@ -1,0 +1,40 @@
+-- What only a run that serves says: of itself, of all resources, and the metadata of an agent.
+use Rattle.std.specs.Borrow.{Bor}
+use Rattle.std.specs.Prelude.{ℕ, true, List, [], ◌∷◌, Option, Some, None, if◌then◌else◌, codes}
+use Rattle.std.specs.Str.{is_utf8}
+use Rattle.serde_json.specs.Data.{Data, null, boolean, string, array}
+use Rattle.serde_json.specs.View.{items_of}
+use Rattle.exec_commands.specs.Objects.{natural_data, object_from}
+use Rattle.exec_commands.specs.declared.service.Counts.{Counts}
+use Rattle.exec_commands.specs.declared.service.Service.{Service}
+
+-- the version of the program
+abbrev pub version_data : Service → Data
+version_data s = object_from ((codes "ok", boolean true) ∷ (codes "version", string s.version.now) ∷ [])
+
+-- how all resources are, in their order
+abbrev pub statuses_data : List Data → Data
+statuses_data statuses = object_from ((codes "ok", boolean true) ∷ (codes "status", array (items_of statuses)) ∷ [])
+
+-- the directory of the journal, where there is one
+abbrev pub journal_data : Option (Bor (List ℕ)) → Data
+journal_data None = null
+journal_data (Some directory) = string directory.now
+
+-- the run has opened its journal and takes lines
+abbrev pub ready_data : Service → Counts → Data
+ready_data s counts = object_from (
+    (codes "dropped", natural_data counts.dropped) ∷ (codes "interrupted", natural_data counts.interrupted)
+    ∷ (codes "journal", journal_data s.journal) ∷ (codes "ready", boolean true)
+    ∷ (codes "resources", natural_data counts.resources) ∷ (codes "version", string s.version.now) ∷ [])
+
+-- metadata that are a text, and those that are none
+abbrev pub text_data : List ℕ → Data
+text_data metadata = object_from ((codes "metadata", string metadata) ∷ (codes "ok", boolean true) ∷ [])
+
+abbrev pub no_text_data : Data
+no_text_data = object_from ((codes "end", string (codes "no-text")) ∷ [])
+
+-- the metadata of an agent as a JSON text: RFC 8259, section 8.1, allows UTF-8 alone
+abbrev pub metadata_data : List ℕ → Data
+metadata_data metadata = if is_utf8 metadata then text_data metadata else no_text_data

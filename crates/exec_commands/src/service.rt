@@ -1,0 +1,102 @@
+//! What only a run that serves says.
+ghost use Rattle.std.specs.Prelude.{◌≡◌, IfOk, IsTrue, OnErr};
+ghost use Rattle.serde_json.specs.View.{view};
+ghost use Rattle.exec_commands.specs.Service.{journal_data, metadata_data, ready_data, text_data, version_data};
+
+use crate::ends::end_value;
+use crate::left::Left;
+use growth::Grows;
+use serde_json::{Value, json};
+use std::alloc::{AllocError, Global};
+use std::str;
+
+/// What a run that serves says of itself in its lines, and what an executor before it left.
+#[derive(Clone, Copy)]
+pub struct Service<'a> {
+    /// The version of the program.
+    pub version: &'a str,
+    /// The directory of the journal, as it was given; none where the journal is kept in memory alone.
+    pub journal: Option<&'a str>,
+    /// Processes that are left of interrupted actions, and live on.
+    pub left: &'a [Left],
+}
+
+/// What a run that serves counted when it opened its journal.
+#[derive(Clone, Copy)]
+pub struct Counts {
+    /// The resources that are registered.
+    pub resources: usize,
+    /// The results of what the end of the executor before it interrupted.
+    pub interrupted: usize,
+    /// The results of what was queued then, and is dropped.
+    pub dropped: usize,
+}
+
+/// The version of the program.
+pub fn version_value(alloc: Global, service: Service) -> Result<Value, AllocError>
+    ensures value { IfOk result (λ v. view v ≡ version_data service.entry) }
+    ensures memory { OnErr result (IsTrue ⟦<Global as Grows>⟧.refuses) }
+{
+    let version = service.version;
+    // TRUSTED: it fails only where the memory that it takes is refused.
+    Global::library_growth(json!(in alloc; {"ok": true, "version": version}))
+}
+
+fn journal_value(alloc: Global, journal: Option<&str>) -> Result<Value, AllocError>
+    ensures value { IfOk result (λ v. view v ≡ journal_data journal.entry) }
+    ensures memory { OnErr result (IsTrue ⟦<Global as Grows>⟧.refuses) }
+{
+    match journal {
+        // TRUSTED: it fails only where the memory that it takes is refused.
+        Some(directory) => Global::library_growth(Value::try_from_str(alloc, directory)),
+        None => Ok(Value::Null),
+    }
+}
+
+fn ready_object(
+    alloc: Global,
+    service: Service,
+    journal: Value,
+    counts: Counts,
+) -> Result<Value, AllocError>
+    requires journal { view journal ≡ journal_data service.journal }
+    ensures { IfOk result (λ v. view v ≡ ready_data service.entry counts) }
+{
+    let version = service.version;
+    json!(in alloc; {
+        "dropped": counts.dropped, "interrupted": counts.interrupted, "journal": journal,
+        "ready": true, "resources": counts.resources, "version": version
+    })
+}
+
+/// The run has opened its journal, and takes lines from now on.
+pub fn ready_value(alloc: Global, service: Service, counts: Counts) -> Result<Value, AllocError>
+    ensures value { IfOk result (λ v. view v ≡ ready_data service.entry counts) }
+    ensures memory { OnErr result (IsTrue ⟦<Global as Grows>⟧.refuses) }
+{
+    let Ok(journal) = journal_value(alloc, service.journal) else {
+        return Err(AllocError);
+    };
+    // TRUSTED: `ready_object` is a `json!`, which fails only where the memory that it takes is refused.
+    Global::library_growth(ready_object(alloc, service, journal, counts))
+}
+
+fn text_value(alloc: Global, metadata: &str) -> Result<Value, AllocError>
+    ensures value { IfOk result (λ v. view v ≡ text_data metadata.now) }
+    ensures memory { OnErr result (IsTrue ⟦<Global as Grows>⟧.refuses) }
+{
+    // TRUSTED: it fails only where the memory that it takes is refused.
+    Global::library_growth(json!(in alloc; {"metadata": metadata, "ok": true}))
+}
+
+/// The metadata of an agent as a JSON text, where they are UTF-8.
+#[tactic(auto, using(crate::proofs::TextLemmas::metadata_text, crate::proofs::TextLemmas::metadata_no_text))]
+pub fn metadata_value(alloc: Global, metadata: &[u8]) -> Result<Value, AllocError>
+    ensures value { IfOk result (λ v. view v ≡ metadata_data metadata.now) }
+    ensures memory { OnErr result (IsTrue ⟦<Global as Grows>⟧.refuses) }
+{
+    match str::from_utf8(metadata) {
+        Ok(text) => text_value(alloc, text),
+        Err(_) => end_value(alloc, "no-text"),
+    }
+}

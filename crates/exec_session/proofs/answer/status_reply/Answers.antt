@@ -1,0 +1,8 @@
+use Rattle.std.proofs.Common.{ap, inl, refl, ◌∙◌}
+use Rattle.exec_output.specs.StatusLines.{statuses_of}
+use Rattle.exec_session.proofs.answer.status_reply.Goals as goal
+
+pub returns-in-Ok : goal.returns-in-Ok
+returns-in-Ok g c = record {
+  status = inl (c.in-Ok.statuses, refl, c.in-Ok.ensures.statuses ∙ ap statuses_of c.state.ensures.state);
+}

@@ -1,0 +1,21 @@
+use Rattle.std.proofs.Common.{Ok}
+use Rattle.exec_commands.specs.declared.line.Line.TheVariants as line
+use Rattle.exec_commands.specs.declared.reply.LineReply.TheVariants as answer
+use Rattle.exec_session.specs.Rules.{rules_of}
+use Rattle.exec_session.proofs.AnswerLemmas.{answers_step, open_answered}
+use Rattle.exec_session.proofs.worker.Worker.answer_tidy.Goals as goal
+
+pub returns : goal.returns
+returns g c = record {
+  answers =
+      let look = g.D.Disk.view in
+      let source = g.M.Metadata.gives c.args.context.now.metadata.now in
+      let rules = rules_of c.args.context.now in
+      let p = c.args.self.now in
+      let m = c.tidy-end.new.self in
+      let q = c.tell_reply.new.self in
+      let reply = answer.Tidy c.tidy-end.result in
+      answers_step look source rules c.tell_reply.result (Ok line.Tidy) reply p m q c.tidy-end.ensures.keeps
+      (λ tells_so tells. open_answered look source rules tells_so (Ok line.Tidy) reply p.at m.at q.at c.requires.«open» c.tidy-end.ensures.tidies tells)
+      c.tell_reply.ensures.sends;
+}
