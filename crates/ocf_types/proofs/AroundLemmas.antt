@@ -27,7 +27,7 @@ before_cases a b = by (slice_cmp nat_cmp a b) refl
 pub not_back : (a b : List ℕ) → is_before a b ≡ true → is_before b a ≡ false
 not_back a b h = ap is_lt (nat_list_cmp_total.antisymm b a ∙ ap ordering_reverse (less_is _ h))
 
--- a name that is not after the last one is before all
+-- the name is before all of these parameters
 pub record AllAfter (name : List ℕ) (ps : ParamList) : Type 0 where
   pub none_before : filter (λ p. is_before p.0 name) ps ≡ []
   pub all_after : filter (λ p. is_before name p.0) ps ≡ ps
@@ -57,12 +57,12 @@ lesser name ps = filter (λ p. is_before p.0 name) ps
 abbrev pub greater : List ℕ → ParamList → ParamList
 greater name ps = filter (λ p. is_before name p.0) ps
 
--- the name is not there: all parameters are before it or after it
+-- the name is absent: all parameters are before it or after it
 pub record Absent (name : List ℕ) (ps : ParamList) : Type 0 where
   pub gone : has_param name ps ≡ false
   pub whole : ps ≡ lesser name ps ++ greater name ps
 
--- the name is there, between those before it and those after it
+-- the name is present, between those before it and those after it
 pub record Present (name : List ℕ) (ps : ParamList) : Type 0 where
   pub there : has_param name ps ≡ true
   pub entry : List ℕ × List ℕ

@@ -1,4 +1,4 @@
--- The event that a lawful command is at a lawful state applies there.
+-- The event of a lawful command in a lawful state applies there.
 use Rattle.std.proofs.Common.{◌≡◌, ℕ, ◌≤◌, Bool, false, length, Option, Some, None, Ok, IsSome, IsSomeAnd}
 use Rattle.std.proofs.Common.{is_some, is_none, IsTrue, leb, refl, sym, subst, arith}
 use Rattle.std.specs.List.{AllByRecursion}
@@ -23,37 +23,37 @@ use Rattle.ocf_types.specs.RegistryLaws.{none_is, passed}
 use Rattle.ocf_types.proofs.Lengths.{event_short}
 
 module _ {A : Type 0} where
-  -- what is not found to be absent is there
+  -- an option that does not test as `None` has a value
   pub some_is : (o : Option A) → is_none o ≡ false → IsSome o
   some_is None h = absurd (cc)
   some_is (Some x) h = refl
 
-  -- a test that is not found to hold fails at what is there
+  -- a test that does not hold for an option fails for its value
   pub fails_at : (o : Option A) (test : A → Bool) → is_none o ≡ false → option_map_or test o false ≡ false
       → IsSomeAnd o (λ x. test x ≡ false)
   fails_at None test n h = absurd (cc)
   fails_at (Some x) test n h = h
 
-  -- what holds of all holds of what is there
+  -- a property of every value holds for the value of an option
   pub holds_of : (o : Option A) (P : A → Type 0) → is_none o ≡ false → ((x : A) → P x) → IsSomeAnd o P
   holds_of None P n h = absurd (cc)
   holds_of (Some x) P n h = h x
 
-  -- a weaker fact of what is there
+  -- a property of an option's value implies a weaker one
   pub weaker_of : (o : Option A) (P Q : A → Type 0) → ((x : A) → P x → Q x) → IsSomeAnd o P → IsSomeAnd o Q
   weaker_of None P Q f h = absurd h
   weaker_of (Some x) P Q f h = f x h
 
-  -- two facts of what is there
+  -- two properties of an option's value
   pub both_of : (o : Option A) (P Q : A → Type 0) → IsSomeAnd o P → IsSomeAnd o Q → IsSomeAnd o (λ x. P x × Q x)
   both_of None P Q g h = absurd h
   both_of (Some x) P Q g h = (g, h)
 
--- the moment of what happens now is one
+-- the moment of the next event is a lawful one
 pub moment_is : (s : State) (now : ℕ) → IsLawfulState s → IsMoment (moment s now)
 moment_is s now h = omega (arith, h.clock)
 
--- an event at that moment applies where its change is lawful and applies, and its encoding is not too long
+-- an event at that moment applies if its change is lawful and applies, and its encoding is not too long
 applies_now : (s : State) (now : ℕ) (c : Change) → IsLawfulState s → IsLawfulChange c
     → length (spelled_event (record { at = moment s now; change = c })) ≤ 16384 → ChangeApplies s c
     → Applies s (record { at = moment s now; change = c })
@@ -72,7 +72,7 @@ applies_small s now c h l small a = applies_now s now c h l (omega (arith, event
 next_is : (s : State) → IsLawfulState s → (s.next_call ≡ 9007199254740991 → ⊥) → IsNext s.next_call s.next_call
 next_is s h unspent = (refl, omega (arith, h.next_call.1, unspent))
 
--- the event that is asked for applies where no test for a refusal holds
+-- the event that is asked for applies if no test for a refusal holds
 pub asked_applies : (s : State) (now : ℕ) (c : Command) → IsLawfulState s → IsLawfulCommand c
     → AllByRecursion (λ t. t.1 ≡ false) (tests s c (length (spelled_event (asked_event s now c)))) → Applies s (asked_event s now c)
 asked_applies s now (command.Register r) h l p =
@@ -116,7 +116,7 @@ asked_applies s now (command.Withdraw id call) h l p =
     (λ r q. some_is (queued_of call r.history.queue) q) found in
     applies_small s now (change.Step id (step.Withdraw call)) h (l.0, (l.1, tt)) tt there
 
--- the event that a lawful command is at a lawful state applies there
+-- the event of a lawful command in a lawful state applies there
 pub event_applies : (s : State) (now : ℕ) (c : Command) (e : Event) → IsLawfulState s → IsLawfulCommand c → event_of s now c ≡ Ok e
     → Applies s e
 event_applies s now c e h l is =

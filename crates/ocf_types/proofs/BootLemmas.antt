@@ -1,4 +1,4 @@
--- A boot is needed at most once, and what ran is its last result.
+-- A boot is needed at most once, and the action that ran is its last result.
 use Rattle.std.proofs.Common.{◌≡◌, ℕ, ◌-◌, ◌≤◌, Bool, true, false, cond, List, [], ◌∷◌, ◌++◌, map, drop, length, Option, Some, IsSomeAnd}
 use Rattle.std.proofs.Common.{option_map, option_to_list, refl, sym, ap, subst, ◌∙◌, arith, length-append}
 use Rattle.std.specs.Str.{bytes_eq}
@@ -20,7 +20,7 @@ boot_once s m n = by (any_busy s) refl
     by true e = rw (quiet m s.resources) refl
     by false e = rw e refl
 
--- what ran is the last result of a history after a boot
+-- after a boot the action that ran is the last result of a history
 interrupted_last : (at : ℕ) (h : History) (x : Running) → h.running ≡ Some x → IsLast (ended_of Interrupted at x) (booted at h).ended
 interrupted_last at h x is =
     let front : List Ended = h.ended ++ map (dropped_of at) h.queue in
@@ -30,7 +30,7 @@ interrupted_last at h x is =
     subst (λ (o : Option Running). IsLast e (last_ended (front ++ map (ended_of Interrupted at) (option_to_list o)))) (sym is)
     (drop cut front, drop-append-le cut front (e ∷ []) within)
 
--- and of its resource
+-- the same of its resource
 pub boot_interrupts : (s : State) (at : ℕ) (id : List ℕ) (r : Resource) (x : Running) → resource_at s id ≡ Some r
     → r.history.running ≡ Some x
     → IsSomeAnd (resource_at (after s (boot_at at)) id) (λ q. IsLast (ended_of Interrupted at x) q.history.ended)

@@ -1,4 +1,4 @@
--- What has failed, computed on examples: by the code that is expected, and by how long it is remembered.
+-- Failures, computed on examples: by the expected code, and how long they are kept.
 use Rattle.std.proofs.Common.{◌≡◌, ℕ, Option, Some, None, refl}
 use Rattle.ocf_types.specs.Resource.{History, no_history, accepted, begun, ended, booted, forgotten, history_in}
 use Rattle.ocf_types.specs.declared.action.Level.TheVariants.{Zero}
@@ -14,14 +14,14 @@ use Rattle.ocf_types.specs.declared.outcome.Outcome.{Outcome}
 use Rattle.ocf_types.specs.declared.outcome.Outcome.TheVariants.{Run}
 use Rattle.ocf_types.specs.declared.outcome.RunEnd.TheVariants.{Done, TimedOut}
 
--- a task that is asked for, begins as call 2 and run 4 at 100, and ends at 300
+-- a task is accepted, begins as call 2 and run 4 at 100, and ends at 300
 abbrev begins : Task → History → History
 begins t h = begun None 4 100 (accepted (record { call = 2; task = t; timeout = 20000 }) h)
 
 abbrev ends : Task → Outcome → History → History
 ends t outcome h = ended outcome 300 (begins t h)
 
--- its result
+-- the result of that run
 abbrev result : Action → Outcome → Ended
 result a outcome = record { call = 2; run = 4; action = a; interval = 0; since = 100; at = 300; outcome = outcome }
 
@@ -32,7 +32,7 @@ check x = task.Monitor (record { level = Zero; expect = x })
 abbrev code : ℕ → Outcome
 code n = Run (Done n)
 
--- the last failure of a resource whose first action is that monitor, which ends with a code
+-- the last failure of a resource whose first action is that monitor and ends with a code
 abbrev failed_by : Expect → ℕ → Option Ended
 failed_by x n = (ends (check x) (code n) no_history).failed
 
@@ -50,7 +50,7 @@ degraded_start = refl
 late_start : (ends task.Start (Run TimedOut) no_history).failed ≡ Some (result action.Start (Run TimedOut))
 late_start = refl
 
--- what failed is remembered after what succeeds and through a boot, until it is forgotten; the first layout does not know it
+-- a failure is kept after a success and a boot, until it is forgotten; the first layout does not keep it
 failure : History
 failure = ends task.Start (code 1) no_history
 

@@ -1,4 +1,4 @@
--- What is reported as failed is what the state keeps as its resource's last failure.
+-- The state keeps the result of a failed notice as its resource's last failure.
 use Rattle.std.proofs.Common.{◌≡◌, ℕ, Bool, true, false, List, Option, Some, IsSomeAnd, if◌then◌else◌, option_map, refl, sym, ap, subst, ◌∙◌}
 use Rattle.std.specs.Prelude.{None, option_and_then}
 use Rattle.std.specs.Option.{option_or}
@@ -20,19 +20,19 @@ use Rattle.ocf_types.specs.declared.outcome.Outcome.{Outcome}
 use Rattle.ocf_types.specs.declared.outcome.Outcome.TheVariants.{Run}
 use Rattle.ocf_types.specs.declared.outcome.RunEnd.{RunEnd}
 
--- one of two, or none and the other
+-- the first of two options by a condition, else the second
 kept_or : (b : Bool) (e : Ended) (before : Option Ended) → option_or (if b then Some e else None) before ≡ (if b then Some e else before)
 kept_or true e before = refl
 kept_or false e before = refl
 
--- what failed last in a history whose run has ended
+-- the last failure of a history whose run has ended
 failure_after : (id : List ℕ) (outcome : Outcome) (at : ℕ) (h : History) (x : Running) → h.running ≡ Some x
     → failed_after outcome at h ≡ last_failure (run_notice id outcome at x) h.failed
 failure_after id outcome at h x runs =
     ap (λ (o : Option Running). option_or (option_and_then (failed_of outcome at) o) h.failed) runs
     ∙ kept_or (has_failed (action_of x.task) (expect_of x.task) outcome) (ended_of outcome at x) h.failed
 
--- and of its resource
+-- the same of its resource
 pub failure_kept : (s : State) (at : ℕ) (id : List ℕ) (end : RunEnd) (r : Resource) (x : Running) → resource_at s id ≡ Some r
     → r.history.running ≡ Some x
     → IsSomeAnd (resource_at (after s (record { at = at; change = change.Step id (step.Result x.run end) })) id)
@@ -44,7 +44,7 @@ failure_kept s at id end r x there runs =
     subst (λ (o : Option Resource). IsSomeAnd o (λ q. q.history.failed ≡ last_failure (run_notice id (Run end) at x) r.history.failed))
     (sym now) (failure_after id (Run end) at r.history x runs)
 
--- a boot leaves it
+-- a boot leaves the last failure as it was
 pub boot_keeps_failure : (s : State) (at : ℕ) (id : List ℕ) (r : Resource) → resource_at s id ≡ Some r
     → IsSomeAnd (resource_at (after s (boot_at at)) id) (λ q. q.history.failed ≡ r.history.failed)
 boot_keeps_failure s at id r there =

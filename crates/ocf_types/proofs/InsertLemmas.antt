@@ -1,4 +1,4 @@
--- Parameters with one more, or with another value of one: where it is, and how many there are.
+-- Parameters with one added, or with another value of one: its index, and the number of parameters.
 use Rattle.std.proofs.Common.{◌≡◌, inl, inr, ℕ, zero, suc, ◌+◌, ◌<◌, Bool, true, false, List, [], ◌∷◌, ◌++◌, length, Some, None, refl, sym}
 use Rattle.std.proofs.Common.{◌∙◌, ap, subst, arith, length-append}
 use Rattle.std.specs.Prelude.{count_by, slice_get, insert, slice_set}
@@ -17,7 +17,7 @@ use Rattle.ocf_types.proofs.SortedLemmas.{with_sorted}
 count_is : (name : List ℕ) (ps : ParamList) → count_by (λ p. is_before p.0 name) ps ≡ length (lesser name ps)
 count_is name ps = sym (length-filter (λ (p : List ℕ × List ℕ). is_before p.0 name) ps)
 
--- what is at the index of a name, among parameters in order
+-- the element at the index where two lists meet
 get_seam : (xs ys : ParamList) → slice_get (xs ++ ys) (length xs) ≡ slice_get ys 0
 get_seam [] ys = refl
 get_seam (x ∷ xs) ys = get_seam xs ys
@@ -25,7 +25,7 @@ get_seam (x ∷ xs) ys = get_seam xs ys
 insert_seam : (xs ys : ParamList) (e : List ℕ × List ℕ) → insert (xs ++ ys) (length xs) e ≡ xs ++ e ∷ ys
 insert_seam xs ys e = rw (take-append_seam xs ys, drop-append_seam xs ys) refl
 
--- where no element passes, the one at a place doesn't
+-- if no element passes, the one at an index does not
 any_false_at : (test : List ℕ × List ℕ → Bool) (ps : ParamList) (n : ℕ) (e : List ℕ × List ℕ) → list_any test ps ≡ false
     → slice_get ps n ≡ Some e → test e ≡ false
 any_false_at test [] n e h g = absurd cc
@@ -39,7 +39,7 @@ module _ (name : List ℕ) (ps : ParamList) (sorted : are_params_after None ps �
   place_of b =
       ap (λ (xs : ParamList). slice_get xs (length (lesser name ps))) b.whole ∙ get_seam (lesser name ps) (b.entry ∷ greater name ps)
 
-  -- the parameter at the place of a name has this name exactly when the name is there
+  -- the parameter at the index of a name has this name exactly when the name is present
   pub there_at : (e : List ℕ × List ℕ) (n : ℕ) → n ≡ count_by (λ p. is_before p.0 name) ps → slice_get ps n ≡ Some e
       → bytes_eq e.0 name ≡ has_param name ps
   there_at e n is g =
@@ -61,7 +61,7 @@ module _ (name : List ℕ) (ps : ParamList) (sorted : are_params_after None ps �
           let here : None ≡ Some b.entry = sym g ∙ ap (λ k. slice_get ps k) at ∙ place_of b in
           absurd cc
 
-  -- the place of a name that is there
+  -- the index of a name that is present
   pub place_below : (n : ℕ) → n ≡ count_by (λ p. is_before p.0 name) ps → has_param name ps ≡ true → n < length ps
   place_below n is h = elim (around name None ps sorted) [ inl a ↦ absurd (let no = a.gone in cc) | inr b ↦ present b ]
     where
@@ -70,7 +70,7 @@ module _ (name : List ℕ) (ps : ParamList) (sorted : are_params_after None ps �
           let len : length ps ≡ length (lesser name ps ++ b.entry ∷ greater name ps) = ap (λ (xs : ParamList). length xs) b.whole in
           omega (arith, is, count_is name ps, len, length-append (lesser name ps) (b.entry ∷ greater name ps))
 
-  -- a new value in the place of a name that is there
+  -- a new value at the index of a name that is present
   pub set_there : (value : List ℕ) (n : ℕ) → n ≡ count_by (λ p. is_before p.0 name) ps → has_param name ps ≡ true
       → slice_set ps n (name, value) ≡ with_param name value ps
   set_there value n is h = elim (around name None ps sorted) [ inl a ↦ absurd (let no = a.gone in cc) | inr b ↦ present b ]
@@ -81,7 +81,7 @@ module _ (name : List ℕ) (ps : ParamList) (sorted : are_params_after None ps �
           ap (λ k. slice_set ps k (name, value)) at ∙ ap (λ (xs : ParamList). slice_set xs (length (lesser name ps)) (name, value)) b.whole
           ∙ set-append_seam (lesser name ps) b.entry (greater name ps) (name, value)
 
-  -- a name that is not there, in its place
+  -- a name that is absent, inserted at its index
   pub insert_new : (value : List ℕ) (n : ℕ) → n ≡ count_by (λ p. is_before p.0 name) ps → has_param name ps ≡ false
       → insert ps n (name, value) ≡ with_param name value ps
   insert_new value n is h = elim (around name None ps sorted) [ inl a ↦ absent a | inr b ↦ absurd (let yes = b.there in cc) ]
@@ -92,7 +92,7 @@ module _ (name : List ℕ) (ps : ParamList) (sorted : are_params_after None ps �
           ap (λ k. insert ps k (name, value)) at ∙ ap (λ (xs : ParamList). insert xs (length (lesser name ps)) (name, value)) a.whole
           ∙ insert_seam (lesser name ps) (greater name ps) (name, value)
 
-  -- how many there are then
+  -- the number of parameters after setting one that is present
   with_there_len : (value : List ℕ) → has_param name ps ≡ true → length (with_param name value ps) ≡ length ps
   with_there_len value h = elim (around name None ps sorted) [ inl a ↦ absurd (let no = a.gone in cc) | inr b ↦ present b ]
     where
@@ -119,7 +119,7 @@ module _ (name : List ℕ) (ps : ParamList) (sorted : are_params_after None ps �
             length-append (lesser name ps) ((name, value) ∷ greater name ps),
           )
 
--- the parameters with this one are parameters: a new value of one that is there, and one more of at most 63
+-- the parameters with this one set are lawful: a new value of one that is present, or one more of at most 63
 pub set_lawful : (name value : List ℕ) (ps : ParamList) (n : ℕ) → AreParams ps → is_param_name name ≡ true → is_param_value value ≡ true
     → n ≡ count_by (λ p. is_before p.0 name) ps → has_param name ps ≡ true → AreParams (slice_set ps n (name, value))
 set_lawful name value ps n are named valued is there =

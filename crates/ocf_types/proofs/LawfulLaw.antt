@@ -38,7 +38,7 @@ lawful_empty layout = record {
   resources = tt;
 }
 
--- a next number, where none is drawn
+-- the next number after a change that draws none
 drawn_still : (n : ℕ) → IsDrawn n → IsDrawn (n + 0)
 drawn_still n h = (omega (arith, h.0), omega (arith, h.1))
 
@@ -55,7 +55,7 @@ runs_after : (n k : ℕ) (id : List ℕ) (s : Step) (r : Resource) → IsDrawn k
 runs_after n k id (step.Begin call run) r h a = (omega (arith, h.0), omega (arith, a.2.0, a.2.1))
 runs_after n k id _ r h a = drawn_still k h
 
--- a change that applies leaves a lawful state
+-- a change that applies keeps a state lawful
 lawful_change : (layout : Layout) (s : State) (at : ℕ) (c : Change) → IsLawfulStateIn layout s → IsMoment at → IsLawfulChangeIn layout c
     → length (fields_in layout c) ≤ event_limit → s.clock ≤ at → ChangeApplies s c
     → IsLawfulStateIn layout (after_in layout s (record { at = at; change = c }))
@@ -125,7 +125,7 @@ lawful_change layout s at change.Boot h moment w short le a =
           (changed_in layout at change.Boot s.resources) all;
     }
 
--- an event that applies in a lawful state leaves a lawful one
+-- an event that applies keeps a state lawful
 pub lawful_after : (layout : Layout) (s : State) (e : Event) → IsLawfulStateIn layout s → AppliesIn layout s e
     → IsLawfulStateIn layout (after_in layout s e)
 lawful_after layout s e h a =

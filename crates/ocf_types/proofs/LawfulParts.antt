@@ -1,4 +1,4 @@
--- Parts of a lawful resource: they stay lawful later, and with one more.
+-- The items of a lawful resource stay lawful at a later moment, and when one is added.
 use Rattle.std.proofs.Common.{◌≡◌, nat_eq, ℕ, ◌-◌, ◌≤◌, ◌<◌, ◌==◌, Bool, true, false, cond, List, [], ◌∷◌, ◌++◌, map, length, find}
 use Rattle.std.proofs.Common.{Option, Some, None, option_map, option_and_then, option_to_list, refl, ◌∙◌, arith, length-drop}
 use Rattle.std.specs.List.{AllByRecursion, IsDistinct, list_any}
@@ -30,11 +30,11 @@ use Rattle.ocf_types.specs.LawfulState.{IsLawfulRunningIn, IsLawfulEndedIn, IsLa
 use Rattle.ocf_types.specs.Laws.{distinct_none, each_append, each_weaken}
 use Rattle.ocf_types.proofs.Lists.{each_drop}
 
--- a queued action, with a call below a number
+-- a lawful queued action, with a call below a number
 abbrev pub IsQueued : Layout → ℕ → Op → Type 0
 IsQueued layout n o = IsLawfulOpIn layout o × (o.call < n)
 
--- a recurring monitor, with a call below a number
+-- a lawful recurring monitor, with a call below a number
 abbrev pub IsRecurring : Layout → ℕ → Recur → Type 0
 IsRecurring layout n m = IsLawfulRecurIn layout m × (m.call < n)
 
@@ -56,12 +56,12 @@ module _ (n k clock n' k' clock' : ℕ) (calls : n ≤ n') (runs : k ≤ k') (mo
       })
       xs h
 
-  -- what failed last stays lawful later
+  -- the last failure stays lawful later
   pub failed_weaken : (o : Option Ended) → IsLawfulFailed n k clock o → IsLawfulFailed n' k' clock' o
   failed_weaken None h = tt
   failed_weaken (Some x) h = ((ended_weaken Second (x ∷ []) (h.0, tt)).0, h.1)
 
-  -- what runs stays lawful later
+  -- a running action stays lawful later
   pub running_weaken : (layout : Layout) (o : Option Running) → IsLawfulRunningIn layout n k clock o → IsLawfulRunningIn layout n' k' clock' o
   running_weaken layout None h = tt
   running_weaken layout (Some x) h = (h.0, omega (arith, h.1), h.2, omega (arith, h.3), h.4, h.5, omega (arith, h.6), h.7)
@@ -95,17 +95,17 @@ module _ (layout : Layout) (n k clock n' k' clock' : ℕ) (calls : n ≤ n') (ru
       each_weaken (λ e. IsLawfulResourceIn layout n k clock e.1) (λ e. IsLawfulResourceIn layout n' k' clock' e.1)
       (λ e l. lawful_weaken e.1 l) rs h
 
--- no layout knows of a failure where there is none
+-- a layout keeps that there was no failure
 pub none_known : (layout : Layout) → failed_in layout None ≡ None
 none_known First = refl
 none_known Second = refl
 
--- what a layout knows, it knows again
+-- keeping the last failure twice in a layout is keeping it once
 pub known_again : (layout : Layout) (o : Option Ended) → failed_in layout (failed_in layout o) ≡ failed_in layout o
 known_again First o = refl
 known_again Second o = refl
 
--- a resource is lawful as it is registered
+-- a newly registered resource is lawful
 pub lawful_registered : (layout : Layout) (n k at : ℕ) (r : Registration) → IsLawfulRegistration r
     → length (spelled_params r.params) ≤ event_limit → IsLawfulResourceIn layout n k at (registered r).1
 lawful_registered layout n k at r w short = record {
@@ -127,11 +127,11 @@ lawful_registered layout n k at r w short = record {
   known = none_known layout;
 }
 
--- no more results are kept than a layout keeps
+-- the kept results are no more than a layout keeps
 pub length-last : (layout : Layout) (xs : List Ended) → length (last_in layout xs) ≤ kept_in layout
 length-last layout xs = omega (arith, length-drop (length xs - kept_in layout) xs)
 
--- the results that are kept of two lists of lawful ones
+-- the kept results of two lists of lawful ones are lawful
 pub ended_push : (layout : Layout) (n k clock : ℕ) (xs ys : List Ended) → AllByRecursion (IsLawfulEndedIn layout n k clock) xs
     → AllByRecursion (IsLawfulEndedIn layout n k clock) ys
     → AllByRecursion (IsLawfulEndedIn layout n k clock) (last_in layout (xs ++ ys))
@@ -139,7 +139,7 @@ ended_push layout n k clock xs ys h g =
     each_drop (IsLawfulEndedIn layout n k clock) (length (xs ++ ys) - kept_in layout) (xs ++ ys)
     (each_append (IsLawfulEndedIn layout n k clock) xs ys h g)
 
--- the result of what ran, by an outcome of what began
+-- the result of the action that ran is lawful, for an outcome of an action that began
 pub ended_running : (layout : Layout) (n k at : ℕ) (outcome : Outcome) (o : Option Running) → IsOutcome outcome → (NeverBegan outcome → ⊥)
     → CanEnd layout outcome → IsLawfulRunningIn layout n k at o
     → AllByRecursion (IsLawfulEndedIn layout n k at) (map (ended_of outcome at) (option_to_list o))
@@ -159,7 +159,7 @@ ended_running layout n k at outcome (Some x) is other known h = (
   tt,
 )
 
--- what failed last, once what ran has ended
+-- the last failure is lawful after the running action has ended
 pub failed_push : (layout : Layout) (n k at : ℕ) (end : RunEnd) (h : History) → IsRunEnd end → IsLawfulRunningIn layout n k at h.running
     → IsLawfulFailed n k at h.failed → IsLawfulFailed n k at (failed_in layout (failed_after (Run end) at h))
 failed_push First n k at end h is l f = tt
@@ -174,7 +174,7 @@ failed_push Second n k at end h is l f = by h.running l
         last true = ((ended_running Second n k at (Run end) (Some x) is (λ e. e) tt r).0, tt)
         last false = f
 
--- the results of what was queued
+-- the results of the queued actions that were dropped are lawful
 pub ended_dropped : (layout : Layout) (n k at : ℕ) (os : List Op) → 1 ≤ k → AllByRecursion (IsQueued layout n) os
     → AllByRecursion (IsLawfulEndedIn layout n k at) (map (dropped_of at) os)
 ended_dropped layout n k at [] one h = tt
@@ -193,7 +193,7 @@ ended_dropped layout n k at (o ∷ os) one h = (
   ended_dropped layout n k at os one h.1,
 )
 
--- the result of the queued action of a call
+-- the result of a withdrawn action is lawful
 pub ended_cancelled : (layout : Layout) (n k at call : ℕ) (os : List Op) → 1 ≤ k → KnowsWithdrawal layout
     → AllByRecursion (IsQueued layout n) os
     → AllByRecursion (IsLawfulEndedIn layout n k at) (map (cancelled_of at) (option_to_list (queued_of call os)))
@@ -221,12 +221,12 @@ ended_cancelled layout n k at call (o ∷ os) one knows h = by (o.call == call) 
     )
     by false rest = rest
 
--- the run of a queued action
+-- the run of a queued action is lawful
 pub running_op : (layout : Layout) (n k at run : ℕ) (o : Op) → IsDrawn run → run < k → IsQueued layout n o
     → IsLawfulRunningIn layout n k at (Some (run_of_op run at o))
 running_op layout n k at run o drawn lt h = (h.0.0, h.1, drawn, lt, h.0.1, (omega arith, λ p. absurd (omega arith)), omega arith, h.0.2)
 
--- the run of a monitor that is there
+-- the run of a recurring monitor is lawful
 pub running_monitor : (layout : Layout) (n k at run : ℕ) (test : Recur → Bool) (ms : List Recur) → IsDrawn run → run < k
     → AllByRecursion (IsRecurring layout n) ms → IsLawfulRunningIn layout n k at (option_map (run_of_monitor run at) (find test ms))
 running_monitor layout n k at run test [] drawn lt h = tt
@@ -237,7 +237,7 @@ running_monitor layout n k at run test (m ∷ ms) drawn lt h = by (test m) (runn
     by true rest = (h.0.0.0, h.0.1, drawn, lt, h.0.0.2, (h.0.0.1.1, λ p. refl), omega arith, h.0.0.3)
     by false rest = rest
 
--- an interval that is not found is that of no monitor
+-- an interval that is not found is not among the monitors' intervals
 pub absent_interval : (interval : ℕ) (ms : List Recur) → of_interval interval ms ≡ None
     → list_any (nat_eq interval) (map (λ m. m.interval) ms) ≡ false
 absent_interval interval [] h = refl
@@ -251,7 +251,7 @@ absent_interval interval (m ∷ ms) h = by (m.interval == interval) refl (absent
         let flipped : nat_eq interval m.interval ≡ false = nat_eq_equiv.symm interval m.interval ∙ other in
         rw flipped (rest (rw other at h))
 
--- the intervals with that of one more monitor, whose interval is not found
+-- intervals stay distinct when a monitor is added whose interval is not found
 pub intervals_push : (ms : List Recur) (m : Recur) → of_interval m.interval ms ≡ None → IsDistinct nat_eq (map (λ x. x.interval) ms)
     → IsDistinct nat_eq (map (λ x. x.interval) (ms ++ m ∷ []))
 intervals_push ms m fresh h =

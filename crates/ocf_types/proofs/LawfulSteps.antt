@@ -1,4 +1,4 @@
--- What a step or a boot does to a lawful resource leaves a lawful one, in each layout.
+-- A step or a boot keeps a resource lawful, in each layout.
 use Rattle.std.proofs.Common.{◌≡◌, nat_eq, ℕ, ◌+◌, ◌≤◌, ◌<◌, ◌==◌, not, List, [], ◌∷◌, ◌++◌, map, length, Some, option_map, option_to_list}
 use Rattle.std.proofs.Common.{refl, arith, length-append}
 use Rattle.std.specs.List.{AllByRecursion, IsDistinct}
@@ -101,7 +101,7 @@ with_params layout n k clock r ps l are short = record {
   known = l.known;
 }
 
--- a begin leaves a lawful resource
+-- a begin keeps a resource lawful
 lawful_begin : (layout : Layout) (n k at call run : ℕ) (r : Resource) → IsLawfulResourceIn layout n k at r → IsDrawn run → run < k
     → IsLawfulResourceIn layout n k at (on_history (begun (of_call call r.recurring) run at) r)
 lawful_begin layout n k at call run r l drawn lt = by r.history.queue refl
@@ -120,7 +120,7 @@ lawful_begin layout n k at call run r l drawn lt = by r.history.queue refl
         rw e (with_history layout n k at r (record r.history { queue = os; running = Some (run_of_op run at o) }) l
         (omega (arith, shorter)) queued.1 ascends.1 runs l.ended_len l.ended l.failed l.known)
 
--- a step that applies leaves a lawful resource
+-- a step that applies keeps a resource lawful
 pub lawful_step : (layout : Layout) (n k clock at : ℕ) (id : List ℕ) (s : Step) (r : Resource) → IsLawfulResourceIn layout n k clock r
     → IsLawfulStepIn layout s → length (step_fields_in layout s) ≤ event_limit → StepApplies n k s r → clock ≤ at → 1 ≤ k
     → IsLawfulResourceIn layout (n + calls_drawn (change.Step id s)) (k + runs_drawn (change.Step id s)) at (stepped_in layout at s r)
@@ -176,7 +176,7 @@ lawful_step layout n k clock at id (step.Withdraw call) r h w short a le one =
     l.running (length-last layout (r.history.ended ++ results))
     (ended_push layout (n + 0) (k + 0) at r.history.ended results l.ended lawful) l.failed l.known
 
--- a boot leaves a lawful resource
+-- a boot keeps a resource lawful
 pub lawful_boot : (layout : Layout) (n k clock at : ℕ) (r : Resource) → 1 ≤ k → IsLawfulResourceIn layout n k clock r → clock ≤ at
     → IsLawfulResourceIn layout n k at (on_history (booted_in layout at) r)
 lawful_boot layout n k clock at r one h le =

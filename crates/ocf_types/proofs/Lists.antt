@@ -1,4 +1,4 @@
--- Lists: facts of each element, and numbers that ascend.
+-- Lemmas on lists: properties of each element, and numbers that ascend.
 use Rattle.std.proofs.Common.{◌≡◌, ℕ, ◌≤◌, ◌<◌, Bool, true, false, cond, List, [], ◌∷◌, ◌++◌, map, length, drop, filter, refl, zero, suc}
 use Rattle.std.proofs.Common.{arith}
 use Rattle.std.specs.List.{AllByRecursion}
@@ -6,7 +6,7 @@ use Rattle.ocf_types.specs.LawfulState.{IsAscending}
 use Rattle.ocf_types.specs.RegistryLaws.{keys_filter}
 
 module _ {A : Type 0} where
-  -- a fact of each holds of the last ones
+  -- a property of each element holds for the last ones
   pub each_drop : (P : A → Type 0) (n : ℕ) (xs : List A) → AllByRecursion P xs → AllByRecursion P (drop n xs)
   each_drop P zero xs h = h
   each_drop P (suc n) [] h = tt
@@ -21,7 +21,7 @@ module _ {A : Type 0} where
       by true k = omega arith
       by false k = omega arith
 
-  -- a second filter by the same test takes nothing more away
+  -- a second filter by the same test removes nothing
   pub filter-filter : (test : A → Bool) (xs : List A) → filter test (filter test xs) ≡ filter test xs
   filter-filter test [] = refl
   filter-filter test (x ∷ xs) = by (test x) refl (filter-filter test xs)
@@ -31,7 +31,7 @@ module _ {A : Type 0} where
       by true e k = rw (e, k) refl
       by false e k = k
 
-  -- ascending keys stay so where some elements are taken away
+  -- ascending keys stay ascending when elements are removed
   pub ascends_filter : (key : A → ℕ) (test : A → Bool) (xs : List A) → IsAscending (map key xs) → IsAscending (map key (filter test xs))
   ascends_filter key test [] h = tt
   ascends_filter key test (x ∷ xs) h = by (test x) (ascends_filter key test xs h.1)
@@ -40,7 +40,7 @@ module _ {A : Type 0} where
       by true k = (keys_filter key (λ m. key x < m) test xs h.0, k)
       by false k = k
 
-  -- ascending keys stay so with one more element, above a bound below which the others are
+  -- ascending keys stay ascending with one more element, which is not below a bound of the others
   pub ascends_push : (key : A → ℕ) (n : ℕ) (xs : List A) (y : A) → AllByRecursion (λ x. key x < n) xs → n ≤ key y → IsAscending (map key xs)
       → IsAscending (map key (xs ++ y ∷ []))
   ascends_push key n [] y below le h = (tt, tt)

@@ -1,4 +1,4 @@
--- A change does nothing to a resource that it does not name.
+-- A change leaves a resource that it does not name as it was.
 use Rattle.std.proofs.Common.{◌≡◌, ℕ, true, not, List, [], ◌∷◌, Some, refl}
 use Rattle.std.specs.Str.{bytes_eq}
 use Rattle.std.proofs.lemmas.List.{append-nil}

@@ -1,4 +1,4 @@
--- Parameters with one more.
+-- Parameters with one more appended.
 use Rattle.std.proofs.Common.{◌≡◌, ℕ, ◌-◌, ◌<◌, true, ◌&&◌, List, [], ◌∷◌, ◌++◌, length, Option, Some, None, refl, arith, length-append, ap}
 use Rattle.std.specs.Prelude.{slice_get}
 use Rattle.ocf_types.specs.Names.{is_param_name}

@@ -1,4 +1,4 @@
--- Resources by their ids: what stays, and what is found.
+-- Lemmas on resources by their ids: unchanged ones, and lookups.
 use Rattle.std.proofs.Common.{◌≡◌, ℕ, Bool, true, false, cond, not, List, [], ◌∷◌, map, filter, Some, refl, sym}
 use Rattle.std.proofs.Common.{ap, subst}
 use Rattle.std.specs.List.{AllByRecursion, IsDistinct}
@@ -10,7 +10,7 @@ use Rattle.ocf_types.specs.State.{at_id}
 pub use Rattle.ocf_types.specs.RegistryLaws.{same_id, other_id, absent_any, keys-at_id}
 
 module _ {A : Type 0} where
-  -- the others stay in place where something is done to the entry of an id
+  -- a change of the entry of an id leaves the others as they were
   pub others-at_id : (id : List ℕ) (f : A → A) (es : List (List ℕ × A))
       → filter (λ e. not (bytes_eq id e.0)) (at_id id f es) ≡ filter (λ e. not (bytes_eq id e.0)) es
   others-at_id id f [] = refl
@@ -24,30 +24,30 @@ module _ {A : Type 0} where
       by true k = k
       by false k = ap (λ (xs : List (List ℕ × A)). e ∷ xs) k
 
-  -- what is done to each entry leaves the keys
+  -- a change of each entry leaves the keys
   pub keys-map : (f : A → A) (es : List (List ℕ × A)) → keys_of (map (λ e. (e.0, f e.1)) es) ≡ keys_of es
   keys-map f [] = refl
   keys-map f (e ∷ es) = ap (λ (ks : List (List ℕ)). e.0 ∷ ks) (keys-map f es)
 
-  -- a fact of each id holds after what is done to the entry of an id
+  -- a property of each id holds after a change of the entry of an id
   pub ids-at_id : (P : List ℕ → Type 0) (id : List ℕ) (f : A → A) (es : List (List ℕ × A)) → AllByRecursion (λ e. P e.0) es
       → AllByRecursion (λ e. P e.0) (at_id id f es)
   ids-at_id P id f [] h = tt
   ids-at_id P id f (e ∷ es) h = (h.0, ids-at_id P id f es h.1)
 
-  -- a fact of each value after what is done to each
+  -- a property of each value after a change of each
   pub values-map : (P Q : A → Type 0) (f : A → A) → ((x : A) → P x → Q (f x)) → (es : List (List ℕ × A)) → AllByRecursion (λ e. P e.1) es
       → AllByRecursion (λ (e : List ℕ × A). Q e.1) (map (λ e. (e.0, f e.1)) es)
   values-map P Q f step [] h = tt
   values-map P Q f step (e ∷ es) h = (step e.1 h.0, values-map P Q f step es h.1)
 
-  -- a fact of each id holds after what is done to each entry
+  -- a property of each id holds after a change of each entry
   pub ids-map : (P : List ℕ → Type 0) (f : A → A) (es : List (List ℕ × A)) → AllByRecursion (λ e. P e.0) es
       → AllByRecursion (λ (e : List ℕ × A). P e.0) (map (λ e. (e.0, f e.1)) es)
   ids-map P f [] h = tt
   ids-map P f (e ∷ es) h = (h.0, ids-map P f es h.1)
 
-  -- a fact of each value, also of that of an id after what is done to it, where the ids are distinct
+  -- a property of each value after a change of that of an id, if the ids are distinct
   pub values-at_id : (P Q : A → Type 0) (id : List ℕ) (f : A → A) → ((x : A) → P x → Q x) → (es : List (List ℕ × A)) (r : A)
       → IsDistinct bytes_eq (keys_of es) → lookup (bytes_eq id) es ≡ Some r → (P r → Q (f r)) → AllByRecursion (λ e. P e.1) es
       → AllByRecursion (λ e. Q e.1) (at_id id f es)

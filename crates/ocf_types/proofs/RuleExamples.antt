@@ -41,7 +41,7 @@ monitor call interval = record { call = call; interval = interval; timeout = 200
 abbrev registered : State
 registered = after empty (at 0 (change.Register dummy))
 
--- a resource that has these operations
+-- a resource with these operations
 abbrev with_resource : ℕ → List Op → List Recur → State
 with_resource next_call queue monitors = record {
   next_call = next_call;
@@ -76,7 +76,7 @@ booted_history : option_map (λ r. r.history.ended) (resource_at (boot stopped 5
     ∷ record { call = 1; run = 1; action = action.Start; interval = 0; since = 10; at = 500; outcome = Interrupted } ∷ [])
 booted_history = refl
 
--- what ran is the last of these results
+-- the action that ran is the last of these results
 interrupted_last : IsSomeAnd (resource_at (boot stopped 500) r1)
     (λ r. IsLast (record {
       call = 1;
@@ -89,11 +89,11 @@ interrupted_last : IsSomeAnd (resource_at (boot stopped 500) r1)
     }) r.history.ended)
 interrupted_last = (record { call = 2; run = 0; action = action.Stop; interval = 0; since = 500; at = 500; outcome = Dropped } ∷ [], refl)
 
--- and no second boot is needed
+-- no second boot is needed
 booted_once : boot_event (boot stopped 500) 600 ≡ None
 booted_once = refl
 
--- a resource with something queued or running is not removed
+-- a resource with an action queued or running is not removed
 busy : event_of stopped 30 (command.Unregister r1) ≡ Err Busy
 unfolding two_bytes four_bytes eight_bytes spelled_event_in
 busy = refl
@@ -125,7 +125,7 @@ calls_spent : event_of (with_resource 9007199254740991 [] []) 0 (command.Exec r1
 unfolding two_bytes four_bytes eight_bytes spelled_event_in
 calls_spent = refl
 
--- a moment above the greatest one is taken as that, and the clock does not go back
+-- a moment above the greatest one is cut at that, and the clock does not go back
 abbrev late : State
 late = after empty (at 9007199254740991 (change.Register dummy))
 

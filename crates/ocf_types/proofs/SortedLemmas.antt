@@ -1,4 +1,4 @@
--- Parameters with one more, or with another value of one, are in order.
+-- Parameters stay in order when one is added, or gets another value.
 use Rattle.std.proofs.Common.{◌≡◌, inl, inr, ℕ, true, false, ◌&&◌, List, [], ◌∷◌, Option, Some, refl, sym, subst}
 use Rattle.ocf_types.specs.Names.{is_param_name}
 use Rattle.ocf_types.specs.Values.{is_param_value}

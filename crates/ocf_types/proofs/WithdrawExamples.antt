@@ -1,4 +1,4 @@
--- What is withdrawn, and how many results are kept, computed on examples.
+-- Withdrawals, and how many results are kept, computed on examples.
 use Rattle.std.proofs.Common.{◌≡◌, ℕ, suc, zero, List, [], ◌∷◌, map, length, Some, None, Err, refl}
 use Rattle.std.specs.Prelude.{codes, option_map, take}
 use Rattle.ocf_types.specs.declared.action.Action.TheVariants as action
@@ -28,7 +28,7 @@ at moment what = record { at = moment; change = what }
 abbrev op : ℕ → Task → Op
 op call what = record { call = call; task = what; timeout = 20000 }
 
--- r1 runs its start, and two stops are queued
+-- r1 runs a start, and two stops are queued
 abbrev queued : State
 queued = after_all empty (
     at 0 (change.Register (record { id = r1; provider = codes "pacemaker"; agent = codes "Dummy"; params = [] }))
@@ -39,7 +39,7 @@ queued = after_all empty (
 abbrev withdrawn : State
 withdrawn = after queued (at 40 (change.Step r1 (step.Withdraw 3)))
 
--- it is the last result, and the other stays queued
+-- the withdrawn one is the last result, and the other stays queued
 result_of_withdrawn : option_map (λ r. r.history.ended) (resource_at withdrawn r1) ≡ Some (
     record { call = 3; run = 0; action = action.Stop; interval = 0; since = 40; at = 40; outcome = Cancelled } ∷ [])
 result_of_withdrawn = refl
@@ -47,7 +47,7 @@ result_of_withdrawn = refl
 left_queued : option_map (λ r. map (λ o. o.call) r.history.queue) (resource_at withdrawn r1) ≡ Some (2 ∷ [])
 left_queued = refl
 
--- what is not queued is not withdrawn: what was withdrawn before, what runs, and what is no resource's
+-- only a queued action can be withdrawn: not one that was withdrawn before, one that runs, or one of an unknown resource
 again : event_of withdrawn 40 (command.Withdraw r1 3) ≡ Err NotQueued
 unfolding two_bytes four_bytes eight_bytes spelled_event_in
 again = refl
@@ -60,11 +60,11 @@ no_resource : event_of withdrawn 40 (command.Withdraw (codes "zz") 3) ≡ Err Un
 unfolding two_bytes four_bytes eight_bytes spelled_event_in
 no_resource = refl
 
--- the first layout can't say it
+-- the first layout can't encode a withdrawal
 unknown_in_first : IsLawfulStepIn First (step.Withdraw 3) → ⊥
 unknown_in_first h = h.1
 
--- results of the calls from this one on, one by one
+-- the history after n actions, of the calls from this one on, each accepted, begun and ended
 abbrev results : ℕ → ℕ → History → History
 results zero call h = h
 results (suc n) call h = results n (suc call) (ended (Run (Done 0)) 10 (begun None call 0 (accepted (op call task.Stop) h)))

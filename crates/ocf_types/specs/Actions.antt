@@ -22,10 +22,11 @@ action_word action.Demote = codes "demote"
 action_word action.ReloadAgent = codes "reload-agent"
 action_word action.ValidateAll = codes "validate-all"
 
--- the actions, and the one of a word
+-- all actions
 abbrev pub actions : List Action
 actions = action.Start ∷ action.Stop ∷ action.Monitor ∷ action.Promote ∷ action.Demote ∷ action.ReloadAgent ∷ action.ValidateAll ∷ []
 
+-- the action of a word
 abbrev pub action_named : List ℕ → Option Action
 action_named word = find (λ a. bytes_eq word (action_word a)) actions
 
@@ -49,7 +50,7 @@ action_of task.Demote = action.Demote
 action_of task.ReloadAgent = action.ReloadAgent
 action_of task.ValidateAll = action.ValidateAll
 
--- the check of every action but a monitor: its level is 0, and it is to succeed
+-- the check of every action except a monitor: level 0, and success is expected
 abbrev pub plain : Check
 plain = record { level = Zero; expect = Success }
 
@@ -62,7 +63,7 @@ check_of _ = plain
 abbrev pub expect_of : Task → Expect
 expect_of t = (check_of t).expect
 
--- an action other than a monitor has the plain check
+-- the task of an action other than a monitor, which has the plain check only
 abbrev pub plain_task : Task → Level → Expect → Option Task
 plain_task t Zero Success = Some t
 plain_task t _ _ = None

@@ -1,4 +1,4 @@
--- Which event a command is, or which refusal, and what a question is answered.
+-- The event or the refusal of a command, and the reply to a question.
 use Rattle.std.specs.Prelude.{ℕ, ◌==◌, Bool, false, max, min, nat_lt, nat_le, is_some, is_none, List, [], ◌∷◌, length, map, Result, Ok, Err}
 use Rattle.std.specs.Prelude.{if◌then◌else◌, ⊤}
 use Rattle.std.specs.Option.{option_map_or}
@@ -17,7 +17,7 @@ use Rattle.ocf_types.specs.declared.refusal.Refusal.TheVariants.{UnknownResource
 use Rattle.ocf_types.specs.declared.refusal.Refusal.TheVariants.{NotQueued, TooManyResources, TooLarge, CallsSpent}
 use Rattle.ocf_types.specs.declared.reply.ReplyOf.TheVariants as reply
 
--- the moment of what happens now: a clock that is handed in is cut at the greatest moment, and never goes back
+-- the moment of the next event: the clock reading, cut at the greatest moment, and never before the last event
 abbrev pub moment : State → ℕ → ℕ
 moment s now = max s.clock (min now num_max)
 
@@ -42,7 +42,7 @@ IsRegister _ = ⊥
 abbrev pub asked_event : State → ℕ → Command → Event
 asked_event s now c = record { at = moment s now; change = change_of s.next_call c }
 
--- the resource of the id is there, and the test holds of it
+-- there is a resource of the id, and the test holds for it
 abbrev pub holds_at : State → List ℕ → (Resource → Bool) → Bool
 holds_at s id test = option_map_or test (resource_at s id) false
 
@@ -70,11 +70,11 @@ abbrev pub first_of : List (Refusal × Bool) → Event → Result Event Refusal
 first_of [] e = Ok e
 first_of (t ∷ ts) e = if t.1 then Err t.0 else first_of ts e
 
--- what a command is at a state: a refusal, or its event. Too large is an event of more than 16,384 bytes
+-- the event of a command in a state, or its refusal. An event of more than 16,384 bytes is too large
 abbrev pub event_of : State → ℕ → Command → Result Event Refusal
 event_of s now c = first_of (tests s c (length (spelled_event (asked_event s now c)))) (asked_event s now c)
 
--- what a resource is, and what it does
+-- the info of a resource: its agent, its parameters and its operations
 abbrev pub info_of : List ℕ → Resource → Info
 info_of id r = record {
   id = id;
@@ -87,7 +87,7 @@ info_of id r = record {
   failed = r.history.failed;
 }
 
--- what is said of the resource of an id, or that there is none
+-- the reply about the resource of an id, or the refusal of an unknown one
 abbrev pub said_of : State → List ℕ → (Resource → Reply) → Reply
 said_of s id say = option_map_or say (resource_at s id) (reply.Refused UnknownResource)
 

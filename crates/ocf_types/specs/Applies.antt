@@ -1,4 +1,4 @@
--- Where an event applies.
+-- When an event applies in a state.
 use Rattle.std.specs.Prelude.{◌≡◌, ℕ, ◌<◌, ◌≤◌, List, [], ◌∷◌, length, None, IsSome, IsSomeAnd, IsTrue, ⊤, false}
 use Rattle.ocf_types.specs.Limits.{num_max, resources_limit, queue_limit, recurring_limit}
 use Rattle.ocf_types.specs.Kinds.{Step, Change, Event}
@@ -13,16 +13,16 @@ use Rattle.ocf_types.specs.declared.operation.Recur.{Recur}
 use Rattle.ocf_types.specs.declared.event.Step.TheVariants as step
 use Rattle.ocf_types.specs.declared.event.Change.TheVariants as change
 
--- a number is the next one, and that is not spent
+-- the number is the next one, and is not spent
 abbrev pub IsNext : ℕ → ℕ → Type 0
 IsNext n next = (n ≡ next) × (n < num_max)
 
--- the call that a begin takes: the first queued one, or with an empty queue that of a recurring monitor
+-- the call can begin: it is the first queued one or, if the queue is empty, that of a recurring monitor
 abbrev pub IsReady : List Op → List Recur → ℕ → Type 0
 IsReady [] monitors call = IsSome (of_call call monitors)
 IsReady (o ∷ os) monitors call = call ≡ o.call
 
--- where a step applies to a resource, in a state with these next numbers
+-- when a step applies to a resource, in a state with these next numbers
 abbrev pub StepApplies : ℕ → ℕ → Step → Resource → Type 0
 StepApplies next_call next_run (step.SetParams ps) r = ⊤
 StepApplies next_call next_run (step.Exec o) r = (length r.history.queue < queue_limit) × IsNext o.call next_call
@@ -35,14 +35,14 @@ StepApplies next_call next_run (step.Begin call run) r =
 StepApplies next_call next_run (step.Result run end) r = IsSomeAnd r.history.running (λ x. x.run ≡ run)
 StepApplies next_call next_run (step.Withdraw call) r = IsSome (queued_of call r.history.queue)
 
--- where a change applies
+-- when a change applies
 abbrev pub ChangeApplies : State → Change → Type 0
 ChangeApplies s (change.Register r) = (resource_at s r.id ≡ None) × (length s.resources < resources_limit)
 ChangeApplies s (change.Unregister id) = IsSomeAnd (resource_at s id) (λ r. is_busy r.history ≡ false)
 ChangeApplies s (change.Step id what) = IsSomeAnd (resource_at s id) (StepApplies s.next_call s.next_run what)
 ChangeApplies s change.Boot = IsTrue (any_busy s)
 
--- where an event applies: it has an encoding in the layout, its moment is not before the clock, and its change applies
+-- when an event applies: it has an encoding in the layout, its moment is not before the clock, and its change applies
 pub record AppliesIn (layout : Layout) (s : State) (e : Event) : Type 0 where
   pub spelled : HasSpellingIn layout e
   pub later : s.clock ≤ e.at

@@ -1,4 +1,4 @@
--- The boot: what an opening does to what a stopped executor left.
+-- The boot: the event by which an opening ends what an earlier incarnation left queued or running.
 use Rattle.std.specs.Prelude.{◌≡◌, ℕ, Bool, List, [], ◌∷◌, ◌++◌, Option, Some, None, if◌then◌else◌}
 use Rattle.std.specs.List.{list_any}
 use Rattle.ocf_types.specs.Kinds.{Event}
@@ -15,14 +15,14 @@ any_busy s = list_any (λ e. is_busy e.1.history) s.resources
 abbrev pub boot_at : ℕ → Event
 boot_at at = record { at = at; change = change.Boot }
 
--- the event that is needed, if one is
+-- the boot, if one is needed
 abbrev pub boot_event : State → ℕ → Option Event
 boot_event s at = if any_busy s then Some (boot_at at) else None
 
--- the state after it: that of before, where nothing is queued or running
+-- the state after the boot; unchanged if none is needed
 abbrev pub boot : State → ℕ → State
 boot s at = if any_busy s then after s (boot_at at) else s
 
--- a result is the last of these
+-- the result is the last of these
 abbrev pub IsLast : Ended → List Ended → Type 0
 IsLast e results = (before : List Ended) × (results ≡ before ++ e ∷ [])

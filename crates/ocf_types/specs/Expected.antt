@@ -1,4 +1,4 @@
--- Which exit codes are expected of an action, and which of its ends have failed.
+-- The exit codes that are expected of an action, and the outcomes that are failures.
 use Rattle.std.specs.Prelude.{ℕ, ◌==◌, ◌||◌, not, Bool, true, false, [], ◌∷◌, Option}
 use Rattle.std.specs.List.{find}
 use Rattle.ocf_types.specs.declared.action.Action.{Action}
@@ -15,23 +15,23 @@ expect_code Success = 0
 expect_code NotRunning = 7
 expect_code RunningPromoted = 8
 
--- what is expected by a code
+-- the expectation of an exit code
 abbrev pub expect_of_code : ℕ → Option Expect
 expect_of_code n = find (λ x. n == expect_code x) (Success ∷ NotRunning ∷ RunningPromoted ∷ [])
 
--- what is expected was found, but degraded: Pacemaker Administration, exit codes: OCF_DEGRADED, OCF_DEGRADED_PROMOTED
+-- the resource was found as expected, but degraded: Pacemaker Administration, exit codes: OCF_DEGRADED, OCF_DEGRADED_PROMOTED
 abbrev pub is_degraded : Expect → ℕ → Bool
 is_degraded Success code = code == 190
 is_degraded NotRunning code = false
 is_degraded RunningPromoted code = code == 191
 
--- a monitor is to find what is expected, degraded or not; every other action is to succeed
+-- the exit code is the expected one: a monitor may also find the resource degraded; every other action is to succeed
 abbrev pub is_expected : Action → Expect → ℕ → Bool
 is_expected Monitor x code = (code == expect_code x) || is_degraded x code
 is_expected _ x code = code == 0
 
--- an end has failed by a code that is not expected, or where the agent gave none; it is not known of what was
--- interrupted, and what was dropped or cancelled never began
+-- the outcome is a failure: an exit code that is not expected, or none. An interrupted action is no failure, since its result is
+-- not known; a dropped or cancelled one is none, since it never began
 abbrev pub has_failed : Action → Expect → Outcome → Bool
 has_failed action x (Run (Done code)) = not (is_expected action x code)
 has_failed action x (Run TimedOut) = true

@@ -1,5 +1,5 @@
--- Lawful events and commands: a clause that ranges over all of them ranges over all numbers and lists. What a layout can't
--- say is not lawful in it; the name without a layout is that of the second.
+-- Lawful events and commands: clauses range over all numbers and lists, and so have to ask for lawful ones. What a layout can't
+-- encode is not lawful in it; a name without a layout is that of the second.
 use Rattle.std.specs.Prelude.{◌≡◌, ℕ, ◌≤◌, ◌<◌, IsTrue, List, ◌++◌, length, ⊤}
 use Rattle.ocf_types.specs.Limits.{event_limit}
 use Rattle.ocf_types.specs.Names.{is_rsc_id, is_provider, is_agent_type}
@@ -19,23 +19,25 @@ use Rattle.ocf_types.specs.declared.event.Step.TheVariants as step
 use Rattle.ocf_types.specs.declared.event.Change.TheVariants as change
 use Rattle.ocf_types.specs.declared.command.CommandOf.TheVariants as command
 
+-- a lawful resource id
 abbrev pub IsId : List ℕ → Type 0
 IsId id = IsTrue (is_rsc_id id)
 
+-- a registration has lawful names and parameters
 pub record IsLawfulRegistration (r : Registration) : Type 0 where
   pub id : IsId r.id
   pub provider : IsTrue (is_provider r.provider)
   pub agent : IsTrue (is_agent_type r.agent)
   pub params : AreParams r.params
 
--- an accepted action has a call id, a timeout, and an expectation that the layout can say
+-- an accepted action has a call id, a timeout, and an expectation that the layout can encode
 abbrev pub IsLawfulOpIn : Layout → Op → Type 0
 IsLawfulOpIn layout o = IsDrawn o.call × IsMillis o.timeout × CanExpect layout (expect_of o.task)
 
 abbrev pub IsLawfulOp : Op → Type 0
 IsLawfulOp o = IsLawfulOpIn Second o
 
--- a recurring monitor has a call id, an interval, a timeout, and an expectation that the layout can say
+-- a recurring monitor has a call id, an interval, a timeout, and an expectation that the layout can encode
 abbrev pub IsLawfulRecurIn : Layout → Recur → Type 0
 IsLawfulRecurIn layout m = IsDrawn m.call × IsMillis m.interval × IsMillis m.timeout × CanExpect layout m.check.expect
 
@@ -47,6 +49,7 @@ abbrev pub IsRunEnd : RunEnd → Type 0
 IsRunEnd (Done code) = code < 256
 IsRunEnd _ = ⊤
 
+-- a step has lawful numbers and parameters, and the layout can encode it
 abbrev pub IsLawfulStepIn : Layout → Step → Type 0
 IsLawfulStepIn layout (step.SetParams ps) = AreParams ps
 IsLawfulStepIn layout (step.Exec o) = IsLawfulOpIn layout o
@@ -60,6 +63,7 @@ IsLawfulStepIn layout (step.Withdraw call) = IsDrawn call × KnowsWithdrawal lay
 abbrev pub IsLawfulStep : Step → Type 0
 IsLawfulStep s = IsLawfulStepIn Second s
 
+-- a change has lawful names, numbers and parameters, and the layout can encode it
 abbrev pub IsLawfulChangeIn : Layout → Change → Type 0
 IsLawfulChangeIn layout (change.Register r) = IsLawfulRegistration r
 IsLawfulChangeIn layout (change.Unregister id) = IsId id
@@ -69,6 +73,7 @@ IsLawfulChangeIn layout change.Boot = ⊤
 abbrev pub IsLawfulChange : Change → Type 0
 IsLawfulChange c = IsLawfulChangeIn Second c
 
+-- an event has a lawful moment and a lawful change
 pub record IsLawfulEventIn (layout : Layout) (e : Event) : Type 0 where
   pub at : IsMoment e.at
   pub change : IsLawfulChangeIn layout e.change
@@ -76,7 +81,7 @@ pub record IsLawfulEventIn (layout : Layout) (e : Event) : Type 0 where
 abbrev pub IsLawfulEvent : Event → Type 0
 IsLawfulEvent e = IsLawfulEventIn Second e
 
--- what has an encoding in a layout: a lawful event of at most 16,384 bytes
+-- an event has an encoding in a layout if it is lawful in it and has at most 16,384 bytes
 pub record HasSpellingIn (layout : Layout) (e : Event) : Type 0 where
   pub lawful : IsLawfulEventIn layout e
   pub short : length (spelled_event_in layout e) ≤ event_limit
@@ -84,7 +89,7 @@ pub record HasSpellingIn (layout : Layout) (e : Event) : Type 0 where
 abbrev pub HasSpelling : Event → Type 0
 HasSpelling e = HasSpellingIn Second e
 
--- the encoding of this event in a layout begins these bytes
+-- the bytes begin with the encoding of this event in a layout
 pub record BeginsIn (layout : Layout) (bytes : List ℕ) (e : Event) : Type 0 where
   pub spelled : HasSpellingIn layout e
   pub rest : List ℕ
@@ -93,6 +98,7 @@ pub record BeginsIn (layout : Layout) (bytes : List ℕ) (e : Event) : Type 0 wh
 abbrev pub Begins : List ℕ → Event → Type 0
 Begins bytes e = BeginsIn Second bytes e
 
+-- a command has lawful names, numbers and parameters
 abbrev pub IsLawfulCommand : Command → Type 0
 IsLawfulCommand (command.Register r) = IsLawfulRegistration r
 IsLawfulCommand (command.Unregister id) = IsId id

@@ -1,4 +1,4 @@
--- Lawful states: those that have an encoding, and all that events lead to.
+-- Lawful states: those that have an encoding. Every state that events lead to is one.
 use Rattle.std.specs.Prelude.{◌≡◌, ◌↔◌, ℕ, ◌<◌, ◌≤◌, ◌^◌, nat_eq, IsTrue, List, [], ◌∷◌, map, length, Option, Some, None, ⊤}
 use Rattle.std.specs.List.{AllByRecursion, IsDistinct}
 use Rattle.std.specs.Map.{keys_of}
@@ -32,7 +32,7 @@ IsAscending (n ∷ ns) = AllByRecursion (λ m. n < m) ns × IsAscending ns
 abbrev pub IsIntervalOf : ℕ → Action → Type 0
 IsIntervalOf interval action = (interval < 2 ^ 32) × (0 < interval → action ≡ Monitor)
 
--- what runs, below the next numbers and not after the clock
+-- a running action: its numbers are below the next ones, and it began no later than the clock
 abbrev pub IsLawfulRunningIn : Layout → ℕ → ℕ → ℕ → Option Running → Type 0
 IsLawfulRunningIn layout next_call next_run clock None = ⊤
 IsLawfulRunningIn layout next_call next_run clock (Some x) =
@@ -42,17 +42,19 @@ IsLawfulRunningIn layout next_call next_run clock (Some x) =
 abbrev pub IsLawfulRunning : ℕ → ℕ → ℕ → Option Running → Type 0
 IsLawfulRunning next_call next_run clock x = IsLawfulRunningIn Second next_call next_run clock x
 
+-- an outcome whose exit code, if it has one, is a byte
 abbrev pub IsOutcome : Outcome → Type 0
 IsOutcome (Run end) = IsRunEnd end
 IsOutcome _ = ⊤
 
--- an outcome of what never began
+-- the outcome of an action that never began
 abbrev pub NeverBegan : Outcome → Type 0
 NeverBegan Dropped = ⊤
 NeverBegan Cancelled = ⊤
 NeverBegan _ = ⊥
 
--- a result, below the next numbers and not after the clock, that the layout can say; its run is 0 exactly when it never began
+-- a result: its numbers are below the next ones, its moments no later than the clock, the layout can encode it, and its run is 0
+-- exactly when it never began
 pub record IsLawfulEndedIn (layout : Layout) (next_call next_run clock : ℕ) (e : Ended) : Type 0 where
   pub drawn : IsDrawn e.call
   pub call : e.call < next_call
@@ -67,12 +69,12 @@ pub record IsLawfulEndedIn (layout : Layout) (next_call next_run clock : ℕ) (e
 abbrev pub IsLawfulEnded : ℕ → ℕ → ℕ → Ended → Type 0
 IsLawfulEnded next_call next_run clock e = IsLawfulEndedIn Second next_call next_run clock e
 
--- an outcome that is the end of a run
+-- the outcome is the end of a run
 abbrev pub IsEndOfRun : Outcome → Type 0
 IsEndOfRun (Run end) = ⊤
 IsEndOfRun _ = ⊥
 
--- what failed last: the result of a run
+-- the last failure: the result of a run
 abbrev pub IsLawfulFailed : ℕ → ℕ → ℕ → Option Ended → Type 0
 IsLawfulFailed next_call next_run clock None = ⊤
 IsLawfulFailed next_call next_run clock (Some e) = IsLawfulEnded next_call next_run clock e × IsEndOfRun e.outcome
@@ -99,7 +101,7 @@ pub record IsLawfulResourceIn (layout : Layout) (next_call next_run clock : ℕ)
 abbrev pub IsLawfulResource : ℕ → ℕ → ℕ → Resource → Type 0
 IsLawfulResource next_call next_run clock r = IsLawfulResourceIn Second next_call next_run clock r
 
--- a state: what the conditions of its encoding in a layout ask for
+-- a lawful state in a layout: the conditions of its encoding
 pub record IsLawfulStateIn (layout : Layout) (s : State) : Type 0 where
   pub next_call : IsDrawn s.next_call
   pub next_run : IsDrawn s.next_run

@@ -19,7 +19,7 @@ use Rattle.ocf_types.specs.Resource.{is_busy}
 use Rattle.ocf_types.specs.Kinds.{Event}
 use Rattle.ocf_types.specs.State.{Registry, State, after, after_all, changed}
 
--- both sides of a test that holds
+-- both sides hold of a conjunction that holds
 pub both : (a b : Bool) → (a && b) ≡ true → (a ≡ true) × (b ≡ true)
 both true b e = (refl, e)
 both false b e = absurd cc
@@ -32,7 +32,7 @@ pub and_false : (b : Bool) → (b && false) ≡ false
 and_false true = refl
 and_false false = refl
 
--- what a test of numbers says
+-- what equality tests of numbers imply
 pub same_number : (a b : ℕ) → a ≡ b → (a == b) ≡ true
 same_number a b same = grind (arith, nat_tests)
 
@@ -42,16 +42,16 @@ zero_from_test n is = grind (arith, nat_tests)
 pub some_from_test : (n : ℕ) → false ≡ (n == 0) → 0 < n
 some_from_test n is = grind (arith, nat_tests)
 
--- what is there twice is the same
+-- `Some` is injective
 pub some_is : {A : Type 0} (x y : A) → Some x ≡ Some y → x ≡ y
 some_is x y is = cc
 
--- a list without a length is empty
+-- a list of length 0 is empty
 pub nil_of : (xs : List ℕ) → length xs ≡ 0 → xs ≡ []
 nil_of [] none = refl
 nil_of (x ∷ xs) none = absurd (omega (arith, none))
 
--- what is joined of one element more
+-- the concatenation for a prefix that is one element longer
 pub flat_more : {A B : Type 0} (f : A → List B) (xs : List A) (i : ℕ) (x : A) → i < length xs → x ≡ get_or xs i x
     → flat_map f (take (i + 1) xs) ≡ flat_map f (take i xs) ++ f x
 flat_more f xs i x lt is =
@@ -59,33 +59,33 @@ flat_more f xs i x lt is =
     let one : flat_map f (x ∷ []) ≡ f x = flat_map-cons f x [] ∙ append-nil (f x) in
     ap (flat_map f) more ∙ flat_map-append f (take i xs) (x ∷ []) ∙ ap (λ t. flat_map f (take i xs) ++ t) one
 
--- the state after events after others
+-- the state after two lists of events, one after the other
 pub after_all-append : (s : State) (es fs : List Event) → after_all s (es ++ fs) ≡ after_all (after_all s es) fs
 after_all-append s es fs = fold-append after s es fs
 
 module _ {A : Type 0} where
-  -- a weaker fact of each
+  -- a property of each element implies a weaker one of each
   pub each_weaken : (P Q : A → Type 0) → ((x : A) → P x → Q x) → (xs : List A) → AllByRecursion P xs → AllByRecursion Q xs
   each_weaken P Q f [] h = tt
   each_weaken P Q f (x ∷ xs) h = (f x h.0, each_weaken P Q f xs h.1)
 
-  -- a fact of two lists holds of both together
+  -- a property of each element of two lists holds for their concatenation
   pub each_append : (P : A → Type 0) (xs ys : List A) → AllByRecursion P xs → AllByRecursion P ys → AllByRecursion P (xs ++ ys)
   each_append P [] ys h k = k
   each_append P (x ∷ xs) ys h k = (h.0, each_append P xs ys h.1 k)
 
--- where there are no keys, they are distinct
+-- an empty list of keys is distinct
 pub distinct_none : {K : Type 0} (eq : K → K → Bool) → IsDistinct eq []
 unfolding IsDistinct
 distinct_none eq = tt
 
--- a name before another is less
+-- a comparison that tests as less is `Less`
 pub less_is : (r : Ordering) → is_lt r ≡ true → r ≡ Less
 less_is Less h = refl
 less_is Equal h = absurd cc
 less_is Greater h = absurd cc
 
--- a name is not before itself
+-- a comparison that is its own reverse is not less; so a name is not before itself
 pub not_self : (r : Ordering) → r ≡ ordering_reverse r → is_lt r ≡ false
 not_self Less e = absurd cc
 not_self Equal e = refl
@@ -94,7 +94,7 @@ not_self Greater e = refl
 pub not_before_itself : (a : List ℕ) → is_before a a ≡ false
 not_before_itself a = not_self _ (nat_list_cmp_total.antisymm a a)
 
--- a name before another is not that
+-- a name that is before another differs from it
 pub before_differs : (a b : List ℕ) → is_before a b ≡ true → bytes_eq b a ≡ false
 before_differs a b h = by (bytes_eq b a) refl
   where
@@ -105,11 +105,11 @@ before_differs a b h = by (bytes_eq b a) refl
         absurd (let no : is_before a a ≡ false = not_before_itself a in cc)
     by false e = refl
 
--- a name before another one that is before a third is before it
+-- the order of names is transitive
 pub before_trans : (a b c : List ℕ) → is_before a b ≡ true → is_before b c ≡ true → is_before a c ≡ true
 before_trans a b c h k = ap is_lt (nat_list_cmp_total.trans a b c (less_is _ h) (less_is _ k))
 
--- and so are due monitors
+-- the order of due monitors is transitive
 pub IsBefore-trans : (x y z : ℕ × ℕ) → IsBefore x y → IsBefore y z → IsBefore x z
 IsBefore-trans x y z (inl h) (inl k) = inl (omega (arith, h, k))
 IsBefore-trans x y z (inl h) (inr k) = inl (omega (arith, h, k.0))

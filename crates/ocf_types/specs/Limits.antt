@@ -40,7 +40,7 @@ ended_kept = ENDED_KEPT
 abbrev pub event_limit : ℕ
 event_limit = EVENT_LIMIT
 
--- the longest body of a slot, the longest part, and what a record other than a result and a boot leaves free, in bytes
+-- the longest body of a slot, the longest part, and the space that a record other than a result or a boot leaves free, in bytes
 abbrev pub body_limit : ℕ
 body_limit = BODY_LIMIT
 
@@ -61,7 +61,7 @@ metadata_limit = METADATA_LIMIT
 abbrev pub default_timeout : ℕ
 default_timeout = DEFAULT_TIMEOUT
 
--- a head, a part's first gate and its head, and a part as a creation leaves it, in bytes
+-- the lengths of a head, of a part's first gate and head, and of a part of a new journal, in bytes
 abbrev pub bare_head : ℕ
 bare_head = BARE_HEAD
 
@@ -71,15 +71,15 @@ head_len = HEAD_LEN
 abbrev pub created_len : ℕ
 created_len = CREATED_LEN
 
--- what a slot adds in front of its body: a gate and a length
+-- the length of a slot before its body: a gate and a length
 abbrev pub slot_frame : ℕ
 slot_frame = SLOT_FRAME
 
--- what an event adds in front of its fields: a kind and a moment
+-- the length of an event before its fields: a kind and a moment
 abbrev pub event_frame : ℕ
 event_frame = EVENT_FRAME
 
--- the encodings of an accepted action, a recurring monitor, what runs, and a result that is kept, in bytes
+-- the encodings of an accepted action, a recurring monitor, a running action, and a result that is kept, in bytes
 abbrev pub operation_len : ℕ
 operation_len = OPERATION_LEN
 
@@ -113,7 +113,7 @@ result_room = slot_frame + longest_result
 abbrev pub boot_room : ℕ
 boot_room = slot_frame + boot_len + 1
 
--- the longest encoding of one parameter, and of as many as there may be
+-- the longest encoding of one parameter, and of 64
 abbrev pub longest_param : ℕ
 longest_param = 3 + name_limit + value_limit
 
@@ -124,8 +124,8 @@ longest_params = 1 + params_limit * longest_param
 abbrev pub bare_state : ℕ
 bare_state = BARE_STATE
 
--- the longest encoding of a resource: names, parameters, queue, what runs, recurring monitors, results and what failed
--- last; 19,778 bytes
+-- the longest encoding of a resource: names, parameters, queue, running action, recurring monitors, results and last failure;
+-- 19,778 bytes
 abbrev pub longest_resource : ℕ
 longest_resource =
     3 * (1 + name_limit) + event_limit + (1 + operation_len * queue_limit) + running_len + (1 + monitor_len * recurring_limit)

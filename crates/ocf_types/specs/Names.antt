@@ -1,4 +1,4 @@
--- Which texts are names.
+-- Tests of which texts are names.
 use Rattle.std.specs.Prelude.{ℕ, ◌==◌, ◌||◌, ◌&&◌, not, nat_le, Bool, false, List, [], ◌∷◌, length, slice_index}
 use Rattle.std.specs.List.{list_all}
 use Rattle.std.specs.Char.{is_ascii_alphanumeric, is_ascii_alphabetic}
@@ -46,6 +46,6 @@ is_first_byte b = is_ascii_alphabetic b || b == 95
 abbrev pub is_word_byte : ℕ → Bool
 is_word_byte b = is_ascii_alphanumeric b || b == 95
 
--- what may follow OCF_RESKEY_: OCF Resource Agent API 1.1, OCF_RESKEY_
+-- a text that may follow OCF_RESKEY_: OCF Resource Agent API 1.1, OCF_RESKEY_
 abbrev pub is_param_name : List ℕ → Bool
 is_param_name name = has_name_length name && is_first_byte (slice_index name 0) && list_all is_word_byte name

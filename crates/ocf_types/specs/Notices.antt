@@ -1,4 +1,4 @@
--- Results as they are reported: each with what was expected of its action, by which it has failed or not.
+-- Notices: results as they are reported, each with what was expected of its action.
 use Rattle.std.specs.Prelude.{ℕ, Bool, List, Option, Some, if◌then◌else◌}
 use Rattle.ocf_types.specs.Actions.{expect_of}
 use Rattle.ocf_types.specs.Expected.{has_failed}
@@ -9,18 +9,18 @@ use Rattle.ocf_types.specs.declared.operation.Running.{Running}
 use Rattle.ocf_types.specs.declared.outcome.Outcome.{Outcome}
 use Rattle.ocf_types.specs.declared.reply.Notice.{Notice}
 
--- a resource's run that ended at a moment
+-- the notice of a run that ended at a moment
 abbrev pub run_notice : List ℕ → Outcome → ℕ → Running → Notice
 run_notice id outcome at x = record { id = id; result = ended_of outcome at x; expect = expect_of x.task }
 
--- a resource's queued action that was never begun
+-- the notice of a queued action that was dropped
 abbrev pub drop_notice : List ℕ → ℕ → Op → Notice
 drop_notice id at o = record { id = id; result = dropped_of at o; expect = expect_of o.task }
 
--- the result has failed, by what was expected of its action
+-- the result is a failure, by what was expected of its action
 abbrev pub is_failure : Notice → Bool
 is_failure n = has_failed n.result.action n.expect n.result.outcome
 
--- what failed last once this is reported: its result where it has failed, and else what did before
+-- the last failure after a notice: its result if it is a failure, else the one before
 abbrev pub last_failure : Notice → Option Ended → Option Ended
 last_failure n before = if is_failure n then Some n.result else before

@@ -12,11 +12,11 @@ use Rattle.ocf_types.specs.Values.{is_param_value}
 abbrev pub ParamList : Type 0
 ParamList = List (List ℕ × List ℕ)
 
--- one name comes before another, by their bytes
+-- a name comes before another, by their bytes
 abbrev pub is_before : List ℕ → List ℕ → Bool
 is_before a b = is_lt (slice_cmp nat_cmp a b)
 
--- a name comes after the last one, if there is one
+-- the name comes after the last one, if there is one
 abbrev pub is_after : Option (List ℕ) → List ℕ → Bool
 is_after None name = true
 is_after (Some last) name = is_before last name
@@ -36,10 +36,10 @@ abbrev pub last_name : Option (List ℕ) → ParamList → Option (List ℕ)
 last_name before [] = before
 last_name before (p ∷ ps) = last_name (Some p.0) ps
 
--- a parameter of this name is there
+-- there is a parameter of this name
 abbrev pub has_param : List ℕ → ParamList → Bool
 has_param name ps = list_any (λ p. bytes_eq p.0 name) ps
 
--- those of lesser names, this one, and those of greater names: one of the same name is replaced
+-- the parameters with this one set: those of lesser names, this one, and those of greater names
 abbrev pub with_param : List ℕ → List ℕ → ParamList → ParamList
 with_param name value ps = filter (λ p. is_before p.0 name) ps ++ (name, value) ∷ filter (λ p. is_before name p.0) ps

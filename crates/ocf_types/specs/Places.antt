@@ -1,13 +1,13 @@
--- A state by places: its resources in order of registration, from 0.
+-- The resources of a state by index: in order of registration, from 0.
 use Rattle.std.specs.Prelude.{ℕ, List, [], slice_index_or}
 use Rattle.ocf_types.specs.Resource.{Resource, no_history}
 use Rattle.ocf_types.specs.State.{State}
 
--- what is at no index
+-- the default entry, for an index beyond the list
 abbrev pub no_entry : List ℕ × Resource
 no_entry = ([], record { provider = []; agent = []; params = []; history = no_history; recurring = [] })
 
--- the id and the resource at a place
+-- the id and the resource at an index
 abbrev pub entry_at : State → ℕ → List ℕ × Resource
 entry_at s place = slice_index_or s.resources place no_entry
 

@@ -1,5 +1,4 @@
--- Lemmas on lists that are cut by a test, on resources by their ids, and on changes and refusals, for proofs here and in the
--- crates above.
+-- Lemmas on filtered lists, on resources by their ids, and on changes and refusals, for proofs here and in the crates above.
 use Rattle.std.specs.Prelude.{◌≡◌, ◌≢◌, ℕ, Bool, true, false, cond, not, List, [], ◌∷◌, ◌++◌, ◌==◌, map, filter, is_some, Option, Some}
 use Rattle.std.specs.Prelude.{None, Ok, Err}
 use Rattle.std.specs.List.{AllByRecursion, IsDistinct, list_any}
@@ -20,27 +19,27 @@ use Rattle.ocf_types.specs.Kinds.{Change, Event}
 use Rattle.ocf_types.specs.Resource.{of_call}
 use Rattle.ocf_types.specs.State.{Registry, at_id, changed, named, registered, stepped}
 
--- an id is that of itself
+-- the test of an id with itself holds
 pub same_id : (id : List ℕ) → bytes_eq id id ≡ true
 same_id id = (bytes_eq-Decides id id).1 refl
 
--- ids that differ
+-- the test of ids that differ fails
 pub other_id : (id other : List ℕ) → id ≢ other → bytes_eq other id ≡ false
 other_id id other h = false_from_ne_true _ (λ e. h (sym ((bytes_eq-Decides other id).0 e)))
 
--- ids that differ from one another, seen from the other
+-- a failing test of ids also fails the other way round
 pub other_way : (a b : List ℕ) → bytes_eq a b ≡ false → bytes_eq b a ≡ false
 other_way a b h = false_from_ne_true _ (λ e. let same : bytes_eq a b ≡ true = (bytes_eq-Decides a b).1 (sym ((bytes_eq-Decides b a).0 e)) in
     let no : true ≡ false = sym same ∙ h in cc)
 
--- what one id names, an id that differs does not
+-- a key that equals one id does not equal another one
 pub apart : (id other : List ℕ) → id ≢ other → (k : List ℕ) → bytes_eq other k ≡ true → not (bytes_eq id k) ≡ true
 apart id other h k e =
     let n : bytes_eq id k ≡ false = false_from_ne_true _ (λ f. h ((bytes_eq-Decides id k).0 f ∙ sym ((bytes_eq-Decides other k).0 e))) in
     rw n refl
 
 module _ {A : Type 0} where
-  -- a fact of each holds of those that pass a test
+  -- a property of each element holds for those that pass a test
   pub each_filter : (P : A → Type 0) (test : A → Bool) (xs : List A) → AllByRecursion P xs → AllByRecursion P (filter test xs)
   each_filter P test [] h = tt
   each_filter P test (x ∷ xs) h = by (test x) (each_filter P test xs h.1)
@@ -49,7 +48,7 @@ module _ {A : Type 0} where
       by true k = (h.0, k)
       by false k = k
 
-  -- a fact of the keys of each holds of the keys of those that pass a test
+  -- a property of each key holds for the keys of those that pass a test
   pub keys_filter : {K : Type 0} (key : A → K) (P : K → Type 0) (test : A → Bool) (xs : List A) → AllByRecursion P (map key xs)
       → AllByRecursion P (map key (filter test xs))
   keys_filter key P test [] h = tt
@@ -60,7 +59,7 @@ module _ {A : Type 0} where
       by true k = (h.0, k)
       by false k = k
 
-  -- distinct keys stay so where some elements are taken away
+  -- distinct keys stay distinct when elements are removed
   pub distinct_filter : {K : Type 0} (eq : K → K → Bool) (key : A → K) (test : A → Bool) (xs : List A) → IsDistinct eq (map key xs)
       → IsDistinct eq (map key (filter test xs))
   distinct_filter eq key test [] h = h
@@ -71,13 +70,13 @@ module _ {A : Type 0} where
           (keys_filter key (λ y. eq (key x) y ≡ false) test xs (IsDistinct-head eq (key x) (map key xs) h)) k
       by false k = k
 
-  -- one more entry hides none of another id
+  -- an appended entry does not change the lookup of another id
   pub lookup-push_other : (other : List ℕ) (es : List (List ℕ × A)) (e : List ℕ × A) → bytes_eq other e.0 ≡ false
       → lookup (bytes_eq other) (es ++ e ∷ []) ≡ lookup (bytes_eq other) es
   lookup-push_other other [] e h = rw h refl
   lookup-push_other other (x ∷ xs) e h = ap (λ (o : Option A). cond (bytes_eq other x.0) (Some x.1) o) (lookup-push_other other xs e h)
 
-  -- what is done to the entry of an id is found there
+  -- the lookup of an id finds its changed entry
   pub lookup-at_id_here : (id : List ℕ) (f : A → A) (es : List (List ℕ × A)) (v : A) → lookup (bytes_eq id) es ≡ Some v
       → lookup (bytes_eq id) (at_id id f es) ≡ Some (f v)
   lookup-at_id_here id f [] v at = absurd (let none : None ≡ Some v = at in cc)
@@ -91,7 +90,7 @@ module _ {A : Type 0} where
           rw same (ap (λ (x : A). Some (f x)) is)
       by false other rest = rw other (rest (rw other at at))
 
-  -- what is done to the entry of an id is not done to that of another
+  -- a change of one id's entry does not change the lookup of another
   pub lookup-at_id_other : (id other : List ℕ) (f : A → A) (es : List (List ℕ × A)) → id ≢ other
       → lookup (bytes_eq other) (at_id id f es) ≡ lookup (bytes_eq other) es
   lookup-at_id_other id other f [] h = refl
@@ -105,7 +104,7 @@ module _ {A : Type 0} where
           rw n k
       by false apart k = rw k refl
 
-  -- an id that is not found is no key
+  -- an id that is not found is not among the keys
   pub absent_any : (id : List ℕ) (es : List (List ℕ × A)) → lookup (bytes_eq id) es ≡ None → list_any (bytes_eq id) (keys_of es) ≡ false
   absent_any id [] h = refl
   absent_any id (e ∷ es) h = by (bytes_eq id e.0) refl (absent_any id es)
@@ -115,17 +114,17 @@ module _ {A : Type 0} where
       by true same rest = let none : Some e.1 ≡ None = rw same at h in cc
       by false other rest = rw other (rest (rw other at h))
 
-  -- what is done to the entry of an id leaves the keys
+  -- a change of one id's entry leaves the keys
   pub keys-at_id : (id : List ℕ) (f : A → A) (es : List (List ℕ × A)) → keys_of (at_id id f es) ≡ keys_of es
   keys-at_id id f [] = refl
   keys-at_id id f (e ∷ es) = ap (λ (ks : List (List ℕ)). e.0 ∷ ks) (keys-at_id id f es)
 
-  -- what is not found to be there is not there
+  -- an option that does not test as `Some` is `None`
   pub none_is : (o : Option A) → is_some o ≡ false → o ≡ None
   none_is None h = refl
   none_is (Some x) h = absurd (cc)
 
--- where a fact holds of what is there, it is there, and the fact holds of it
+-- a property of an option's value: there is a value, and the property holds for it
 pub found : {A : Type 0} (o : Option A) (P : A → Type 0) → IsSomeAnd o P → (x : A) × (o ≡ Some x) × P x
 found None P h = absurd h
 found (Some x) P h = (x, refl, h)
@@ -139,7 +138,7 @@ other_stays at (change.Unregister i) rs id other n h =
 other_stays at (change.Step i what) rs id other n h = lookup-at_id_other i other (stepped at what) rs (λ e. h (cc))
 other_stays at change.Boot rs id other n h = absurd (cc)
 
--- where the tests end in an event, it is the one that was asked for, and no test held
+-- if the tests lead to an event, it is the one that was asked for, and no test held
 pub passed : (ts : List (Refusal × Bool)) (e f : Event) → first_of ts e ≡ Ok f → (e ≡ f) × AllByRecursion (λ t. t.1 ≡ false) ts
 passed [] e f h = (cc, tt)
 passed (t ∷ ts) e f h = by t.1 refl (passed ts e f)

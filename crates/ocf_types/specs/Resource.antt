@@ -1,5 +1,5 @@
--- One resource, as plain lists, and what happens to it. Pacemaker Explained, resource operations; how many results
--- are kept, and what a boot does, is this executor's own.
+-- One resource as plain lists, and its changes. Pacemaker Explained, resource operations; the number of results that are kept,
+-- and the effect of a boot, are this executor's own.
 use Rattle.std.specs.Prelude.{ℕ, ◌-◌, ◌==◌, Bool, ◌||◌, List, [], ◌∷◌, ◌++◌, map, length, drop, find, filter, not, nat_lt, Option, Some}
 use Rattle.std.specs.Prelude.{None, option_map, option_and_then, option_to_list, is_some, if◌then◌else◌}
 use Rattle.std.specs.Option.{option_or}
@@ -17,7 +17,7 @@ use Rattle.ocf_types.specs.declared.operation.Ended.{Ended}
 use Rattle.ocf_types.specs.declared.outcome.Outcome.{Outcome}
 use Rattle.ocf_types.specs.declared.outcome.Outcome.TheVariants.{Interrupted, Dropped, Cancelled}
 
--- what is queued, what runs, what has ended, oldest first, and what failed last
+-- the queued actions, the running one, the results, oldest first, and the last failure
 pub record History : Type 0 where
   pub queue : List Op
   pub running : Option Running
@@ -32,11 +32,11 @@ pub record Resource : Type 0 where
   pub history : History
   pub recurring : List Recur
 
--- how many results are kept
+-- the number of results that are kept
 abbrev pub kept : ℕ
 kept = kept_in Second
 
--- the last ones, as many as a layout keeps
+-- the last results, as many as a layout keeps
 abbrev pub last_in : Layout → List Ended → List Ended
 last_in layout results = drop (length results - kept_in layout) results
 
@@ -57,7 +57,7 @@ abbrev pub ended_of : Outcome → ℕ → Running → Ended
 ended_of outcome at x =
     record { call = x.call; run = x.run; action = action_of x.task; interval = x.interval; since = x.since; at = at; outcome = outcome }
 
--- the result of a queued action that was never begun
+-- the result of a queued action that was dropped
 abbrev pub dropped_of : ℕ → Op → Ended
 dropped_of at o = record { call = o.call; run = 0; action = action_of o.task; interval = 0; since = at; at = at; outcome = Dropped }
 
@@ -65,18 +65,19 @@ dropped_of at o = record { call = o.call; run = 0; action = action_of o.task; in
 abbrev pub cancelled_of : ℕ → Op → Ended
 cancelled_of at o = record { call = o.call; run = 0; action = action_of o.task; interval = 0; since = at; at = at; outcome = Cancelled }
 
+-- the history of a new resource
 abbrev pub no_history : History
 no_history = record { queue = []; running = None; ended = []; failed = None }
 
--- something is queued or running
+-- an action is queued or running
 abbrev pub is_busy : History → Bool
 is_busy h = nat_lt 0 (length h.queue) || is_some h.running
 
--- an action goes to the end of the queue
+-- the history after an action is accepted, at the end of the queue
 abbrev pub accepted : Op → History → History
 accepted o h = record h { queue = h.queue ++ o ∷ [] }
 
--- the first queued action runs; with an empty queue, the recurring monitor
+-- the history after a begin: the first queued action runs or, if the queue is empty, the recurring monitor
 abbrev pub begun_from : List Op → Option Recur → ℕ → ℕ → History → History
 begun_from [] monitor run at h = record h { running = option_map (run_of_monitor run at) monitor }
 begun_from (o ∷ os) monitor run at h = record h { queue = os; running = Some (run_of_op run at o) }
@@ -84,15 +85,15 @@ begun_from (o ∷ os) monitor run at h = record h { queue = os; running = Some (
 abbrev pub begun : Option Recur → ℕ → ℕ → History → History
 begun monitor run at h = begun_from h.queue monitor run at h
 
--- the result of what ran, where it has failed
+-- the result of a run, if it is a failure
 abbrev pub failed_of : Outcome → ℕ → Running → Option Ended
 failed_of outcome at x = if has_failed (action_of x.task) (expect_of x.task) outcome then Some (ended_of outcome at x) else None
 
--- what failed last, once what ran has ended: its result, or where it has not failed what did before
+-- the last failure after the running action has ended: its result if it is a failure, else the one before
 abbrev pub failed_after : Outcome → ℕ → History → Option Ended
 failed_after outcome at h = option_or (option_and_then (failed_of outcome at) h.running) h.failed
 
--- what ran has ended
+-- the history after the running action has ended
 abbrev pub ended_in : Layout → Outcome → ℕ → History → History
 ended_in layout outcome at h = record h {
   running = None;
@@ -103,7 +104,7 @@ ended_in layout outcome at h = record h {
 abbrev pub ended : Outcome → ℕ → History → History
 ended outcome at h = ended_in Second outcome at h
 
--- what was queued is dropped, in order, and then what ran is interrupted; neither has failed
+-- the history after a boot: the queued actions are dropped, in order, and then the running one is interrupted; these are no failures
 abbrev pub booted_in : Layout → ℕ → History → History
 booted_in layout at h = record h {
   queue = [];
@@ -118,11 +119,11 @@ booted at h = booted_in Second at h
 abbrev pub queued_of : ℕ → List Op → Option Op
 queued_of call queue = find (λ o. o.call == call) queue
 
--- the queued actions but that of a call
+-- the queued actions except that of a call
 abbrev pub without_call : ℕ → List Op → List Op
 without_call call queue = filter (λ o. not (o.call == call)) queue
 
--- the queued action of a call is withdrawn: it leaves the queue, and is a result
+-- the history after the queued action of a call is withdrawn: it leaves the queue, and is a result
 abbrev pub withdrawn_in : Layout → ℕ → ℕ → History → History
 withdrawn_in layout call at h = record h {
   queue = without_call call h.queue;
@@ -132,10 +133,11 @@ withdrawn_in layout call at h = record h {
 abbrev pub withdrawn : ℕ → ℕ → History → History
 withdrawn call at h = withdrawn_in Second call at h
 
+-- the history without results
 abbrev pub forgotten : History → History
 forgotten h = record h { ended = []; failed = None }
 
--- a history with what a layout knows alone
+-- the history as a layout keeps it
 abbrev pub history_in : Layout → History → History
 history_in layout h = record h { ended = last_in layout h.ended; failed = failed_in layout h.failed }
 
@@ -146,6 +148,6 @@ of_call call monitors = find (λ m. m.call == call) monitors
 abbrev pub of_interval : ℕ → List Recur → Option Recur
 of_interval interval monitors = find (λ m. m.interval == interval) monitors
 
--- the monitors but that of an interval
+-- the monitors except that of an interval
 abbrev pub without_interval : ℕ → List Recur → List Recur
 without_interval interval monitors = filter (λ m. not (m.interval == interval)) monitors

@@ -1,5 +1,5 @@
--- The state, and the state after an event: this executor's own. A layout keeps its number of results; the name without one is
--- that of the second.
+-- The state, and the state after an event: this executor's own. A layout determines how many results are kept; a name without
+-- one is that of the second.
 use Rattle.std.specs.Prelude.{ℕ, ◌+◌, List, [], ◌∷◌, ◌++◌, map, filter, fold, not, if◌then◌else◌, Option, Some, None, ⊤}
 use Rattle.std.specs.Map.{lookup}
 use Rattle.std.specs.Str.{bytes_eq}
@@ -29,6 +29,7 @@ abbrev pub state_of : ℕ → ℕ → ℕ → Registry → State
 state_of next_call next_run clock resources =
     record { next_call = next_call; next_run = next_run; clock = clock; resources = resources }
 
+-- the state of a new journal
 abbrev pub empty : State
 empty = record { next_call = 1; next_run = 1; clock = 0; resources = [] }
 
@@ -36,14 +37,15 @@ empty = record { next_call = 1; next_run = 1; clock = 0; resources = [] }
 abbrev pub resource_at : State → List ℕ → Option Resource
 resource_at s id = lookup (bytes_eq id) s.resources
 
--- the resources but that of an id
+-- the resources except that of an id
 abbrev pub others : List ℕ → Registry → Registry
 others id rs = filter (λ e. not (bytes_eq id e.0)) rs
 
--- the entries, with f of the one of an id
+-- the entries, with f applied to the value of an id
 abbrev pub at_id : {A : Type 0} → List ℕ → (A → A) → List (List ℕ × A) → List (List ℕ × A)
 at_id id f entries = map (λ e. (e.0, if bytes_eq id e.0 then f e.1 else e.1)) entries
 
+-- a resource with f applied to its history, and to its recurring monitors
 abbrev pub on_history : (History → History) → Resource → Resource
 on_history f r = record r { history = f r.history }
 
@@ -64,12 +66,12 @@ stepped_in layout at (step.Withdraw call) r = on_history (withdrawn_in layout ca
 abbrev pub stepped : ℕ → Step → Resource → Resource
 stepped at what r = stepped_in Second at what r
 
--- the id and the resource of a registration, with what it does and its recurring monitors
+-- the id and the resource of a registration, with its history and its recurring monitors
 abbrev pub resource_of : Registration → History → List Recur → List ℕ × Resource
 resource_of r history recurring =
     (r.id, record { provider = r.provider; agent = r.agent; params = r.params; history = history; recurring = recurring })
 
--- a resource as it is registered: all its lists are empty
+-- a newly registered resource: all its lists are empty
 abbrev pub registered : Registration → List ℕ × Resource
 registered r = resource_of r no_history []
 
@@ -83,7 +85,7 @@ changed_in layout at change.Boot rs = map (λ e. (e.0, on_history (booted_in lay
 abbrev pub changed : ℕ → Change → Registry → Registry
 changed at c rs = changed_in Second at c rs
 
--- how many call ids, and how many run numbers, a change draws
+-- the number of call ids that a change draws, and that of run numbers
 abbrev pub calls_drawn : Change → ℕ
 calls_drawn (change.Step id (step.Exec o)) = 1
 calls_drawn (change.Step id (step.Recur m)) = 1
@@ -111,7 +113,7 @@ after_all_in layout s es = fold (after_in layout) s es
 abbrev pub after_all : State → List Event → State
 after_all s es = fold after s es
 
--- a state without what the first layout does not know: what failed last, and each resource's results but the last ones
+-- the state as the first layout keeps it: without the last failures, and with fewer results of each resource
 abbrev pub in_first : State → State
 in_first s = record s { resources = map (λ e. (e.0, on_history (history_in First) e.1)) s.resources }
 

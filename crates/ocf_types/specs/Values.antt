@@ -1,4 +1,4 @@
--- Which texts are values of parameters.
+-- Tests of which texts are values of parameters.
 use Rattle.std.specs.Prelude.{◌≡◌, ℕ, ◌==◌, ◌&&◌, not, nat_le, Bool, true, false, List, length, Result, Ok, Err}
 use Rattle.std.specs.List.{list_all}
 use Rattle.std.specs.Str.{is_utf8}
@@ -10,7 +10,7 @@ use Rattle.ocf_types.specs.declared.values.ValueError.TheVariants.{BadValue, Mem
 abbrev pub is_param_value : List ℕ → Bool
 is_param_value value = nat_le (length value) value_limit && list_all (λ b. not (b == 0)) value && is_utf8 value
 
--- the value that the text is; BadValue exactly when it is none; or Memory
+-- the result is the value with this text; `BadValue` exactly when there is none; or `Memory`
 abbrev pub IsValueOrRefused : Result (List ℕ) ValueError → List ℕ → Type 0
 IsValueOrRefused (Ok value) text = (value ≡ text) × (is_param_value text ≡ true)
 IsValueOrRefused (Err BadValue) text = is_param_value text ≡ false

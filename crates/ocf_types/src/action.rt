@@ -6,7 +6,7 @@ ghost use Rattle.ocf_types.specs.declared.action.Action.{Action};
 
 use crate::expect::Expect;
 
-/// What an agent is asked to do. OCF Resource Agent API 1.1, actions; `promote` and `demote` are of promotable
+/// An action that an agent is asked to run. OCF Resource Agent API 1.1, actions; `promote` and `demote` apply to promotable
 /// agents.
 #[derive(Clone, Copy, PartialEq, Eq)]
 pub enum Action {
@@ -20,7 +20,7 @@ pub enum Action {
 }
 
 impl Action {
-    /// The action of this word: `None` where it is none's.
+    /// The action of this word; `None` if no action has it.
     pub fn named(word: &str) -> Option<Action>
         ensures named { result ≡ action_named word.now }
         ensures found { IfSome result (λ action. word.now ≡ action_word action) }
@@ -61,7 +61,7 @@ impl Action {
     }
 }
 
-/// How deep a monitor looks: 0, 10 or 20. OCF Resource Agent API 1.1, OCF_CHECK_LEVEL.
+/// The depth of a monitor: 0, 10 or 20. OCF Resource Agent API 1.1, OCF_CHECK_LEVEL.
 #[derive(Clone, Copy, PartialEq, Eq)]
 pub enum Level {
     Zero,
@@ -70,7 +70,7 @@ pub enum Level {
 }
 
 impl Level {
-    /// The level of this number: `None` where it is none's.
+    /// The level of this number; `None` if no level has it.
     pub fn numbered(number: u64) -> Option<Level>
         ensures { result ≡ level_numbered number }
     {
@@ -94,7 +94,7 @@ impl Level {
     }
 }
 
-/// What a monitor looks at, and what it is expected to find.
+/// The depth of a monitor, and what it is expected to find.
 #[derive(Clone, Copy, PartialEq, Eq)]
 pub struct Check {
     pub level: Level,
@@ -102,7 +102,7 @@ pub struct Check {
 }
 
 impl Check {
-    /// The check of every action but a monitor: its level is 0, and it is to succeed.
+    /// The check of every action except a monitor: level 0, and success is expected.
     pub fn plain() -> Check
         ensures { result ≡ plain }
     {
@@ -113,7 +113,7 @@ impl Check {
     }
 }
 
-/// An action, with its check where it is a monitor: no other action has one.
+/// An action. Only a monitor has a check.
 #[derive(Clone, Copy, PartialEq, Eq)]
 pub enum Task {
     Start,
@@ -126,8 +126,8 @@ pub enum Task {
 }
 
 impl Task {
-    /// The task of an action and a check: `None` exactly when another action than a monitor has a level other than 0, or is
-    /// expected to end with another code than 0.
+    /// The task of an action and a check. `None` exactly when an action other than a monitor has a level other than 0, or an
+    /// expected code other than 0.
     pub fn new(action: Action, check: Check) -> Option<Task>
         ensures { result ≡ task_of action check }
     {
@@ -158,7 +158,7 @@ impl Task {
         }
     }
 
-    /// The check, which is the plain one unless the action is a monitor.
+    /// The check; the plain one unless the action is a monitor.
     pub fn check(self) -> Check
         ensures { result ≡ check_of self }
     {

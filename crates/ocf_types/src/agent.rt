@@ -28,7 +28,7 @@ impl Model for Provider {
 }
 
 impl Provider {
-    /// The name that these bytes are. It takes no memory.
+    /// The name with these bytes. It takes no memory.
     pub fn new(bytes: &[u8]) -> Result<Self, BadName>
         ensures lawful { is_ok result ≡ is_provider bytes.now }
         ensures bytes { IfOk result (λ name. name ≡ bytes.now) }
@@ -51,7 +51,7 @@ impl Provider {
         self.bytes.as_slice()
     }
 
-    /// The same name again. It takes no memory.
+    /// A copy of the name. It takes no memory.
     pub fn copied(&self) -> Self
         ensures { result ≡ self.now }
     {
@@ -83,7 +83,7 @@ impl Model for AgentType {
 }
 
 impl AgentType {
-    /// The name that these bytes are. It takes no memory.
+    /// The name with these bytes. It takes no memory.
     pub fn new(bytes: &[u8]) -> Result<Self, BadName>
         ensures lawful { is_ok result ≡ is_agent_type bytes.now }
         ensures bytes { IfOk result (λ name. name ≡ bytes.now) }
@@ -106,7 +106,7 @@ impl AgentType {
         self.bytes.as_slice()
     }
 
-    /// The same name again. It takes no memory.
+    /// A copy of the name. It takes no memory.
     pub fn copied(&self) -> Self
         ensures { result ≡ self.now }
     {

@@ -6,7 +6,7 @@ use crate::params::Params;
 use crate::rsc_id::RscId;
 use std::alloc::Global;
 
-/// What an administrator or a cluster manager may ask to be changed.
+/// A change that an administrator or a cluster manager asks for.
 #[derive(Drop)]
 pub enum CommandOf<P> {
     /// Register a resource.
@@ -45,26 +45,26 @@ pub enum CommandOf<P> {
     },
 }
 
-/// What changes nothing.
+/// A query, which changes nothing.
 #[derive(Drop)]
 pub enum Question {
-    /// Which resources there are.
+    /// The ids of all resources.
     List,
-    /// What a resource is, and what it does now.
+    /// The agent, the parameters and the operations of a resource.
     Info(RscId),
     /// The last results of a resource.
     History(RscId),
 }
 
-/// What the executor is asked.
+/// A request to the executor.
 #[derive(Drop)]
 pub enum RequestOf<P> {
     Command(CommandOf<P>),
     Question(Question),
 }
 
-/// A command whose parameters lie in memory of the allocator.
+/// A command whose parameters are in memory of the allocator.
 pub type Command<A = Global> = CommandOf<Params<A>>;
 
-/// A request whose parameters lie in memory of the allocator.
+/// A request whose parameters are in memory of the allocator.
 pub type Request<A = Global> = RequestOf<Params<A>>;

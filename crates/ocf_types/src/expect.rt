@@ -15,7 +15,7 @@ pub enum Expect {
 }
 
 impl Expect {
-    /// What is expected by this exit code: `None` for every code but 0, 7 and 8.
+    /// The expectation of this exit code; `None` for every code except 0, 7 and 8.
     pub fn from_code(code: u64) -> Option<Expect>
         ensures value { result ≡ expect_of_code code }
         ensures found { IfSome result (λ expect. code ≡ expect_code expect) }

@@ -4,7 +4,7 @@ ghost use Rattle.std.specs.Prelude.{◌≡◌};
 use std::alloc::{Allocator, Global};
 use std::marker::Model;
 
-/// A list that contracts see as just its items, wherever they lie in memory.
+/// A list that contracts see as its items, without the memory that holds them.
 #[derive(Drop)]
 pub struct Items<T: Drop, A: Allocator = Global> {
     items: Vec<T, A>,

@@ -1,4 +1,4 @@
-//! A value of a type is lawful: what a caller may know of it. The bodies read what they need to, and do nothing.
+//! Lemmas: every value of these types is lawful. The bodies only read fields, which brings their invariants into scope.
 ghost use Rattle.ocf_types.specs.Lawful.{IsLawfulRegistration, IsLawfulOp, IsLawfulRecur, IsRunEnd, IsLawfulStep, IsLawfulChange};
 ghost use Rattle.ocf_types.specs.Lawful.{IsLawfulEvent, IsLawfulCommand};
 

@@ -27,8 +27,8 @@ pub fn boot_is_once()
     ensures { (s : State) (m n : ℕ) → boot (boot s m) n ≡ boot s m }
 {}
 
-/// What ran at a boot is the last of its resource's results: interrupted at the boot's moment, with its call, its run and
-/// the moment since which it ran.
+/// After a boot, the action that ran is the last result of its resource: interrupted at the boot's moment, with its call, its
+/// run and the moment at which it began.
 pub fn what_ran_is_interrupted()
     ensures { (s : State) (at : ℕ) (id : List ℕ) (r : Resource) (x : Running)
         → resource_at s id ≡ Some r → r.history.running ≡ Some x
@@ -36,8 +36,8 @@ pub fn what_ran_is_interrupted()
         (λ q. IsLast (ended_of Interrupted at x) q.history.ended) }
 {}
 
-/// A notice that has failed is what the state then keeps as its resource's last failure; after any other what failed before is
-/// kept. So it is of what an opening reports, of which nothing has failed.
+/// After a failed notice the state keeps its result as the last failure of its resource; any other notice leaves the last
+/// failure as it was. A boot reports no failure, and leaves the last failure as it was.
 pub fn failures_are_kept()
     ensures result { (s : State) (at : ℕ) (id : List ℕ) (end : RunEnd) (r : Resource) (x : Running)
         → resource_at s id ≡ Some r → r.history.running ≡ Some x
@@ -52,15 +52,15 @@ pub fn failures_are_kept()
     ensures dropped { (at : ℕ) (id : List ℕ) (o : Op) → is_failure (drop_notice id at o) ≡ false }
 {}
 
-/// The empty state is lawful, and an event that applies in a lawful state leaves a lawful one: all that events lead to
-/// keeps the limits and conditions of an encoded state.
+/// The empty state is lawful, and an event that applies in a lawful state leads to a lawful one. So every state that events
+/// lead to keeps the limits and conditions of an encoded state.
 pub fn lawful_states()
     ensures empty { IsLawfulState empty }
     ensures after { (s : State) (e : Event) → IsLawfulState s → Applies s e
         → IsLawfulState (after s e) }
 {}
 
-/// An event that names one resource does nothing to another: it stays as it was, and in its place among the others.
+/// An event that names one resource changes no other one, and keeps the order of the others.
 pub fn others_stay()
     ensures resource { (s : State) (e : Event) (id other : List ℕ) → named e.change ≡ Some id
         → id ≢ other
@@ -69,8 +69,8 @@ pub fn others_stay()
         → others id (after s e).resources ≡ others id s.resources }
 {}
 
-/// The event that a lawful command is at a lawful state applies there, and so does a boot that is needed. Only a command
-/// to register is a registration.
+/// In a lawful state the event of a lawful command applies, and so does a boot that is needed. Only a command to register
+/// leads to a registration.
 pub fn what_applies()
     ensures command { (s : State) (now : ℕ) (c : Command) (e : Event) → IsLawfulState s
         → IsLawfulCommand c
@@ -81,8 +81,8 @@ pub fn what_applies()
         → IsRegistration e.change → IsRegister c }
 {}
 
-/// How long encodings are at most, in bytes: so a begin and the results of all that runs fit the reserve, and a snapshot of
-/// any lawful state fits a part.
+/// The greatest lengths of encodings, in bytes. So a begin and the results of all running actions fit the reserve, and a
+/// snapshot of any lawful state fits a part.
 pub fn lengths()
     ensures result { (at run : ℕ) (id : List ℕ) (end : RunEnd) → IsId id
         → length (spelled_event (record { at = at; change = change.Step id (step.Result run end) }))
@@ -97,9 +97,9 @@ pub fn lengths()
     ensures state { (s : State) → IsLawfulState s → length (spelled_state s) ≤ longest_state }
 {}
 
-/// What the first layout has, the second has too, with the same meaning: so what a part of the first holds is a state of
-/// today's, and today's events on a state, without what the first layout does not know, are those of the first. Such an
-/// event leaves what is lawful in the first layout so.
+/// The second layout encodes everything that the first one does, with the same meaning. A state that is lawful in the first
+/// layout is lawful. An event that the first layout encodes does the same in both, apart from what the first does not record,
+/// and keeps a state lawful in the first layout.
 pub fn layouts()
     ensures lawful { (s : State) → IsLawfulStateIn First s → IsLawfulState s }
     ensures whole { (s : State) → IsLawfulStateIn First s → in_first s ≡ s }

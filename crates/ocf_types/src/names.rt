@@ -1,4 +1,4 @@
-//! Which texts are names.
+//! Tests of which texts are names.
 ghost use Rattle.std.specs.Prelude.{◌≡◌};
 ghost use Rattle.std.specs.List.{list_all};
 ghost use Rattle.ocf_types.specs.Names.{is_name_byte, is_id_byte, is_first_byte, is_word_byte, is_dots, has_name_length, is_rsc_id};
@@ -7,7 +7,7 @@ ghost use Rattle.ocf_types.specs.Names.{is_provider, is_agent_type, is_param_nam
 use crate::limits::NAME_LIMIT;
 use thiserror::Error;
 
-/// A text that is no name of the kind that was asked for.
+/// The text is not a name of the required kind.
 #[derive(Clone, Copy, Debug, PartialEq, Eq, Error)]
 #[error("not a name: 1 to 64 bytes of the letters, digits and signs that this kind of name allows")]
 pub struct BadName;

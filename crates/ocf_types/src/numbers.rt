@@ -37,7 +37,7 @@ impl Moment {
         Some(Moment { number })
     }
 
-    /// The moment of this number of milliseconds; a number above [`NUM_MAX`] is taken as that.
+    /// The moment of this number of milliseconds, cut at [`NUM_MAX`].
     pub fn cut(number: u64) -> Moment
         ensures { result ≡ min number NUM_MAX }
     {
@@ -96,7 +96,7 @@ impl CallId {
     }
 }
 
-/// Fills an unused index of a list of fixed capacity, where nobody sees it.
+/// Fills the unused entries of a list of fixed capacity, which contracts do not see.
 impl MadeWith<()> for CallId {
     fn made_with(_: ()) -> CallId {
         CallId { number: 1 }

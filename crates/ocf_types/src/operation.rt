@@ -21,7 +21,7 @@ pub struct Recur {
     pub check: Check,
 }
 
-/// Fills an unused index of a list of fixed capacity, where nobody sees it.
+/// Fills the unused entries of a list of fixed capacity, which contracts do not see.
 impl MadeWith<()> for Recur {
     fn made_with(_: ()) -> Recur {
         let (Some(call), Some(interval)) = (CallId::new(1), Millis::new(1)) else {
@@ -58,7 +58,7 @@ pub struct Ended {
     pub action: Action,
     /// In milliseconds; 0 for a one-time action.
     pub interval: u32,
-    /// When it began; where it never did, the same as its end.
+    /// When it began; the same as its end if it never did.
     pub since: Moment,
     /// When it ended.
     pub at: Moment,

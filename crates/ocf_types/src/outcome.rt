@@ -2,35 +2,35 @@
 ghost use Rattle.std.specs.Prelude.{◌≡◌};
 ghost use Rattle.ocf_types.specs.Outcomes.{outcome_word};
 
-/// Why an agent was not started.
+/// Why an agent process was not spawned.
 #[derive(Clone, Copy, Debug, PartialEq, Eq)]
 pub enum StartFault {
     /// There is no such file.
     Missing,
-    /// The file may not be run.
+    /// The file may not be executed.
     Denied,
-    /// Anything else, want of memory among it.
+    /// Any other reason, such as lack of memory.
     Other,
 }
 
 /// Why an agent has no metadata. OCF Resource Agent API 1.1, meta-data.
 #[derive(Clone, Copy, Debug, PartialEq, Eq)]
 pub enum MetaFault {
-    /// The agent was not started.
+    /// The agent process was not spawned.
     NotStarted(StartFault),
-    /// What it wrote could not be read.
+    /// Its output could not be read.
     Read,
-    /// It ended with this exit code, which is not 0, or with 1 where a signal ended it.
+    /// It ended with this exit code, which is not 0; 1 if a signal ended it.
     Failed(u8),
-    /// It wrote more than is passed on.
+    /// Its output is longer than allowed.
     TooLong,
-    /// It, or what it left behind with its output, took longer than it was given.
+    /// It, or a process that inherited its output, took longer than allowed.
     Limit,
     /// An allocation was refused.
     Memory,
 }
 
-/// How an action that was begun came to its end, where the executor saw it.
+/// How an action that began has ended, as the executor saw it.
 #[derive(Clone, Copy, Debug, PartialEq, Eq)]
 pub enum RunEnd {
     /// The agent ended with this exit code.
@@ -39,9 +39,9 @@ pub enum RunEnd {
     TimedOut,
     /// A signal ended it.
     Signaled,
-    /// It could not be asked any more, and was given up.
+    /// Its process could not be polled any more, and was given up.
     Lost,
-    /// It was not started.
+    /// Its process was not spawned.
     NotStarted(StartFault),
 }
 
@@ -50,11 +50,11 @@ pub enum RunEnd {
 pub enum Outcome {
     /// As the executor saw it.
     Run(RunEnd),
-    /// It ran when the executor stopped: what became of it is not known.
+    /// It ran when the executor ended; its result is not known.
     Interrupted,
-    /// It was queued when the executor stopped, and was never begun.
+    /// It was queued when the executor ended, and never began.
     Dropped,
-    /// It was withdrawn while it was queued, and was never begun.
+    /// It was withdrawn while it was queued, and never began.
     Cancelled,
 }
 

@@ -28,7 +28,7 @@ impl Model for ParamName {
 }
 
 impl ParamName {
-    /// The name that these bytes are. It takes no memory.
+    /// The name with these bytes. It takes no memory.
     pub fn new(bytes: &[u8]) -> Result<Self, BadName>
         ensures lawful { is_ok result ≡ is_param_name bytes.now }
         ensures bytes { IfOk result (λ name. name ≡ bytes.now) }
@@ -51,7 +51,7 @@ impl ParamName {
         self.bytes.as_slice()
     }
 
-    /// The same name again. It takes no memory.
+    /// A copy of the name. It takes no memory.
     pub fn copied(&self) -> Self
         ensures { result ≡ self.now }
     {

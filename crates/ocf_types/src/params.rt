@@ -72,7 +72,7 @@ impl<A: Allocator> Params<A> {
         self.entries.as_slice()
     }
 
-    /// Whether the name comes after all that are there.
+    /// Whether the name comes after all names of the list.
     #[tactic(auto, using(crate::proofs::ParamsLemmas::last_name_is))]
     pub fn is_after(&self, name: &ParamName) -> bool
         ensures { result ≡ is_after (last_name None self.now) name.now }
@@ -85,7 +85,7 @@ impl<A: Allocator> Params<A> {
 }
 
 impl<A: Grows> Params<A> {
-    /// Appends a parameter whose name comes after all that are there.
+    /// Appends a parameter whose name comes after all names of the list.
     #[tactic(auto, using(crate::proofs::ParamsLemmas::AreParams_push))]
     pub fn push(&mut self, name: ParamName, value: ParamValue<A>) -> Result<(), AllocError>
         requires room { length self.old < PARAMS_LIMIT }
@@ -100,8 +100,8 @@ impl<A: Grows> Params<A> {
         Ok(())
     }
 
-    /// Sets a parameter: one of the same name gets the new value, another comes in its place by name. It is `BadValue`
-    /// exactly when it would be the 65th. One that is there takes no memory.
+    /// Sets a parameter: replaces the value of one of the same name, or inserts it in the order of names. The error is
+    /// `BadValue` exactly when it would be the 65th. Replacing a value takes no memory.
     pub fn insert(&mut self, name: ParamName, value: ParamValue<A>) -> Result<(), ValueError>
         ensures ok { OnOk result (self.new ≡ with_param name value self.old) }
         ensures full { result ≡ Err ValueError.BadValue
@@ -131,7 +131,7 @@ impl<A: Grows> Params<A> {
 }
 
 impl<A: Grows> Params<A> {
-    /// The same parameters again. The only error is want of memory.
+    /// A copy of the parameters. The only error is a refused allocation.
     pub fn copied(&self, alloc: A) -> Result<Self, AllocError>
         ensures params { IfOk result (λ params. params ≡ self.now) }
         ensures memory { OnErr result (IsTrue A.refuses) }

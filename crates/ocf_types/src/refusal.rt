@@ -5,7 +5,7 @@ ghost use Rattle.ocf_types.specs.Refusals.{refusal_row};
 /// Why a command or a question was refused. Replies carry the word and the number.
 #[derive(Clone, Copy, PartialEq, Eq)]
 pub enum Refusal {
-    /// The line is no JSON object with a text `op` and the keys that it needs.
+    /// The line is not a JSON object with a text `op` and the keys that it needs.
     Syntax,
     /// There is no such `op`.
     UnknownOp,
@@ -15,7 +15,7 @@ pub enum Refusal {
     BadValue,
     /// No resource of this id is registered.
     UnknownResource,
-    /// The resource, or a recurring monitor of this interval, is there already.
+    /// The resource, or a recurring monitor of this interval, exists already.
     Exists,
     /// An action of the resource is queued or running.
     Busy,
@@ -33,13 +33,13 @@ pub enum Refusal {
     TooLarge,
     /// All call ids are used up.
     CallsSpent,
-    /// The journal is full: a tidy makes room.
+    /// The journal is full; a tidy frees space.
     JournalFull,
     /// Out of memory.
     Memory,
-    /// The journal's device failed: the journal has to be opened again.
+    /// The journal's device failed; the journal has to be opened again.
     Disk,
-    /// The executor is closed: the journal has to be opened again.
+    /// The executor is closed; the journal has to be opened again.
     Closed,
 }
 

@@ -13,7 +13,7 @@ use crate::rsc_id::RscId;
 use arrayvec::ArrayVec;
 use std::alloc::Global;
 
-/// What a resource is, and what it does now. `P` is the type of parameters.
+/// The agent, the parameters and the operations of a resource. `P` is the type of parameters.
 #[derive(Drop)]
 pub struct InfoOf<P> {
     pub id: RscId,
@@ -24,7 +24,7 @@ pub struct InfoOf<P> {
     pub queued: ArrayVec<CallId, { QUEUE_LIMIT }>,
     pub running: Option<Running>,
     pub recurring: ArrayVec<Recur, { RECURRING_LIMIT }>,
-    /// The result that failed last.
+    /// The last result that failed.
     pub failed: Option<Ended>,
 }
 
@@ -35,13 +35,13 @@ pub enum TurnEnd {
     Done,
     /// The executor was closed; nothing was done.
     Closed,
-    /// The children's book has too little room; nothing was done.
+    /// The book of agent processes has too little capacity; nothing was done.
     BookFull,
     /// All run numbers are used up.
     RunsSpent,
-    /// The journal has no room for a further begin.
+    /// The journal has no space for another begin.
     Full,
-    /// A launch found no memory.
+    /// A launch ran out of memory.
     Memory,
     /// The journal's device failed; the executor is closed.
     Disk,
@@ -50,13 +50,13 @@ pub enum TurnEnd {
 /// How a tidy of the journal ended.
 #[derive(Clone, Copy, PartialEq, Eq)]
 pub enum TidyEnd {
-    /// The state is the snapshot of the other part now.
+    /// The state is now the snapshot of the other part.
     Done,
-    /// The executor was closed before: nothing was done.
+    /// The executor was closed before; nothing was done.
     Closed,
-    /// The epoch is the greatest there is: nothing was done.
+    /// The epoch is the greatest one; nothing was done.
     EpochSpent,
-    /// The device failed: the executor is closed.
+    /// The device failed; the executor is closed.
     Disk,
 }
 
@@ -87,8 +87,8 @@ pub struct Notice {
     pub expect: Expect,
 }
 
-/// An info whose parameters lie in memory of the allocator.
+/// An info whose parameters are in memory of the allocator.
 pub type Info<A = Global> = InfoOf<Params<A>>;
 
-/// A reply whose lists lie in memory of the allocator.
+/// A reply whose lists are in memory of the allocator.
 pub type Reply<A = Global> = ReplyOf<Params<A>, Items<RscId, A>, Items<Ended, A>>;

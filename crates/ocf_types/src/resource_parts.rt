@@ -8,7 +8,7 @@ use crate::params::Params;
 use std::alloc::{Allocator, Global};
 use std::marker::Model;
 
-/// What is queued, what runs, what has ended and what failed last, in vectors.
+/// The queued actions, the running one, the results and the last failure of a resource, in vectors.
 #[derive(Drop)]
 pub struct HistoryParts<A: Allocator = Global> {
     queue: Vec<Op, A>,
@@ -26,7 +26,7 @@ impl<A: Allocator> Model for HistoryParts<A> {
 }
 
 impl<A: Allocator> HistoryParts<A> {
-    /// A history of these: queued actions in order, what runs, results, oldest first, and what failed last.
+    /// A history: the queued actions in order, the running one, the results, oldest first, and the last failure.
     pub fn new(
         queue: Vec<Op, A>,
         running: Option<Running>,
@@ -50,7 +50,7 @@ impl<A: Allocator> HistoryParts<A> {
         self.queue.as_slice()
     }
 
-    /// What runs.
+    /// The running action.
     pub fn running(&self) -> Option<Running>
         ensures { result ≡ self.now.running }
     {
@@ -64,7 +64,7 @@ impl<A: Allocator> HistoryParts<A> {
         self.ended.as_slice()
     }
 
-    /// The result that failed last.
+    /// The last result that failed.
     pub fn failed(&self) -> Option<Ended>
         ensures { result ≡ self.now.failed }
     {
@@ -93,7 +93,7 @@ impl<A: Allocator> Model for ResourceParts<A> {
 impl<A: Allocator> ResourceParts<A> {
     ghost use Rattle.ocf_types.specs.State.{resource_of};
 
-    /// The resource of a registration, with what it does and its recurring monitors.
+    /// The resource of a registration, with its history and its recurring monitors.
     pub fn new(
         registration: Registration<Params<A>>,
         history: HistoryParts<A>,
@@ -115,7 +115,7 @@ impl<A: Allocator> ResourceParts<A> {
         self.recurring.as_slice()
     }
 
-    /// What is queued, what runs and what has ended.
+    /// The queued actions, the running one, the results and the last failure.
     pub fn history(&self) -> &HistoryParts<A>
         ensures { result.now ≡ self.now.1.history }
     {
@@ -132,7 +132,7 @@ impl<A: Allocator> ResourceParts<A> {
         &self.registration
     }
 
-    /// Its registration, its history and its recurring monitors, each handed over.
+    /// Its registration, its history and its recurring monitors.
     pub fn into_parts(self) -> (Registration<Params<A>>, HistoryParts<A>, Vec<Recur, A>)
         ensures { resource_of result.0 result.1 result.2.items ≡ self }
     {

@@ -28,7 +28,7 @@ impl Model for RscId {
 }
 
 impl RscId {
-    /// The name that these bytes are. It takes no memory.
+    /// The id with these bytes. It takes no memory.
     pub fn new(bytes: &[u8]) -> Result<Self, BadName>
         ensures lawful { is_ok result ≡ is_rsc_id bytes.now }
         ensures bytes { IfOk result (λ name. name ≡ bytes.now) }
@@ -42,7 +42,7 @@ impl RscId {
         }
     }
 
-    /// The bytes of the name, which are ASCII.
+    /// The bytes of the id, which are ASCII.
     pub fn as_bytes(&self) -> &[u8]
         ensures bytes { result.now ≡ self.now }
         ensures lawful { IsTrue (is_rsc_id result.now) }
@@ -51,7 +51,7 @@ impl RscId {
         self.bytes.as_slice()
     }
 
-    /// The same name again. It takes no memory.
+    /// A copy of the id. It takes no memory.
     pub fn copied(&self) -> Self
         ensures { result ≡ self.now }
     {

@@ -11,7 +11,7 @@ use crate::state_view::StateView;
 use std::alloc::{Allocator, Global};
 use std::marker::Model;
 
-/// A lawful state in vectors: what is read from a snapshot.
+/// A lawful state in vectors, as it is read from a snapshot.
 #[derive(Drop)]
 pub struct StateParts<A: Allocator = Global> {
     next_call: CallId,
@@ -53,7 +53,7 @@ impl<A: Allocator> StateParts<A> {
         }
     }
 
-    /// The resources in order of registration, handed over.
+    /// The resources, in order of registration.
     pub fn into_resources(self) -> Vec<ResourceParts<A>, A>
         ensures value { result.items ≡ self.resources }
         ensures lawful { IsLawfulState self }

@@ -1,4 +1,4 @@
-//! A state, seen number by number and item by item.
+//! A state, read number by number and item by item.
 ghost use Rattle.std.specs.Prelude.{◌≡◌, ◌<◌, ◌≤◌, length, Some, slice_get};
 ghost use Rattle.ocf_types.specs.State.{State};
 ghost use Rattle.ocf_types.specs.Places.{id_at, at_place};
@@ -11,19 +11,19 @@ use crate::params::Params;
 use crate::rsc_id::RscId;
 use std::alloc::Allocator;
 
-/// Whatever contracts see as a state: its numbers, and its resources by place, in order of registration from 0.
+/// A state to be read: its numbers, and its resources by index, from 0, in order of registration.
 pub trait StateView {
-    /// Where the parameters lie.
+    /// The allocator of the parameters.
     type A: Allocator;
 
     /// The state, as plain lists.
     ghost plain: { Self → State };
 
-    /// The call id that is given next.
+    /// The next call id.
     fn next_call(&self) -> CallId
         ensures { result ≡ (plain self.now).next_call };
 
-    /// The run number that is given next.
+    /// The next run number.
     fn next_run(&self) -> RunId
         ensures { result ≡ (plain self.now).next_run };
 
@@ -31,7 +31,7 @@ pub trait StateView {
     fn clock(&self) -> Moment
         ensures { result ≡ (plain self.now).clock };
 
-    /// How many resources there are, at most [`RESOURCES_LIMIT`].
+    /// The number of resources, at most [`RESOURCES_LIMIT`].
     fn len(&self) -> usize
         ensures value { result ≡ length (plain self.now).resources }
         ensures limit { result ≤ RESOURCES_LIMIT };
@@ -52,7 +52,7 @@ pub trait StateView {
         requires { place < length (plain self.now).resources }
         ensures { result.now ≡ (at_place (plain self.now) place).params };
 
-    /// How many actions of a resource are queued, at most [`QUEUE_LIMIT`].
+    /// The number of queued actions of a resource, at most [`QUEUE_LIMIT`].
     fn queue_len(&self, place: usize) -> usize
         requires { place < length (plain self.now).resources }
         ensures value { result ≡ length (at_place (plain self.now) place).history.queue }
@@ -64,12 +64,12 @@ pub trait StateView {
         requires item { at < length (at_place (plain self.now) place).history.queue }
         ensures { slice_get (at_place (plain self.now) place).history.queue at ≡ Some result };
 
-    /// What a resource runs.
+    /// The running action of a resource.
     fn running_at(&self, place: usize) -> Option<Running>
         requires { place < length (plain self.now).resources }
         ensures { result ≡ (at_place (plain self.now) place).history.running };
 
-    /// How many recurring monitors a resource has, at most [`RECURRING_LIMIT`].
+    /// The number of recurring monitors of a resource, at most [`RECURRING_LIMIT`].
     fn recurring_len(&self, place: usize) -> usize
         requires { place < length (plain self.now).resources }
         ensures value { result ≡ length (at_place (plain self.now) place).recurring }
@@ -81,19 +81,19 @@ pub trait StateView {
         requires item { at < length (at_place (plain self.now) place).recurring }
         ensures { slice_get (at_place (plain self.now) place).recurring at ≡ Some result };
 
-    /// How many results of a resource are kept, at most [`ENDED_KEPT`].
+    /// The number of kept results of a resource, at most [`ENDED_KEPT`].
     fn ended_len(&self, place: usize) -> usize
         requires { place < length (plain self.now).resources }
         ensures value { result ≡ length (at_place (plain self.now) place).history.ended }
         ensures limit { result ≤ ENDED_KEPT };
 
-    /// A result, the oldest at 0.
+    /// A result; the oldest is at 0.
     fn ended_at(&self, place: usize, at: usize) -> Ended
         requires resource { place < length (plain self.now).resources }
         requires item { at < length (at_place (plain self.now) place).history.ended }
         ensures { slice_get (at_place (plain self.now) place).history.ended at ≡ Some result };
 
-    /// The result of a resource that failed last.
+    /// The last result of a resource that failed.
     fn failed_at(&self, place: usize) -> Option<Ended>
         requires { place < length (plain self.now).resources }
         ensures { result ≡ (at_place (plain self.now) place).history.failed };

@@ -10,10 +10,10 @@ use std::marker::Model;
 use std::str::from_utf8;
 use thiserror::Error;
 
-/// Why a value was not made, or not taken in.
+/// Why a value was not made, or a parameter not set.
 #[derive(Clone, Copy, Debug, PartialEq, Eq, Error)]
 pub enum ValueError {
-    /// The text is no value, or there are 64 parameters of other names already.
+    /// The text is not a value, or there are 64 parameters of other names already.
     #[error("not a value: at most 1,024 bytes of UTF-8 without NUL, in at most 64 parameters")]
     BadValue,
     /// An allocation was refused.
@@ -46,7 +46,7 @@ impl<A: Allocator> Model for ParamValue<A> {
 }
 
 impl<A: Grows> ParamValue<A> {
-    /// The value that these bytes are. `BadValue` comes before any memory is asked for.
+    /// The value with these bytes. `BadValue` is found before any memory is asked for.
     #[tactic(auto, using(crate::proofs::ValueLemmas::is_value, crate::proofs::ValueLemmas::is_no_value))]
     pub fn new(alloc: A, bytes: &[u8]) -> Result<Self, ValueError>
         ensures value { IsValueOrRefused result bytes.now }
@@ -78,7 +78,7 @@ impl<A: Allocator> ParamValue<A> {
 }
 
 impl<A: Grows> ParamValue<A> {
-    /// The same value again. The only error is want of memory.
+    /// A copy of the value. The only error is a refused allocation.
     pub fn copied(&self, alloc: A) -> Result<Self, AllocError>
         ensures value { IfOk result (λ value. value ≡ self.now) }
         ensures memory { OnErr result (IsTrue A.refuses) }

@@ -6,7 +6,7 @@ use Rattle.ocf_types.specs.Values.{is_param_value}
 use Rattle.ocf_types.proofs.InsertLemmas.{place_below, set_there, insert_new, set_lawful, insert_lawful}
 use Rattle.ocf_types.proofs.params.Params.insert.Goals as goal
 
--- what the count of the lesser names, and the test of the one at that place, say of the parameters themselves
+-- what the count of the lesser names, and the test of the name at that index, say of the parameters
 place_is : (name : List ℕ) (ps qs : ParamList) (n : ℕ) → n ≡ count_by (λ p. is_before p.0 name) qs → qs ≡ ps
     → n ≡ count_by (λ p. is_before p.0 name) ps
 place_is name ps qs n h e = h ∙ ap (λ (xs : ParamList). count_by (λ p. is_before p.0 name) xs) e
@@ -47,7 +47,7 @@ returns-then-is_there-clause-ok g c =
     set_there name ps c.self.invariant.sorted value c.lesser_names-place.result place there
     ∙ ap (λ (xs : ParamList). with_param name value xs) c.self.view_is
 
--- what a growth that was not refused leaves
+-- the state after a growth that was not refused
 pushed : (ok bad : Bool) (old new added : ParamList) → new ≡ (if ok then added else old) → ok ≡ not bad → bad ≡ false → new ≡ added
 pushed ok bad old new added h e f = h ∙ ap (λ b. if b then added else old) (e ∙ ap not f)
 
