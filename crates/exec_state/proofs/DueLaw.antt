@@ -1,4 +1,4 @@
--- The due moments are a finite map from resource id and call, and each event makes of it what the rule says.
+-- The due moments are a finite map from resource id and call, and each event changes it as the definition says.
 use Rattle.std.proofs.Common.{◌≡◌, ◌≢◌, ℕ, ◌<◌, ◌==◌, unwrap_or, Bool, true, false, cond, not, List, [], ◌∷◌, ◌++◌, map, filter, find}
 use Rattle.std.proofs.Common.{Option, Some, None, is_some, refl, sym, ap, subst, ◌∙◌}
 use Rattle.std.specs.Option.{option_map, option_map_or, option_and_then}
@@ -29,11 +29,11 @@ use Rattle.exec_state.proofs.Lookups.{lookup-taken_out}
 use Rattle.exec_state.proofs.Picks.{due_in, recurs-at}
 use Rattle.exec_state.proofs.DueSteps.{due_where, due_there, due_stepped}
 
--- a monitor of the call is there
+-- there is a monitor of the call
 abbrev pub there_at : Option Resource → ℕ → Bool
 there_at o call = option_map_or (λ r. is_some (of_call call r.recurring)) o false
 
--- where there is no resource, it has no monitors
+-- an id without a resource has no monitors
 absent_at : (rs : Registry) (all : Monitors) (id : List ℕ) → recurs_by_id all ≡ recurring_by_id rs → lookup (bytes_eq id) rs ≡ None
     → lookup (bytes_eq id) all ≡ None
 absent_at rs all id same at =
@@ -42,7 +42,7 @@ absent_at rs all id same at =
     ∙ lookup-map_values (λ (x : Resource). x.recurring) (bytes_eq id) rs
     ∙ ap (option_map (λ (x : Resource). x.recurring)) at)
 
--- where there is one, it has
+-- the monitors of a resource are found by its id
 present_at : (rs : Registry) (all : Monitors) (id : List ℕ) (r : Resource) → recurs_by_id all ≡ recurring_by_id rs
     → lookup (bytes_eq id) rs ≡ Some r
     → lookup (bytes_eq id) all ≡ Some (monitors_at all id)
@@ -56,7 +56,7 @@ present_at rs all id r same at =
     by None is h = absurd (let none : None ≡ Some r.recurring = h in cc)
     by (Some ms) is h = rw is refl
 
--- a call is due only where its monitor is
+-- a call has a due moment only if there is a monitor of it
 due_kept : (rs : Registry) (all : Monitors) (id : List ℕ) (call : ℕ) → recurs_by_id all ≡ recurring_by_id rs
     → due_of all id call ≡ cond (there_at (lookup (bytes_eq id) rs) call) (due_of all id call) None
 due_kept rs all id call same = by (lookup (bytes_eq id) rs) refl
@@ -67,7 +67,7 @@ due_kept rs all id call same = by (lookup (bytes_eq id) rs) refl
         subst (λ (l : List Recur). due_in (monitors_at all id) call ≡ due_where (of_call call l) (due_in (monitors_at all id) call))
         (recurs-at rs all id r same at) (due_there (monitors_at all id) call)
 
--- where nothing changes at an id, its due moments stay
+-- if the resource of an id does not change, its due moments stay
 unchanged : (rs new : Registry) (all after_it : Monitors) (id : List ℕ) (call : ℕ) → recurs_by_id all ≡ recurring_by_id rs
     → lookup (bytes_eq id) new ≡ lookup (bytes_eq id) rs → lookup (bytes_eq id) after_it ≡ lookup (bytes_eq id) all
     → due_of after_it id call ≡ cond (there_at (lookup (bytes_eq id) new) call) (due_of all id call) None
@@ -79,7 +79,7 @@ calls_below : (n : ℕ) (xs : List Recur) → AllByRecursion (λ m. IsLawfulRecu
 calls_below n [] h = tt
 calls_below n (x ∷ xs) h = (h.0.1, calls_below n xs h.1)
 
--- after a step of the resource of an id
+-- the due moments after a step of the resource of an id
 due_step : (s : State) (all : Monitors) (at : ℕ) (id : List ℕ) (what : Step) (call : ℕ) → IsLawfulState s
     → recurs_by_id all ≡ recurring_by_id s.resources
     → ChangeApplies s (change.Step id what)
@@ -102,7 +102,7 @@ due_step s all at id what call h same a =
     = lookup-at_id_here id (monitors_stepped at r.history.running what) all ms old_ms in
     rw (there, new_r, new_ms, same_id id) step
 
--- after a change that applies
+-- the due moments after a change that applies
 due_changed : (s : State) (all : Monitors) (at : ℕ) (c : Change) (id : List ℕ) (call : ℕ) → IsLawfulState s
     → recurs_by_id all ≡ recurring_by_id s.resources
     → ChangeApplies s c → due_of (monitors_changed s at c all) id call ≡ due_after s (due_of all) (record { at = at; change = c }) id call
@@ -171,12 +171,12 @@ due_changed s all at change.Boot id call h same a =
     by None k = k
     by (Some r) k = k
 
--- after an event that applies
+-- the due moments after an event that applies
 pub due_by_events : (s : Store) (e : Event) (id : List ℕ) (call : ℕ) → IsLawfulStore s → Applies s.state e
     → due_of (monitors_after s.state e s.monitors) id call ≡ due_after s.state (due_of s.monitors) e id call
 due_by_events s e id call h a = due_changed s.state s.monitors e.at e.change id call h.lawful h.monitors a.change
 
--- monitors made due are due then
+-- monitors made due at a moment are due at it
 due_all : (at call : ℕ) (xs : List Recur) → due_in (all_due_at at xs) call ≡ cond (is_some (of_call call xs)) (Some at) None
 due_all at call [] = refl
 due_all at call (x ∷ xs) = by (x.call == call) (due_all at call xs)
@@ -213,6 +213,6 @@ due_opened s all at is = ap due_of is ∙ (λ i. λ id call. due_by_opening s at
 pub due_empty : (t : Store) → t.monitors ≡ [] → dues t ≡ due_at empty 0
 due_empty t is = ap due_of is
 
--- where the monitors stay, so do their due moments
+-- if the monitors stay the same, so do their due moments
 pub due_same : (s t : Store) → t.monitors ≡ s.monitors → dues t ≡ dues s
 due_same s t is = ap due_of is

@@ -1,4 +1,4 @@
--- When the monitors of one resource are due after a step.
+-- The due moments of one resource's monitors after a step.
 use Rattle.std.proofs.Common.{◌≡◌, ℕ, ◌+◌, ◌<◌, ◌==◌, ◌&&◌, nat_lt, Bool, true, false, cond, not, List, [], ◌∷◌, ◌++◌, map, find, Option}
 use Rattle.std.proofs.Common.{Some, None, is_some, refl, sym, subst, ◌∙◌, arith}
 use Rattle.std.specs.Option.{option_map, option_and_then}
@@ -20,11 +20,11 @@ use Rattle.recurring.specs.Monitors.{recurs, cancelled, settled, due_at, monitor
 use Rattle.exec_state.specs.MonitorsAfter.{run_ended, monitors_stepped}
 use Rattle.exec_state.proofs.Picks.{due_in}
 
--- numbers that differ are not the same
+-- the test of numbers that differ fails
 greater_differs : (n k : ℕ) → n < k → (k == n) ≡ false
 greater_differs n k h = false_from_ne_true _ (λ e. omega (arith, h, (Decides-eqb k n).0 e))
 
--- what is due where a monitor of the call is, and nothing elsewhere
+-- the due moment if there is a monitor of the call, else `None`
 abbrev pub due_where : Option Recur → Option ℕ → Option ℕ
 due_where there due = cond (is_some there) due None
 
@@ -40,7 +40,7 @@ due_there (m ∷ ms) call = by (m.recur.call == call) (due_there ms call)
     by true h = refl
     by false h = h
 
--- one more monitor, whose call is above the others'
+-- the same with one more monitor, whose call is above the others'
 pub due_push : (ms : List Monitor) (x : Recur) (at call : ℕ) → AllByRecursion (λ k. k < x.call) (map (λ m. m.call) (recurs ms))
     → due_in (ms ++ monitor_due_at at x ∷ []) call
     ≡ due_where (of_call call (recurs ms ++ x ∷ [])) (or_else (cond (x.call == call) (Some at) None) (due_in ms call))
@@ -76,7 +76,7 @@ gone call interval (x ∷ xs) h = by (x.interval == interval) (gone call interva
     by true k = k
     by false k = let other : (x.call == call) ≡ false = greater_differs call x.call h.0 in rw other k
 
--- without the monitor of an interval
+-- the same without the monitor of an interval
 pub due_cancel : (ms : List Monitor) (interval call : ℕ) → IsAscending (map (λ x. x.call) (recurs ms))
     → due_in (cancelled interval ms) call ≡ due_where (of_call call (without_interval interval (recurs ms))) (due_in ms call)
 due_cancel [] interval call h = refl
@@ -98,7 +98,7 @@ due_cancel (m ∷ ms) interval call h = by (m.recur.interval == interval) (m.rec
     by false true is rest = rw is refl
     by false false is rest = rw is rest
 
--- after a run of a call ended
+-- the same after a run of a call has ended
 pub due_settled : (ms : List Monitor) (own at call : ℕ)
     → due_in (settled own at ms) call
     ≡ due_where (of_call call (recurs ms))
@@ -131,7 +131,7 @@ due_settled (m ∷ ms) own at call = by (m.recur.call == own) (m.recur.call == c
         rw (is, other) refl
     by false false its is rest = rw is rest
 
--- after what ran has ended
+-- the same after the running action has ended
 due_ended : (ms : List Monitor) (running : Option Running) (at call : ℕ)
     → due_in (run_ended at running ms) call
     ≡ due_where (of_call call (recurs ms))
@@ -156,7 +156,7 @@ due_ended ms (Some x) at call = by (nat_lt 0 x.interval)
     by true = rw (both (x.call == call)) (due_settled ms x.call at call)
     by false = rw (neither (x.call == call)) (due_there ms call)
 
--- after a step that applies
+-- the same after a step that applies
 pub due_stepped : (r : Resource) (ms : List Monitor) (next_call next_run at : ℕ) (what : Step) (call : ℕ) → recurs ms ≡ r.recurring
     → IsAscending (map (λ x. x.call) r.recurring) → AllByRecursion (λ k. k < next_call) (map (λ x. x.call) r.recurring)
     → StepApplies next_call next_run what r

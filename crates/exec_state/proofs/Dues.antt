@@ -1,4 +1,4 @@
--- The index of due moments beside the recurring monitors of all resources.
+-- The index of due moments agrees with the recurring monitors of all resources.
 use Rattle.std.proofs.Common.{◌≡◌, ℕ, zero, suc, Bool, true, false, not, ◌++◌, filter, slice_get, length, List, [], ◌∷◌, Option, Some, None, unwrap_or}
 use Rattle.std.proofs.Common.{refl, sym, ap, subst, ◌∙◌}
 use Rattle.std.specs.List.{AllByRecursion, IsDistinct}
@@ -38,12 +38,12 @@ keys_set [] i w = refl
 keys_set (e ∷ es) zero w = refl
 keys_set (e ∷ es) (suc i) w = ap (λ (ks : List (List ℕ)). e.0 ∷ ks) (keys_set es i w)
 
--- one more resource
+-- the same with one more resource
 pub dues_more : (old new : Monitors) (id : List ℕ) (ms : List Monitor) → new ≡ old ++ (id, ms) ∷ []
     → dues_by_id new ≡ dues_by_id old ++ (id, pairs ms) ∷ []
 dues_more old new id ms is = rw is (map-append (λ (e : List ℕ × List Monitor). (e.0, pairs e.1)) old ((id, ms) ∷ []))
 
--- a write at an id that was put last
+-- a write at the id of the last entry
 pub at_id-last : {A : Type 0} (id : List ℕ) (f : A → A) (es : List (List ℕ × A)) (v : A) → lookup (bytes_eq id) es ≡ None
     → at_id id f (es ++ (id, v) ∷ []) ≡ es ++ (id, f v) ∷ []
 at_id-last id f [] v none = rw (same_id id) refl
@@ -54,7 +54,7 @@ at_id-last {A = A} id f (e ∷ es) v none = by (bytes_eq id e.0) refl (at_id-las
     by true same rest = absurd (let some : Some e.1 ≡ None = rw same at none in cc)
     by false other rest = rw other (ap (λ (xs : List (List ℕ × A)). e ∷ xs) (rest (rw other at none)))
 
--- the monitors of the resource at a place, in place of its own
+-- the monitors of the resource at an index, replaced
 pub dues_set_at : {H : Type 0} (es : List (List ℕ × Registered H)) (i : ℕ) (w : Registered H)
     → dues_by_id (monitors_all (set_value_at es i w)) ≡ set_value_at (dues_by_id (monitors_all es)) i (pairs w.monitors)
 dues_set_at [] i w = refl
@@ -65,14 +65,14 @@ pub length-dues : {H : Type 0} (es : List (List ℕ × Registered H)) → length
 length-dues [] = refl
 length-dues (e ∷ es) = ap suc (length-dues es)
 
--- without a resource
+-- the same without a resource
 pub dues_without : {H : Type 0} (id : List ℕ) (es : List (List ℕ × Registered H)) → IsDistinct bytes_eq (keys_of es)
     → dues_by_id (monitors_all (remove_entry (bytes_eq id) es)) ≡ filter (λ e. not (bytes_eq id e.0)) (dues_by_id (monitors_all es))
 dues_without id es distinct =
     dues_seen (remove_entry (bytes_eq id) es) ∙ look_all-remove_entry pairs_in id es distinct
     ∙ ap (λ (xs : Dues). filter (λ e. not (bytes_eq id e.0)) xs) (sym (dues_seen es))
 
--- the monitors of the resource at a place, written again
+-- the monitors of the resource at an index, written again
 pub dues_written_at : {H : Type 0} (es : List (List ℕ × Registered H)) (i : ℕ) (id : List ℕ) (u w : Registered H)
     → IsDistinct bytes_eq (keys_of es) → Some (id, u) ≡ slice_get (set_value_at es i w) i
     → dues_by_id (monitors_all (set_value_at es i w)) ≡ at_id id (λ ps. pairs u.monitors) (dues_by_id (monitors_all es))
@@ -96,12 +96,12 @@ dues_written_at (e ∷ es) (suc i) id u w distinct at =
     (ap (λ (xs : Dues). (e.0, pairs e.1.monitors) ∷ xs)
     (dues_written_at es i id u w (IsDistinct-tail bytes_eq e.0 (keys_of es) distinct) at))
 
--- all pairs are those of all monitors
+-- the pairs of all resources are those of all monitors
 pub dues_all : (all : Monitors) → pairs_of_all (dues_by_id all) ≡ all_pairs all
 dues_all [] = refl
 dues_all (e ∷ es) = ap (λ (ps : List (ℕ × ℕ)). pairs e.1 ++ ps) (dues_all es)
 
--- those of a resource are those of its monitors
+-- the pairs of a resource are those of its monitors
 pub dues_at : (id : List ℕ) (all : Monitors) → pairs_at (dues_by_id all) id ≡ pairs (monitors_at all id)
 dues_at id all = rw (lookup-map_values pairs (bytes_eq id) all) (by (lookup (bytes_eq id) all))
   where
@@ -109,7 +109,7 @@ dues_at id all = rw (lookup-map_values pairs (bytes_eq id) all) (by (lookup (byt
     by None = refl
     by (Some ms) = refl
 
--- what is no resource is not in the index
+-- an id without a resource is not in the index
 pub dues_absent : {H : Type 0} (id : List ℕ) (es : List (List ℕ × Registered H)) → lookup (bytes_eq id) (seen_all es) ≡ None
     → lookup (bytes_eq id) (dues_by_id (monitors_all es)) ≡ None
 dues_absent id es none =

@@ -1,4 +1,4 @@
--- The registry's entries, each value seen by a function.
+-- Lemmas on the registry's entries with a function applied to each value.
 use Rattle.std.proofs.Common.{◌≡◌, ◌<◌, position, arith, ℕ, zero, suc, Bool, true, false, cond, not, ◌||◌, ◌≤◌, List, [], ◌∷◌, ◌++◌, map, take, drop, length}
 use Rattle.std.proofs.Common.{filter, get_or, set, slice_get, slice_index_or, Option, Some, None, refl, sym, ap, subst, ◌∙◌}
 use Rattle.std.specs.Option.{option_map, option_copied}
@@ -21,15 +21,15 @@ use Rattle.recurring.specs.Monitors.{recurs, all_due_at}
 use Rattle.exec_state.specs.Seen.{seen, seen_all, monitors_all, look_all}
 use Rattle.exec_state.specs.Lawful.{recurs_by_id, recurring_by_id}
 
--- no key is the id
+-- no key equals the id
 abbrev pub IsAbsent : {A : Type 0} → List ℕ → List (List ℕ × A) → Type 0
 IsAbsent id es = AllByRecursion (λ k. bytes_eq id k ≡ false) (keys_of es)
 
--- with f of the value
+-- an entry with f applied to its value
 abbrev pub on_value : {A : Type 0} → (A → A) → List ℕ × A → List ℕ × A
 on_value f e = (e.0, f e.1)
 
--- after the entry of an id none has it
+-- no entry after that of an id has the same id
 pub absent_behind : {A : Type 0} (id : List ℕ) (e : List ℕ × A) (es : List (List ℕ × A)) → IsDistinct bytes_eq (keys_of (e ∷ es))
     → bytes_eq id e.0 ≡ true → IsAbsent id es
 absent_behind id e es distinct same =
@@ -49,7 +49,7 @@ module _ {A : Type 0} where
       ∙ ap (λ (ys : List (List ℕ × A)). x ∷ ys) (others-absent id xs h.1)
 
 module _ {H A : Type 0} (look : Registered H → A) where
-  -- the keys are seen as they are
+  -- the keys stay the same
   pub keys-look_all : (es : List (List ℕ × Registered H)) → keys_of (look_all look es) ≡ keys_of es
   keys-look_all [] = refl
   keys-look_all (e ∷ es) = ap (λ (ks : List (List ℕ)). e.0 ∷ ks) (keys-look_all es)
@@ -96,7 +96,7 @@ module _ {H A : Type 0} (look : Registered H → A) where
       by true same rest = rw same (sym (others-absent id (look_all look es) (absent_seen id es (absent_behind id e es distinct same))))
       by false other rest = rw other (ap (λ (xs : List (List ℕ × A)). (e.0, look e.1) ∷ xs) rest)
 
-  -- a write at a place
+  -- a write at an index
   pub look_all-set_value_at : (f : A → A) (es : List (List ℕ × Registered H)) (i : ℕ) (v w : Registered H) (d : List ℕ × A)
       → slice_get (values_of es) i ≡ Some v → look w ≡ f (look v)
       → look_all look (set_value_at es i w) ≡ set (look_all look es) i (on_value f (get_or (look_all look es) i d))
@@ -107,7 +107,7 @@ module _ {H A : Type 0} (look : Registered H → A) where
   look_all-set_value_at f (e ∷ es) (suc i) v w d at is =
       ap (λ (xs : List (List ℕ × A)). (e.0, look e.1) ∷ xs) (look_all-set_value_at f es i v w d at is)
 
-  -- a write that is not seen
+  -- a write that the function does not see
   pub look_all-same_at : (es : List (List ℕ × Registered H)) (i : ℕ) (v w : Registered H)
       → slice_get (values_of es) i ≡ Some v → look w ≡ look v → look_all look (set_value_at es i w) ≡ look_all look es
   look_all-same_at [] i v w at is = refl
@@ -116,7 +116,7 @@ module _ {H A : Type 0} (look : Registered H → A) where
       ap (λ (r : A). (e.0, r) ∷ look_all look es) (is ∙ ap look (sym value))
   look_all-same_at (e ∷ es) (suc i) v w at is = ap (λ (xs : List (List ℕ × A)). (e.0, look e.1) ∷ xs) (look_all-same_at es i v w at is)
 
--- a write at the place of an id is one at the id
+-- a write at the index of an id is one at the id
 place_is : {A : Type 0} (id : List ℕ) (es : List (List ℕ × A)) (i : ℕ) (w : A) → i < length (keys_of es)
     → bytes_eq id (get_or (keys_of es) i []) ≡ true → ((k : ℕ) → k < i → bytes_eq id (get_or (keys_of es) k []) ≡ false)
     → set_value_at es i w ≡ set_value (bytes_eq id) es w
@@ -132,17 +132,17 @@ pub set_value-found : {A : Type 0} (id : List ℕ) (es : List (List ℕ × A)) (
 set_value-found id es i w found =
     let there = position-Some (bytes_eq id) (keys_of es) i [] (sym found) in place_is id es i w there.0 there.1 there.2
 
--- what is done to the first ones is done to all, where they are all
+-- a change of a prefix is a change of the list if the prefix is the whole list
 pub map_over_all : {A : Type 0} (f : A → A) (xs ys : List A) (i : ℕ) → length xs ≤ i → ys ≡ map f (take i xs) ++ drop i xs → ys ≡ map f xs
 map_over_all f xs ys i le h = h ∙ rw (take_all i xs le, drop_of_length-le xs le) (append-nil (map f xs))
 
--- some resource passes
+-- a test that some resource passes
 pub any_seen : {H : Type 0} (test : Resource → Bool) (es : List (List ℕ × Registered H))
     → list_any (λ r. test (seen r)) (values_of es) ≡ list_any (λ e. test e.1) (seen_all es)
 any_seen test [] = refl
 any_seen test (e ∷ es) = ap (λ (b : Bool). test (seen e.1) || b) (any_seen test es)
 
--- what is lent is seen as what lies there
+-- a borrowed value is seen as the stored one
 pub look_copied : {H A : Type 0} (look : Registered H → A) (o : Option (Bor (Registered H)))
     → option_map (λ r. look r.now) o ≡ option_map look (option_copied o)
 look_copied look None = refl
@@ -160,7 +160,7 @@ pub recurs_seen : {H : Type 0} (es : List (List ℕ × Registered H)) → recurs
 recurs_seen [] = refl
 recurs_seen (e ∷ es) = ap (λ (xs : List (List ℕ × List Recur)). (e.0, recurs e.1.monitors) ∷ xs) (recurs_seen es)
 
--- the entry at a place
+-- the entry at an index
 pub seen_entry : {H : Type 0} (es : List (List ℕ × Registered H)) (i : ℕ) (k : List ℕ) (v : Registered H) (d : List ℕ × Resource)
     → Some (k, v) ≡ slice_get es i → slice_index_or (seen_all es) i d ≡ (k, seen v)
 seen_entry {H = H} [] i k v d at = absurd (let none : Some (k, v) ≡ None = at in cc)

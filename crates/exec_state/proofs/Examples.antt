@@ -1,4 +1,4 @@
--- Due moments, replies and the room that is needed, computed on a small state.
+-- Due moments, replies and reserved memory, computed on a small state.
 use Rattle.std.proofs.Common.{◌≡◌, ℕ, List, [], ◌∷◌, Some, None, false, refl}
 use Rattle.std.specs.Prelude.{codes}
 use Rattle.ocf_types.specs.Actions.{plain}
@@ -33,7 +33,7 @@ small = record {
   refuses = false;
 }
 
--- the moment of the monitor, and none for another call or another id
+-- the due moment of the monitor, and `None` for another call or another id
 due : dues small r1 1 ≡ Some 40
 due = refl
 
@@ -43,7 +43,7 @@ no_call = refl
 no_id : dues small (codes "r2") 1 ≡ None
 no_id = refl
 
--- a question about an unknown resource is refused as such, and never for memory
+-- a question about an unknown resource is refused as such, and never for lack of memory
 unknown : IsReplyOrMemory (reply_to small.state (question.Info (codes "r2"))) (Refused UnknownResource)
 unknown = refl
 

@@ -1,4 +1,4 @@
--- Look-ups by id: what is found, and what stays.
+-- Lemmas on lookups by id.
 use Rattle.std.proofs.Common.{◌≡◌, ℕ, zero, suc, Bool, true, false, cond, not, List, [], ◌∷◌, ◌++◌, filter, slice_get, Option, Some, None, IsSomeAnd}
 use Rattle.std.proofs.Common.{refl, ap, subst}
 use Rattle.std.specs.List.{AllByRecursion, IsDistinct}
@@ -7,12 +7,12 @@ use Rattle.std.specs.Str.{bytes_eq}
 use Rattle.std.proofs.lemmas.Map.Keys.{IsDistinct-head, IsDistinct-tail}
 use Rattle.ocf_types.specs.RegistryLaws.{other_way, same_id}
 
--- a weaker fact of what is there
+-- a property of an option's value implies a weaker one
 pub some_weaken : {A : Type 0} (o : Option A) (P Q : A → Type 0) → ((x : A) → P x → Q x) → IsSomeAnd o P → IsSomeAnd o Q
 some_weaken None P Q f h = h
 some_weaken (Some x) P Q f h = f x h
 
--- a fact of each value holds of what is found
+-- a property of each value holds for the one that is found
 pub found_fact : {A : Type 0} (P : A → Type 0) (test : List ℕ → Bool) (es : List (List ℕ × A)) (r : A) → AllByRecursion (λ e. P e.1) es
     → lookup test es ≡ Some r → P r
 found_fact P test [] r h at = absurd (let none : None ≡ Some r = at in cc)
@@ -37,7 +37,7 @@ module _ {A : Type 0} where
       by true same rest = absurd (let some : Some x.1 ≡ None = rw same at none in cc)
       by false other rest = rest (rw other at none) is
 
-  -- what is taken out is not found
+  -- a removed entry is not found
   pub lookup-taken_out : (id : List ℕ) (es : List (List ℕ × A)) → lookup (bytes_eq id) (filter (λ e. not (bytes_eq id e.0)) es) ≡ None
   lookup-taken_out id [] = refl
   lookup-taken_out id (e ∷ es) = by (bytes_eq id e.0) refl (lookup-taken_out id es)
@@ -49,7 +49,7 @@ module _ {A : Type 0} where
       by true same k = k
       by false other k = rw other k
 
-  -- a fact of each key holds of the one at a place
+  -- a property of each key holds for the one at an index
   pub key_fact : (P : List ℕ → Type 0) (es : List (List ℕ × A)) (i : ℕ) (k : List ℕ) (v : A) → AllByRecursion P (keys_of es)
       → Some (k, v) ≡ slice_get es i → P k
   key_fact P [] i k v h at = absurd (let none : Some (k, v) ≡ None = at in cc)
@@ -59,7 +59,7 @@ module _ {A : Type 0} where
       subst P (ap (λ (x : List ℕ × A). x.0) same) h.0
   key_fact P (e ∷ es) (suc i) k v h at = key_fact P es i k v h.1 at
 
-  -- the entry at a place is found by its key, where these are distinct
+  -- the entry at an index is found by its key, if keys are distinct
   pub lookup_own : (es : List (List ℕ × A)) (i : ℕ) (k : List ℕ) (v : A) → IsDistinct bytes_eq (keys_of es)
       → Some (k, v) ≡ slice_get es i → lookup (bytes_eq k) es ≡ Some v
   lookup_own [] i k v distinct at = absurd (let none : Some (k, v) ≡ None = at in cc)

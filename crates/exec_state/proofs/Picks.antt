@@ -21,15 +21,15 @@ use Rattle.exec_state.specs.Store.{Store, Monitors, monitors_at, due_of, IsChoic
 use Rattle.exec_state.specs.Lawful.{recurs_by_id, recurring_by_id, IsLawfulStore}
 use Rattle.exec_state.proofs.Lookups.{found_fact}
 
--- a lesser number is another one
+-- a lesser number differs
 pub lesser_differs : (n k : ℕ) → n < k → (n == k) ≡ false
 lesser_differs n k h = false_from_ne_true _ (λ e. omega (arith, h, (Decides-eqb n k).0 e))
 
--- when the monitor of a call is due
+-- the due moment of the monitor of a call
 abbrev pub due_in : List Monitor → ℕ → Option ℕ
 due_in ms call = option_map (λ m. m.due) (find (λ m. m.recur.call == call) ms)
 
--- a monitor hides the due moment of none whose call is greater
+-- a monitor does not change the due moments of greater calls
 due_pairs_behind : (m : Monitor) (ms : List Monitor) (xs : List Recur) → AllByRecursion (λ k. m.recur.call < k) (map (λ x. x.call) xs)
     → due_pairs xs (due_in (m ∷ ms)) ≡ due_pairs xs (due_in ms)
 due_pairs_behind m ms [] h = refl
@@ -84,7 +84,7 @@ choice s id now pick h = by (resource_at s.state id) refl
         = subst (λ (l : List Recur). due_pairs l (due_in ms) ≡ pairs ms) same (due_pairs-recurs ms ascends) in
         rw all p
 
--- with nothing queued or running, what is due first is picked
+-- with nothing queued or running, the first due monitor is picked
 pub idle_picks : (h : History) (ps : List (ℕ × ℕ)) (now : ℕ) (pick : Option ℕ) → is_busy h ≡ false → IsLeastDue ps now pick
     → IsPickOf h.running h.queue ps now pick
 idle_picks h ps now pick idle least = by h.running h.queue idle

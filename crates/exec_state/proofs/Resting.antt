@@ -1,4 +1,4 @@
--- When nothing is to begin.
+-- Lemmas on moments at which no resource begins an action.
 use Rattle.std.proofs.Common.{◌≡◌, ℕ, suc, ◌<◌, ◌+◌, ◌++◌, min, length, take, slice_get, Bool, true, false, cond, List, [], ◌∷◌, Option, Some, None, MatchOption, is_some}
 use Rattle.std.proofs.Common.{unwrap_or, refl, ap, arith}
 use Rattle.std.specs.Prelude.{⊤}
@@ -21,16 +21,16 @@ use Rattle.exec_state.specs.Lawful.{IsLawfulStore}
 use Rattle.exec_state.proofs.Choices.{take_more_some}
 use Rattle.exec_state.proofs.Picks.{choice}
 
--- before moment 0 there is none
+-- there is no moment before 0
 pub rest_before_0 : (rs : Registry) (all : Monitors) → RestBefore rs all 0
 rest_before_0 rs all now lt = absurd (omega (arith, lt))
 
--- an action that runs leaves nothing to begin
+-- nothing begins while an action runs
 pub rests_running : (x : Option Running) (queue : List Op) (ps : List (ℕ × ℕ)) (now : ℕ) → is_some x ≡ true → IsPickOf x queue ps now None
 rests_running (Some x) queue ps now h = refl
 rests_running None queue ps now h = absurd (cc)
 
--- with nothing queued, nothing is to begin before the first due moment
+-- with nothing queued, nothing begins before the first due moment
 pub rests_first : (x : Option Running) (queue : List Op) (ps : List (ℕ × ℕ)) (first : Option ℕ) (most now : ℕ) → length queue ≡ 0
     → IsFirstMoment ps first → now < unwrap_or first most → IsPickOf x queue ps now None
 rests_first (Some x) queue ps first most now none h lt = refl
@@ -38,11 +38,11 @@ rests_first None (o ∷ os) ps first most now none h lt = absurd (omega (arith, 
 rests_first None [] ps None most now none h lt = rw h (λ k d le. absurd (omega (arith, le)))
 rests_first None [] ps (Some due) most now none h lt = λ k d within. omega (arith, lt, h.2 k d within)
 
--- what a resource has to begin at a moment: nothing
+-- a resource begins nothing at a moment
 abbrev pub RestsAt : {H : Type 0} → ℕ → Registered H → Type 0
 RestsAt now r = IsPickOf (seen r).history.running (seen r).history.queue (pairs r.monitors) now None
 
--- one more
+-- the same with one more resource
 each_push : {A : Type 0} (P : A → Type 0) (xs : List A) (x : A) → AllByRecursion P xs → P x → AllByRecursion P (xs ++ x ∷ [])
 each_push P [] x h p = (p, tt)
 each_push P (y ∷ ys) x h p = (h.0, each_push P ys x h.1 p)
@@ -58,7 +58,7 @@ pub length-values : {H : Type 0} (es : List (List ℕ × Registered H)) → leng
 length-values [] = refl
 length-values (e ∷ es) = ap suc (length-values es)
 
--- where the values rest, the resources do
+-- if no value begins anything, no resource does
 pub rest_seen : {H : Type 0} (es : List (List ℕ × Registered H)) (now : ℕ) → AllByRecursion (RestsAt now) (values_of es)
     → AllRest (seen_all es) (monitors_all es) now
 rest_seen {H = H} es now h id =
@@ -79,7 +79,7 @@ rest_seen {H = H} es now h id =
         which true k = g.0
         which false k = k
 
--- where resources rest, so does the state
+-- if no resource begins anything, the state is idle
 pub rests_all : (s : Store) (now : ℕ) → IsLawfulStore s → AllRest s.state.resources s.monitors now → Rests s now
 rests_all s now h rest id = choice s id now None h (by (lookup (bytes_eq id) s.state.resources) (rest id))
   where

@@ -15,7 +15,7 @@ abbrev pub due_by_id : ℕ → List (List ℕ × Resource) → List (List ℕ ×
 due_by_id at rs = map (λ e. (e.0, all_due_at at e.1.recurring)) rs
 
 module _ {A : Type 0} where
-  -- a fact of each holds of the one between two lists
+  -- a property of each element holds for the one between two lists
   pub fact_between : (P : A → Type 0) (xs ys : List A) (x : A) → AllByRecursion P (xs ++ x ∷ ys) → P x
   fact_between P [] ys x h = h.0
   fact_between P (e ∷ es) ys x h = fact_between P es ys x h.1
@@ -24,7 +24,7 @@ module _ {A : Type 0} where
   fact_of_key P [] ys x h = h.0
   fact_of_key P (e ∷ es) ys x h = fact_of_key P es ys x h.1
 
-  -- where keys are distinct, none of those before one is the same
+  -- if keys are distinct, none of those before one equals it
   pub none_before_it : (xs ys : List (List ℕ × A)) (x : List ℕ × A) → IsDistinct bytes_eq (keys_of (xs ++ x ∷ ys))
       → lookup (bytes_eq x.0) xs ≡ None
   none_before_it [] ys x h = refl
@@ -33,11 +33,11 @@ module _ {A : Type 0} where
       (IsDistinct-head bytes_eq e.0 (keys_of (es ++ x ∷ ys)) h) in
       rw (other_way e.0 x.0 other) (none_before_it es ys x (IsDistinct-tail bytes_eq e.0 (keys_of (es ++ x ∷ ys)) h))
 
-  -- one more of the list
+  -- a prefix that is one element longer
   pub one_more : (new done rest all : List A) (x : A) → new ≡ done ++ x ∷ [] → done ++ x ∷ rest ≡ all → new ++ rest ≡ all
   one_more new done rest all x is before = ap (λ (xs : List A). xs ++ rest) is ∙ append_assoc done (x ∷ []) rest ∙ before
 
--- the monitors of one more
+-- the monitors of a prefix that is one resource longer
 pub due_one_more : (at : ℕ) (new done : List (List ℕ × Resource)) (ms old : List (List ℕ × List Monitor)) (x : List ℕ × Resource)
     → new ≡ done ++ x ∷ [] → ms ≡ old ++ (x.0, all_due_at at x.1.recurring) ∷ [] → old ≡ due_by_id at done → ms ≡ due_by_id at new
 due_one_more at new done ms old x is monitors before =
@@ -49,7 +49,7 @@ pub absent_next : (done it all rest : List (List ℕ × Resource)) (x : List ℕ
     → lookup (bytes_eq x.0) done ≡ None
 absent_next done it all rest x whole next distinct = none_before_it done rest x (rw (← next, whole) distinct)
 
--- a fact of each holds of the next
+-- a property of each element holds for the next one
 pub fact_next : (P : List ℕ × Resource → Type 0) (done it all rest : List (List ℕ × Resource)) (x : List ℕ × Resource) → done ++ it ≡ all
     → it ≡ x ∷ rest
     → AllByRecursion P all → P x

@@ -1,4 +1,4 @@
--- What a lawful state gives: room for each resource, and a lawful state where it stays the same.
+-- Lemmas from a lawful state: each resource fits its capacity, and unchanged states stay lawful.
 use Rattle.std.proofs.Common.{◌≡◌, ℕ, zero, suc, ◌-◌, ◌<◌, ◌≤◌, ◌&&◌, nat_lt, Bool, true, false, IsTrue, List, [], ◌∷◌, map, drop, length, refl, sym, ap, subst, arith, length-drop}
 use Rattle.std.specs.List.{AllByRecursion, IsDistinct}
 use Rattle.std.specs.Map.{keys_of}
@@ -17,27 +17,27 @@ use Rattle.exec_state.specs.Seen.{FitsRoom}
 use Rattle.exec_state.specs.Store.{Store}
 use Rattle.exec_state.specs.Lawful.{AreMonitorsOf, IsLawfulStore}
 
--- each lawful resource fits the room that a registered one has
+-- a lawful resource fits the capacity of a registered one
 fit_each : (next_call next_run clock : ℕ) (rs : Registry) → AllByRecursion (λ e. IsLawfulResource next_call next_run clock e.1) rs
     → AllByRecursion (λ e. FitsRoom e.1) rs
 fit_each next_call next_run clock [] h = tt
 fit_each next_call next_run clock (e ∷ es) h = ((h.0.queue_len, h.0.ended_len, h.0.recurring_len), fit_each next_call next_run clock es h.1)
 
--- so does each of a lawful state
+-- so does each resource of a lawful state
 pub rooms : (s : State) → IsLawfulState s → AllByRecursion (λ e. FitsRoom e.1) s.resources
 rooms s h = fit_each s.next_call s.next_run s.clock s.resources h.resources
 
--- what the first layout does not know is taken away from each
+-- each resource reduced to what the first layout keeps
 abbrev first_all : Registry → Registry
 first_all rs = map (λ e. (e.0, on_history (history_in First) e.1)) rs
 
--- a fact of each holds of the last ones
+-- a property of each element holds for the last ones
 each_drop : {A : Type 0} (P : A → Type 0) (n : ℕ) (xs : List A) → AllByRecursion P xs → AllByRecursion P (drop n xs)
 each_drop P zero xs h = h
 each_drop P (suc n) [] h = tt
 each_drop P (suc n) (x ∷ xs) h = each_drop P n xs h.1
 
--- the last ones are no more than the second layout keeps
+-- the last results are no more than the second layout keeps
 last_short : (xs : List Ended) → length (last_in First xs) ≤ kept
 last_short xs = omega (arith, length-drop (length xs - kept_in First) xs)
 
@@ -78,7 +78,7 @@ first_length : (rs : Registry) → length (first_all rs) ≡ length rs
 first_length [] = refl
 first_length (e ∷ es) = ap suc (first_length es)
 
--- so a lawful state stays lawful
+-- a lawful state reduced to what the first layout keeps is lawful
 in_first_lawful : (s : State) → IsLawfulState s → IsLawfulState (in_first s)
 in_first_lawful s h = record {
   next_call = h.next_call;
@@ -90,24 +90,24 @@ in_first_lawful s h = record {
   resources = first_each s.next_call s.next_run s.clock s.resources h.resources;
 }
 
--- the same state with monitors that are its own
+-- the same state with its own monitors is lawful
 pub lawful_same : (s : State) (t : Store) → IsLawfulState s → t.state ≡ s → AreMonitorsOf t.state t.monitors → IsLawfulStore t
 lawful_same s t h same are = record { lawful = subst IsLawfulState (sym same) h; monitors = are }
 
--- the same of a state without what the first layout does not know
+-- the same for a state reduced to what the first layout keeps
 pub lawful_first : (s : State) (t : Store) → IsLawfulState s → t.state ≡ in_first s → AreMonitorsOf t.state t.monitors → IsLawfulStore t
 lawful_first s t h same are = lawful_same (in_first s) t (in_first_lawful s h) same are
 
--- the state with no resources
+-- the state without resources is lawful
 pub lawful_new : (t : Store) → IsLawfulState empty → t.state ≡ empty → t.monitors ≡ [] → IsLawfulStore t
 lawful_new t h same none = lawful_same empty t h same (rw (same, none) refl)
 
--- monitors without their due moments are what was made due
+-- monitors made due are the same monitors
 pub recurs_due : (at : ℕ) (xs : List Recur) → recurs (all_due_at at xs) ≡ xs
 recurs_due at [] = refl
 recurs_due at (x ∷ xs) = ap (λ (ys : List Recur). x ∷ ys) (recurs_due at xs)
 
--- where all three hold, there is room
+-- the last of three tests that all hold
 pub last_of_three : (a b : Bool) (n : ℕ) → IsTrue (a && (b && nat_lt 0 n)) → 0 < n
 last_of_three true true n h = grind (arith, nat_tests)
 last_of_three true false n h = absurd (let bad : false ≡ true = h in cc)

@@ -1,10 +1,10 @@
--- Replies that may be refused for want of memory.
+-- Replies that may be refused for lack of memory.
 use Rattle.std.specs.Prelude.{◌≡◌, ◌⊎◌}
 use Rattle.ocf_types.specs.Kinds.{Reply}
 use Rattle.ocf_types.specs.declared.refusal.Refusal.TheVariants.{Memory}
 use Rattle.ocf_types.specs.declared.reply.ReplyOf.TheVariants.{Refused}
 
--- a refusal is given as it is; any other reply as it is, or that an allocation was refused
+-- the given reply is this one; in place of one that is not a refusal, it may be the refusal for lack of memory
 abbrev pub IsReplyOrMemory : Reply → Reply → Type 0
 IsReplyOrMemory (Refused refusal) given = given ≡ Refused refusal
 IsReplyOrMemory reply given = (given ≡ reply) ⊎ (given ≡ Refused Memory)

@@ -1,15 +1,16 @@
--- What contracts see of the registry: its resources and their recurring monitors, by id and in order of registration,
--- and whether one more resource can be registered without memory.
+-- The view of the registry.
 use Rattle.std.specs.Prelude.{ℕ, Bool}
 use Rattle.ocf_types.specs.State.{Registry}
 use Rattle.exec_state.specs.Store.{Store, Monitors}
 
+-- the resources and their recurring monitors, by id and in order of registration, and whether one more resource can be
+-- registered without an allocation
 pub record Contents : Type 0 where
   pub resources : Registry
   pub monitors : Monitors
   pub ready : Bool
 
--- the state machine with these next numbers, this clock and this registry, of an allocator that refuses or not
+-- the view of the state machine with these next numbers, this clock and this registry, and whether its allocator refuses growths
 abbrev pub store_of : Bool → ℕ → ℕ → ℕ → Contents → Store
 store_of refuses next_call next_run clock contents = record {
   state = record { next_call = next_call; next_run = next_run; clock = clock; resources = contents.resources };

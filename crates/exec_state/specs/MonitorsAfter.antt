@@ -1,4 +1,4 @@
--- The recurring monitors with their due moments, after each event.
+-- The recurring monitors with their due moments after an event.
 use Rattle.std.specs.Prelude.{ℕ, List, [], ◌∷◌, ◌++◌, filter, not, nat_lt, if◌then◌else◌, Option, Some, None, option_and_then}
 use Rattle.std.specs.Str.{bytes_eq}
 use Rattle.ocf_types.specs.Kinds.{Step, Change, Event}
@@ -10,19 +10,19 @@ use Rattle.recurring.specs.declared.monitor.Monitor.{Monitor}
 use Rattle.recurring.specs.Monitors.{cancelled, settled, monitor_due_at}
 use Rattle.exec_state.specs.Store.{Monitors}
 
--- the monitors of a resource after what ran has ended at a moment: a run of a monitor makes it due its interval later
+-- the monitors of a resource after the running action has ended at a moment: if it is a monitor's, that is due its interval later
 abbrev pub run_ended : ℕ → Option Running → List Monitor → List Monitor
 run_ended at None ms = ms
 run_ended at (Some x) ms = if nat_lt 0 x.interval then settled x.call at ms else ms
 
--- the monitors of a resource after a step at a moment, where this ran
+-- the monitors of a resource after a step at a moment, with this running action
 abbrev pub monitors_stepped : ℕ → Option Running → Step → List Monitor → List Monitor
 monitors_stepped at running (step.Recur m) ms = ms ++ monitor_due_at at m ∷ []
 monitors_stepped at running (step.Cancel interval) ms = cancelled interval ms
 monitors_stepped at running (step.Result run end) ms = run_ended at running ms
 monitors_stepped at running _ ms = ms
 
--- what runs in the resource of an id
+-- the running action of the resource of an id
 abbrev pub running_in : State → List ℕ → Option Running
 running_in s id = option_and_then (λ r. r.history.running) (resource_at s id)
 

@@ -1,4 +1,4 @@
--- When nothing is to begin.
+-- Moments at which no resource begins an action.
 use Rattle.std.specs.Prelude.{ℕ, ◌<◌, List, None, MatchOption, ⊤}
 use Rattle.std.specs.Map.{lookup}
 use Rattle.std.specs.Str.{bytes_eq}
@@ -11,12 +11,12 @@ use Rattle.exec_state.specs.Store.{Store, Monitors, IsChoice, monitors_at}
 abbrev pub Rests : Store → ℕ → Type 0
 Rests s now = (id : List ℕ) → IsChoice s id now None
 
--- the same of resources, and of their monitors with the due moments
+-- the same for resources, and their monitors with due moments
 abbrev pub AllRest : Registry → Monitors → ℕ → Type 0
 AllRest resources monitors now = (id : List ℕ)
     → MatchOption (lookup (bytes_eq id) resources) ⊤
     (λ r. IsPickOf r.history.running r.history.queue (pairs (monitors_at monitors id)) now None)
 
--- at no moment before one
+-- no resource begins anything at a moment before this one
 abbrev pub RestBefore : Registry → Monitors → ℕ → Type 0
 RestBefore resources monitors until = (now : ℕ) → now < until → AllRest resources monitors now

@@ -1,4 +1,4 @@
--- What the journal keeps of a registered resource, and its recurring monitors with their due moments.
+-- The view of a registered resource, and its recurring monitors with their due moments.
 use Rattle.std.specs.Prelude.{ℕ, ◌≤◌, List, map, length}
 use Rattle.ocf_types.specs.Limits.{queue_limit, recurring_limit}
 use Rattle.ocf_types.specs.Kinds.{Step}
@@ -8,14 +8,15 @@ use Rattle.recurring.specs.declared.monitor.Monitor.{Monitor}
 use Rattle.recurring.specs.Monitors.{recurs}
 use Rattle.exec_state.specs.declared.registered.Registered.{Registered}
 
--- all but when its monitors are due
+-- a resource as the journal keeps it: without the due moments
 abbrev pub seen : {H : Type 0} → Registered H → Resource
 seen r = record { provider = r.provider; agent = r.agent; params = r.params; history = r.ops; recurring = recurs r.monitors }
 
+-- the monitors of a resource with their due moments
 abbrev pub monitors_of : {H : Type 0} → Registered H → List Monitor
 monitors_of r = r.monitors
 
--- the entries, each value seen by a function
+-- the entries with a function applied to each value
 abbrev pub look_all : {H A : Type 0} → (Registered H → A) → List (List ℕ × Registered H) → List (List ℕ × A)
 look_all look es = map (λ e. (e.0, look e.1)) es
 
@@ -25,10 +26,10 @@ seen_all es = look_all seen es
 abbrev pub monitors_all : {H : Type 0} → List (List ℕ × Registered H) → List (List ℕ × List Monitor)
 monitors_all es = look_all monitors_of es
 
--- a step applies to a resource, in a state with some next numbers
+-- the step applies to the resource in a state with some next numbers
 abbrev pub CanTake : Step → Resource → Type 0
 CanTake what r = (next_call : ℕ) × (next_run : ℕ) × StepApplies next_call next_run what r
 
--- a resource whose lists fit the room that a registered one has
+-- the lists of the resource fit the capacity of a registered one
 abbrev pub FitsRoom : Resource → Type 0
 FitsRoom r = (length r.history.queue ≤ queue_limit) × (length r.history.ended ≤ kept) × (length r.recurring ≤ recurring_limit)

@@ -1,5 +1,4 @@
--- What contracts see of the state machine: the state that the journal keeps, when each recurring monitor is due, whether
--- a resource can be registered without memory, and whether its allocator refuses growths.
+-- The view of the state machine, and the picks of its resources.
 use Rattle.std.specs.Prelude.{◌≡◌, ℕ, ◌==◌, Bool, List, [], map, find, Option, IsTrue, MatchOption, None, ⊤, option_map, option_and_then, unwrap_or}
 use Rattle.std.specs.List.{flat_map}
 use Rattle.std.specs.Map.{lookup}
@@ -19,18 +18,20 @@ use Rattle.recurring.specs.Monitors.{all_due_at, pairs}
 abbrev pub Monitors : Type 0
 Monitors = List (List ℕ × List Monitor)
 
+-- the state that the journal keeps, the due moments of the recurring monitors, whether a resource can be registered without an
+-- allocation, and whether the allocator refuses growths
 pub record Store : Type 0 where
   pub state : State
   pub monitors : Monitors
   pub ready : Bool
   pub refuses : Bool
 
--- the room that a change needs: that of a new resource
+-- the memory that a change needs is reserved: only a registration needs any
 abbrev pub IsReadyFor : Store → Change → Type 0
 IsReadyFor s (change.Register r) = IsTrue s.ready
 IsReadyFor s _ = ⊤
 
--- the event can be applied without memory
+-- the event can be applied without an allocation
 abbrev pub IsPrepared : Store → Event → Type 0
 IsPrepared s e = IsReadyFor s e.change
 
@@ -46,7 +47,7 @@ all_pairs all = flat_map (λ e. pairs e.1) all
 abbrev pub dues_by_id : Monitors → Dues
 dues_by_id all = map (λ e. (e.0, pairs e.1)) all
 
--- when the monitor of an id and a call is due
+-- the due moment of the monitor of an id and a call
 abbrev pub due_of : Monitors → Due
 due_of all id call = option_map (λ m. m.due) (find (λ m. m.recur.call == call) (monitors_at all id))
 
@@ -58,14 +59,14 @@ dues s = due_of s.monitors
 abbrev pub monitors_due_at : ℕ → State → Monitors
 monitors_due_at at s = map (λ e. (e.0, all_due_at at e.1.recurring)) s.resources
 
--- what then runs in a resource: the call that it picks, begun at a moment under this run
+-- the running action of a resource after its pick has begun at a moment under this run
 abbrev pub run_of_pick : ℕ → ℕ → Resource → Option ℕ → Option Running
 run_of_pick at run r pick = option_and_then (λ call. (stepped at (step.Begin call run) r).history.running) pick
 
--- what the resource of an entry begins at a moment under this run, as it will run, if it begins anything
+-- the action that the resource of an entry begins at a moment, as it will run under this run, or `None`
 abbrev pub Chooses : Due → ℕ → ℕ → List ℕ × Resource → Option Running → Type 0
 Chooses due at run e chosen = (call : Option ℕ) × IsPick e.1 (due e.0) at call × (chosen ≡ run_of_pick at run e.1 call)
 
--- what the resource of an id begins at a moment: nothing where there is none
+-- the pick of the resource of an id at a moment; nothing if there is no resource
 abbrev pub IsChoice : Store → List ℕ → ℕ → Option ℕ → Type 0
 IsChoice s id now pick = MatchOption (resource_at s.state id) (pick ≡ None) (λ r. IsPick r (dues s id) now pick)

@@ -54,7 +54,7 @@ fn recurring(monitors: &Recurrings) -> ArrayVec<Recur, { RECURRING_LIMIT }>
 }
 
 impl<A: Grows> Registered<A> {
-    /// What it is, and what it does now.
+    /// The info of the resource: its agent, its parameters and its operations.
     fn info(&self, alloc: A, id: &RscId) -> Result<Info<A>, AllocError>
         ensures info { IfOk result (λ i. i ≡ info_of id.now (seen self.now)) }
         ensures memory { OnErr result (IsTrue A.refuses) }
@@ -73,8 +73,8 @@ impl<A: Grows> Registered<A> {
 }
 
 impl<A: Grows> State<A> {
-    /// The reply to a question: it is refused for an unknown resource; in place of a reply, and of no refusal, it may be
-    /// refused for want of memory.
+    /// The reply to a question. An unknown resource is refused. A reply that is not a refusal may be replaced by one for lack of
+    /// memory.
     pub fn answer(&self, alloc: A, question: &Question) -> Reply<A>
         ensures reply { IsReplyOrMemory (reply_to self.now.state question.now) result }
         ensures memory { result ≡ ReplyOf.Refused Refusal.Memory → IsTrue A.refuses }

@@ -1,4 +1,4 @@
-//! What an opening does to a state: the boot that it records, and its due moments.
+//! The changes of a state by an opening: the boot that it records, and the due moments.
 ghost use Rattle.std.specs.Prelude.{◌≡◌};
 ghost use Rattle.ocf_types.specs.Due.{due_at};
 ghost use Rattle.ocf_types.specs.Boot.{any_busy, boot_event};
@@ -10,7 +10,7 @@ use growth::Grows;
 use ocf_types::{Change, Event, EventOf, Moment};
 
 impl<A: Grows> State<A> {
-    /// The boot that an opening at that moment records: there is one exactly when an action is queued or running.
+    /// The boot that an opening at that moment records, exactly when an action is queued or running.
     pub fn boot(&self, now: u64) -> Option<Event<A>>
         ensures { result ≡ boot_event self.now.state (moment self.now.state now) }
     {

@@ -1,4 +1,4 @@
-//! Which event a command is, or which refusal it meets.
+//! The event of a command, or its refusal.
 ghost use Rattle.std.specs.Prelude.{◌≡◌, length, nat_lt, Ok, Err, if◌then◌else◌};
 ghost use Rattle.ocf_types.specs.Spelling.{spelled_event};
 ghost use Rattle.ocf_types.specs.Answer.{event_of};

@@ -8,8 +8,8 @@ ghost use Rattle.exec_state.specs.Store.{Store, due_of, monitors_due_at};
 ghost use Rattle.exec_state.specs.MonitorsAfter.{monitors_after};
 ghost use Rattle.exec_state.specs.Lawful.{IsLawfulStore};
 
-/// The due moments are a finite map from resource id and call: after each event the one that it makes of the map of
-/// before, and after an opening one moment for all monitors.
+/// The due moments are a finite map from resource id and call. Each event changes it as the definition says, and an opening
+/// makes all monitors due at one moment.
 pub fn due_moments()
     ensures after { (s : Store) (e : Event) (id : List ℕ) (call : ℕ) → IsLawfulStore s
         → Applies s.state e

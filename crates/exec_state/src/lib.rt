@@ -1,4 +1,4 @@
-//! The registry of resources and the state machine: which commands it accepts, and what each event does to it.
+//! The registry of resources and the state machine: the commands that it accepts, and the change by each event.
 #![tactic(auto)]
 
 mod answer;

@@ -1,4 +1,4 @@
-//! The pick: what a resource begins now.
+//! The pick: the action that a resource begins now.
 ghost use Rattle.std.specs.Prelude.{◌≡◌, ◌<◌, ℕ, None, IsTrue, Option, length};
 ghost use Rattle.ocf_types.specs.Due.{IsPickOf};
 ghost use Rattle.ocf_types.specs.Places.{entry_at};
@@ -13,8 +13,8 @@ use growth::Grows;
 use ocf_types::{CallId, Moment, RscId, RunId, Running, StateView};
 
 impl<A: Grows> State<A> {
-    /// What the resource at a place begins at that moment, as it will run under that run number: the first queued
-    /// action, else the recurring monitor that is due first; none where an action runs or where nothing is due.
+    /// The action that the resource at an index begins at that moment, as it will run under that run number: the first queued
+    /// one, else the recurring monitor that is due first. `None` if an action runs, or if nothing is queued and no monitor is due.
     pub fn pick(&self, place: usize, run: RunId, at: Moment) -> Option<Running>
         requires { place < length self.now.state.resources }
         ensures { Chooses (dues self.now) at run (entry_at self.now.state place) result }
@@ -22,9 +22,9 @@ impl<A: Grows> State<A> {
         self.registry.entry(place).1.pick(run, at)
     }
 
-    /// The call of what the resource of that id begins at that moment: that of the first queued action, else that of the
-    /// recurring monitor that is due first. `None` where there is no such resource, where an action runs, or where nothing
-    /// is queued and no monitor is due.
+    /// The call of the action that the resource of that id begins at that moment: that of the first queued action, else that of
+    /// the recurring monitor that is due first. `None` if there is no such resource, if an action runs, or if nothing is queued
+    /// and no monitor is due.
     pub fn choose(&self, id: &RscId, now: Moment) -> Option<CallId>
         ensures { IsChoice self.now id.now now result }
     {
@@ -35,23 +35,22 @@ impl<A: Grows> State<A> {
         }
     }
 
-    /// Looks when the next resource has something to begin, unless that is known since the last event. Nothing else
-    /// changes.
+    /// Computes the next moment at which a resource may begin an action, unless it is cached since the last event. Contracts
+    /// see no change.
     pub fn look(&mut self)
         ensures { self.new ≡ self.old }
     {
         self.registry.look();
     }
 
-    /// The least moment, in milliseconds, at which a recurring monitor is due: `None` exactly when there are no recurring
-    /// monitors.
+    /// The least moment, in milliseconds, at which a recurring monitor is due; `None` exactly when there is no monitor.
     pub fn first_due(&self) -> Option<u64>
         ensures { IsFirstMoment (all_pairs self.now.monitors) result }
     {
         self.registry.first_due()
     }
 
-    /// Whether it is known that no resource has anything to begin at that moment.
+    /// Whether the cached moment shows that no resource begins an action at that moment.
     pub fn rests(&self, now: Moment) -> bool
         ensures { IsTrue result → Rests self.now now }
     {
@@ -60,7 +59,7 @@ impl<A: Grows> State<A> {
 }
 
 impl<A: Grows> Registered<A> {
-    /// What it begins now, as it will run under that run number.
+    /// The action that the resource begins now, as it will run under that run number.
     fn pick(&self, run: RunId, at: Moment) -> Option<Running>
         ensures { (call : Option ℕ)
             × IsPickOf self.now.ops.running self.now.ops.queue (pairs self.now.monitors) at call
@@ -70,7 +69,7 @@ impl<A: Grows> Registered<A> {
         self.ops.next(self.monitors.of_call(call), run, at)
     }
 
-    /// The call that it begins now, if any.
+    /// The call that the resource begins now, if any.
     fn choose(&self, now: Moment) -> Option<CallId>
         ensures { IsPickOf self.now.ops.running self.now.ops.queue
             (pairs self.now.monitors) now result }
@@ -84,7 +83,7 @@ impl<A: Grows> Registered<A> {
         self.monitors.due(now)
     }
 
-    /// A moment before which it begins nothing, as long as it stays as it is.
+    /// A moment before which the resource begins nothing, as long as it does not change.
     pub(crate) fn rests_until(&self) -> u64
         ensures { (now : ℕ) → now < result
             → IsPickOf self.now.ops.running self.now.ops.queue (pairs self.now.monitors) now None }

@@ -32,14 +32,14 @@ use std::marker::Model;
 /// Resources by id, in order of registration.
 type Resources<A> = IndexMap<RscId, Registered<A>, BuildHasherDefault<FoldHasher>, A>;
 
-/// The registered resources, and the operations of the next one that is registered: none.
+/// The registered resources, and the empty operations, allocated in advance, of the next one.
 #[derive(Drop)]
 pub(crate) struct Registry<A: Allocator + Copy = Global> {
     resources: Resources<A>,
     next_ops: Option<Ops<A>>,
-    // When each recurring monitor is due.
+    // The due moments of the recurring monitors.
     dues: DueIndex<A>,
-    // A moment before which no resource has anything to begin: 0 since something changed.
+    // A moment before which no resource begins an action: 0 after a change.
     rests_until: u64,
 }
 
@@ -80,8 +80,8 @@ impl<A: Grows> Registry<A> {
         }
     }
 
-    /// The registry of these parts, every recurring monitor due at that moment. The only error is want of memory; there is none
-    /// for more than [`INDEX_LIMIT`] resources.
+    /// The registry of these parts, with every recurring monitor due at that moment. Up to [`INDEX_LIMIT`] resources, the only
+    /// error is a refused allocation.
     #[tactic(auto, using(crate::proofs::Resting::rest_before_0))]
     pub(crate) fn from_parts(
         alloc: A,
@@ -111,21 +111,21 @@ impl<A: Grows> Registry<A> {
         })
     }
 
-    /// The monitors are those of the resources. It does nothing.
+    /// Lemma: the monitors are those of the resources.
     pub(crate) fn known(&self)
         ensures { recurs_by_id self.now.monitors ≡ recurring_by_id self.now.resources }
     {
         let _ = self.resources.len();
     }
 
-    /// How many resources there are.
+    /// The number of resources.
     pub(crate) fn len(&self) -> usize
         ensures { result ≡ length self.now.resources }
     {
         self.resources.len()
     }
 
-    /// Whether there are as many resources as may be.
+    /// Whether there are [`RESOURCES_LIMIT`] resources.
     pub(crate) fn is_full(&self) -> bool
         ensures { result ≡ nat_le RESOURCES_LIMIT (length self.now.resources) }
     {
@@ -149,7 +149,7 @@ impl<A: Grows> Registry<A> {
         self.get(id).is_some()
     }
 
-    /// The resource at a place, and its id.
+    /// The resource at an index, and its id.
     pub(crate) fn entry(&self, place: usize) -> (&RscId, &Registered<A>)
         requires { place < length self.now.resources }
         ensures id { result.0.now ≡ (slice_index_or self.now.resources place no_entry).0 }
@@ -186,8 +186,7 @@ impl<A: Grows> Registry<A> {
         is_any_busy(&self.resources)
     }
 
-    /// Makes the room for one more resource. The only error is want of memory; there is none for more than [`INDEX_LIMIT`]
-    /// resources.
+    /// Reserves memory for one more resource. Up to [`INDEX_LIMIT`] resources, the only error is a refused allocation.
     pub(crate) fn reserve(&mut self) -> Result<(), AllocError>
         ensures ok { OnOk result (IsTrue self.new.ready) }
         ensures resources { self.new.resources ≡ self.old.resources }
@@ -202,7 +201,7 @@ impl<A: Grows> Registry<A> {
         Ok(())
     }
 
-    /// Adds a resource, for which there is room.
+    /// Adds a resource, for which memory is reserved.
     #[tactic(auto, using(crate::proofs::Resting::rest_before_0))]
     pub(crate) fn register(&mut self, registration: Registration<Params<A>>)
         requires absent { lookup (bytes_eq registration.id) self.old.resources ≡ None }
@@ -219,7 +218,7 @@ impl<A: Grows> Registry<A> {
         insert(&mut self.resources, &mut self.dues, id, resource);
     }
 
-    /// Removes the resource of that id. Those after it move up.
+    /// Removes the resource of that id. Later ones move up by one index.
     #[tactic(auto, using(crate::proofs::Resting::rest_before_0))]
     pub(crate) fn remove(&mut self, id: &RscId)
         ensures resources { self.new.resources ≡ others id.now self.old.resources }
@@ -232,7 +231,7 @@ impl<A: Grows> Registry<A> {
         self.dues.forget(id);
     }
 
-    /// Does what the step of the resource of that id says.
+    /// Applies the step to the resource of that id.
     #[tactic(auto, using(crate::proofs::Resting::rest_before_0))]
     pub(crate) fn take_step(&mut self, id: &RscId, at: Moment, step: Step<Params<A>>)
         requires { IsSomeAnd (lookup (bytes_eq id.now) self.old.resources) (CanTake step) }
@@ -269,7 +268,7 @@ impl<A: Grows> Registry<A> {
         }
     }
 
-    /// Drops what a journal's first layout does not keep of each resource.
+    /// Removes what the journal's first layout does not keep of each resource.
     #[tactic(auto, using(crate::proofs::Resting::rest_before_0))]
     pub(crate) fn in_first(&mut self)
         ensures resources { self.new.resources ≡ map
@@ -303,7 +302,7 @@ impl<A: Grows> Registry<A> {
         }
     }
 
-    /// Looks when the next resource has something to begin, unless that is known since the last change.
+    /// Computes the next moment at which a resource may begin an action, unless it is cached since the last change.
     pub(crate) fn look(&mut self)
         ensures { self.new ≡ self.old }
     {
@@ -319,15 +318,14 @@ impl<A: Grows> Registry<A> {
         self.dues.first_due()
     }
 
-    /// The call of the recurring monitor of the resource of that id that is due first, and of the lowest call among those that are
-    /// due then.
+    /// The call of that resource's first due recurring monitor: of the least due moment, and among equals of the lowest call.
     pub(crate) fn due_of(&self, id: &RscId, now: Moment) -> Option<CallId>
         ensures { IsLeastDue (pairs (monitors_at self.now.monitors id.now)) now result }
     {
         self.dues.due_of(id, now)
     }
 
-    /// Whether it is known that no resource has anything to begin at that moment.
+    /// Whether the cached moment shows that no resource begins an action at that moment.
     pub(crate) fn rests(&self, now: Moment) -> bool
         ensures { IsTrue result → AllRest self.now.resources self.now.monitors now }
     {
@@ -335,7 +333,7 @@ impl<A: Grows> Registry<A> {
     }
 }
 
-/// A moment before which none of these has anything to begin.
+/// A moment before which none of these resources begins an action.
 fn rests_until<A: Grows>(resources: &Resources<A>) -> u64
     ensures { RestBefore (seen_all resources.now.entries)
         (monitors_all resources.now.entries) result }
@@ -356,7 +354,7 @@ fn is_any_busy<A: Grows>(resources: &Resources<A>) -> bool
     resources.values().any(|resource| resource.ops.is_busy())
 }
 
-/// Adds a resource and its recurring monitors, for which there is room.
+/// Adds a resource and its recurring monitors, for which memory is reserved.
 fn insert<A: Grows>(
     resources: &mut Resources<A>,
     dues: &mut DueIndex<A>,

@@ -1,4 +1,4 @@
-//! A state, number by number and item by item: a snapshot is written from it without a copy.
+//! A state, read number by number and item by item: a snapshot is written from it without a copy.
 use crate::state::State;
 use growth::Grows;
 use ocf_types::{

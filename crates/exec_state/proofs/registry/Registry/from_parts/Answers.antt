@@ -16,7 +16,7 @@ from_parts-requires g c =
     (into_iter_items c.loop-part.part-iterator) c.args.parts.items _ c.in-Some.part
     c.loop-part.invariant.0 c.in-Some.ensures.steps.0 c.requires.room
 
--- the next one is not among those before it
+-- the id of the next part is not among those before it
 pub insert-requires-clause-absent : goal.insert-requires-clause-absent
 insert-requires-clause-absent g c =
     let absent = absent_next (seen_all c.loop-part.resources.entries)
@@ -52,7 +52,7 @@ returns-clause-resources g c =
 pub returns-clause-monitors : goal.returns-clause-monitors
 returns-clause-monitors g c = c.loop-part.invariant.1 ∙ ap (due_by_id c.args.due) (returns-clause-resources g c)
 
--- fewer than the parts have been added
+-- fewer resources have been added than there are parts
 pub returns-in_err-reserve-clause-memory : goal.returns-in_err-reserve-clause-memory
 returns-in_err-reserve-clause-memory g c =
     let done = seen_all c.loop-part.resources.entries in
