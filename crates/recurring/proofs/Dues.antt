@@ -1,4 +1,4 @@
--- The entries of the index by id: what a write leaves, and what is left without an id.
+-- Lemmas on the entries of the index by id: after a write, and without an id.
 use Rattle.std.proofs.Common.{◌≡◌, ℕ, zero, suc, ◌<◌, Bool, true, false, cond, not, List, [], ◌∷◌, length, remove, filter, get_or, slice_get, position, Option, Some, None}
 use Rattle.std.proofs.Common.{refl, sym, ap, subst, ◌∙◌, arith, is_some}
 use Rattle.std.specs.List.{IsDistinct, AllByRecursion}
@@ -11,11 +11,11 @@ use Rattle.indexmap.specs.IndexMap.{set_value_at}
 use Rattle.ocf_types.specs.State.{at_id}
 use Rattle.recurring.specs.DueIndex.{Dues}
 
--- no key is the id
+-- no key equals the id
 abbrev IsAbsent : List ℕ → Dues → Type 0
 IsAbsent id es = AllByRecursion (λ k. bytes_eq id k ≡ false) (keys_of es)
 
--- after the entry of an id none has it
+-- no entry after that of an id has the same id
 absent_after : (id : List ℕ) (e : List ℕ × List (ℕ × ℕ)) (es : Dues) → IsDistinct bytes_eq (keys_of (e ∷ es)) → bytes_eq id e.0 ≡ true
     → IsAbsent id es
 absent_after id e es distinct same =
@@ -36,7 +36,7 @@ module _ (f : List (ℕ × ℕ) → List (ℕ × ℕ)) where
       by true same rest = absurd (let some : Some e.1 ≡ None = rw same at none in cc)
       by false other rest = rw other (ap (λ (xs : Dues). e ∷ xs) (rest (rw other at none)))
 
-  -- a write at the place of the id
+  -- a write at the index of the id
   at_id-place : (id : List ℕ) (es : Dues) (i : ℕ) (v w : List (ℕ × ℕ)) → IsDistinct bytes_eq (keys_of es)
       → bytes_eq id (get_or (keys_of es) i []) ≡ true → ((k : ℕ) → k < i → bytes_eq id (get_or (keys_of es) k []) ≡ false)
       → slice_get (values_of es) i ≡ Some v → w ≡ f v → set_value_at es i w ≡ at_id id f es
@@ -74,13 +74,13 @@ remove-place id (e ∷ es) (suc i) lt distinct here before =
     rw other (ap (λ (xs : Dues). e ∷ xs)
     (remove-place id es i (omega (arith, lt)) (IsDistinct-tail bytes_eq e.0 (keys_of es) distinct) here (λ k below. before (suc k) (omega (arith, below)))))
 
--- without the entry at the place of the id
+-- the entries without the one at the index of the id
 pub remove-others : (id : List ℕ) (es : Dues) (i : ℕ) → IsDistinct bytes_eq (keys_of es) → Some i ≡ position (bytes_eq id) (keys_of es)
     → remove es i ≡ filter (λ e. not (bytes_eq id e.0)) es
 remove-others id es i distinct found =
     let there = position-Some (bytes_eq id) (keys_of es) i [] (sym found) in remove-place id es i there.0 distinct there.1 there.2
 
--- an id that is not found leaves all
+-- removing an id that is not found changes nothing
 pub others-none : (id : List ℕ) (es : Dues) → lookup (bytes_eq id) es ≡ None → filter (λ e. not (bytes_eq id e.0)) es ≡ es
 others-none id [] none = refl
 others-none id (e ∷ es) none = by (bytes_eq id e.0) refl (others-none id es)
@@ -90,7 +90,7 @@ others-none id (e ∷ es) none = by (bytes_eq id e.0) refl (others-none id es)
     by true same rest = absurd (let some : Some e.1 ≡ None = rw same at none in cc)
     by false other rest = rw other (ap (λ (xs : Dues). e ∷ xs) (rest (rw other at none)))
 
--- what has no place is not found
+-- an id that has no index is not found
 pub none_found : {A : Type 0} (o : Option A) → false ≡ is_some o → o ≡ None
 none_found None e = refl
 none_found (Some x) e = absurd (cc)

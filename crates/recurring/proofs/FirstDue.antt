@@ -1,4 +1,4 @@
--- The first call that is due, of one more pair.
+-- The first due call with one more pair.
 use Rattle.std.proofs.Common.{◌≡◌, ℕ, ◌<◌, ◌≤◌, min, List, [], ◌∷◌, ◌++◌, Option, Some, None, MatchOption, ◌⊎◌, inl, inr, arith}
 use Rattle.std.proofs.lemmas.Bool.{cases_lt}
 use Rattle.std.specs.Option.{option_map}
@@ -9,7 +9,7 @@ use Rattle.recurring.specs.declared.due_call.DueCall.{DueCall}
 use Rattle.recurring.specs.DueCalls.{pair_of, IsFirstDue}
 use Rattle.recurring.specs.Monitors.{IsFirstMoment}
 
--- one more pair that is due: the first of it and the one so far
+-- the first due call with one more due pair is the first of it and the one so far
 pub first_due_of : (xs : List (ℕ × ℕ)) (now : ℕ) (m y w : DueCall) → m.due ≤ now →
     (w ≡ m) ⊎ (w ≡ y) → IsBefore (pair_of w) (pair_of m) → IsBefore (pair_of w) (pair_of y) → IsFirstDue xs now (Some y)
     → IsFirstDue (xs ++ pair_of m ∷ []) now (Some w)
@@ -21,13 +21,13 @@ first_due_of xs now m y w due one before_m before_y h =
       | inr e ↦ (rw e (Contains-append_left xs (pair_of m ∷ []) (pair_of y) h.0), rw e h.1, first)
     ]
 
--- the call of the first call that is due
+-- the call of the first due pair
 pub first_due_call : (xs : List (ℕ × ℕ)) (now : ℕ) (first : Option DueCall) → IsFirstDue xs now first
     → IsLeastDue xs now (option_map (λ m. m.call) first)
 first_due_call xs now None h = h
 first_due_call xs now (Some m) h = (m.due, h.0, h.1, h.2)
 
--- one more pair: the least moment of it and of those so far
+-- the least moment with one more pair
 pub first_moment_none : (m : DueCall) → IsFirstMoment (pair_of m ∷ []) (Some m.due)
 first_moment_none m = (m.call, Contains-push [] (pair_of m), All-push (λ p. m.due ≤ p.0) [] (pair_of m) (λ k d lt. absurd (omega (arith, lt))) (omega arith))
 

@@ -1,10 +1,10 @@
--- The monitors, seen without their due moments.
+-- Lemmas on the monitors without their due moments.
 use Rattle.std.proofs.Common.{◌≡◌, ℕ, ◌+◌, ◌==◌, Bool, true, false, cond, not, List, [], ◌∷◌, map, filter, refl, sym, ap, ◌∙◌}
 use Rattle.ocf_types.specs.Resource.{without_interval}
 use Rattle.recurring.specs.declared.monitor.Monitor.{Monitor}
 use Rattle.recurring.specs.Monitors.{recurs, cancelled, settled, settled_one, restarted, due_at}
 
--- a function goes through a choice
+-- a function applied to a conditional
 pub through_cond : {A B : Type 0} (f : A → B) (b : Bool) (x y : A) → f (cond b x y) ≡ cond b (f x) (f y)
 through_cond f true x y = refl
 through_cond f false x y = refl
@@ -16,11 +16,11 @@ filter-map f test (x ∷ xs) =
     ap (λ ys. cond (test (f x)) (f x ∷ ys) ys) (filter-map f test xs)
     ∙ sym (through_cond (map f) (test (f x)) (x ∷ filter (λ y. test (f y)) xs) (filter (λ y. test (f y)) xs))
 
--- what stays, is settled or is made due is the same monitors
+-- the monitors without due moments, after a cancel, a settlement and a restart
 pub recurs-cancelled : (interval : ℕ) (ms : List Monitor) → recurs (cancelled interval ms) ≡ without_interval interval (recurs ms)
 recurs-cancelled interval ms = sym (filter-map (λ m. m.recur) (λ m. not (m.interval == interval)) ms)
 
--- a choice of two equals
+-- a conditional with equal branches
 pub cond-same : {A : Type 0} (b : Bool) (x : A) → cond b x x ≡ x
 cond-same true x = refl
 cond-same false x = refl

@@ -1,4 +1,4 @@
--- The index and the first moments of its resources, tied: what a change of both keeps.
+-- Lemmas: the index and the first moments of its resources stay consistent when both change.
 use Rattle.std.proofs.Common.{◌≡◌, ℕ, zero, suc, ◌+◌, ◌-◌, ◌<◌, ◌≤◌, min, List, [], ◌∷◌, ◌++◌, length, get_or, set, remove, Option, Some, None, All, Contains}
 use Rattle.std.proofs.Common.{◌⊎◌, inl, inr, refl, ap, ◌∙◌, arith}
 use Rattle.std.specs.Map.{values_of}
@@ -12,7 +12,7 @@ use Rattle.recurring.specs.Monitors.{IsFirstMoment}
 use Rattle.recurring.specs.FirstMoments.{IsFirstOf, IsNotAfter}
 use Rattle.recurring.specs.DueIndex.{Dues, pairs_of_all, pairs_in, IsTied}
 
--- the pairs of a place after each change
+-- the pairs at an index after each change
 pairs_in-kept : (es : Dues) (id : List ℕ) (k : ℕ) → pairs_in (es ++ (id, []) ∷ []) k ≡ pairs_in es k
 pairs_in-kept [] id zero = refl
 pairs_in-kept [] id (suc k) = refl
@@ -34,24 +34,24 @@ length-values : (es : Dues) → length (values_of es) ≡ length es
 length-values [] = refl
 length-values (e ∷ es) = ap suc (length-values es)
 
--- no resources, and no places
+-- no resources, and no moments
 pub tied_none : (es : Dues) → es ≡ [] → IsTied es []
 tied_none es none = rw none (record { room = omega arith; each = λ k. refl })
 
--- the same resources, and more places
+-- the same resources, and more moments
 pub tied_grown : (es fs : Dues) (ms ns : List (Option ℕ)) → IsTied es ms → fs ≡ es → length ms ≤ length ns
     → ((k : ℕ) → get_or ns k None ≡ get_or ms k None) → IsTied fs ns
 tied_grown es fs ms ns tied same le moments =
     rw same (record { room = omega (arith, tied.room, le); each = λ k. rw (moments k) (tied.each k) })
 
--- one more resource, for which there is a place
+-- one more resource, for which there is a moment
 pub tied_kept : (es : Dues) (id : List ℕ) (ms : List (Option ℕ)) → IsTied es ms → length es < length ms → IsTied (es ++ (id, []) ∷ []) ms
 tied_kept es id ms tied lt = record {
   room = rw (length-append es ((id, []) ∷ [])) (omega (arith, lt));
   each = λ k. rw (pairs_in-kept es id k) (tied.each k);
 }
 
--- a write at a place
+-- a write at an index
 pub tied_written : (es : Dues) (ms : List (Option ℕ)) (i : ℕ) (w : List (ℕ × ℕ)) (m : Option ℕ) → IsTied es ms → i < length es
     → IsFirstMoment w m → IsTied (set_value_at es i w) (set ms i m)
 tied_written es ms i w m tied lt first = record { room = rw (length-set_value_at es i w, length-set ms i m) tied.room; each = each }
@@ -65,7 +65,7 @@ tied_written es ms i w m tied lt first = record { room = rw (length-set_value_at
     each : (k : ℕ) → IsFirstMoment (pairs_in (set_value_at es i w) k) (get_or (set ms i m) k None)
     each k = rw (values-set_value_at es i w) (by k (cases_eq k i))
 
--- without a place
+-- an index removed
 pub tied_removed : (es : Dues) (ms : List (Option ℕ)) (i : ℕ) → IsTied es ms → i < length es → IsTied (remove es i) (remove ms i)
 tied_removed es ms i tied lt = record { room = omega (arith, tied.room, length-remove es i lt, length-remove ms i in_moments); each = each }
   where
@@ -84,7 +84,7 @@ tied_removed es ms i tied lt = record { room = omega (arith, tied.room, length-r
     each : (k : ℕ) → IsFirstMoment (pairs_in (remove es i) k) (get_or (remove ms i) k None)
     each k = rw (values-remove es i) (by k (cases_lt k i))
 
--- what holds of the pairs of each place holds of all pairs
+-- a property of the pairs at each index holds for all pairs
 none_of_all : (es : Dues) → ((k : ℕ) → pairs_in es k ≡ []) → pairs_of_all es ≡ []
 none_of_all [] h = refl
 none_of_all (e ∷ es) h =
@@ -127,7 +127,7 @@ tied_first es ms (Some m) tied h = (here.0, contains_in_all es found.0 (m, here.
     by j (inl lt) = later j (get_or ms j None) (h.least j None lt) (tied.each j)
     by j (inr ge) = later j None tt (rw (get_or_past ms j None ge) at (tied.each j))
 
--- a write at a place leaves the room as it is
+-- a write at an index leaves the capacity as it is
 pub room-written : (es : Dues) (ms : List (Option ℕ)) (i : ℕ) (w : List (ℕ × ℕ)) (m : Option ℕ) (spare : ℕ)
     → min spare (length (set ms i m) - length (set_value_at es i w)) ≡ min spare (length ms - length es)
 room-written es ms i w m spare = rw (length-set_value_at es i w, length-set ms i m) refl

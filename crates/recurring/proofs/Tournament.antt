@@ -1,4 +1,4 @@
--- The laws of a tournament: what a played node wins, and that the first node has the first moment of all places.
+-- Lemmas on the tournament tree: a recomputed node is correct, and the root has the first of all moments.
 use Rattle.std.proofs.Common.{◌≡◌, ◌≢◌, ℕ, zero, suc, ◌+◌, ◌-◌, ◌*◌, ◌/◌, ◌<◌, ◌≤◌, min, List, [], ◌++◌, length, get_or, set, take, drop, remove, Option, Some, None}
 use Rattle.std.proofs.Common.{MatchOption, Contains, ◌⊎◌, inl, inr, refl, sym, ap, subst, ◌∙◌, arith}
 use Rattle.std.specs.Prelude.{⊤}
@@ -9,11 +9,11 @@ use Rattle.std.specs.Prelude.{Vec}
 use Rattle.std.specs.Vec.{with_items}
 use Rattle.recurring.specs.FirstMoments.{earlier, IsFirstOf, IsNotAfter, IsWon, IsTournament}
 
--- the nodes, one of them played
+-- the nodes after one of them is recomputed
 abbrev pub played : List (Option ℕ) → ℕ → List (Option ℕ)
 played xs p = set xs p (earlier (get_or xs (2 * p) None) (get_or xs (2 * p + 1) None))
 
--- it is won, and no node ceases to be won but the one above it
+-- the recomputed node is correct, and only its parent may cease to be
 won-played_here : (xs : List (Option ℕ)) (p : ℕ) → 1 ≤ p → p < length xs → IsWon (played xs p) p
 won-played_here xs p low high =
     let v = earlier (get_or xs (2 * p) None) (get_or xs (2 * p + 1) None) in
@@ -24,7 +24,7 @@ won-played_other xs p i a b c won =
     let v = earlier (get_or xs (2 * p) None) (get_or xs (2 * p + 1) None) in
     rw (get_or-set_other xs p i v None a, get_or-set_other xs p (2 * i) v None b, get_or-set_other xs p (2 * i + 1) v None c) won
 
--- one node up from a changed one
+-- one step up from a changed node
 pub won-climbed : (xs : List (Option ℕ)) (n node : ℕ) → 1 < node → node < 2 * n → length xs ≡ 2 * n
     → ((i : ℕ) → 1 ≤ i → i < n → i ≢ node / 2 → IsWon xs i)
     → (i : ℕ) → 1 ≤ i → i < n → i ≢ node / 2 / 2 → IsWon (played xs (node / 2)) i
@@ -35,7 +35,7 @@ won-climbed xs n node above within long won i low high other = by (cases_eq i (n
     by (inr ne) =
         won-played_other xs (node / 2) i ne (λ e. other (omega (arith, e))) (λ e. other (omega (arith, e))) (won i low high ne)
 
--- one more node, from the last one to the first
+-- one more node computed, from the last one to the root
 pub won-laid : (xs : List (Option ℕ)) (n p : ℕ) → 1 ≤ p → p < n → length xs ≡ 2 * n
     → ((i : ℕ) → p + 1 ≤ i → i < n → IsWon xs i) → (i : ℕ) → p ≤ i → i < n → IsWon (played xs p) i
 won-laid xs n p low within long won i from high = by (cases_eq i p)
@@ -49,7 +49,7 @@ won-laid xs n p low within long won i from high = by (cases_eq i p)
             won-played_other xs p i ne (λ e. omega (arith, e, lt)) (λ e. omega (arith, e, lt)) (won i (omega (arith, lt)) high)
         by_far (inr le) = absurd (ne (omega (arith, le, from)))
 
--- a change of a place's node
+-- a change of a leaf
 pub won-changed : (xs : List (Option ℕ)) (n k : ℕ) (v : Option ℕ) → n ≤ k → IsTournament n xs
     → (i : ℕ) → 1 ≤ i → i < n → i ≢ k / 2 → IsWon (set xs k v) i
 won-changed xs n k v le all i low high other =
@@ -59,7 +59,7 @@ won-changed xs n k v le all i low high other =
       get_or-set_other xs k (2 * i + 1) v None (λ e. other (omega (arith, e))),
     ) (all.won i low high)
 
--- the earlier one is one of the two, and after neither
+-- the earlier of two moments is one of them, and later than neither
 earlier_is : (a b : Option ℕ) → (earlier a b ≡ a) ⊎ (earlier a b ≡ b)
 earlier_is None b = inr refl
 earlier_is (Some a) None = inl refl
@@ -79,16 +79,16 @@ not_after_itself : (r : Option ℕ) → IsNotAfter r r
 not_after_itself None = tt
 not_after_itself (Some m) = omega arith
 
--- a number that is not twice its half is that and one
+-- a number that is not twice its half is one more
 odd : (i : ℕ) → (i ≡ 2 * (i / 2) → ⊥) → i ≡ 2 * (i / 2) + 1
 odd i ne = omega (arith, ne)
 
--- a node from n on that has the moment of node i
+-- a leaf that has the moment of node i
 abbrev PlaceOf : ℕ → List (Option ℕ) → ℕ → Type 0
 PlaceOf n xs i = (k : ℕ) × (n ≤ k) × (k < 2 * n) × (get_or xs k None ≡ get_or xs i None)
 
 module _ (n : ℕ) (xs : List (Option ℕ)) (all : IsTournament n xs) where
-  -- what is not after a node is not after those below it
+  -- a moment that is not after a node's is not after those below it
   under : (r : Option ℕ) (i : ℕ) → 1 < i → i < 2 * n → IsNotAfter r (get_or xs (i / 2) None) → IsNotAfter r (get_or xs i None)
   under r i lt high h = by (cases_eq i (2 * (i / 2)))
     where
@@ -102,7 +102,7 @@ module _ (n : ℕ) (xs : List (Option ℕ)) (all : IsTournament n xs) where
       by (inl e) = subst (λ (k : ℕ). IsNotAfter r (get_or xs k None)) (sym e) both.0
       by (inr ne) = subst (λ (k : ℕ). IsNotAfter r (get_or xs k None)) (sym (odd i ne)) both.1
 
-  -- the first node is after no other
+  -- the root is after no other node
   not_after : (b i : ℕ) → i ≤ b → 1 ≤ i → i < 2 * n → IsNotAfter (get_or xs 1 None) (get_or xs i None)
   not_after zero i le low high = absurd (omega (arith, le, low))
   not_after (suc b) i le low high = by (not_after b) (cases_lt 1 i)
@@ -115,7 +115,7 @@ module _ (n : ℕ) (xs : List (Option ℕ)) (all : IsTournament n xs) where
           let e : i ≡ 1 = omega (arith, one, low) in
           subst (λ (k : ℕ). IsNotAfter (get_or xs 1 None) (get_or xs k None)) (sym e) (not_after_itself (get_or xs 1 None))
 
-  -- a node has the moment of some place
+  -- a node has the moment of some leaf
   has_place : (fuel i : ℕ) → 2 * n ≤ i + fuel → 1 ≤ i → i < 2 * n → PlaceOf n xs i
   has_place zero i enough low high = absurd (omega (arith, enough, high))
   has_place (suc fuel) i enough low high = by (has_place fuel) (cases_lt i n)
@@ -135,7 +135,7 @@ module _ (n : ℕ) (xs : List (Option ℕ)) (all : IsTournament n xs) where
       by below (inr le) = (i, le, high, refl)
       by below (inl lt) = which below lt (earlier_is (get_or xs (2 * i) None) (get_or xs (2 * i + 1) None))
 
-  -- the first node has the first moment of the places
+  -- the root has the first moment of the leaves
   pub first_node : 0 < n → IsFirstOf (drop n xs) (get_or xs 1 None)
   first_node some = record { one = one (get_or xs 1 None) refl; least = least }
     where
@@ -159,15 +159,15 @@ module _ (n : ℕ) (xs : List (Option ℕ)) (all : IsTournament n xs) where
                 ∙ get_or_default xs k (Some m) None (omega (arith, there.2, all.long)) ∙ there.3 ∙ is,
           )
 
--- no places have no moment
+-- the first of no moments is `None`
 pub no_first : (n : ℕ) (xs : List (Option ℕ)) → IsTournament n xs → n ≡ 0 → IsFirstOf (drop n xs) None
 no_first n xs all none = record { one = tt; least = λ k d lt. absurd (let inside = rw (length-drop n xs) at lt in omega (arith, inside, all.long, none)) }
 
--- how many places there are
+-- the number of leaves
 pub length-leaves : (n : ℕ) (xs : List (Option ℕ)) → length xs ≡ 2 * n → length (drop n xs) ≡ n
 length-leaves n xs long = rw (length-drop n xs) (omega (arith, long))
 
--- without node 0 and that of a place
+-- the nodes without node 0 and a leaf
 pub leaves-removed : (xs : List (Option ℕ)) (n k : ℕ) → 0 < n → length xs ≡ 2 * n → k < n
     → drop (n - 1) (remove (remove xs (n + k)) 0) ≡ remove (drop n xs) k
 leaves-removed xs n k some long within =
@@ -179,11 +179,11 @@ leaves-removed xs n k some long within =
     zero_out ∙ ap (drop n) split ∙ drop_at (take n xs) (remove (drop n xs) (n + k - n)) n front
     ∙ ap (remove (drop n xs)) (let e : n + k - n ≡ k = omega arith in e)
 
--- no nodes are the tournament of no places
+-- no nodes are the tree of no moments
 pub no_nodes : IsTournament 0 []
 no_nodes = record { long = refl; won = λ i low high. absurd (omega (arith, high)) }
 
--- what a tournament that is written over a vector's elements leaves
+-- the vector after a tree is written over its elements
 pub items_of_slice : {Z : Type 0} (v : Vec (Option ℕ) Z) (ws : List (Option ℕ)) (n : ℕ) → length v.items ≡ 2 * n → IsTournament n ws
     → (with_items v ws).items ≡ ws
 items_of_slice v ws n long all = with_items_is v ws (let size : length ws ≡ v.len = omega (arith, all.long, v.ok.0, long) in size)

@@ -4,7 +4,7 @@ use Rattle.ocf_types.specs.Due.{IsBefore}
 use Rattle.recurring.specs.declared.due_call.DueCall.{DueCall}
 use Rattle.recurring.specs.declared.monitor.Monitor.{Monitor}
 
--- a call as the pair of its due moment and itself, and all of them so
+-- the pair of due moment and call of a call, and the pairs of a list
 abbrev pub pair_of : DueCall → ℕ × ℕ
 pair_of d = (d.due, d.call)
 
@@ -15,11 +15,11 @@ pairs_of calls = map pair_of calls
 abbrev pub due_call_of : Monitor → DueCall
 due_call_of m = record { due = m.due; call = m.recur.call }
 
--- a call, due at a moment if it is this one
+-- a call, made due at a moment if it is this one
 abbrev pub settled_call : ℕ → ℕ → DueCall → DueCall
 settled_call call due d = if d.call == call then record { due = due; call = d.call } else d
 
--- the call is that of one of the pairs, and of those that are due none comes before it; or there is none, and none is due
+-- the call is of a pair that is due, before which no other due pair comes; or it is `None`, and no pair is due
 abbrev pub IsFirstDue : List (ℕ × ℕ) → ℕ → Option DueCall → Type 0
 IsFirstDue pairs now None = All (λ p. now < p.0) pairs
 IsFirstDue pairs now (Some d) = Contains pairs (pair_of d) × (d.due ≤ now) × All (λ p. p.0 ≤ now → IsBefore (pair_of d) p) pairs

@@ -11,35 +11,35 @@ use Rattle.recurring.specs.declared.recurrings.NotAdded.TheVariants.{Duplicate, 
 abbrev pub recurs : List Monitor → List Recur
 recurs monitors = map (λ m. m.recur) monitors
 
--- a monitor that is due at a moment, and all of a list so
+-- a monitor that is due at a moment, and a list of them
 abbrev pub monitor_due_at : ℕ → Recur → Monitor
 monitor_due_at at m = record { recur = m; due = at }
 
 abbrev pub all_due_at : ℕ → List Recur → List Monitor
 all_due_at at monitors = map (monitor_due_at at) monitors
 
--- a monitor as the pair of its due moment and its call, and all of them so
+-- the pair of due moment and call of a monitor, and the pairs of a list
 abbrev pub pair : Monitor → ℕ × ℕ
 pair m = (m.due, m.recur.call)
 
 abbrev pub pairs : List Monitor → List (ℕ × ℕ)
 pairs monitors = map pair monitors
 
--- what refuses a monitor: one of its interval, or else that there are as many as may be
+-- the refusal of a monitor, if any: there is one of its interval, or else there are 8
 abbrev pub refusal_of : Recur → List Monitor → Option NotAdded
 refusal_of m monitors =
     if is_some (of_interval m.interval (recurs monitors)) then Some Duplicate else
     (if nat_le recurring_limit (length monitors) then Some RecurringFull else None)
 
--- the monitors but that of an interval
+-- the monitors except that of an interval
 abbrev pub cancelled : ℕ → List Monitor → List Monitor
 cancelled interval monitors = filter (λ m. not (m.recur.interval == interval)) monitors
 
--- a monitor that is due at a moment
+-- a monitor, made due at a moment
 abbrev pub due_at : ℕ → Monitor → Monitor
 due_at at m = record m { due = at }
 
--- a monitor after a run of a call ended at a moment: where the call is its own, due its own interval later
+-- a monitor after a run of a call ended at a moment: due its interval later if the call is its own
 abbrev pub settled_one : ℕ → ℕ → Monitor → Monitor
 settled_one call at m = if m.recur.call == call then due_at (at + m.recur.interval) m else m
 
@@ -51,7 +51,7 @@ settled call at monitors = map (settled_one call at) monitors
 abbrev pub restarted : ℕ → List Monitor → List Monitor
 restarted at monitors = map (due_at at) monitors
 
--- the moment is that of one of the pairs, and none is earlier; or there is none
+-- the moment is the least of the pairs, or `None` if there are no pairs
 abbrev pub IsFirstMoment : List (ℕ × ℕ) → Option ℕ → Type 0
 IsFirstMoment pairs None = pairs ≡ []
 IsFirstMoment pairs (Some due) = (call : ℕ) × Contains pairs (due, call) × All (λ p. due ≤ p.0) pairs

@@ -8,7 +8,7 @@ use crate::monitor::Monitor;
 use ocf_types::{CallId, Moment};
 use std::default::MadeWith;
 
-/// The call of a recurring monitor, and when the monitor is due.
+/// The call of a recurring monitor, and its due moment.
 #[derive(Clone, Copy)]
 pub(crate) struct DueCall {
     /// In milliseconds.
@@ -27,7 +27,7 @@ impl DueCall {
         }
     }
 
-    /// Due at that moment, if the call is this one.
+    /// Due at that moment if its call is this one; else unchanged.
     pub(crate) fn settled(self, call: CallId, due: u64) -> DueCall
         ensures { result ≡ settled_call call due self }
     {
@@ -64,7 +64,7 @@ impl DueCall {
         if self.is_before(&other) { self } else { other }
     }
 
-    /// The first that is due: this one, or the first of the others.
+    /// The first due call: this one, or the first of the others.
     pub(crate) fn first_due(self, others: Option<DueCall>, now: Moment) -> Option<DueCall>
         ensures { (xs : List (ℕ × ℕ)) → IsFirstDue xs now others
             → IsFirstDue (xs ++ pair_of self ∷ []) now result }
@@ -90,7 +90,7 @@ impl DueCall {
     }
 }
 
-/// Fills an unused index of the list, where nobody sees it.
+/// Fills the unused entries of the list, which contracts do not see.
 impl MadeWith<()> for DueCall {
     fn made_with(_: ()) -> DueCall {
         DueCall {

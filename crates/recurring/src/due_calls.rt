@@ -36,8 +36,8 @@ impl DueCalls {
         }
     }
 
-    /// Takes the calls of these monitors in place of its own, and gives the least of their due moments: `None` exactly when
-    /// there are no monitors.
+    /// Replaces the calls by those of these monitors, and returns the least of their due moments; `None` exactly when there are
+    /// no monitors.
     pub(crate) fn renew(&mut self, monitors: &Recurrings) -> Option<u64>
         ensures calls { self.new ≡ pairs monitors.now }
         ensures first { IsFirstMoment (pairs monitors.now) result }
@@ -54,7 +54,7 @@ impl DueCalls {
         first
     }
 
-    /// Puts a call after the others.
+    /// Appends a call.
     pub(crate) fn push(&mut self, call: CallId, due: u64)
         requires { length self.old < RECURRING_LIMIT }
         ensures { self.new ≡ self.old ++ (due, call) ∷ [] }
@@ -62,7 +62,7 @@ impl DueCalls {
         self.calls.push(DueCall { due, call });
     }
 
-    /// Takes that call away.
+    /// Removes that call.
     pub(crate) fn remove(&mut self, call: CallId)
         ensures { self.new ≡ pairs_without call self.old }
     {
@@ -78,7 +78,7 @@ impl DueCalls {
         }
     }
 
-    /// The call that is due first, and the lowest among those that are due then: `None` exactly when none is due.
+    /// The first due call: of the least due moment, and among equals the lowest; `None` exactly when none is due.
     pub(crate) fn due(&self, now: Moment) -> Option<CallId>
         ensures { IsLeastDue self.now now result }
     {
@@ -89,7 +89,7 @@ impl DueCalls {
         first.map(|d| d.call)
     }
 
-    /// The least due moment: `None` exactly when there are no calls.
+    /// The least due moment; `None` exactly when there are no calls.
     pub(crate) fn first_moment(&self) -> Option<u64>
         ensures { IsFirstMoment self.now result }
     {
@@ -101,7 +101,7 @@ impl DueCalls {
     }
 }
 
-/// Puts a call at an index: in place of the one that is there, or after the last one.
+/// Writes a call at an index, or appends it if the index is the length.
 fn put(calls: &mut ArrayVec<DueCall, { RECURRING_LIMIT }>, place: usize, call: DueCall)
     requires place { place ≤ length calls.old.items }
     requires room { place < RECURRING_LIMIT }

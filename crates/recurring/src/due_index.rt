@@ -18,19 +18,19 @@ use std::alloc::{AllocError, Allocator, Global};
 use std::hash::{BuildHasherDefault, FoldHasher};
 use std::marker::Model;
 
-/// How many resources the index keeps at most.
+/// The greatest number of resources that the index keeps.
 pub const INDEX_LIMIT: usize = GROWTH_LIMIT / 2;
 
 /// The calls of each resource, in the order in which the resources were kept.
 type Resources<A> = IndexMap<RscId, DueCalls, BuildHasherDefault<FoldHasher>, A>;
 
-/// The recurring monitors of all resources, by the moments at which they are due: of each resource, the calls of at most
-/// [`RECURRING_LIMIT`] monitors with their due moments, in milliseconds. Contracts see it as the pairs of due moment and
-/// call by resource (`dues`), and how many more resources can be kept without memory (`room`).
+/// The recurring monitors of all resources, by due moment: for each resource, the calls of at most [`RECURRING_LIMIT`] monitors
+/// with their due moments, in milliseconds. Contracts see the pairs of due moment and call by resource (`dues`), and the number
+/// of further resources that can be kept without an allocation (`room`).
 #[derive(Drop)]
 pub struct DueIndex<A: Allocator + Copy = Global> {
     resources: Resources<A>,
-    // The first moment of each resource, by its place.
+    // The first moment of each resource, by its index.
     firsts: FirstMoments<A>,
 }
 
@@ -60,8 +60,8 @@ impl<A: Grows> DueIndex<A> {
         }
     }
 
-    /// Makes the room for that many more resources. The only error is want of memory; there is none for more than
-    /// [`INDEX_LIMIT`] resources in all.
+    /// Reserves memory for that many more resources. Up to [`INDEX_LIMIT`] resources in all, the only error is a refused
+    /// allocation.
     pub fn reserve(&mut self, more: usize) -> Result<(), AllocError>
         ensures room { OnOk result (more ≤ self.new.room) }
         ensures dues { self.new.dues ≡ self.old.dues }
@@ -76,7 +76,7 @@ impl<A: Grows> DueIndex<A> {
         Ok(())
     }
 
-    /// Keeps a resource, as yet without monitors.
+    /// Keeps a resource, which has no monitors yet.
     pub fn keep(&mut self, id: RscId)
         requires absent { lookup (bytes_eq id) self.old.dues ≡ None }
         requires room { 0 < self.old.room }
@@ -87,7 +87,7 @@ impl<A: Grows> DueIndex<A> {
         };
     }
 
-    /// Removes the resource, and all of its monitors. Those after it move up.
+    /// Removes the resource and all of its monitors. Later resources move up by one index.
     pub fn forget(&mut self, id: &RscId)
         ensures dues { self.new.dues ≡ filter (λ e. not (bytes_eq id.now e.0)) self.old.dues }
     {
@@ -98,7 +98,7 @@ impl<A: Grows> DueIndex<A> {
         self.firsts.remove(place);
     }
 
-    /// Adds a monitor of the resource after its others: its call, due at that moment.
+    /// Appends a monitor of the resource: its call, due at that moment.
     pub fn add(&mut self, id: &RscId, call: CallId, due: u64)
         requires kept { IsSomeAnd (lookup (bytes_eq id.now) self.old.dues)
             (λ ps. length ps < RECURRING_LIMIT) }
@@ -114,7 +114,7 @@ impl<A: Grows> DueIndex<A> {
         self.firsts.set(place, first);
     }
 
-    /// Takes the monitor of that call away from the resource. Where there is none, nothing changes.
+    /// Removes the resource's monitor of that call. If there is none, nothing changes.
     pub fn remove(&mut self, id: &RscId, call: CallId)
         ensures dues { self.new.dues ≡ at_id id.now (pairs_without call) self.old.dues }
         ensures room { self.new.room ≡ self.old.room }
@@ -128,7 +128,7 @@ impl<A: Grows> DueIndex<A> {
         self.firsts.set(place, first);
     }
 
-    /// Makes the resource's monitor of that call due at that moment. Where there is none, nothing changes.
+    /// Makes the resource's monitor of that call due at that moment. If there is none, nothing changes.
     pub fn settle(&mut self, id: &RscId, call: CallId, due: u64)
         ensures dues { self.new.dues ≡ at_id id.now (pairs_settled call due) self.old.dues }
         ensures room { self.new.room ≡ self.old.room }
@@ -142,7 +142,7 @@ impl<A: Grows> DueIndex<A> {
         self.firsts.set(place, first);
     }
 
-    /// Gives the resource these monitors, with their due moments, in place of its own.
+    /// Replaces the resource's monitors by these, with their due moments.
     pub fn renew(&mut self, id: &RscId, monitors: &Recurrings)
         ensures dues { self.new.dues ≡ at_id id.now (λ ps. pairs monitors.now) self.old.dues }
         ensures room { self.new.room ≡ self.old.room }
@@ -155,8 +155,8 @@ impl<A: Grows> DueIndex<A> {
         self.firsts.set(place, first);
     }
 
-    /// Gives the resource at a place, from 0 in the order in which they were kept, these monitors, with their due moments, in
-    /// place of its own.
+    /// Replaces the monitors of the resource at an index by these, with their due moments. Resources are indexed from 0, in the
+    /// order in which they were kept.
     pub fn renew_at(&mut self, place: usize, monitors: &Recurrings)
         requires { place < length self.old.dues }
         ensures dues { self.new.dues ≡ set_value_at self.old.dues place (pairs monitors.now) }
@@ -167,8 +167,8 @@ impl<A: Grows> DueIndex<A> {
         self.firsts.set(place, first);
     }
 
-    /// The call of the resource's monitor that is due first, and of the lowest call among those that are due then: `None`
-    /// exactly when none is due.
+    /// The call of the resource's first due monitor: of the least due moment, and among equals the lowest call. `None` exactly
+    /// when none is due.
     pub fn due_of(&self, id: &RscId, now: Moment) -> Option<CallId>
         ensures { IsLeastDue (pairs_at self.now.dues id.now) now result }
     {
@@ -178,8 +178,7 @@ impl<A: Grows> DueIndex<A> {
         }
     }
 
-    /// The least moment, in milliseconds, at which a monitor of a resource is due: `None` exactly when there are no
-    /// monitors.
+    /// The least due moment of all monitors, in milliseconds; `None` exactly when there are no monitors.
     pub fn first_due(&self) -> Option<u64>
         ensures { IsFirstMoment (pairs_of_all self.now.dues) result }
     {

@@ -1,4 +1,4 @@
-//! The first of many moments, kept while single ones change.
+//! The first of many moments, updated as single ones change: a tournament tree.
 ghost use Rattle.std.specs.Prelude.{◌≡◌, ◌≢◌, ◌+◌, ◌*◌, ◌/◌, ◌<◌, ◌≤◌, ℕ, [], length, drop, remove, slice_index_or, slice_set, None, false, IfOk, IsTrue, OnErr, OnOk};
 ghost use Rattle.recurring.specs.FirstMoments.{earlier, IsFirstOf, IsWon, IsTournament};
 
@@ -7,11 +7,11 @@ use growth::{Grows, append, fill};
 use std::alloc::{AllocError, Allocator, Global};
 use std::marker::Model;
 
-/// A moment, in milliseconds, or none, for each of some places; and the first of all. A tournament: each node has the
-/// earlier of the moments of two others, so a change concerns the nodes from its place up to the first.
+/// A moment, in milliseconds, or `None`, for each index; and the first of all. It is a tournament tree: each node has the
+/// earlier of its two children's moments, so a change affects only the nodes from its leaf up to the root.
 #[derive(Drop)]
 pub(crate) struct FirstMoments<A: Allocator + Copy = Global> {
-    // Twice as many as places: the moment of place k is node `places + k`, and that of all is node 1.
+    // Twice as many as indices: the moment of index k is node `places + k`, and the first of all is node 1.
     nodes: Vec<Option<u64>, A>,
     places: usize,
 }
@@ -28,7 +28,7 @@ impl<A: Allocator + Copy> Model for FirstMoments<A> {
 }
 
 impl<A: Grows> FirstMoments<A> {
-    /// No places. It takes no memory.
+    /// No moments. It takes no memory.
     pub(crate) fn new(alloc: A) -> FirstMoments<A>
         ensures { result ≡ [] }
     {
@@ -38,7 +38,7 @@ impl<A: Grows> FirstMoments<A> {
         }
     }
 
-    /// Makes at least that many places. The moments stay, and the new places have none. The only error is want of memory.
+    /// Grows to at least that many indices. The moments stay, and the new ones are `None`. The only error is a refused allocation.
     pub(crate) fn grow(&mut self, places: usize) -> Result<(), AllocError>
         requires limit { places ≤ INDEX_LIMIT }
         ensures room { OnOk result (places ≤ length self.new) }
@@ -50,7 +50,7 @@ impl<A: Grows> FirstMoments<A> {
         if places <= self.places {
             return Ok(());
         }
-        // At least twice as many as before, so that a place more costs little on average.
+        // At least twice as many as before, so that one more index has a constant amortized cost.
         let places = places.max(self.nodes.len()).min(INDEX_LIMIT);
         let nodes = nodes_of(
             *self.nodes.allocator(),
@@ -62,7 +62,7 @@ impl<A: Grows> FirstMoments<A> {
         Ok(())
     }
 
-    /// Sets the moment of a place.
+    /// Sets the moment at an index.
     pub(crate) fn set(&mut self, place: usize, moment: Option<u64>)
         requires { place < length self.old }
         ensures { self.new ≡ slice_set self.old place moment }
@@ -72,19 +72,19 @@ impl<A: Grows> FirstMoments<A> {
         climb(self.nodes.as_mut_slice(), self.places, node);
     }
 
-    /// Removes an index. Those after it move up.
+    /// Removes the moment at an index. Later ones move up by one index.
     pub(crate) fn remove(&mut self, place: usize)
         requires { place < length self.old }
         ensures { self.new ≡ remove self.old place }
     {
         self.nodes.remove(self.places + place);
-        // Without node 0 those of the places begin one node earlier, as they have to.
+        // Without node 0 the leaves begin one node earlier, as they have to.
         self.nodes.remove(0);
         self.places -= 1;
         lay(self.nodes.as_mut_slice(), self.places);
     }
 
-    /// The first moment of all places: `None` exactly when none has one.
+    /// The first of all moments; `None` exactly when all are `None`.
     pub(crate) fn first(&self) -> Option<u64>
         ensures { IsFirstOf self.now result }
     {
@@ -95,8 +95,8 @@ impl<A: Grows> FirstMoments<A> {
     }
 }
 
-/// The nodes of that many places, of which the first have these moments, and the others none. The only error is want of
-/// memory.
+/// The nodes of that many indices, of which the first have these moments, and the others `None`. The only error is a refused
+/// allocation.
 fn nodes_of<A: Grows>(
     alloc: A,
     moments: &[Option<u64>],
@@ -117,7 +117,7 @@ fn nodes_of<A: Grows>(
     Ok(nodes)
 }
 
-/// Wins each node before those of the places, from the last one to the first.
+/// Computes each inner node, from the last one to the root.
 fn lay(nodes: &mut [Option<u64>], places: usize)
     requires { length nodes.old ≡ 2 * places }
     ensures won { IsTournament places nodes.new }
@@ -130,7 +130,7 @@ fn lay(nodes: &mut [Option<u64>], places: usize)
     }
 }
 
-/// Wins each node that a changed one concerns, where all others are won.
+/// Computes each node above a changed one, if all others are correct.
 fn climb(nodes: &mut [Option<u64>], places: usize, changed: usize)
     requires long { length nodes.old ≡ 2 * places }
     requires low { 1 ≤ changed }
@@ -142,14 +142,14 @@ fn climb(nodes: &mut [Option<u64>], places: usize, changed: usize)
     let mut node = changed;
     while node > 1 {
         node /= 2;
-        // A node that stays as it was concerns none above it.
+        // A node that has not changed does not affect those above it.
         if !play(nodes, node) {
             return;
         }
     }
 }
 
-/// Gives a node the earlier of the moments of the two below it, and says whether that changed it.
+/// Sets a node to the earlier of its children's moments, and returns whether it changed.
 fn play(nodes: &mut [Option<u64>], node: usize) -> bool
     requires { 2 * node + 1 < length nodes.old }
     ensures played { nodes.new ≡ slice_set nodes.old node (earlier (slice_index_or nodes.old (2 * node) None)
@@ -164,7 +164,7 @@ fn play(nodes: &mut [Option<u64>], node: usize) -> bool
     true
 }
 
-/// The earlier of two moments that may be there.
+/// The earlier of two optional moments.
 fn earlier(one: Option<u64>, other: Option<u64>) -> Option<u64>
     ensures { result ≡ earlier one other }
 {

@@ -5,16 +5,16 @@ ghost use Rattle.recurring.specs.Monitors.{settled_one, due_at};
 use ocf_types::{CallId, Check, Millis, Moment, Recur};
 use std::default::MadeWith;
 
-/// A recurring monitor, and when it is due.
+/// A recurring monitor and its due moment.
 #[derive(Clone, Copy, PartialEq, Eq)]
 pub struct Monitor {
     pub recur: Recur,
-    /// In milliseconds. It may pass the greatest moment, by an interval at most: then no moment reaches it.
+    /// In milliseconds. It may exceed the greatest moment by an interval at most; then it is never reached.
     pub due: u64,
 }
 
 impl Monitor {
-    /// After a run of that call ended at that moment: if the call is its own, it is due its own interval later.
+    /// Updates the monitor after a run of that call ended at that moment: if the call is its own, it is due its interval later.
     pub(crate) fn settle(&mut self, call: CallId, ended_at: Moment)
         ensures { self.new ≡ settled_one call ended_at self.old }
     {
@@ -34,7 +34,7 @@ impl Monitor {
     }
 }
 
-/// Fills an unused index of the list, where nobody sees it.
+/// Fills the unused entries of the list, which contracts do not see.
 impl MadeWith<()> for Monitor {
     fn made_with(_: ()) -> Monitor {
         let (Some(call), Some(interval)) = (CallId::new(1), Millis::new(1)) else {

@@ -15,10 +15,10 @@ use thiserror::Error;
 /// Why a recurring monitor is not added.
 #[derive(Clone, Copy, Debug, PartialEq, Eq, Error)]
 pub enum NotAdded {
-    /// There is a monitor of its interval.
+    /// There is a monitor of this interval already.
     #[error("a recurring monitor of this resource has this interval")]
     Duplicate,
-    /// There are as many monitors as may be: [`RECURRING_LIMIT`].
+    /// There are [`RECURRING_LIMIT`] monitors already.
     #[error("this resource has as many recurring monitors as may be")]
     RecurringFull,
 }
@@ -54,7 +54,7 @@ impl Recurrings {
         }
     }
 
-    /// These monitors, each due at that moment.
+    /// A list of these monitors, each due at that moment.
     pub fn due_at(recurs: &[Recur], due: Moment) -> Recurrings
         requires { length recurs.now ≤ RECURRING_LIMIT }
         ensures { result ≡ all_due_at due recurs.now }
@@ -68,7 +68,7 @@ impl Recurrings {
         Recurrings { monitors }
     }
 
-    /// How many monitors there are, at most [`RECURRING_LIMIT`].
+    /// The number of monitors, at most [`RECURRING_LIMIT`].
     pub fn len(&self) -> usize
         ensures value { result ≡ length self.now }
         ensures limit { result ≤ RECURRING_LIMIT }
@@ -84,7 +84,7 @@ impl Recurrings {
         self.monitors.as_slice()
     }
 
-    /// A monitor. They are in order of acceptance, from 0.
+    /// The monitor at an index, from 0, in order of acceptance.
     pub fn monitor_at(&self, at: usize) -> Monitor
         requires { at < length self.now }
         ensures { slice_get self.now at ≡ Some result }
@@ -129,8 +129,8 @@ impl Recurrings {
             .find(|m| m.interval == interval)
     }
 
-    /// Puts a monitor, due at that moment, after the others. It is refused exactly when there is one of its interval, or
-    /// else when there are [`RECURRING_LIMIT`] monitors, and then nothing changes.
+    /// Appends a monitor, due at that moment. It is refused exactly when there is one of its interval, or else when there are
+    /// [`RECURRING_LIMIT`] monitors; then nothing changes.
     pub fn add(&mut self, recur: Recur, due: Moment) -> Result<(), NotAdded>
         ensures refused { result_err result ≡ refusal_of recur self.old }
         ensures unchanged { OnErr result (self.new ≡ self.old) }
@@ -148,7 +148,7 @@ impl Recurrings {
         Ok(())
     }
 
-    /// Takes the monitor of that interval away. It is refused exactly when there is none, and then nothing changes.
+    /// Removes the monitor of that interval. It is refused exactly when there is none; then nothing changes.
     pub fn cancel(&mut self, interval: Millis) -> Result<(), NoSuchRecurring>
         ensures refused { IsErr result ↔ (of_interval interval (recurs self.old) ≡ None) }
         ensures unchanged { OnErr result (self.new ≡ self.old) }
@@ -163,7 +163,7 @@ impl Recurrings {
         Ok(())
     }
 
-    /// After a run of that call ended at that moment: its monitor is due its own interval later. Where it is gone,
+    /// Updates the monitor of that call after a run of it ended at that moment: it is due its interval later. If there is none,
     /// nothing changes.
     pub fn settle(&mut self, call: CallId, ended_at: Moment)
         ensures due { self.new ≡ settled call ended_at self.old }
@@ -184,8 +184,8 @@ impl Recurrings {
         }
     }
 
-    /// The call of the monitor that is due first, and of the lowest call among those that are due then: `None` exactly when
-    /// none is due.
+    /// The call of the first due monitor: of the least due moment, and among equals the lowest call. `None` exactly when none is
+    /// due.
     pub fn due(&self, now: Moment) -> Option<CallId>
         ensures { IsLeastDue (pairs self.now) now result }
     {
@@ -196,7 +196,7 @@ impl Recurrings {
         first.map(|d| d.call)
     }
 
-    /// The least moment, in milliseconds, at which a monitor is due: `None` exactly when there are no monitors.
+    /// The least due moment, in milliseconds; `None` exactly when there are no monitors.
     pub fn first_due(&self) -> Option<u64>
         ensures { IsFirstMoment (pairs self.now) result }
     {
