@@ -1,4 +1,4 @@
-//! What happened so far, for contracts alone: it takes no memory.
+//! A list of past items that only contracts read: it takes no memory.
 #![tactic(auto)]
 
 mod past;

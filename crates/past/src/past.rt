@@ -1,12 +1,12 @@
-//! What happened so far, for contracts alone.
+//! A list of past items that only contracts read.
 ghost use Rattle.std.specs.Prelude.{◌≡◌, List, [], ◌∷◌, ◌++◌};
 ghost use Rattle.std.specs.Borrow.{ftrue};
 
 use std::marker::{Model, PhantomData};
 
-/// What happened so far, the oldest first. Contracts read it as `items`.
+/// The past items, oldest first. Contracts read them as `items`.
 ///
-/// Nothing of it is kept when the program runs. So `new` and `with` have no body to speak of, and are proved by hand.
+/// A running program keeps none of them. So the bodies of `new` and `with` do nothing, and are proved by hand.
 #[derive(Drop)]
 pub struct Past<T> {
     of: PhantomData<T>,
@@ -18,21 +18,21 @@ impl<T> Model for Past<T> {
 }
 
 impl<T> Past<T> {
-    /// Nothing has happened.
+    /// The empty list.
     pub fn new() -> Past<T>
         ensures { result.items ≡ [] }
     {
         Past { of: PhantomData }
     }
 
-    /// The same, and then this.
+    /// The list with this item at its end.
     fn with(&self, item: &T) -> Past<T>
         ensures { result.items ≡ self.now.items ++ item.now ∷ [] }
     {
         Past { of: PhantomData }
     }
 
-    /// This happened next.
+    /// Appends this item.
     pub fn note(&mut self, item: &T)
         ensures { self.new.items ≡ self.old.items ++ item.now ∷ [] }
     {
