@@ -1,4 +1,4 @@
-//! Growths of memory: an allocator is asked for it here alone, so a refusal is one that contracts see.
+//! Growths of memory. Allocators are asked for memory only here, so contracts see each refusal.
 ghost use Rattle.std.specs.Prelude.{◌≡◌, ◌+◌, ◌≤◌, [], Bool, IfOk, IsOk, IsTrue, OnErr, OnOk, length, vec_capacity, vec_len, string_bytes, string_capacity, string_len};
 ghost use Rattle.indexmap.specs.IndexMap.{IsUnchanged, KeepsRoom, spare};
 ghost use Rattle.growth.specs.Refused.{refuses_here};
@@ -8,12 +8,12 @@ use indexmap::IndexMap;
 use std::alloc::{AllocError, Allocator};
 use std::hash::{BuildHasher, Hash};
 
-/// The most elements by which a growth may be asked to enlarge a container, beyond as many as a list or text has.
+/// The greatest number of elements that a growth may request, unless it is for the elements of a given list or text.
 pub const GROWTH_LIMIT: usize = 16_777_216;
 
-/// An allocator whose refusals contracts see. [`Grows::refuses`] says that it refuses growths, and only a growth of this trait
-/// that failed shows it: so a function that is generic over the allocator, and whose contract says `IsTrue A.refuses` of want
-/// of memory, answers want of memory only where it was refused a growth.
+/// An allocator whose refusals contracts see. [`Grows::refuses`] says that it refuses growths, and only a failed growth of this
+/// trait shows it. So a function that is generic over the allocator, and whose contract says `IsTrue A.refuses` for lack of
+/// memory, reports lack of memory only if a growth was refused.
 ///
 /// The flag belongs to the type and not to a moment. No `requires`, invariant or ghost field may say that it is true, since a
 /// body could then show it without a refusal.
@@ -40,7 +40,7 @@ pub trait Grows: Allocator + Copy {
         ensures succeeds { vec_len vec.old + length list.now ≤ vec_capacity vec.old → IsOk result }
         ensures refused { OnErr result (IsTrue Self.refuses) };
 
-    /// Reserves capacity for the text after the string's own.
+    /// Reserves capacity for appending the text.
     fn reserve_text(string: &mut String<Self>, text: &str) -> Result<(), AllocError>
         ensures bytes { string_bytes string.new ≡ string_bytes string.old }
         ensures len { string_len string.new ≡ string_len string.old }
@@ -69,7 +69,7 @@ pub trait Grows: Allocator + Copy {
         ensures capacity { IfOk result (λ r. r.capacity ≡ capacity) }
         ensures refused { OnErr result (IsTrue Self.refuses) };
 
-    /// The result of a library's call that allocates by itself: its want of memory is taken for a refused growth, on trust.
+    /// The result of a library call that allocates by itself: its failure is trusted to be a refused growth.
     fn library_growth<T>(answer: Result<T, AllocError>) -> Result<T, AllocError>
         ensures answer { result ≡ answer }
         ensures refused { OnErr result (IsTrue Self.refuses) };

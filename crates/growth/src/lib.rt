@@ -1,5 +1,5 @@
-//! Growths of vectors, strings, maps and rings that an allocator may refuse. Contracts see that it did, so that a function can
-//! promise to answer want of memory only where an allocation was refused.
+//! Growths of vectors, strings, maps and rings that an allocator may refuse. Contracts see the refusal, so a function can promise
+//! to report lack of memory only if an allocation was refused.
 #![tactic(auto)]
 
 mod growth;

@@ -4,7 +4,7 @@ ghost use Rattle.std.specs.Prelude.{◌≡◌, ◌++◌, if◌then◌else◌, is
 use crate::Grows;
 use std::alloc::AllocError;
 
-/// Appends the text to the string, which stays as it was where the growth is refused.
+/// Appends the text to the string, which is unchanged if the growth is refused.
 pub fn push_text<A: Grows>(string: &mut String<A>, text: &str) -> Result<(), AllocError>
     ensures bytes { string_bytes string.new
         ≡ (if is_ok result then string_bytes string.old ++ text.now else string_bytes string.old) }

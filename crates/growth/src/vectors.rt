@@ -16,7 +16,7 @@ pub fn with_capacity<T: Drop, A: Grows>(alloc: A, capacity: usize) -> Result<Vec
     Ok(vec)
 }
 
-/// Appends the value to the vector, which stays as it was where the growth is refused.
+/// Appends the value to the vector, which is unchanged if the growth is refused.
 pub fn push<T: Drop, A: Grows>(vec: &mut Vec<T, A>, value: T) -> Result<(), AllocError>
     ensures items { vec.new.items
         ≡ (if is_ok result then vec.old.items ++ value ∷ [] else vec.old.items) }
@@ -28,7 +28,7 @@ pub fn push<T: Drop, A: Grows>(vec: &mut Vec<T, A>, value: T) -> Result<(), Allo
     Ok(())
 }
 
-/// Appends the list to the vector, which stays as it was where the growth is refused.
+/// Appends the list to the vector, which is unchanged if the growth is refused.
 pub fn append<T: Copy, A: Grows>(vec: &mut Vec<T, A>, list: &[T]) -> Result<(), AllocError>
     ensures items { vec.new.items
         ≡ (if is_ok result then vec.old.items ++ list.now else vec.old.items) }
@@ -52,7 +52,7 @@ pub fn vec_of<T: Copy, A: Grows>(alloc: A, list: &[T]) -> Result<Vec<T, A>, Allo
     Ok(vec)
 }
 
-/// Appends the value until the vector is of that length: not once where it is that long already.
+/// Appends copies of the value until the vector has that length; none if it is that long already.
 pub fn fill<T: Copy, A: Grows>(vec: &mut Vec<T, A>, len: usize, value: T) -> Result<(), AllocError>
     requires limit { len ≤ GROWTH_LIMIT }
     ensures items { OnOk result
