@@ -6,11 +6,11 @@ use Rattle.ocf_codes.specs.declared.exit_code.Code.TheVariants.{Success, Generic
 use Rattle.ocf_codes.specs.declared.exit_code.Code.TheVariants.{NotRunning, RunningPromoted, FailedPromoted, Degraded, DegradedPromoted}
 use Rattle.ocf_codes.specs.declared.exit_code.Code.TheVariants.{Other}
 
--- a row of the table: a number, what it says, and its name
+-- a row of the table: a number, its meaning, and its name
 abbrev pub Row : Type 0
 Row = ℕ × Code × List ℕ
 
--- OCF Resource Agent API 1.1 and Pacemaker Administration, exit codes
+-- the table: OCF Resource Agent API 1.1 and Pacemaker Administration, exit codes
 abbrev pub exit_codes : List Row
 exit_codes =
     (0, Success, codes "OCF_SUCCESS") ∷ (1, Generic, codes "OCF_ERR_GENERIC") ∷ (2, Args, codes "OCF_ERR_ARGS")
@@ -24,7 +24,7 @@ exit_codes =
 abbrev pub row_at : ℕ → Option Row
 row_at n = find (λ row. row.0 == n) exit_codes
 
--- what a number says: that of its row; with no row it is kept as it is
+-- the meaning of a number: that of its row; without a row the number itself
 abbrev pub code_in : ℕ → Option Row → Code
 code_in n (Some row) = row.1
 code_in n None = Other n
@@ -32,7 +32,7 @@ code_in n None = Other n
 abbrev pub code_read : ℕ → Code
 code_read n = code_in n (row_at n)
 
--- the name of a number: that of its row; with no row, other
+-- the name of a number: that of its row; without a row, other
 abbrev pub name_in : Option Row → List ℕ
 name_in (Some row) = row.2
 name_in None = codes "other"

@@ -5,7 +5,7 @@ use Rattle.ocf_types.specs.declared.outcome.RunEnd.TheVariants.{Done, TimedOut, 
 use Rattle.ocf_types.specs.declared.outcome.Outcome.{Outcome}
 use Rattle.ocf_types.specs.declared.outcome.Outcome.TheVariants.{Run, Interrupted, Dropped, Cancelled}
 
--- the agent's own code, or that of why there is none: OCF Resource Agent API 1.1, exit codes
+-- the exit code of an outcome: the agent's own, or one for the reason why there is none: OCF Resource Agent API 1.1, exit codes
 abbrev pub outcome_code : Outcome → ℕ
 outcome_code (Run (Done code)) = code
 outcome_code (Run (NotStarted Missing)) = 5

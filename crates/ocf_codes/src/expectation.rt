@@ -1,12 +1,12 @@
-//! Which exit codes are expected, and which ends have failed.
+//! Expected exit codes, and outcomes that are failures.
 ghost use Rattle.std.specs.Prelude.{◌≡◌};
 ghost use Rattle.ocf_types.specs.Expected.{has_failed, is_expected};
 ghost use Rattle.ocf_types.specs.Notices.{is_failure};
 
 use ocf_types::{Action, Expect, Notice, Outcome, RunEnd};
 
-/// Whether an action of which this is expected may end with this exit code. A monitor may also report that what is expected
-/// is degraded; every other action is to succeed. OCF Resource Agent API 1.1 and Pacemaker Administration, exit codes.
+/// Whether this exit code is expected of an action with this expectation. A monitor may also report the expected state as
+/// degraded; every other action is to succeed. OCF Resource Agent API 1.1 and Pacemaker Administration, exit codes.
 pub fn expected(action: Action, expect: Expect, code: u8) -> bool
     ensures { result ≡ is_expected action expect code }
 {
@@ -18,8 +18,8 @@ pub fn expected(action: Action, expect: Expect, code: u8) -> bool
     }
 }
 
-/// Whether an action of which this is expected has failed by this outcome: its code is not expected, or its agent gave
-/// none. What was interrupted, dropped or cancelled has not failed.
+/// Whether this outcome of an action with this expectation is a failure: its exit code is not expected, or there is none. An
+/// interrupted, dropped or cancelled action has not failed.
 pub fn failed(action: Action, expect: Expect, outcome: Outcome) -> bool
     ensures { result ≡ has_failed action expect outcome }
 {
@@ -30,7 +30,7 @@ pub fn failed(action: Action, expect: Expect, outcome: Outcome) -> bool
     }
 }
 
-/// Whether a notice is of a result that has failed, by what was expected of its action.
+/// Whether the result of a notice is a failure, by what was expected of its action.
 pub fn is_failure(notice: &Notice) -> bool
     ensures { result ≡ is_failure notice.now }
 {

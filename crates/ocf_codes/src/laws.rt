@@ -9,20 +9,20 @@ ghost use Rattle.ocf_types.specs.declared.outcome.Outcome.TheVariants.{Run};
 ghost use Rattle.ocf_codes.specs.ExitCodes.{Row, exit_codes, code_read, name_read};
 ghost use Rattle.ocf_codes.specs.OutcomeCodes.{outcome_code};
 
-/// Each row of the table is what is read at its number: no number has two rows.
+/// Reading the number of a row gives this row: no number has two rows.
 pub fn rows_are_read()
     ensures code { (row : Row) → Contains exit_codes row → code_read row.0 ≡ row.1 }
     ensures name { (row : Row) → Contains exit_codes row → name_read row.0 ≡ row.2 }
 {}
 
-/// A monitor may end with the code that is expected of it, and no code is expected by two expectations.
+/// The code of an expectation is expected of a monitor with it, and no code belongs to two expectations.
 pub fn one_expectation()
     ensures own { (x : Expect) → is_expected Monitor x (expect_code x) ≡ true }
     ensures one { (x y : Expect) (code : ℕ) → is_expected Monitor x code ≡ true
         → is_expected Monitor y code ≡ true → x ≡ y }
 {}
 
-/// A run has failed exactly when the code that stands for its end is not expected: also one that gave no code by itself.
+/// A run has failed exactly when the exit code of its end is not expected, also if the agent did not exit by itself.
 pub fn failures_by_code()
     ensures { (action : Action) (x : Expect) (end : RunEnd)
         → has_failed action x (Run end) ≡ not (is_expected action x (outcome_code (Run end))) }

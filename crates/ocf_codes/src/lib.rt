@@ -1,4 +1,4 @@
-//! Exit codes of OCF resource agents, the codes of outcomes, and which ends have failed.
+//! Exit codes of OCF resource agents, the codes of outcomes, and the outcomes that are failures.
 #![tactic(auto)]
 
 mod exit_code;

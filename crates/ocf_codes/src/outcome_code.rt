@@ -4,9 +4,9 @@ ghost use Rattle.ocf_codes.specs.OutcomeCodes.{outcome_code};
 
 use ocf_types::{Outcome, RunEnd, StartFault};
 
-/// The exit code that stands for an outcome: the agent's own where it ended by itself. An agent that was not started is
-/// OCF_ERR_INSTALLED where its file is missing and OCF_ERR_PERM where it may not be run; every other end is
-/// OCF_ERR_GENERIC. OCF Resource Agent API 1.1, exit codes.
+/// The exit code of an outcome: the agent's own if it exited. If no process was spawned, it is OCF_ERR_INSTALLED for a missing
+/// file and OCF_ERR_PERM for one that may not be executed; every other outcome is OCF_ERR_GENERIC. OCF Resource Agent API 1.1,
+/// exit codes.
 pub fn code_of(outcome: Outcome) -> u8
     ensures { result ≡ outcome_code outcome }
 {
