@@ -1,11 +1,11 @@
--- A ring of the last n of a list that grows at its end.
+-- Lemmas on a ring of the last n elements of a list that grows at its end.
 use Rattle.std.proofs.Common.{◌≡◌, ℕ, ◌+◌, ◌-◌, ◌<◌, ◌≤◌, List, [], ◌∷◌, ◌++◌, length, map, take, drop, get_or, refl, sym, ap, ◌∙◌, arith}
 use Rattle.std.proofs.Common.{length-append, length-drop, append_assoc}
 use Rattle.std.proofs.lemmas.List.{drop-append-le, drop-drop, map_more, take_more}
 use Rattle.circular_buffer.specs.Buffer.{Buffer, buffer, keep_last}
 
 module _ {X : Type 0} (n : ℕ) where
-  -- what was cut off before does not matter
+  -- keeping the last elements before and after an append is keeping them after it
   pub keep_last-append : (xs ys : List X) → keep_last n (keep_last n xs ++ ys) ≡ keep_last n (xs ++ ys)
   keep_last-append xs ys =
       let k : ℕ = length xs - n in
@@ -16,7 +16,7 @@ module _ {X : Type 0} (n : ℕ) where
       ∙ drop-drop (length (keep_last n xs ++ ys) - n) k (xs ++ ys)
       ∙ ap (λ m. drop m (xs ++ ys)) (omega (arith, size))
 
-  -- a ring that has the last of a list and of the images of i items, and then the image of the next item
+  -- a ring of the last elements of a list and of the images of i items, then with the image of the next item
   pub buffer_more : {Y : Type 0} (f : Y → X) (xs : List X) (ys : List Y) (i : ℕ) (y : Y) (x : X) (ring new : Buffer X) →
       i < length ys → y ≡ get_or ys i y → x ≡ f y →
       ring ≡ buffer (keep_last n (xs ++ map f (take i ys))) n →
@@ -28,7 +28,7 @@ module _ {X : Type 0} (n : ℕ) where
       = keep_last-append (xs ++ map f (take i ys)) (f y ∷ []) in
       rw (pushed, so_far, image, more, last, append_assoc xs (map f (take i ys)) (f y ∷ [])) refl
 
-  -- the same of the items themselves
+  -- the same for the items themselves
   pub buffer_more_same : (xs ys : List X) (i : ℕ) (y : X) (ring new : Buffer X) →
       i < length ys → y ≡ get_or ys i y →
       ring ≡ buffer (keep_last n (xs ++ take i ys)) n →
@@ -40,6 +40,6 @@ module _ {X : Type 0} (n : ℕ) where
       = keep_last-append (xs ++ take i ys) (y ∷ []) in
       rw (pushed, so_far, more, last, append_assoc xs (take i ys) (y ∷ [])) refl
 
--- a list that is no longer than what is kept is kept whole
+-- a list that is no longer than the ring is kept whole
 pub kept_whole : {X : Type 0} (n : ℕ) (xs : List X) → length xs ≤ n → drop (length xs - n) xs ≡ xs
 kept_whole n xs h = let none : length xs - n ≡ 0 = omega (arith, h) in ap (λ m. drop m xs) none

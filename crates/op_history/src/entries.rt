@@ -1,4 +1,4 @@
-//! What is noted of an operation as it begins, and as it ends.
+//! The runs, results and notices of operations.
 ghost use Rattle.std.specs.Prelude.{◌≡◌};
 ghost use Rattle.ocf_types.specs.Notices.{drop_notice, run_notice};
 ghost use Rattle.ocf_types.specs.Resource.{run_of_op, run_of_monitor, ended_of, dropped_of, cancelled_of, failed_of};
@@ -49,7 +49,7 @@ pub(crate) fn ended_of(running: Running, outcome: Outcome, at: Moment) -> Ended
     }
 }
 
-/// The result of a run that ended at that moment, where it has failed.
+/// The result of a run that ended at that moment, if it is a failure.
 pub(crate) fn failed_of(running: Running, outcome: Outcome, at: Moment) -> Option<Ended>
     ensures { result ≡ failed_of outcome at running }
 {

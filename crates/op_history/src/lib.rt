@@ -1,4 +1,4 @@
-//! The operations of one resource: what is queued, what runs, and the results that are kept.
+//! The operations of one resource: the queued actions, the running one, and the results that are kept.
 #![tactic(auto)]
 
 mod entries;

@@ -22,14 +22,14 @@ use thiserror::Error;
 #[error("no action of this call is queued")]
 pub struct NotQueued;
 
-/// As many actions are queued as may be: [`QUEUE_LIMIT`].
+/// [`QUEUE_LIMIT`] actions are queued already.
 #[derive(Clone, Copy, Debug, PartialEq, Eq, Error)]
 #[error("as many actions of this resource are queued as may be")]
 pub struct QueueFull;
 
-/// The operations of one resource: at most [`QUEUE_LIMIT`] queued actions, the one that runs, the last
-/// [`ENDED_KEPT`](ocf_types::ENDED_KEPT) results, and the one that failed last, kept or not. All its memory is taken as it
-/// is made.
+/// The operations of one resource: at most [`QUEUE_LIMIT`] queued actions, the running one, the last
+/// [`ENDED_KEPT`](ocf_types::ENDED_KEPT) results, and the last failure, which may be older than these. All memory is allocated
+/// when it is created.
 #[derive(Drop)]
 pub struct Ops<A: Allocator = Global> {
     queue: ArrayVec<Queued, { QUEUE_LIMIT }>,
@@ -47,7 +47,7 @@ impl<A: Allocator> Model for Ops<A> {
 }
 
 impl<A: Grows> Ops<A> {
-    /// The operations of a resource that is just registered: none. The only error is want of memory.
+    /// The operations of a newly registered resource: none. The only error is a refused allocation.
     pub fn new(alloc: A) -> Result<Ops<A>, AllocError>
         ensures none { IfOk result (λ o. o ≡ no_history) }
         ensures memory { OnErr result (IsTrue A.refuses) }
@@ -60,7 +60,7 @@ impl<A: Grows> Ops<A> {
         })
     }
 
-    /// The operations that these parts say. The only error is want of memory.
+    /// The operations of these parts. The only error is a refused allocation.
     #[tactic(auto, using(crate::proofs::Last::kept_whole))]
     pub fn from_parts(alloc: A, parts: &HistoryParts<A>) -> Result<Ops<A>, AllocError>
         requires queue { length parts.now.queue ≤ QUEUE_LIMIT }
@@ -80,7 +80,7 @@ impl<A: Grows> Ops<A> {
 }
 
 impl<A: Allocator> Ops<A> {
-    /// How many actions are queued, at most [`QUEUE_LIMIT`].
+    /// The number of queued actions, at most [`QUEUE_LIMIT`].
     pub fn queue_len(&self) -> usize
         ensures value { result ≡ length self.now.queue }
         ensures limit { result ≤ QUEUE_LIMIT }
@@ -88,7 +88,7 @@ impl<A: Allocator> Ops<A> {
         self.queue.len()
     }
 
-    /// A queued action, the first at 0.
+    /// A queued action; the first is at 0.
     pub fn queued_at(&self, at: usize) -> Op
         requires { at < length self.now.queue }
         ensures { slice_get self.now.queue at ≡ Some result }
@@ -107,14 +107,14 @@ impl<A: Allocator> Ops<A> {
             .find(|op| op.call == call)
     }
 
-    /// The action that runs.
+    /// The running action.
     pub fn running(&self) -> Option<Running>
         ensures { result ≡ self.now.running }
     {
         self.running
     }
 
-    /// How many results there are, at most [`ENDED_KEPT`](ocf_types::ENDED_KEPT).
+    /// The number of results, at most [`ENDED_KEPT`](ocf_types::ENDED_KEPT).
     pub fn ended_len(&self) -> usize
         ensures value { result ≡ length self.now.ended }
         ensures limit { result ≤ kept }
@@ -122,7 +122,7 @@ impl<A: Allocator> Ops<A> {
         self.ended.len()
     }
 
-    /// A result, the oldest at 0.
+    /// A result; the oldest is at 0.
     pub fn ended_at(&self, at: usize) -> Ended
         requires { at < length self.now.ended }
         ensures { slice_get self.now.ended at ≡ Some result }
@@ -130,22 +130,21 @@ impl<A: Allocator> Ops<A> {
         self.ended.at(at)
     }
 
-    /// The result that failed last, whether it is still kept among the others or not.
+    /// The last result that failed, even if it is no longer among the kept ones.
     pub fn failed(&self) -> Option<Ended>
         ensures { result ≡ self.now.failed }
     {
         self.failed
     }
 
-    /// Whether something is queued or runs.
+    /// Whether an action is queued or running.
     pub fn is_busy(&self) -> bool
         ensures { result ≡ is_busy self.now }
     {
         self.queue.len() > 0 || self.running.is_some()
     }
 
-    /// Puts an action at the end of the queue. It is refused exactly when [`QUEUE_LIMIT`] actions are queued, and then
-    /// nothing changes.
+    /// Appends an action to the queue. It is refused exactly when [`QUEUE_LIMIT`] actions are queued; then nothing changes.
     pub fn accept(&mut self, op: Op) -> Result<(), QueueFull>
         ensures refused { IsErr result ↔ (length self.old.queue ≡ QUEUE_LIMIT) }
         ensures unchanged { OnErr result (self.new ≡ self.old) }
@@ -158,7 +157,7 @@ impl<A: Allocator> Ops<A> {
         Ok(())
     }
 
-    /// What runs once it has begun under that run number: the first queued action; with an empty queue, the recurring
+    /// The action that runs after a begin under that run number: the first queued one or, if the queue is empty, the recurring
     /// monitor.
     pub fn next(&self, monitor: Option<Recur>, run: RunId, at: Moment) -> Option<Running>
         ensures { result ≡ (begun monitor run at self.now).running }
@@ -169,7 +168,7 @@ impl<A: Allocator> Ops<A> {
         Some(run_of_op(self.queued_at(0), run, at))
     }
 
-    /// Begins the first queued action under that run number; with an empty queue, a run of the recurring monitor.
+    /// Begins the first queued action under that run number or, if the queue is empty, a run of the recurring monitor.
     pub fn begin(&mut self, monitor: Option<Recur>, run: RunId, at: Moment)
         ensures { self.new ≡ begun monitor run at self.old }
     {
@@ -179,8 +178,8 @@ impl<A: Allocator> Ops<A> {
         }
     }
 
-    /// Appends what runs to the results: it ended so at that moment, and where that is a failure it is what failed last.
-    /// Where nothing runs, nothing changes.
+    /// Ends the running action at that moment: appends its result, which becomes the last failure if it is one. If no action runs,
+    /// nothing changes.
     pub fn end(&mut self, run_end: RunEnd, at: Moment)
         ensures { self.new ≡ ended (Outcome.Run run_end) at self.old }
     {
@@ -190,7 +189,7 @@ impl<A: Allocator> Ops<A> {
         self.running = None;
     }
 
-    /// What failed last once what runs has ended so at that moment.
+    /// The last failure after the running action has ended with this outcome at that moment.
     fn failed_after(&self, outcome: Outcome, at: Moment) -> Option<Ended>
         ensures { result ≡ failed_after outcome at self.now }
     {
@@ -200,8 +199,8 @@ impl<A: Allocator> Ops<A> {
         failed_of(running, outcome, at).or(self.failed)
     }
 
-    /// Takes the queued action of that call out of the queue, whose order stays, and appends it to the results as
-    /// cancelled. Where no queued action has that call, nothing changes.
+    /// Removes the queued action of that call, keeping the order of the others, and appends it to the results as cancelled. If
+    /// there is none, nothing changes.
     pub fn withdraw(&mut self, call: CallId, at: Moment) -> Result<(), NotQueued>
         ensures refused { IsErr result ↔ (queued_of call self.old.queue ≡ None) }
         ensures unchanged { OnErr result (self.new ≡ self.old) }
@@ -213,7 +212,7 @@ impl<A: Allocator> Ops<A> {
         Ok(())
     }
 
-    /// Drops what is queued, in order, and then interrupts what runs, so that its result is kept. Neither is a failure.
+    /// Drops the queued actions, in order, and then interrupts the running one, so that its result is kept. None is a failure.
     pub fn drop_all(&mut self, at: Moment)
         ensures { self.new ≡ booted at self.old }
     {
@@ -223,7 +222,7 @@ impl<A: Allocator> Ops<A> {
         self.running = None;
     }
 
-    /// Takes all results away, and what failed last.
+    /// Removes all results and the last failure.
     pub fn forget(&mut self)
         ensures { self.new ≡ forgotten self.old }
     {
@@ -231,7 +230,7 @@ impl<A: Allocator> Ops<A> {
         self.failed = None;
     }
 
-    /// Drops what a journal's first layout does not keep: what failed last, and all results but the last 16.
+    /// Removes what the journal's first layout does not keep: the last failure, and all results except the last 16.
     pub fn in_first(&mut self)
         ensures { self.new ≡ history_in First self.old }
     {

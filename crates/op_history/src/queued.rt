@@ -1,11 +1,11 @@
-//! A place of the queue.
+//! A queued action.
 ghost use Rattle.std.specs.Prelude.{◌≡◌, ◌≤◌, length};
 
 use arrayvec::ArrayVec;
 use ocf_types::{CallId, Millis, Op, QUEUE_LIMIT, Task};
 use std::marker::Model;
 
-/// A queued action. Contracts see just the action.
+/// A queued action, which contracts see as the action.
 #[derive(Drop)]
 pub(crate) struct Queued {
     op: Op,
@@ -34,7 +34,7 @@ impl Queued {
     }
 }
 
-/// What lies in an unused place of the queue, where nobody sees it.
+/// Fills the unused entries of the queue, which contracts do not see.
 impl Default for Queued {
     fn default() -> Queued {
         let (Some(call), Some(timeout)) = (CallId::new(1), Millis::new(1)) else {

@@ -30,7 +30,7 @@ impl<A: Allocator> Model for Results<A> {
 }
 
 impl<A: Grows> Results<A> {
-    /// No results, with the room for all that are kept.
+    /// No results, with capacity for all that are kept.
     pub(crate) fn new(alloc: A) -> Result<Results<A>, AllocError>
         ensures none { IfOk result (λ r. r ≡ []) }
         ensures memory { OnErr result (IsTrue A.refuses) }
@@ -41,7 +41,7 @@ impl<A: Grows> Results<A> {
 }
 
 impl<A: Allocator> Results<A> {
-    /// How many results there are.
+    /// The number of results.
     pub(crate) fn len(&self) -> usize
         ensures value { result ≡ length self.now }
         ensures limit { result ≤ kept }
@@ -49,7 +49,7 @@ impl<A: Allocator> Results<A> {
         self.ring.len()
     }
 
-    /// A result, the oldest at 0.
+    /// A result; the oldest is at 0.
     pub(crate) fn at(&self, index: usize) -> Ended
         requires { index < length self.now }
         ensures { slice_get self.now index ≡ Some result }
@@ -60,7 +60,7 @@ impl<A: Allocator> Results<A> {
         }
     }
 
-    /// Appends the result of what ran, if anything did. Where there is no room the oldest goes.
+    /// Appends the result of the action that ran, if any. If the ring is full, the oldest result is dropped.
     pub(crate) fn push_run(&mut self, running: Option<Running>, outcome: Outcome, at: Moment)
         ensures { self.new ≡ last_ended
             (self.old ++ map (ended_of outcome at) (option_to_list running)) }
@@ -71,7 +71,7 @@ impl<A: Allocator> Results<A> {
         }
     }
 
-    /// Appends queued actions, in order, as dropped. Where there is no room the oldest goes.
+    /// Appends queued actions, in order, as dropped. If the ring is full, the oldest result is dropped.
     pub(crate) fn push_dropped(&mut self, queue: &[Queued], at: Moment)
         ensures { self.new ≡ last_ended (self.old ++ map (dropped_of at) queue.now) }
     {
@@ -81,7 +81,7 @@ impl<A: Allocator> Results<A> {
         }
     }
 
-    /// Appends results, in order. Where there is no room the oldest goes.
+    /// Appends results, in order. If the ring is full, the oldest result is dropped.
     pub(crate) fn push_all(&mut self, results: &[Ended])
         ensures { self.new ≡ last_ended (self.old ++ results.now) }
     {
@@ -91,21 +91,21 @@ impl<A: Allocator> Results<A> {
         }
     }
 
-    /// Appends a result. Where there is no room the oldest goes.
+    /// Appends a result. If the ring is full, the oldest result is dropped.
     pub(crate) fn push(&mut self, ended: Ended)
         ensures { self.new ≡ last_ended (self.old ++ ended ∷ []) }
     {
         self.ring.push_back(ended);
     }
 
-    /// Keeps the last results alone, as many as that layout keeps.
+    /// Keeps only the last results, as many as that layout keeps.
     pub(crate) fn cut(&mut self, layout: Layout)
         ensures { self.new ≡ last_in layout self.old }
     {
         self.ring.truncate_front(layout.kept());
     }
 
-    /// Takes all results away.
+    /// Removes all results.
     pub(crate) fn clear(&mut self)
         ensures { self.new ≡ [] }
     {

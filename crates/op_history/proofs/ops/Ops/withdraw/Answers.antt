@@ -5,7 +5,7 @@ use Rattle.ocf_types.specs.declared.operation.Ended.{Ended}
 use Rattle.ocf_types.specs.Resource.{History, cancelled_of, last_ended, queued_of, withdrawn, without_call}
 use Rattle.op_history.proofs.ops.Ops.withdraw.Goals as goal
 
--- the first action of the call is the result, and those of other calls stay queued
+-- the first action of the call becomes a result, and those of other calls stay queued
 withdrawn_of : (call at : ℕ) (h : History) (o : Op) (queue : List Op) (e : Ended) (ended : List Ended)
     → queued_of call h.queue ≡ Some o → queue ≡ without_call call h.queue → e ≡ cancelled_of at o → ended ≡ last_ended (h.ended ++ e ∷ [])
     → record { queue = queue; running = h.running; ended = ended; failed = h.failed } ≡ withdrawn call at h
