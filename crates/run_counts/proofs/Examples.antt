@@ -22,7 +22,7 @@ web = codes "web"
 abbrev db : List ℕ
 db = codes "db"
 
--- what runs: a probe, which is to find that its resource does not run, and a start
+-- the running actions: a probe, which expects that its resource does not run, and a start
 abbrev probe : Task
 probe = task.Monitor (record { level = Zero; expect = NotRunning })
 
@@ -54,7 +54,7 @@ ran (a ∷ []) = runs_since first [] (at 2000 a ∷ [])
 ran (a ∷ b ∷ []) = runs_since first [] (at 2000 a ∷ at 3000 b ∷ [])
 ran (a ∷ b ∷ c ∷ more) = runs_since first [] (at 2000 a ∷ at 3000 b ∷ at 4000 c ∷ [])
 
--- the probe finds what it expects, or that its resource runs
+-- the probe finds what it expects, or finds its resource running
 expected : ran (result web 1 (Done 7) ∷ []) ≡ ran_as web false ∷ []
 expected = refl
 
@@ -65,11 +65,11 @@ unexpected = refl
 failed : ran (result db 2 (Done 7) ∷ result web 1 TimedOut ∷ []) ≡ ran_as db true ∷ ran_as web true ∷ []
 failed = refl
 
--- a boot interrupts what still runs, and that has not failed
+-- a boot interrupts the running actions, which have not failed
 interrupted : ran (result db 2 (Done 0) ∷ change.Boot ∷ []) ≡ ran_as db false ∷ ran_as web false ∷ []
 interrupted = refl
 
--- an unregister takes away the runs of its own resource alone
+-- an unregister removes only the runs of its own resource
 unregistered : ran (result db 2 (Done 1) ∷ result web 1 (Done 0) ∷ change.Unregister db ∷ []) ≡ ran_as web true ∷ []
 unregistered = refl
 

@@ -1,4 +1,4 @@
--- The runs after events, with one event more, and those of resources, with one more.
+-- The runs after one more event, and those of one more resource.
 use Rattle.std.proofs.Common.{◌≡◌, ℕ, ◌+◌, ◌<◌, Bool, List, [], ◌∷◌, ◌++◌, Option, Some, length, take, refl, sym, ap, ◌∙◌}
 use Rattle.std.specs.Prelude.{option_and_then, option_map, option_to_list}
 use Rattle.std.specs.List.{flat_map}
@@ -19,7 +19,7 @@ pub since_more : (s : State) (runs : List Ran) (es : List Event) (e : Event)
 since_more s runs [] e = refl
 since_more s runs (d ∷ ds) e = since_more (after s d) (ran_after s runs d) ds e
 
--- one resource more
+-- the runs with one more resource
 pub place_more : (f : List ℕ × Resource → List Ran) (s : State) (i : ℕ) (front : List Ran) → i < length s.resources
     → (front ++ flat_map f (take i s.resources)) ++ f (entry_at s i) ≡ front ++ flat_map f (take (i + 1) s.resources)
 place_more f s i front lt =
@@ -28,7 +28,7 @@ place_more f s i front lt =
     let all = ap (flat_map f) (take_more s.resources i no_entry lt) ∙ flat_map-append f es (entry_at s i ∷ []) in
     append_assoc front (flat_map f es) (f (entry_at s i)) ∙ ap (λ t. front ++ t) (sym (all ∙ ap (λ t. flat_map f es ++ t) one))
 
--- the run of a resource that a change ends so
+-- the run of a resource that a change ends with this outcome
 pub ended_one : (c : Change) (e : List ℕ × Resource) (id : List ℕ) (outcome : Outcome) (x : Running) (failed : Bool) → id ≡ e.0
     → end_of c id ≡ Some outcome → e.1.history.running ≡ Some x → failed ≡ has_failed (action_of x.task) (expect_of x.task) outcome
     → ended_by c e ≡ ran_as id failed ∷ []

@@ -1,4 +1,4 @@
--- The counts with one run more, and without the runs of a resource.
+-- The counts with one more run, and without the runs of a resource.
 use Rattle.std.proofs.Common.{◌≡◌, ℕ, ◌+◌, min, Bool, true, false, cond, not, ◌&&◌, List, [], ◌∷◌, ◌++◌, Option, Some, None, refl, sym, ap, subst, ◌∙◌, zero-add, arith}
 use Rattle.std.specs.Prelude.{count_by, unwrap_or}
 use Rattle.std.specs.Map.{lookup}
@@ -17,7 +17,7 @@ same_id a b is = (bytes_eq-Decides a b).0 is
 own_id : (a : List ℕ) → bytes_eq a a ≡ true
 own_id a = (bytes_eq-Decides a a).1 refl
 
--- ids that differ, the other way round
+-- a failing test of ids also fails the other way round
 differ : (a b : List ℕ) → bytes_eq a b ≡ false → bytes_eq b a ≡ false
 differ a b apart =
     false_from_ne_true (bytes_eq b a) (λ e. absurd (false≢true (sym apart ∙ (bytes_eq-Decides a b).1 (sym (same_id b a e)))))
@@ -65,7 +65,7 @@ module _ (id : List ℕ) (failed : Bool) (runs : List Ran) where
       ap (λ (k : ℕ). min k greatest) (failures_more q false apart ∙ no_more m) in
       λ i. record { runs = first i; failures = second i }
 
-  -- counts in which those of the resource have one run more
+  -- counts in which those of the resource have one more run
   pub tallies_more : (old new : List (List ℕ × RunCount)) → Tallies old runs
       → ((q : List ℕ) → lookup (bytes_eq q) new ≡ cond (bytes_eq id q) (Some (one_more failed (count_at old id))) (lookup (bytes_eq q) old))
       → Tallies new more
@@ -97,7 +97,7 @@ module _ (id : List ℕ) (p : Ran → Bool) where
   none_left own [] = refl
   none_left own (r ∷ rs) = none_by r rs (bytes_eq id r.id) refl (own r) (none_left own rs)
 
-  -- and each other one is
+  -- the runs of other resources are still counted
   all_by : (r : Ran) (rs : List Ran) (b : Bool) → bytes_eq id r.id ≡ b → (p r ≡ true → bytes_eq id r.id ≡ false)
       → count_by p (without id rs) ≡ count_by p rs → count_by p (cond (not b) (r ∷ without id rs) (without id rs)) ≡ count_by p (r ∷ rs)
   all_by r rs true is others rest =
@@ -110,7 +110,7 @@ module _ (id : List ℕ) (p : Ran → Bool) where
   all_left others [] = refl
   all_left others (r ∷ rs) = all_by r rs (bytes_eq id r.id) refl (others r) (all_left others rs)
 
--- counts from which those of a resource are gone
+-- counts from which those of a resource are removed
 pub tallies_without : (id : List ℕ) (runs : List Ran) (old new : List (List ℕ × RunCount)) → Tallies old runs
     → ((q : List ℕ) → lookup (bytes_eq q) new ≡ cond (bytes_eq id q) None (lookup (bytes_eq q) old)) → Tallies new (without id runs)
 tallies_without id runs old new were updates q = by (bytes_eq id q) refl
@@ -134,7 +134,7 @@ tallies_without id runs old new were updates q = by (bytes_eq id q) refl
         let left : tally (without id runs) q ≡ tally runs q = λ i. record { runs = min (first i) greatest; failures = min (second i) greatest } in
         ap (λ (o : Option RunCount). unwrap_or o no_runs) (updates q ∙ ap (λ b. cond b None (lookup (bytes_eq q) old)) is) ∙ were q ∙ sym left
 
--- what an insert into a map that was grown makes of it
+-- the map after an insert for which it was grown
 pub inserted : (q id key : List ℕ) (old mid new : List (List ℕ × RunCount)) (count value : RunCount) → mid ≡ old → key ≡ id → value ≡ count
     → lookup (bytes_eq q) new ≡ cond (bytes_eq key q) (Some value) (lookup (bytes_eq q) mid)
     → lookup (bytes_eq q) new ≡ cond (bytes_eq id q) (Some count) (lookup (bytes_eq q) old)

@@ -14,25 +14,26 @@ use Rattle.ocf_types.specs.declared.operation.Running.{Running}
 use Rattle.ocf_types.specs.declared.outcome.Outcome.{Outcome}
 use Rattle.ocf_types.specs.declared.outcome.Outcome.TheVariants.{Run, Interrupted}
 
--- a run that ended: of which resource, and whether it has failed
+-- a run that ended: the id of its resource, and whether it has failed
 pub record Ran : Type 0 where
   pub id : List ℕ
   pub failed : Bool
 
+-- the run of an id that has failed or not
 abbrev pub ran_as : List ℕ → Bool → Ran
 ran_as id failed = record { id = id; failed = failed }
 
--- how a change ends what a resource runs: a result ends that of its own, and a boot that of each
+-- the outcome by which a change ends the running action of an id: a result ends that of its own resource, a boot that of each
 abbrev pub end_of : Change → List ℕ → Option Outcome
 end_of (change.Step of (step.Result run end)) id = if bytes_eq of id then Some (Run end) else None
 end_of change.Boot id = Some Interrupted
 end_of _ id = None
 
--- what runs has ended so: it has failed as its own task expects
+-- the running action as a run that ended with this outcome: it has failed or not by the expectation of its task
 abbrev pub ran : List ℕ → Outcome → Running → Ran
 ran id outcome x = ran_as id (has_failed (action_of x.task) (expect_of x.task) outcome)
 
--- the run of a resource that a change ends, if any, by what the resource runs before it
+-- the run of a resource that a change ends, if any, from the running action before it
 abbrev pub ended_by : Change → List ℕ × Resource → List Ran
 ended_by c e = option_to_list (option_and_then (λ outcome. option_map (ran e.0 outcome) e.1.history.running) (end_of c e.0))
 
@@ -40,7 +41,7 @@ ended_by c e = option_to_list (option_and_then (λ outcome. option_map (ran e.0 
 abbrev pub without : List ℕ → List Ran → List Ran
 without id runs = filter (λ r. not (bytes_eq id r.id)) runs
 
--- the runs that a change leaves: with a resource that is unregistered go its runs
+-- the earlier runs that a change leaves: unregistering a resource removes its runs
 abbrev pub left_by : Change → List Ran → List Ran
 left_by (change.Unregister id) runs = without id runs
 left_by _ runs = runs
@@ -49,7 +50,7 @@ left_by _ runs = runs
 abbrev pub ran_after : State → List Ran → Event → List Ran
 ran_after s runs e = left_by e.change runs ++ flat_map (ended_by e.change) s.resources
 
--- the runs after events, where there were these before them in this state
+-- the runs after events, from these runs and this state
 abbrev pub runs_since : State → List Ran → List Event → List Ran
 runs_since s runs [] = runs
 runs_since s runs (e ∷ es) = runs_since (after s e) (ran_after s runs e) es

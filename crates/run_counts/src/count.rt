@@ -2,7 +2,7 @@
 ghost use Rattle.std.specs.Prelude.{◌≡◌};
 ghost use Rattle.run_counts.specs.Counts.{no_runs, one_more};
 
-/// How many runs of a resource ended, and how many of them failed. A count of 2^64 - 1 stays there.
+/// The number of runs of a resource that ended, and of those that failed. Counts saturate at 2^64 - 1.
 #[derive(Clone, Copy, Debug, PartialEq, Eq)]
 pub struct RunCount {
     pub runs: u64,
@@ -10,7 +10,7 @@ pub struct RunCount {
 }
 
 impl RunCount {
-    /// No run.
+    /// The counts of no run.
     pub fn none() -> RunCount
         ensures { result ≡ no_runs }
     {
@@ -20,7 +20,7 @@ impl RunCount {
         }
     }
 
-    // One run more.
+    // The counts with one more run.
     pub(crate) fn one_more(self, failed: bool) -> RunCount
         ensures { result ≡ one_more failed self }
     {

@@ -13,7 +13,7 @@ use ocf_codes::failed;
 use ocf_types::{Change, Event, Outcome, Params, RscId, StateView, Step};
 use std::alloc::{AllocError, Global};
 
-/// The counts of the resources of which a run ended, by id.
+/// The counts by id of the resources that have had a run end.
 pub type RunCounts = IndexMap<RscId, RunCount>;
 
 /// The counts of a resource.
@@ -26,7 +26,7 @@ pub fn count_of(counts: &RunCounts, id: &RscId) -> RunCount
     }
 }
 
-// Counts one run more of a resource.
+// Counts one more run of a resource.
 fn add(counts: &mut RunCounts, id: &RscId, failed: bool) -> Result<(), AllocError>
     ensures counted { (runs : List Ran) → Tallies counts.old.entries runs
         → OnOk result (Tallies counts.new.entries (runs ++ ran_as id.now failed ∷ [])) }
@@ -48,7 +48,7 @@ fn forget(counts: &mut RunCounts, id: &RscId)
     counts.swap_remove(id);
 }
 
-// Forgets the runs that a change takes away: those of the resource that it unregisters.
+// Forgets the runs that a change removes: those of the resource that it unregisters.
 fn forget_by(counts: &mut RunCounts, change: &Change<Params>)
     ensures { (runs : List Ran) → Tallies counts.old.entries runs
         → Tallies counts.new.entries (left_by change.now runs) }
@@ -58,7 +58,7 @@ fn forget_by(counts: &mut RunCounts, change: &Change<Params>)
     }
 }
 
-// How a change ends what a resource runs: none where it does not.
+// The outcome by which a change ends the running action of a resource; `None` if it does not end it.
 fn end_of(change: &Change<Params>, id: &RscId) -> Option<Outcome>
     ensures { result ≡ end_of change.now id.now }
 {
@@ -75,7 +75,7 @@ fn end_of(change: &Change<Params>, id: &RscId) -> Option<Outcome>
     }
 }
 
-// Counts the run of the resource at a place that a change ends, where it ends one.
+// Counts the run of the resource at an index, if the change ends one.
 fn count_place(
     counts: &mut RunCounts,
     state: &State,

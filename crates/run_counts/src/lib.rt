@@ -1,4 +1,4 @@
-//! How many runs of each resource ended over a list of events, and how many of them failed.
+//! The number of runs of each resource that ended over a list of events, and of those that failed.
 #![tactic(auto)]
 
 mod count;
