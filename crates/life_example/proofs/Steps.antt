@@ -1,4 +1,4 @@
--- How a history grows by an incarnation.
+-- Lemmas: a history grows by one incarnation.
 use Rattle.std.proofs.Common.{◌≡◌, ℕ, ◌+◌, ◌-◌, List, [], ◌∷◌, ◌++◌, Some, refl, sym, ap, ap₂, subst, ◌∙◌, arith}
 use Rattle.std.proofs.lemmas.List.{append-nil}
 use Rattle.ocf_types.specs.Kinds.{Event}
@@ -21,13 +21,13 @@ use Rattle.executor.specs.Sights.{Sight}
 use Rattle.executor.specs.declared.opening.OpenError.{OpenError}
 use Rattle.life_example.specs.History.{IsHistory, IsPromised, IsSitting}
 
--- no reply is to no call
+-- without replies there are no calls
 pub unanswered : (is : List Input) → as_calls is [] ≡ []
 unanswered [] = refl
 unanswered (i ∷ is) = refl
 
 module _ {D : Type 0} (look : D → View) where
-  -- an executor was opened, and made calls
+  -- an incarnation of an executor that was opened and made calls
   pub served : (old new : D) (from : ChildrenView) (now : ℕ) (opened last : Sight D) (ran queued : List Notice) (calls : List Exchange)
       (d : Effects) → Opened look (look old) from now opened ran queued → Calls look opened calls last d → new ≡ last.disk
       → IsSitting look calls old new
@@ -59,7 +59,7 @@ module _ {D : Type 0} (look : D → View) where
     leaves = λ honest c left. subst (λ (z : D). (look z).since (look z).clock c) same left;
   }
 
-  -- no executor was opened
+  -- an incarnation in which no executor was opened
   pub not_opened : (law : (d : D) → (look d).honest → Lawful (look d)) (old new : D) (from to : ChildrenView) (now : ℕ) (why : OpenError)
       → NotOpened (look old) (look new) from to now why → Sat look (InOpening old new now (Some why)) → IsSitting look [] old new
   not_opened law old new from to now why refused sat = record {
@@ -72,7 +72,7 @@ module _ {D : Type 0} (look : D → View) where
   }
 
 module _ {M : Type 0} where
-  -- a history begins on a disk without a byte
+  -- a history begins on an empty disk
   pub begins : (d : MemDisk M) → ((c : Image) → IsFreshPair c → BeginsAs empty c) → IsFresh (record { a = []; b = [] }) d
       → IsHistory (λ (x : MemDisk M). view_of x) [] d
   begins d law fresh = record {
@@ -82,7 +82,7 @@ module _ {M : Type 0} where
     goes_on = λ c now. law c (subst IsFreshPair (sym (fresh.now c now)) refl);
   }
 
-  -- and goes on by an incarnation on it, and a pair that its crash left
+  -- a history goes on by an incarnation on its disk, and a crash image of it
   pub goes_on : (calls : List Exchange) (older : List (List Exchange)) (old planned new left : MemDisk M) (call : ℕ) → IsSame old planned
       → IsSitting (λ (x : MemDisk M). view_of x) calls planned new → call ≡ (view_of new).clock + 1
       → (view_of new).since (call - 1) (view_of left).reads → IsFresh (view_of left).reads left
@@ -104,7 +104,7 @@ module _ {M : Type 0} where
             (subst (λ (k : Image). (view_of new).since (view_of new).clock k) (sym (fresh.now c now)) stands);
       }
 
-  -- the promise of it
+  -- the promise holds for such a history
   pub promised : ((start : State) (life : List (Sitting (MemDisk M))) (is : IsLife (λ (x : MemDisk M). view_of x) start life) (c : Image)
       → LifeLeaves (λ (x : MemDisk M). view_of x) start life c
       → (zs : List Event) × FoundAs (after_all start zs) c × Runs start (seen (λ (x : MemDisk M). view_of x) start life is) zs

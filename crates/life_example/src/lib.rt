@@ -1,5 +1,5 @@
-//! An example of the promise: what an executor does over a disk in memory, through crashes, is a history of incarnations of
-//! which `executor::laws::promise` speaks. Nothing here is part of the product.
+//! An example of the promise: an executor over a disk in memory makes, through crashes, a history of incarnations to which
+//! `executor::laws::promise` applies. Nothing here is part of the product.
 #![tactic(auto)]
 
 ghost use Rattle.std.specs.Prelude.{◌∷◌, [], IfNone, IfSome, IsTrue, List};
@@ -18,8 +18,8 @@ use ocf_env::Site;
 use ocf_types::Reply;
 use std::alloc::Global;
 
-/// A machine: its agent processes and where agents are, the moment at which its executor is opened, in milliseconds since
-/// 1970, what the executor is handed, and the device call in which the machine crashes, counted from 1.
+/// A machine: its agent processes, the paths of its agents, the moment at which its executor is opened, in milliseconds since
+/// 1970, the inputs of the executor, and the device call in which the machine crashes, counted from 1.
 #[derive(Drop)]
 pub struct Machine<C: Children + Drop, A: Grows = Global> {
     pub children: C,
@@ -29,14 +29,14 @@ pub struct Machine<C: Children + Drop, A: Grows = Global> {
     pub stop: u64,
 }
 
-/// A disk as a machine left it, and what its executor replied, if it was opened.
+/// A disk as a machine left it, and the replies of its executor, if it was opened.
 #[derive(Drop)]
 pub struct Stopped<D: Disk + Drop, A: Grows = Global> {
     pub disk: D,
     pub replies: Vec<Reply<A>, A>,
 }
 
-// Opens the executor of a machine and hands it its inputs. It is nothing where memory for the replies is refused.
+// Opens the executor of a machine, and runs it over its inputs. `None` if memory for the replies is refused.
 fn sit<D: Disk + Drop, C: Children + Drop, A: Grows>(
     alloc: A,
     disk: D,
@@ -65,9 +65,8 @@ fn sit<D: Disk + Drop, C: Children + Drop, A: Grows>(
     }
 }
 
-/// One more incarnation: a machine on this disk, which fails each device call from the machine's crash on; then a pair that the
-/// crash may leave, with this fill where bytes were not synced. It is nothing where memory is refused, and after 2 ^ 64 device
-/// calls.
+/// One more incarnation: a machine on this disk, which fails each device call from the machine's crash on. Returns a crash image,
+/// with this fill for bytes that were not synced, or `None` if memory is refused, or after 2 ^ 64 device calls.
 pub fn live<C: Children + Drop, A: Grows>(
     alloc: A,
     mut disk: MemDisk<A>,
@@ -90,7 +89,7 @@ pub fn live<C: Children + Drop, A: Grows>(
     })
 }
 
-/// Two machines, one after the other, the first one on a disk without a byte; with the replies of each.
+/// Two machines, one after the other, the first one on an empty disk. Returns the replies of each.
 pub fn live_twice<C: Children + Drop, A: Grows>(
     alloc: A,
     first: Machine<C, A>,
