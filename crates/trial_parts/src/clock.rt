@@ -1,15 +1,15 @@
-//! A clock that is moved by who waits.
+//! A clock that is moved by waiting.
 use std::cell::Cell;
 use std::io;
 use std::rt::Clock;
 use std::time::Duration;
 
-/// A clock that goes on by a microsecond at each look, and by each wait for as long as that takes.
+/// A clock that advances by a microsecond at each monotonic reading, and by the duration of each sleep.
 #[derive(Drop)]
 pub struct MovedClock {
-    // What the wall clock showed when this one began, in milliseconds since 1970.
+    // The reading of the wall clock at the beginning, in milliseconds since 1970.
     wall: u64,
-    // in microseconds
+    // In microseconds.
     passed: Cell<u64>,
 }
 
@@ -22,12 +22,12 @@ impl MovedClock {
         }
     }
 
-    /// How many microseconds have passed.
+    /// The time that has passed, in microseconds.
     pub fn passed(&self) -> u64 {
         self.passed.get()
     }
 
-    /// This many microseconds pass.
+    /// Advances the clock by this many microseconds.
     pub fn pass(&self, micros: u64) {
         self.passed.set(self.passed().saturating_add(micros));
     }

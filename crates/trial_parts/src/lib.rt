@@ -1,4 +1,4 @@
-//! What runs of trials and of tests are played with: a clock that is moved by who waits, scripted agents, and agents without
+//! Test doubles for the sessions of trials and tests: a clock that is moved by waiting, scripted agents, and agents without
 //! metadata. Nothing here is part of the product.
 #![tactic(auto)]
 

@@ -1,4 +1,4 @@
-//! Metadata that no agent gives.
+//! A source of metadata without agents.
 ghost use Rattle.std.specs.Prelude.{⊤};
 
 use exec_session::Metadata;

@@ -1,4 +1,4 @@
-//! Agents that are scripted.
+//! Scripted agent processes.
 use anyhow::Result;
 use child_keeper::{Script, Scripted};
 use child_model::Poll;
@@ -7,16 +7,16 @@ use ocf_types::StartFault;
 use std::alloc::Global;
 use std::collections::VecDeque;
 
-// How many answers are drawn. After them every start succeeds, and every agent runs on.
+// The number of spawns and polls that are drawn. After them every spawn succeeds, and every agent process keeps running.
 const DRAWS: usize = 16_384;
 
-// How often an agent that takes its time is asked in vain.
+// The number of polls at which a slow agent process is still running.
 const SLOW: usize = 100;
 
 // Three entries for each of 256 resources.
 const BOOK: usize = 768;
 
-// Numbers that follow from a seed, by Knuth's linear congruential generator of MMIX.
+// Pseudo-random numbers from a seed, by Knuth's linear congruential generator of MMIX.
 #[derive(Drop)]
 struct Dice {
     state: u64,
@@ -50,7 +50,7 @@ fn start_of(roll: u8) -> Result<(), StartFault> {
     }
 }
 
-// An answer to a poll, and how often it is given.
+// The result of a poll, and how often it is repeated.
 fn poll_of(roll: u8) -> (Poll, usize) {
     match roll {
         0..=1 => (Poll::Running, SLOW),
@@ -71,7 +71,7 @@ fn push_poll(polls: &mut VecDeque<Poll>, roll: u8) -> Result<()> {
     Ok(())
 }
 
-/// Agents whose starts and ends follow from a seed: most of them are started and end well.
+/// Agent processes whose spawns and ends follow from a seed: most are spawned and succeed.
 pub fn agents(alloc: Global, seed: u64) -> Result<Scripted> {
     let mut dice = Dice { state: seed };
     let mut script = empty_script(alloc);
@@ -82,12 +82,12 @@ pub fn agents(alloc: Global, seed: u64) -> Result<Scripted> {
     Ok(Scripted::new(alloc, script, BOOK)?)
 }
 
-/// Agents that are started and run on.
+/// Agent processes that are spawned and keep running.
 pub fn no_agents(alloc: Global) -> Result<Scripted> {
     Ok(Scripted::new(alloc, empty_script(alloc), BOOK)?)
 }
 
-/// A site without words: no agent is there.
+/// Empty agent paths: there are no agents.
 pub fn nowhere(alloc: Global) -> Site {
     let (root, path) = (String::new(alloc), String::new(alloc));
     Site::new(Text::new(root), Text::new(path), None)
