@@ -1,4 +1,4 @@
-// Runs and a show over disks, readers and writers that fail.
+//! Sessions, and a `show`, over disks, readers and writers that fail.
 use crate::runs::{DRAIN, ended, ended_in, run_over};
 use child_model::Poll;
 use disk_model::MemDisk;
@@ -8,7 +8,7 @@ use std::alloc::Global;
 use std::io::{self, BufReader, ErrorKind, Read, Write};
 use std::str::from_utf8;
 
-// A registration, a question, a tidy, a line that is refused in reading, drains and metadata.
+// A registration, a question, a tidy, a malformed line, a drain, a watch, metadata and a registration.
 const LINES: &[u8] =
     b"{\"op\":\"register\",\"id\":\"r1\",\"provider\":\"pacemaker\",\"type\":\"Dummy\"}\n{\"op\":\"list\"}\n{\"op\":\"tidy\"}\n{\"op\":\n\
     {\"op\":\"drain\"}\n{\"op\":\"watch\",\"limit\":9}\n{\"op\":\"meta\",\"provider\":\"p\",\"type\":\"t\"}\n\
@@ -21,7 +21,7 @@ const REPLIES_WHEN_CLOSED: &str =
 
 const REGISTER: &[u8] = b"{\"op\":\"register\",\"id\":\"r1\",\"provider\":\"p\",\"type\":\"t\"}";
 
-// How many device calls an opening of a fresh disk makes.
+// The number of device calls of an opening on a fresh disk.
 const OPENING_CALLS: u64 = 13;
 
 // A fresh disk that fails in this device call after the opening.
@@ -83,7 +83,7 @@ fn a_show_on_a_disk_that_fails_writes_nothing(rt: HostRuntime) {
     assert!(rt; written.is_empty(), "{} bytes were written", written.len());
 }
 
-// Gives these bytes, each read after one that was interrupted or would have to wait, and then fails.
+// Reads these bytes, and then fails. Each read comes after one that was interrupted or would block.
 #[derive(Drop)]
 struct Stumbling {
     left: &'static [u8],
@@ -107,7 +107,7 @@ impl Read for Stumbling {
     }
 }
 
-// How a run ends whose input, read five bytes at a time, fails after a line and a half, if the line was answered.
+// The end of a session whose input, read five bytes at a time, fails after a line and a half; `None` unless the line was answered.
 fn unread(alloc: Global) -> Option<Result<(), Fault>> {
     let input = Stumbling {
         left: b"{\"op\":\"list\"}\n{\"op\":\"list\"}",
@@ -125,7 +125,7 @@ fn reads_that_bring_nothing_are_made_again_and_one_that_fails_ends_the_run(rt: H
     assert_eq!(rt; unread(rt.alloc()), Some(Err(Fault::InputOrOutput)));
 }
 
-// Takes one byte at a time, each after a write that was interrupted.
+// Accepts one byte at a time, each after a write that was interrupted.
 #[derive(Drop)]
 struct Sparing {
     taken: Vec<u8>,
@@ -164,7 +164,7 @@ fn writes_that_take_little_are_made_again(rt: HostRuntime) {
     assert_eq!(rt; from_utf8(writer.taken.as_slice()), Ok(BOTH_DONE));
 }
 
-// How a run ends whose output takes this many bytes of two replies of 27 bytes each.
+// The end of a session whose output accepts this many bytes of two replies of 27 bytes each.
 fn two_replies(alloc: Global, taken: usize) -> Option<Result<(), Fault>> {
     let mut room = [0u8; 54];
     let lines = b"{\"op\":\"list\"}\n{\"op\":\"list\"}\n";

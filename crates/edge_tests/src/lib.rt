@@ -1,4 +1,4 @@
-//! Tests of the edges that neither a scenario nor the built program reaches: runs over disks, readers and writers that fail, and
+//! Tests of edges that neither a scenario nor the built program reaches: sessions over disks, readers and writers that fail, and
 //! a drain whose turns are counted. Nothing here is part of the product.
 #![tactic(auto)]
 

@@ -1,4 +1,4 @@
-// Runs over whole inputs, over a disk in memory and scripted children, by a clock that does not move.
+//! Sessions over whole inputs, with a disk in memory, scripted agent processes and a clock that does not move.
 use child_keeper::{Script, Scripted};
 use child_model::Poll;
 use disk_model::MemDisk;
@@ -30,7 +30,7 @@ impl Clock for Standing {
     }
 }
 
-// Children that answer these polls, and then run on.
+// Agent processes with these poll results, which then keep running.
 fn children(alloc: Global, polls: &[Poll]) -> Option<Scripted> {
     let mut script = Script {
         starts: VecDeque::new(alloc),
@@ -43,7 +43,7 @@ fn children(alloc: Global, polls: &[Poll]) -> Option<Scripted> {
     Scripted::new(alloc, script, 768).ok()
 }
 
-// What notices say, and what a run that serves says of itself.
+// The form of notices, and the ready line of a serving session.
 fn form_of(way: Way) -> NoticeForm<'static> {
     match way {
         Way::Run => NoticeForm::Short,
@@ -55,7 +55,7 @@ fn form_of(way: Way) -> NoticeForm<'static> {
     }
 }
 
-/// How a run ends over a journal that is opened at moment 5,000. Its drains make at most three turns.
+/// The end of a session over a journal that is opened at moment 5,000. Its drains make at most three turns.
 pub fn ended<R: Input + Drop, W: Output>(
     alloc: Global,
     disk: MemDisk,
@@ -67,7 +67,7 @@ pub fn ended<R: Input + Drop, W: Output>(
     Some(ended)
 }
 
-// The same of a run that goes this way, and its disk.
+// The end of a session in this mode, and its disk.
 fn ended_in_way<R: Input + Drop, W: Output>(
     alloc: Global,
     way: Way,
@@ -100,7 +100,7 @@ fn ended_in_way<R: Input + Drop, W: Output>(
     }
 }
 
-/// How a run ended, and what it wrote.
+/// The end of a session, and its output.
 #[derive(Drop)]
 pub struct Answered {
     pub ended: Result<(), Fault>,
@@ -109,7 +109,7 @@ pub struct Answered {
 }
 
 impl Answered {
-    /// What it wrote, as text.
+    /// The output, as text.
     pub fn text(&self) -> &str {
         from_utf8(self.written.as_slice()).unwrap_or("no text")
     }
@@ -131,12 +131,12 @@ fn run_in_way(
     })
 }
 
-/// A run over these lines.
+/// A session over these lines.
 pub fn run_over(alloc: Global, disk: MemDisk, polls: &[Poll], lines: &[u8]) -> Option<Answered> {
     run_in_way(alloc, Way::Run, disk, polls, lines)
 }
 
-/// How a run over these lines ends whose output takes no more bytes than this room has.
+/// The end of a session over these lines whose output accepts only as many bytes as this buffer has.
 pub fn ended_in(
     alloc: Global,
     disk: MemDisk,
@@ -173,7 +173,7 @@ fn a_drain_makes_as_many_turns_as_it_may(rt: HostRuntime) {
     }
 }
 
-// A run that serves over these lines, all of which are there at once.
+// A serving session over these lines, all of which are available at once.
 fn served(alloc: Global, polls: &[Poll], lines: &[u8]) -> Option<Answered> {
     run_in_way(alloc, Way::Serve, MemDisk::new(alloc), polls, lines)
 }
@@ -201,8 +201,8 @@ fn a_run_that_serves_says_that_it_is_ready_and_answers_as_a_run_does(rt: HostRun
     }
 }
 
-// A start, then lines that are passed over up to twice 64 in all, and a question: the second turn before it reports how the start
-// ended.
+// A start, then empty lines up to twice 64 lines in all, and a question: the second turn, before the question, reports the end of
+// the start.
 const BEHIND_A_TURN: &[u8] =
     b"{\"op\":\"register\",\"id\":\"r1\",\"provider\":\"p\",\"type\":\"t\"}\n{\"op\":\"exec\",\"id\":\"r1\",\"action\":\"start\"}\n\
     \n\n\n\n\n\n\n\n\n\n\n\n\n\n\n\n\n\n\n\n\n\n\n\n\n\n\n\n\n\n\n\n\n\n\n\n\n\n\n\n\n\n\
@@ -224,13 +224,13 @@ fn a_run_that_serves_makes_turns_between_lines(rt: HostRuntime) {
     assert_eq!(rt; run.ended, Ok(()));
 }
 
-// Two starts that wait, and the end of the input.
+// A start that runs on, two actions that are queued, and the end of the input.
 const TWO_STARTS: &[u8] =
     b"{\"op\":\"register\",\"id\":\"r1\",\"provider\":\"p\",\"type\":\"t\"}\n{\"op\":\"register\",\"id\":\"r2\",\"provider\":\"p\",\"type\":\"t\"}\n\
     {\"op\":\"exec\",\"id\":\"r1\",\"action\":\"start\"}\n{\"op\":\"drain\",\"limit\":0}\n{\"op\":\"exec\",\"id\":\"r2\",\"action\":\"start\"}\n\
     {\"op\":\"exec\",\"id\":\"r2\",\"action\":\"monitor\"}\n";
 
-// What was interrupted, what was dropped, and how many of each there were.
+// The interrupted action, the dropped ones, and how many there were of each.
 const READY_AFTER_THE_REPORT: &str =
     "{\"action\":\"start\",\"at\":6000,\"call\":1,\"code\":1,\"expect\":0,\"failed\":false,\"id\":\"r1\",\"interval\":0,\
     \"key\":\"r1_start_0\",\"name\":\"OCF_ERR_GENERIC\",\"outcome\":\"interrupted\",\"run\":1,\"since\":6000}\n\
@@ -250,7 +250,7 @@ fn a_run_that_serves_says_after_the_report_how_many_lines_that_had(rt: HostRunti
     assert_eq!(rt; run.ended, Ok(()));
 }
 
-// Lines with tags: commands that arrive together, one of them refused, a line that is refused in reading, a question and a drain.
+// Lines with tags: commands that arrive together, one of which is refused, a line of an unknown operation, a question and a drain.
 const TAGGED: &[u8] =
     b"{\"op\":\"register\",\"id\":\"r1\",\"provider\":\"p\",\"type\":\"t\",\"tag\":\"a\"}\n\
     {\"op\":\"exec\",\"id\":\"r2\",\"action\":\"start\",\"tag\":\"b\"}\n{\"op\":\"exec\",\"id\":\"r1\",\"action\":\"start\",\"tag\":\"\"}\n\
