@@ -1,13 +1,13 @@
-// Every byte of the first journal, in both layouts, set to each other value.
+//! Every byte of a journal with one record, in both layouts, set to each other value.
 use crate::parts::{FIRST, disk_with, found_on};
 use exec_journal::{Cause, Damage, JournalFault};
 use ocf_types::{Layout, Part};
 use std::alloc::Global;
 
-// Where a part's version is: after its gate and four bytes of magic.
+// The offset of a part's version: after its gate and four bytes of magic.
 const VERSION_AT: usize = 5;
 
-// Which of the counts a cause has.
+// The index of a cause's count.
 fn place_of(cause: Cause) -> usize {
     match cause {
         Cause::Cut => 1,
@@ -22,12 +22,12 @@ fn place_of(cause: Cause) -> usize {
     }
 }
 
-// Whether damage may be there in the first journal: at its beginning, or at a gate.
+// Whether damage may be reported at this offset: at the beginning of part A, or at one of its gates.
 fn may_stand(damage: &Damage) -> bool {
     damage.part == Part::A && [0, 44, 78].contains(&damage.at)
 }
 
-// What is found on this part with a byte set to another value, by the place of its count.
+// Opens a journal on this part with a byte set to another value. Returns the index of the count of what is found.
 fn found(alloc: Global, journal: &[u8], place: usize, byte: u8) -> Option<usize> {
     let mut part = journal.to_vec(alloc).ok()?;
     *part.get_mut(place)? = byte;
@@ -38,7 +38,7 @@ fn found(alloc: Global, journal: &[u8], place: usize, byte: u8) -> Option<usize>
     }
 }
 
-// The openings with another byte at a place, counted: a state was found, or each cause of damage.
+// Counts the openings with each other byte at an offset, by a state or each cause of damage.
 fn count(alloc: Global, journal: &[u8], place: usize, counts: &mut [u32; 10]) -> Option<()> {
     let byte = *journal.get(place)?;
     for other in 0..=255 {
@@ -58,7 +58,7 @@ fn counts(alloc: Global, journal: &[u8]) -> Option<[u32; 10]> {
     Some(counts)
 }
 
-// By the counts of an independent program: how many openings find a state, or each damage. The version of the other layout is read, too.
+// The counts of an independent program: how many openings find a state, or each damage. The version of the other layout is read, too.
 const COUNTS: [(&str, u32); 10] = [
     ("a state", 8_256),
     ("cut", 1_314),
@@ -72,7 +72,7 @@ const COUNTS: [(&str, u32); 10] = [
     ("order", 1_561),
 ];
 
-// The first count that is not as wanted: what was found, how often that is wanted, and how often it was found.
+// The first count that differs: what was found, how often that is expected, and how often it was found.
 fn difference(counts: &[u32; 10]) -> Option<(&'static str, u32, u32)> {
     for ((name, wanted), count) in COUNTS.iter().zip(counts.iter()) {
         if count != wanted {
@@ -88,7 +88,7 @@ fn every_byte_is_read_as_it_stands(rt: HostRuntime) {
     assert_eq!(rt; difference(&counts), None);
 }
 
-// The first journal in the first layout, which differs in its version alone.
+// The same journal in the first layout, which differs only in its version.
 fn in_first_layout(alloc: Global) -> Option<Vec<u8>> {
     let mut part = FIRST.to_vec(alloc).ok()?;
     *part.get_mut(VERSION_AT)? = Layout::First.byte();

@@ -1,4 +1,4 @@
-// The journal's files in a directory: where a part ends, and what follows a fault.
+//! The journal's files in a directory: the end of a part, and calls after a fault.
 use disk_model::Disk;
 use file_disk::{FileDisk, Owners, TellsError};
 use ocf_types::{PART_LIMIT, Part};
@@ -6,7 +6,7 @@ use std::fs::{self, File};
 use std::io;
 use std::test::Fail;
 
-// A directory with an empty part A, and a part B of a byte more than a part has.
+// A directory with an empty part A, and a part B that is one byte longer than a part can be.
 fn make_long(rt: &HostRuntime) -> io::Result<()> {
     fs::create_dir(rt, "long")?;
     File::create(rt, "long/part-a")?;

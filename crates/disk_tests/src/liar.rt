@@ -1,12 +1,12 @@
-// A disk that lies.
+//! A disk that lies.
 ghost use Rattle.disk_model.specs.WildDisk.{wild_view};
 
 use disk_model::wild::WildDisk;
 use disk_model::{Disk, DiskFault};
 use ocf_types::Part;
 
-/// A disk of which nothing is promised: it mostly reads these bytes in part A and none in part B, at times something
-/// else, keeps nothing that is written, and fails one call in eight.
+/// A disk that promises nothing: it mostly reads these bytes in part A and none in part B, at times something else, does not
+/// keep what is written, and fails one call in eight.
 #[derive(Drop)]
 pub struct Liar {
     wild: WildDisk,
@@ -14,7 +14,7 @@ pub struct Liar {
 }
 
 impl Liar {
-    /// What it answers follows from the seed and the bytes alone.
+    /// A disk whose answers follow only from the seed and the bytes.
     pub fn new(seed: u64, bytes: Vec<u8>) -> Liar {
         Liar {
             wild: WildDisk::new(seed),

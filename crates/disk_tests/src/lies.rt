@@ -1,4 +1,4 @@
-// Disks that answer anything.
+//! Registrations on disks that answer anything, and on disks that lie.
 use crate::liar::Liar;
 use crate::parts::FIRST;
 use crate::steps::{Reached, register};
@@ -8,7 +8,7 @@ use executor::OpenError;
 use ocf_types::Refusal;
 use std::alloc::Global;
 
-// A registration on a disk that answers anything: whether a fault of the disk was reported, and how many the disk had.
+// Registers on a disk that answers anything. Returns whether a fault of the disk was reported, and how many the disk had.
 fn faults(alloc: Global, seed: u64) -> Option<(bool, u64)> {
     let (reached, disk) = register(alloc, WildDisk::new(seed), "r2")?;
     let reported = reached == Reached::NotOpened(OpenError::Disk);
@@ -23,7 +23,7 @@ fn a_fault_is_reported_exactly_where_a_disk_that_answers_anything_had_one(rt: Ho
     }
 }
 
-// How registrations ended on disks that lie, of each way how many.
+// The numbers of registrations on disks that lie, by how they ended.
 #[derive(Drop)]
 struct Ends {
     damaged: u32,

@@ -1,4 +1,4 @@
-// Two machines, one after the other: the first crashes in each device call in turn, and the second is opened on what the crash left.
+//! Two machines, one after the other: the first crashes in each device call in turn, and the second is opened on a crash image.
 use crate::steps::{nowhere, registration};
 use child_keeper::{Script, Scripted};
 use disk_model::Fill;
@@ -10,7 +10,7 @@ use ocf_types::{
 use std::alloc::Global;
 use std::collections::VecDeque;
 
-// A machine whose agents start and run on.
+// A machine whose agent processes are spawned and keep running.
 fn machine(alloc: Global, now: u64, inputs: Vec<Input>, stop: u64) -> Option<Machine<Scripted>> {
     let script = Script {
         starts: VecDeque::new(alloc),
@@ -26,7 +26,7 @@ fn machine(alloc: Global, now: u64, inputs: Vec<Input>, stop: u64) -> Option<Mac
     })
 }
 
-// A resource is registered and its start is asked for, and a turn begins it.
+// Inputs that register a resource, ask for its start, and begin it in a turn.
 fn first(alloc: Global) -> Option<Vec<Input>> {
     let exec = RequestOf::Command(CommandOf::Exec {
         id: RscId::new(b"r1").ok()?,
@@ -51,7 +51,7 @@ fn first(alloc: Global) -> Option<Vec<Input>> {
     Some(inputs)
 }
 
-// Its results are asked for.
+// An input that asks for the results of the resource.
 fn second(alloc: Global) -> Option<Vec<Input>> {
     let question = Question::History(RscId::new(b"r1").ok()?);
     let mut inputs = Vec::new(alloc);
@@ -60,7 +60,7 @@ fn second(alloc: Global) -> Option<Vec<Input>> {
     Some(inputs)
 }
 
-// Whether the second machine's reply has what the first one's acknowledged, and the action as interrupted that was begun.
+// Whether the second machine's reply has what the first one's acknowledged, and shows an action that had begun as interrupted.
 fn stands(first: &[Reply], second: &[Reply]) -> bool {
     let Some(ReplyOf::History(results)) = second.first() else {
         return first
@@ -74,7 +74,7 @@ fn stands(first: &[Reply], second: &[Reply]) -> bool {
     interrupted || !matches!(first.last(), Some(ReplyOf::Turn(TurnEnd::Done)))
 }
 
-// How many requests and turns the first machine answered that crashes in this device call, if all of them are found again.
+// How many requests and turns the first machine, which crashes in this device call, answered; `None` unless all are found again.
 fn answered(alloc: Global, stop: u64, fill: Fill) -> Option<usize> {
     let one = machine(alloc, 0, first(alloc)?, stop)?;
     let other = machine(alloc, 4, second(alloc)?, u64::MAX)?;

@@ -1,4 +1,4 @@
-// A part of a journal by the bytes, disks with parts, and what is found on them.
+//! The bytes of a part of a journal, disks with given parts, and openings of journals on them.
 use disk_model::MemDisk;
 use event_wire::encode_state;
 use exec_journal::{Journal, JournalFault};

@@ -1,4 +1,4 @@
-// Slots read from disks that fail or answer anything. What is at a gate otherwise is read by each opening of a journal.
+//! Slots read from disks that fail or answer anything. Each opening of a journal tests the other cases.
 use crate::parts::disk_with;
 use disk_model::Disk;
 use disk_model::wild::WildDisk;
@@ -6,14 +6,15 @@ use gated_slots::{Frame, SlotRead, read_slot};
 use ocf_types::Part;
 use std::alloc::Global;
 
-// What is at a gate of a part.
+// Reads the slot at a gate of a part.
 fn read<D: Disk>(alloc: Global, disk: &mut D, part: Part, at: u64) -> Option<(SlotRead, Frame)> {
     let mut frame = Frame::new(alloc).ok()?;
     let found = read_slot(disk, part, at, &mut frame);
     Some((found, frame))
 }
 
-// What is answered where that device call fails, of the length, the gate, the length of the body and the body; and the counts.
+// Reads a slot while that device call fails: that of the length, the gate, the length of the body or the body. Returns the result,
+// and the counts of calls and failures.
 fn failed(alloc: Global, call: u64) -> Option<(SlotRead, u64, u64)> {
     let mut disk = disk_with(alloc, &[], &[1, 0, 0, 0, 1, 5, 1])?;
     disk.plan_fault(call);
@@ -34,7 +35,7 @@ fn a_reading_in_which_a_device_call_fails_is_told(rt: HostRuntime) {
     }
 }
 
-// A reading of a disk that answers anything: whether a fault was reported, how many there were, and how many calls.
+// Reads a slot of a disk that answers anything. Returns whether a fault was reported, the number of faults, and that of calls.
 fn reading(alloc: Global, seed: u64) -> Option<(bool, u64, u64)> {
     let mut disk = WildDisk::new(seed);
     let (found, _) = read(alloc, &mut disk, Part::B, seed)?;

@@ -1,4 +1,4 @@
-// Executors that start nothing, and a registration by one.
+//! Executors that spawn nothing, and a registration by one.
 use child_keeper::{Script, Scripted};
 use disk_model::Disk;
 use executor::{Executor, OpenError};
@@ -10,7 +10,7 @@ use ocf_types::{
 use std::alloc::Global;
 use std::collections::VecDeque;
 
-/// Children for an executor that starts nothing: their book has no room.
+/// Agent processes for an executor that spawns nothing: their book has no capacity.
 pub fn no_children(alloc: Global) -> Option<Scripted> {
     let script = Script {
         starts: VecDeque::new(alloc),
@@ -20,13 +20,13 @@ pub fn no_children(alloc: Global) -> Option<Scripted> {
     Scripted::new(alloc, script, 0).ok()
 }
 
-/// A site for the same: no agent is there.
+/// Empty agent paths: there are no agents.
 pub fn nowhere(alloc: Global) -> Site {
     let (root, path) = (String::new(alloc), String::new(alloc));
     Site::new(Text::new(root), Text::new(path), None)
 }
 
-/// How far a registration came.
+/// The end of an attempt to register a resource.
 #[derive(Clone, Copy, PartialEq)]
 pub enum Reached {
     NotOpened(OpenError),
@@ -34,7 +34,7 @@ pub enum Reached {
     Acknowledged,
 }
 
-/// Registers a Dummy of the provider pacemaker.
+/// The request to register a Dummy of the provider pacemaker.
 pub fn registration(alloc: Global, name: &str) -> Option<Request> {
     Some(RequestOf::Command(CommandOf::Register(Registration {
         id: RscId::new(name.as_bytes()).ok()?,
@@ -44,7 +44,7 @@ pub fn registration(alloc: Global, name: &str) -> Option<Request> {
     })))
 }
 
-/// How a request ended.
+/// The end of a request with this reply.
 pub fn end_of(reply: &Reply) -> Reached {
     match reply {
         ReplyOf::Refused(refusal) => Reached::Refused(*refusal),
@@ -52,7 +52,7 @@ pub fn end_of(reply: &Reply) -> Reached {
     }
 }
 
-// Has an executor take a request at moment 0, and closes it.
+// Sends an executor a request at moment 0, and closes it.
 fn taken<D: Disk + Drop>(mut executor: Executor<D, Scripted>, request: Request) -> (Reached, D) {
     let reached = end_of(&executor.command(0, request));
     (reached, executor.close().0)
