@@ -20,6 +20,7 @@ monitors_of r = r.monitors
 abbrev pub look_all : {H A : Type 0} → (Registered H → A) → List (List ℕ × Registered H) → List (List ℕ × A)
 look_all look es = map (λ e. (e.0, look e.1)) es
 
+-- the resources of the entries, and their monitors
 abbrev pub seen_all : {H : Type 0} → List (List ℕ × Registered H) → List (List ℕ × Resource)
 seen_all es = look_all seen es
 

@@ -37,8 +37,8 @@ pub record IsHistory {D : Type 0} (look : D → View) (calls : List (List Exchan
   pub made : calls_in look empty life is ≡ calls
   pub goes_on : GoesOnFrom look empty life disk
 
--- the promise for such a history: the disk holds the state of a list of events, what was seen is a behaviour of the machine with
--- these events, and it keeps what is promised
+-- the promise for such a history: the disk holds the state after a list of events; the exchanges and events that were seen are a
+-- behaviour of the state machine with these events, and keep the promise
 pub record IsPromised {D : Type 0} (look : D → View) (calls : List (List Exchange)) (disk : D) : Type 0 where
   pub history : IsHistory look calls disk
   pub events : List Event

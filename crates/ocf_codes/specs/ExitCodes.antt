@@ -24,18 +24,20 @@ exit_codes =
 abbrev pub row_at : ℕ → Option Row
 row_at n = find (λ row. row.0 == n) exit_codes
 
--- the meaning of a number: that of its row; without a row the number itself
+-- the meaning of a number with this row; without a row the number itself
 abbrev pub code_in : ℕ → Option Row → Code
 code_in n (Some row) = row.1
 code_in n None = Other n
 
+-- the meaning of an exit code
 abbrev pub code_read : ℕ → Code
 code_read n = code_in n (row_at n)
 
--- the name of a number: that of its row; without a row, other
+-- the name in this row; without a row, other
 abbrev pub name_in : Option Row → List ℕ
 name_in (Some row) = row.2
 name_in None = codes "other"
 
+-- the name of an exit code
 abbrev pub name_read : ℕ → List ℕ
 name_read n = name_in (row_at n)

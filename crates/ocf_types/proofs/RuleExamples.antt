@@ -70,7 +70,7 @@ stopped =
     after_all registered (at 5 (change.Step r1 (step.Exec (op 1 task.Start))) ∷ at 10 (change.Step r1 (step.Begin 1 1))
     ∷ at 20 (change.Step r1 (step.Exec (op 2 task.Stop))) ∷ [])
 
--- a boot drops what is queued, and then interrupts what runs
+-- a boot drops the queued actions, and then interrupts the running one
 booted_history : option_map (λ r. r.history.ended) (resource_at (boot stopped 500) r1) ≡ Some (
     record { call = 2; run = 0; action = action.Stop; interval = 0; since = 500; at = 500; outcome = Dropped }
     ∷ record { call = 1; run = 1; action = action.Start; interval = 0; since = 10; at = 500; outcome = Interrupted } ∷ [])

@@ -59,7 +59,7 @@ abbrev pub check_of : Task → Check
 check_of (task.Monitor check) = check
 check_of _ = plain
 
--- what a task is expected to find
+-- the expectation of a task
 abbrev pub expect_of : Task → Expect
 expect_of t = (check_of t).expect
 

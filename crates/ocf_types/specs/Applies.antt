@@ -48,5 +48,6 @@ pub record AppliesIn (layout : Layout) (s : State) (e : Event) : Type 0 where
   pub later : s.clock ≤ e.at
   pub change : ChangeApplies s e.change
 
+-- an event applies in a state, in the layout that is written
 abbrev pub Applies : State → Event → Type 0
 Applies s e = AppliesIn Second s e

@@ -24,6 +24,7 @@ pub both : (a b : Bool) → (a && b) ≡ true → (a ≡ true) × (b ≡ true)
 both true b e = (refl, e)
 both false b e = absurd cc
 
+-- a conjunction holds if both sides do, and fails if the second one does
 pub and_true : (a b : Bool) → a ≡ true → b ≡ true → (a && b) ≡ true
 and_true true b a_is b_is = b_is
 and_true false b a_is b_is = a_is

@@ -77,11 +77,12 @@ is_busy h = nat_lt 0 (length h.queue) || is_some h.running
 abbrev pub accepted : Op → History → History
 accepted o h = record h { queue = h.queue ++ o ∷ [] }
 
--- the history after a begin: the first queued action runs or, if the queue is empty, the recurring monitor
+-- the history after a begin, from this queue: its first action runs or, if it is empty, the recurring monitor
 abbrev pub begun_from : List Op → Option Recur → ℕ → ℕ → History → History
 begun_from [] monitor run at h = record h { running = option_map (run_of_monitor run at) monitor }
 begun_from (o ∷ os) monitor run at h = record h { queue = os; running = Some (run_of_op run at o) }
 
+-- the history after a begin
 abbrev pub begun : Option Recur → ℕ → ℕ → History → History
 begun monitor run at h = begun_from h.queue monitor run at h
 
@@ -141,10 +142,11 @@ forgotten h = record h { ended = []; failed = None }
 abbrev pub history_in : Layout → History → History
 history_in layout h = record h { ended = last_in layout h.ended; failed = failed_in layout h.failed }
 
--- the monitor of a call, and that of an interval
+-- the monitor of a call
 abbrev pub of_call : ℕ → List Recur → Option Recur
 of_call call monitors = find (λ m. m.call == call) monitors
 
+-- the monitor of an interval
 abbrev pub of_interval : ℕ → List Recur → Option Recur
 of_interval interval monitors = find (λ m. m.interval == interval) monitors
 

@@ -95,7 +95,7 @@ abbrev pub runs_drawn : Change → ℕ
 runs_drawn (change.Step id (step.Begin call run)) = 1
 runs_drawn _ = 0
 
--- the state after an event, and after a list of them
+-- the state after an event, in a layout
 abbrev pub after_in : Layout → State → Event → State
 after_in layout s e = record {
   next_call = s.next_call + calls_drawn e.change;
@@ -104,12 +104,15 @@ after_in layout s e = record {
   resources = changed_in layout e.at e.change s.resources;
 }
 
+-- the state after an event
 abbrev pub after : State → Event → State
 after s e = after_in Second s e
 
+-- the state after a list of events, in a layout
 abbrev pub after_all_in : Layout → State → List Event → State
 after_all_in layout s es = fold (after_in layout) s es
 
+-- the state after a list of events
 abbrev pub after_all : State → List Event → State
 after_all s es = fold after s es
 

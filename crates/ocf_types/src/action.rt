@@ -94,7 +94,7 @@ impl Level {
     }
 }
 
-/// The depth of a monitor, and what it is expected to find.
+/// The depth of a monitor, and its expected finding.
 #[derive(Clone, Copy, PartialEq, Eq)]
 pub struct Check {
     pub level: Level,

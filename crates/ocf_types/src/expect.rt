@@ -3,7 +3,7 @@ ghost use Rattle.std.specs.Prelude.{◌≡◌, ◌≢◌, IfSome, IfNone};
 ghost use Rattle.ocf_types.specs.Expected.{expect_code, expect_of_code};
 ghost use Rattle.ocf_types.specs.declared.expect.Expect.{Expect};
 
-/// What a monitor is expected to find. OCF Resource Agent API 1.1, exit codes.
+/// The finding that is expected of a monitor. OCF Resource Agent API 1.1, exit codes.
 #[derive(Clone, Copy, PartialEq, Eq)]
 pub enum Expect {
     /// 0, OCF_SUCCESS: it runs.

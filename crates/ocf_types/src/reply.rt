@@ -83,7 +83,7 @@ pub enum ReplyOf<P, I, H> {
 pub struct Notice {
     pub id: RscId,
     pub result: Ended,
-    /// What the action was expected to find.
+    /// The expectation of the action.
     pub expect: Expect,
 }
 

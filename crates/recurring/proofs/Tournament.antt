@@ -79,7 +79,7 @@ not_after_itself : (r : Option ℕ) → IsNotAfter r r
 not_after_itself None = tt
 not_after_itself (Some m) = omega arith
 
--- a number that is not twice its half is one more
+-- a number that is not twice its half is twice it plus one
 odd : (i : ℕ) → (i ≡ 2 * (i / 2) → ⊥) → i ≡ 2 * (i / 2) + 1
 odd i ne = omega (arith, ne)
 

@@ -10,10 +10,11 @@ use Rattle.recurring.specs.Monitors.{IsFirstMoment}
 abbrev pub Dues : Type 0
 Dues = List (List ℕ × List (ℕ × ℕ))
 
--- the pairs of one resource, and those of all
+-- the pairs of one resource
 abbrev pub pairs_at : Dues → List ℕ → List (ℕ × ℕ)
 pairs_at all id = unwrap_or (lookup (bytes_eq id) all) []
 
+-- the pairs of all resources
 abbrev pub pairs_of_all : Dues → List (ℕ × ℕ)
 pairs_of_all all = flat_map (λ e. e.1) all
 
