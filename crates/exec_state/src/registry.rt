@@ -218,7 +218,7 @@ impl<A: Grows> Registry<A> {
         insert(&mut self.resources, &mut self.dues, id, resource);
     }
 
-    /// Removes the resource of that id. Later ones move up by one index.
+    /// Removes the resource of that id. Later ones move down by one index.
     #[tactic(auto, using(crate::proofs::Resting::rest_before_0))]
     pub(crate) fn remove(&mut self, id: &RscId)
         ensures resources { self.new.resources ≡ others id.now self.old.resources }

@@ -93,7 +93,7 @@ pub trait StateView {
         requires item { at < length (at_place (plain self.now) place).history.ended }
         ensures { slice_get (at_place (plain self.now) place).history.ended at ≡ Some result };
 
-    /// The last result of a resource that failed.
+    /// A resource's last result that failed.
     fn failed_at(&self, place: usize) -> Option<Ended>
         requires { place < length (plain self.now).resources }
         ensures { result ≡ (at_place (plain self.now) place).history.failed };

@@ -87,7 +87,7 @@ impl<A: Grows> DueIndex<A> {
         };
     }
 
-    /// Removes the resource and all of its monitors. Later resources move up by one index.
+    /// Removes the resource and all of its monitors. Later resources move down by one index.
     pub fn forget(&mut self, id: &RscId)
         ensures dues { self.new.dues ≡ filter (λ e. not (bytes_eq id.now e.0)) self.old.dues }
     {

@@ -72,7 +72,7 @@ impl<A: Grows> FirstMoments<A> {
         climb(self.nodes.as_mut_slice(), self.places, node);
     }
 
-    /// Removes the moment at an index. Later ones move up by one index.
+    /// Removes the moment at an index. Later ones move down by one index.
     pub(crate) fn remove(&mut self, place: usize)
         requires { place < length self.old }
         ensures { self.new ≡ remove self.old place }
