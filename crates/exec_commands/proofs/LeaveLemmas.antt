@@ -1,4 +1,4 @@
--- A run that does not serve reads no line that only one that serves does.
+-- A `run` session reads no line of `serve` sessions alone.
 use Rattle.std.proofs.Common.{◌≡◌, ℕ, true, false, List, Option, Result, Ok, Err, IfOk, codes, refl, subst}
 use Rattle.std.specs.Option.{ok_or}
 use Rattle.serde_json.specs.Data.{Data}
@@ -20,7 +20,7 @@ use Rattle.exec_commands.specs.declared.line.Line.TheVariants as line
 use Rattle.exec_commands.specs.declared.operation.Operation.{Operation}
 use Rattle.exec_commands.specs.declared.operation.Operation.TheVariants as operation
 
--- it is no line of a run that serves
+-- the line is not one of `serve` sessions alone
 abbrev Stays : Result Line Refusal → Type 0
 Stays found = IfOk found (λ l. is_service_line l ≡ false)
 
@@ -41,7 +41,7 @@ drain_stays limit = given_stays (limit_of limit) (λ limit. Ok (line.Drain limit
 watch_stays : (limit : ℕ) → Stays (given (millis_of limit) (λ limit. Ok (line.Watch limit)))
 watch_stays limit = given_stays (millis_of limit) (λ limit. Ok (line.Watch limit)) (λ l. refl)
 
--- a question for metadata, after its provider and its agent
+-- a request for metadata, after its provider and its agent
 limited_stays : (provider agent : List ℕ) (limit : Option ℕ)
     → Stays (given (limit_if_named limit) (λ limit. Ok (line.Meta provider agent limit)))
 limited_stays provider agent limit =
@@ -74,7 +74,7 @@ value_stays : (d : Data) → Stays (line_of d)
 value_stays d =
     given_stays (text_at (codes "op") d) _ (λ word. given_stays (ok_or (operation_named word) UnknownOp) _ (λ o. line_stays o d))
 
--- what is read so
+-- a line that is read is not one of `serve` sessions alone
 pub reads_plain : (d : Data) (found : Result Line Refusal) → IfOk found (λ l. line_of d ≡ Ok l)
     → IfOk found (λ l. is_service_line l ≡ false)
 reads_plain d (Ok l) is = subst Stays is (value_stays d)

@@ -1,4 +1,4 @@
--- A notice's object with a process that lives on, and with the signal that ended its agent.
+-- The object of a notice with a process that is still alive, and with the signal that ended its agent.
 use Rattle.std.proofs.Common.{◌≡◌, ℕ, List, Some, None, refl, ap, ◌∙◌}
 use Rattle.std.specs.Prelude.{codes}
 use Rattle.serde_json.specs.Data.{Data, Members, null, boolean, number, string, array, object, put}
@@ -19,7 +19,7 @@ put_there key x (object old) v ms new is more whole =
     let same : ms ≡ old = cc in
     whole ∙ ap object (more ∙ ap (put key x) same)
 
--- what is no object stays as it is
+-- a value that is not an object is unchanged
 pub put_nowhere : (key : List ℕ) (x d : Data) → None ≡ as_object d → d ≡ object_with key x d
 put_nowhere key x null is = refl
 put_nowhere key x (boolean b) is = refl

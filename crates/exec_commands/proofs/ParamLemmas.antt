@@ -31,12 +31,12 @@ pub after_at : (ms : List TextPair) (i : ℕ) (d : TextPair) → i < length ms �
     → is_after (last_name None (texts_seen (take i ms))) (get_or ms i d).0.now ≡ true
 after_at ms i d h sorted = after_from None ms i d h sorted
 
--- the names of members, wherever they are
+-- the names of members, borrowed
 pub names_seen : (ms : List TextPair) → list_all (λ (m : TextPair). is_param_name m.0.now) ms ≡ are_names (texts_seen ms)
 names_seen [] = refl
 names_seen (m ∷ ms) = rw (names_seen ms) refl
 
--- each name is one where all are
+-- each name is valid if all are
 pub name_at : (ms : List TextPair) (i : ℕ) (d : TextPair) → i < length ms → are_names (texts_seen ms) ≡ true
     → is_param_name (get_or ms i d).0.now ≡ true
 name_at [] i d h all = absurd (omega arith)
@@ -49,7 +49,7 @@ no_value [] i d h bad = absurd (omega arith)
 no_value (m ∷ ms) zero d h bad = rw bad refl
 no_value (m ∷ ms) (suc i) d h bad = rw (no_value ms i d (omega arith) bad) (and_false (is_param_value m.1.now))
 
--- a text that is no value
+-- a text that is not a valid value
 pub bad_value : (ms : List TextPair) (i : ℕ) (d : TextPair) → i < length ms → is_param_value (get_or ms i d).1.now ≡ false
     → valued_params (texts_seen ms) ≡ Err BadValue
 bad_value ms i d h bad = rw (no_value ms i d h bad, and_false (leb (length (texts_seen ms)) 64)) refl
@@ -67,7 +67,7 @@ all_values last (p ∷ ps) h =
     let v = both (is_after last p.0 && is_param_name p.0) (is_param_value p.1) s.0 in
     rw (v.1, all_values (Some p.0) ps s.1) refl
 
--- lawful parameters are valued ones
+-- well-formed parameters pass as valued
 pub valued : (ps : ParamList) → AreParams ps → valued_params ps ≡ Ok ps
 valued ps h =
     let few : leb (length ps) 64 ≡ true = le-leb _ _ h.at_most_64 in
@@ -99,7 +99,7 @@ put_from last (q ∷ es) (suc i) e h is sorted =
     rw (greater q.0 e.0 (first_before q.0 es i e (omega arith) is s.1))
     (ap (member q.0 (string q.1)) (put_from (Some q.0) es i e (omega arith) is s.1))
 
--- a parameter that comes after those before it goes last into an object
+-- a parameter whose name comes after the others is put last into an object
 pub put_next : (es : ParamList) (i : ℕ) (e : List ℕ × List ℕ) → i < length es → e ≡ get_or es i e → AreParams es
     → put e.0 (string e.1) (param_members (take i es)) ≡ param_members (take (i + 1) es)
 put_next es i e h is lawful = rw add-one (put_from None es i e h is lawful.sorted)

@@ -28,7 +28,7 @@ put_no_float key text (member other d ms) none = by (slice_cmp nat_cmp key other
     by Equal later = none_in.1
     by Greater later = rw none_in.0 later
 
--- a tag is no float
+-- an object with a tag has no float
 pub tagged_no_float : (tag : Option (List ℕ)) (d : Data) → has_float d ≡ false → has_float (with_tag tag d) ≡ false
 tagged_no_float None d none = none
 tagged_no_float (Some tag) null none = none

@@ -22,7 +22,7 @@ pub seen_push : (ms : List TextPair) (name text : Bor (List ℕ))
 seen_push [] name text = refl
 seen_push (m ∷ ms) name text = ap (λ (ps : ParamList). text_pair m ∷ ps) (seen_push ms name text)
 
--- what is so where a test holds
+-- the branch that a test takes
 pub if_taken : (test : Bool) (xs ys zs : List TextPair) → test ≡ true → xs ≡ (if test then ys else zs) → xs ≡ ys
 if_taken true xs ys zs h e = e
 if_taken false xs ys zs h e = absurd cc
@@ -73,7 +73,7 @@ ascending (e ∷ es) ps h sorted =
     let s = split (string_bytes e.0) (as_str (view e.1)) (member_texts (members_view es)) ps h in
     rw s.whole (ascending_after e.0 es s.others s.rest_is sorted.0 sorted.1)
 
--- metadata that are a text, and those that are none
+-- metadata that are a text, and metadata that are not
 pub metadata_text : (metadata : List ℕ) → IsUtf8 metadata → metadata_data metadata ≡ text_data metadata
 metadata_text metadata is = rw (is_utf8-from_IsUtf8 metadata is) refl
 

@@ -1,4 +1,4 @@
--- Which JSON value a line is, and lines that are none.
+-- The JSON value of a line, and lines that have none.
 use Rattle.std.proofs.Common.{◌≡◌, ℕ, ◌<◌, ◌≤◌, Bool, true, false, ◌&&◌, List, length, Some, None, leb, refl, if◌then◌else◌}
 use Rattle.std.specs.Str.{is_utf8, IsUtf8}
 use Rattle.std.proofs.lemmas.Bool.{le-leb, lt-leb}
@@ -7,11 +7,11 @@ use Rattle.serde_json.specs.Data.{Data}
 use Rattle.serde_json.specs.Read.{read}
 use Rattle.exec_commands.specs.Lines.{value_of}
 
--- bytes that are read
+-- bytes that are JSON
 pub value_there : (bs : List ℕ) (d : Data) → length bs ≤ 131072 → IsUtf8 bs → read bs ≡ Some d → value_of bs ≡ Some d
 value_there bs d short text reads = rw (le-leb (length bs) 131072 short, is_utf8-from_IsUtf8 bs text, reads) refl
 
--- bytes that are not
+-- bytes that are not JSON
 pub no_value : (bs : List ℕ) → (IsUtf8 bs → read bs ≡ None) → value_of bs ≡ None
 no_value bs none = by (leb (length bs) 131072) (is_utf8 bs) refl
   where

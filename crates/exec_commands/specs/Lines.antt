@@ -1,5 +1,5 @@
--- What a line asks for, over the JSON value that it is. In each line all keys are looked at first, with their types, then
--- all names, and then all values.
+-- The request of a line, over its JSON value. Of each line the presence and types of all keys are checked first, then all names,
+-- and then all values.
 use Rattle.std.specs.Prelude.{ℕ, ◌&&◌, nat_le, List, [], ◌∷◌, length, Option, None, Some, Result, Ok, if◌then◌else◌, codes}
 use Rattle.std.specs.Option.{option_map, option_or, ok_or}
 use Rattle.std.specs.List.{find}
@@ -23,7 +23,7 @@ use Rattle.exec_commands.specs.declared.line.Line.TheVariants as line
 use Rattle.exec_commands.specs.declared.operation.Operation.{Operation}
 use Rattle.exec_commands.specs.declared.operation.Operation.TheVariants as operation
 
--- a line whose one key is the id of a resource
+-- the id of a line that has no other key
 abbrev pub id_in : Data → Result (List ℕ) Refusal
 id_in d = given (text_at (codes "id") d) (named is_rsc_id)
 
@@ -41,7 +41,7 @@ set_params_in d =
     given (named is_rsc_id id) (λ id. given (params_of params) (λ params.
     Ok (command.SetParams id params)))))
 
--- an operation that names no timeout has 20,000 milliseconds
+-- a line that names no timeout has one of 20,000 milliseconds
 abbrev pub exec_in : Data → Result Command Refusal
 exec_in d =
     given (text_at (codes "id") d) (λ id. given (text_at (codes "action") d) (λ word.
@@ -74,7 +74,7 @@ withdraw_in d =
     given (call_of call) (λ call.
     Ok (command.Withdraw id call)))))
 
--- a drain that names no limit has 60,000 milliseconds
+-- a drain that names no limit has one of 60,000 milliseconds
 abbrev pub drain_in : Data → Result Line Refusal
 drain_in d = given (number_or default_limit (codes "limit") d) (λ limit. given (limit_of limit) (λ limit. Ok (line.Drain limit)))
 
@@ -82,7 +82,7 @@ drain_in d = given (number_or default_limit (codes "limit") d) (λ limit. given 
 abbrev pub watch_in : Data → Result Line Refusal
 watch_in d = given (number_at (codes "limit") d) (λ limit. given (millis_of limit) (λ limit. Ok (line.Watch limit)))
 
--- a question for metadata that names no limit has none; what is no number under that key is passed over
+-- a request for metadata that names no limit has none; a value under that key that is no number is ignored
 abbrev pub meta_in : Data → Result Line Refusal
 meta_in d =
     given (text_at (codes "provider") d) (λ provider. given (text_at (codes "type") d) (λ agent.
@@ -97,7 +97,7 @@ commanded found = given found (λ c. Ok (line.Request (request.Command c)))
 abbrev pub asked : Result Question Refusal → Result Line Refusal
 asked found = given found (λ q. Ok (line.Request (request.Question q)))
 
--- the words of commands, and of what else a line may ask for
+-- the names of commands, and of the other operations
 abbrev pub command_words : List (List ℕ × Operation)
 command_words =
     (codes "register", operation.Register) ∷ (codes "unregister", operation.Unregister) ∷ (codes "params", operation.SetParams)
@@ -118,7 +118,7 @@ operation_in words word = option_map (λ row. row.1) (find (λ row. bytes_eq wor
 abbrev pub operation_named : List ℕ → Option Operation
 operation_named word = option_or (operation_in command_words word) (operation_in other_words word)
 
--- what the line of an operation asks for
+-- the request of a line of this operation
 abbrev pub line_for : Operation → Data → Result Line Refusal
 line_for operation.Register d = commanded (register_in d)
 line_for operation.Unregister d = commanded (given (id_in d) (λ id. Ok (command.Unregister id)))
@@ -136,19 +136,19 @@ line_for operation.Watch d = watch_in d
 line_for operation.Meta d = meta_in d
 line_for operation.Tidy d = Ok line.Tidy
 
--- what a JSON value asks for, or the first refusal
+-- the request of a JSON value, or the first refusal
 abbrev pub line_of : Data → Result Line Refusal
 line_of d = given (text_at (codes "op") d) (λ word. given (ok_or (operation_named word) UnknownOp) (λ o. line_for o d))
 
--- the JSON value that a line is: none where it is longer than a line may be, or no UTF-8, or no JSON that serde_json reads
+-- the JSON value of a line: `None` if the line is too long, is not UTF-8, or is no JSON that serde_json reads
 abbrev pub value_of : List ℕ → Option Data
 value_of bytes = if nat_le (length bytes) line_limit && is_utf8 bytes then read bytes else None
 
--- what the bytes of a line ask for, or the first refusal
+-- the request of the bytes of a line, or the first refusal
 abbrev pub line_read : List ℕ → Result Line Refusal
 line_read bytes = given (typed (value_of bytes)) line_of
 
--- a question for metadata of a run that serves, which has 30,000 milliseconds where it names no limit
+-- a request for metadata in a `serve` session, which has 30,000 milliseconds if it names no limit
 abbrev pub served_meta_in : Data → Result Line Refusal
 served_meta_in d =
     given (text_at (codes "provider") d) (λ provider. given (text_at (codes "type") d) (λ agent.
@@ -157,7 +157,8 @@ served_meta_in d =
     given (limit_of limit) (λ limit.
     Ok (line.Meta provider agent (Some limit))))))))
 
--- what a value asks a run for that serves: it may also be asked to end in order, for its version, and how all resources are
+-- the request of a JSON value in a `serve` session, which also has operations for an orderly end, the version, and the status of all
+-- resources
 abbrev pub served_for : List ℕ → Data → Result Line Refusal
 served_for word d =
     if bytes_eq word (codes "leave") then Ok line.Leave

@@ -46,7 +46,7 @@ use Rattle.exec_commands.specs.declared.statuses.Statuses.{Statuses}
 use Rattle.exec_commands.specs.declared.reply.LineReply.{LineReply}
 use Rattle.exec_commands.specs.declared.reply.LineReply.TheVariants as line
 
--- how a turn, a drain, a tidy and a start ended, in a word
+-- the words for how a turn, a drain, a tidy and a start ended
 abbrev pub turn_word : TurnEnd → List ℕ
 turn_word turn.Done = codes "done"
 turn_word turn.Closed = codes "closed"
@@ -73,7 +73,7 @@ start_word start.Missing = codes "missing"
 start_word start.Denied = codes "denied"
 start_word start.Other = codes "other"
 
--- an end, by its word
+-- the value of an end with this word
 abbrev pub end_data : List ℕ → Data
 end_data word = object_from ((codes "end", string word) ∷ [])
 
@@ -90,31 +90,36 @@ fault_data fault.Memory = end_data (codes "memory")
 abbrev pub length_data : List ℕ → Data
 length_data metadata = object_from ((codes "meta", natural_data (length metadata)) ∷ [])
 
+-- a refusal: its word and its number
 abbrev pub refusal_data : Refusal → Data
 refusal_data refusal =
     object_from ((codes "error", string (refusal_row refusal).1) ∷ (codes "number", natural_data (refusal_row refusal).0) ∷ [])
 
--- the key that a refusal is about, where there is one
+-- the member for the key that a refusal is about, if any
 abbrev pub key_member : Option (List ℕ) → List (List ℕ × Data)
 key_member None = []
 key_member (Some key) = (codes "key", string key) ∷ []
 
+-- a refusal with a message, and a key, if any
 abbrev pub keyed_data : List ℕ → Option (List ℕ) → List ℕ → ℕ → Data
 keyed_data word key message number = object_from (
     (codes "error", string word)
     ∷ (key_member key ++ ((codes "message", string message) ∷ (codes "number", natural_data number) ∷ [])))
 
--- the same of a run that serves: also the key of the line that it is about, and a sentence
+-- a refusal in a `serve` session, which also has the key that it is about, if any, and a message
 abbrev pub refused_data : LineRefusal → Data
 refused_data r =
     keyed_data (refusal_row r.why).1 (about_key r.why r.about) (message_of r.why r.about) (refusal_row r.why).0
 
+-- the reply to a command that is given no call
 abbrev pub done_data : Data
 done_data = object_from ((codes "ok", boolean true) ∷ [])
 
+-- the reply to a command that is given a call, with the key of its operation
 abbrev pub accepted_data : ℕ → List ℕ → Data
 accepted_data call key = object_from ((codes "call", natural_data call) ∷ (codes "key", string key) ∷ (codes "ok", boolean true) ∷ [])
 
+-- the reply to `list`
 abbrev pub list_data : List (List ℕ) → Data
 list_data ids = object_from ((codes "ok", boolean true) ∷ (codes "resources", array_from string ids) ∷ [])
 
@@ -125,7 +130,7 @@ recur_data m = object_from (
     ∷ (codes "interval", natural_data m.interval) ∷ (codes "level", natural_data (level_number m.check.level))
     ∷ (codes "timeout", natural_data m.timeout) ∷ [])
 
--- what the resource of an id runs, under the key of the operation
+-- the running action of the resource with this id, with the key of its operation
 abbrev pub running_data : List ℕ → Option Running → Data
 running_data id None = null
 running_data id (Some x) = object_from (
@@ -140,11 +145,12 @@ ended_data e = object_from (
     ∷ (codes "name", string (name_read (outcome_code e.outcome))) ∷ (codes "outcome", string (outcome_word e.outcome))
     ∷ (codes "run", natural_data e.run) ∷ (codes "since", natural_data e.since) ∷ [])
 
--- what failed last
+-- the last failed result, or null
 abbrev pub failed_data : Option Ended → Data
 failed_data None = null
 failed_data (Some e) = ended_data e
 
+-- the reply to `info`
 abbrev pub info_data : Info → Data
 info_data i = object_from (
     (codes "failed", failed_data i.failed) ∷ (codes "id", string i.id) ∷ (codes "ok", boolean true)
@@ -152,10 +158,11 @@ info_data i = object_from (
     ∷ (codes "queued", array_from natural_data i.queued.items) ∷ (codes "recurring", array_from recur_data i.recurring.items)
     ∷ (codes "running", running_data i.id i.running) ∷ (codes "type", string i.agent) ∷ [])
 
+-- the reply to `history`
 abbrev pub history_data : List Ended → Data
 history_data results = object_from ((codes "ok", boolean true) ∷ (codes "results", array_from ended_data results) ∷ [])
 
--- a result as it is noticed
+-- a notice in its short form
 abbrev pub notice_data : Notice → Data
 notice_data n = object_from (
     (codes "action", string (action_word n.result.action)) ∷ (codes "call", natural_data n.result.call)
@@ -163,22 +170,22 @@ notice_data n = object_from (
     ∷ (codes "interval", natural_data n.result.interval) ∷ (codes "name", string (name_read (outcome_code n.result.outcome)))
     ∷ (codes "outcome", string (outcome_word n.result.outcome)) ∷ (codes "run", natural_data n.result.run) ∷ [])
 
--- the process that is left of a run, where one is; the first of several
+-- the first of these processes that belongs to the run, if any
 abbrev pub lives_of : List Left → ℕ → Option ℕ
 lives_of left run = option_map (λ p. p.pid) (find (λ p. p.run == run) left)
 
--- the key of a process that lives on, where one does
+-- the member for a process that is still alive, if any
 abbrev pub lives_member : Option ℕ → List (List ℕ × Data)
 lives_member None = []
 lives_member (Some pid) = (codes "lives", natural_data pid) ∷ []
 
--- the key of the signal that ended an agent, where one did
+-- the member for the signal that ended an agent, if any
 abbrev pub signal_member : Option ℕ → List (List ℕ × Data)
 signal_member None = []
 signal_member (Some signal) = (codes "signal", natural_data signal) ∷ []
 
--- the same with when it began and ended, the key of its operation, what was expected of it and whether it has failed, with the
--- process of it that lives on, where one does, and with the signal that ended it
+-- the same with when the action began and ended, the key of its operation, the expected exit code, whether it has failed, its process
+-- that is still alive, if any, and the signal that ended it, if any
 abbrev pub timed_notice_data : Option ℕ → Option ℕ → Notice → Data
 timed_notice_data lives signal n = object_from (
     (codes "action", string (action_word n.result.action)) ∷ (codes "at", natural_data n.result.at)
@@ -190,14 +197,14 @@ timed_notice_data lives signal n = object_from (
     ∷ (codes "outcome", string (outcome_word n.result.outcome)) ∷ (codes "run", natural_data n.result.run)
     ∷ (signal_member signal ++ ((codes "since", natural_data n.result.since) ∷ [])))))
 
--- A notice in this form, of a run that this signal ended, if one did: POSIX, <signal.h>. A process is left of interrupted runs alone,
--- which no signal is known to have ended.
+-- A notice in this form, of a run that this signal ended, if any: POSIX, <signal.h>. Only interrupted runs have processes that are still
+-- alive, and no signal is known to have ended these runs.
 abbrev pub formed_data : NoticeForm → Option ℕ → Notice → Data
 formed_data notice_form.Short signal n = notice_data n
 formed_data (notice_form.Timed service) None n = timed_notice_data (lives_of service.left.now n.result.run) None n
 formed_data (notice_form.Timed service) (Some signal) n = timed_notice_data None (Some signal) n
 
--- The reply to a request, and to a line of a run that does not serve. What only a run that serves is asked for is refused there.
+-- The reply to a request, and to a line of a `run` session, where the operations of `serve` sessions alone are refused.
 abbrev pub request_data : Reply → Data
 request_data (reply.Refused refusal) = refusal_data refusal
 request_data reply.Done = done_data
@@ -219,20 +226,21 @@ reply_data line.Version = refusal_data UnknownOp
 reply_data (line.Status statuses) = refusal_data UnknownOp
 reply_data (line.Ready counts) = refusal_data UnknownOp
 
--- the reply of a run that serves, which says of each refusal what it is about
+-- the reply to a request in a `serve` session, where each refusal says what it is about
 abbrev pub served_request_data : Reply → Data
 served_request_data (reply.Refused why) = refused_data (record { why = why; about = Whole })
 served_request_data r = request_data r
 
--- metadata in a run that serves, or why there are none
+-- metadata in a `serve` session, or why there are none
 abbrev pub served_meta_data : Result (Vec ℕ) MetaFault → Data
 served_meta_data (Ok metadata) = metadata_data metadata.items
 served_meta_data (Err why) = fault_data why
 
--- how the resources are, each as JSON
+-- the status of each resource as JSON
 abbrev pub statuses_in : Statuses → List Data
 statuses_in statuses = map view statuses.values.items
 
+-- the reply to a line of a `serve` session
 abbrev pub served_data : Service → LineReply → Data
 served_data service (line.Request r) = served_request_data r
 served_data service (line.Meta found) = served_meta_data found
@@ -241,27 +249,27 @@ served_data service (line.Status statuses) = statuses_data (statuses_in statuses
 served_data service (line.Ready counts) = ready_data service counts
 served_data service r = reply_data r
 
--- what follows the line of a reply in a run that does not serve: metadata, and a newline
+-- what follows the line of a reply in a `run` session: metadata and a newline
 abbrev pub behind : LineReply → List ℕ
 behind (line.Meta (Ok metadata)) = metadata.items ++ 10 ∷ []
 behind _ = []
 
--- the bytes that a reply is written as: the compact text of its value, a newline, and what follows
+-- the bytes of a reply in a `run` session: the compact text of its value, a newline, and what follows
 abbrev pub reply_line : LineReply → List ℕ
 reply_line reply = compact_text (reply_data reply) ++ 10 ∷ behind reply
 
--- a notice of a call that has this tag
+-- the line of a notice of a call that has this tag
 abbrev pub formed_line : NoticeForm → Option (List ℕ) → Option ℕ → Notice → List ℕ
 formed_line form tag signal notice = compact_text (with_tag (formed_tag form tag) (formed_data form signal notice)) ++ 10 ∷ []
 
--- a reply, in a run that serves, to a line that has this tag: one line, which nothing follows
+-- the reply, in a `serve` session, to a line that has this tag: one line, which nothing follows
 abbrev pub served_reply_line : Service → Option (List ℕ) → LineReply → List ℕ
 served_reply_line service tag reply = compact_text (with_tag tag (served_data service reply)) ++ 10 ∷ []
 
 abbrev pub served_request_line : Option (List ℕ) → Reply → List ℕ
 served_request_line tag reply = compact_text (with_tag tag (served_request_data reply)) ++ 10 ∷ []
 
--- the same in a run whose notices have this form
+-- the reply in a session whose notices have this form
 abbrev pub told_reply_line : NoticeForm → Option (List ℕ) → LineReply → List ℕ
 told_reply_line notice_form.Short tag r = reply_line r
 told_reply_line (notice_form.Timed service) tag r = served_reply_line service tag r

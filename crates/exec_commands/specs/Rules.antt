@@ -1,4 +1,4 @@
--- Which keys the lines of an operation have in a run that serves, as a table.
+-- The table of the keys that the lines of an operation have in a `serve` session.
 use Rattle.std.specs.Prelude.{ℕ, ◌||◌, Bool, true, false, List, [], ◌∷◌, Option, Some, option_map, option_and_then, if◌then◌else◌, codes}
 use Rattle.std.specs.List.{list_any}
 use Rattle.std.specs.Str.{bytes_eq}
@@ -13,15 +13,17 @@ use Rattle.exec_commands.specs.declared.operation.Operation.TheVariants as opera
 use Rattle.exec_commands.specs.declared.rules.KeyRule.{KeyRule}
 use Rattle.exec_commands.specs.declared.rules.KeyRule.TheVariants.{Needed, Free}
 
+-- the key of a rule
 abbrev pub key_in : KeyRule → Key
 key_in (Needed k) = k
 key_in (Free k) = k
 
+-- the key of a rule is required
 abbrev pub is_needed : KeyRule → Bool
 is_needed (Needed k) = true
 is_needed (Free k) = false
 
--- the keys of an operation's lines beside `op` and `tag`, in the order in which they are looked at
+-- the keys of an operation's lines besides `op` and `tag`, in the order in which they are checked
 abbrev pub rules_of : Operation → List KeyRule
 rules_of operation.Register = Needed key.Id ∷ Needed key.Provider ∷ Needed key.Type ∷ Free key.Params ∷ []
 rules_of operation.Unregister = Needed key.Id ∷ []
@@ -39,17 +41,19 @@ rules_of operation.Watch = Needed key.WatchLimit ∷ []
 rules_of operation.Meta = Needed key.Provider ∷ Needed key.Type ∷ Free key.Limit ∷ []
 rules_of operation.Tidy = []
 
--- a word names what only a run that serves may be asked for; such a line has no keys of its own
+-- a word names an operation of `serve` sessions alone, whose lines have no keys of their own
 abbrev pub is_of_service : List ℕ → Bool
 is_of_service word = bytes_eq word (codes "leave") || bytes_eq word (codes "version") || bytes_eq word (codes "status")
 
+-- the keys of the operation with this name; `None` if there is none
 abbrev pub rules_named : List ℕ → Option (List KeyRule)
 rules_named word = if is_of_service word then Some [] else option_map rules_of (operation_named word)
 
--- the same of the operation that a line names, if it names one
+-- the keys of the operation that a line names; `None` if it names no operation
 abbrev pub rules_in : Data → Option (List KeyRule)
 rules_in d = option_and_then rules_named (option_and_then as_str (get (codes "op") d))
 
+-- a key of these rules has this name
 abbrev pub is_one_of : List KeyRule → List ℕ → Bool
 is_one_of rules name = list_any (λ r. bytes_eq name (key_word (key_in r))) rules
 

@@ -1,4 +1,4 @@
--- How a run that serves reads a line: each line is one, also one that is refused, which says why and for which key.
+-- How a `serve` session reads a line. A refused line is a line too, with the reason and the key at fault.
 use Rattle.std.specs.Prelude.{◌≡◌, ◌≢◌, ℕ, nat_le, Bool, true, false, List, length, Result, Ok, Err, if◌then◌else◌}
 use Rattle.std.specs.Option.{option_map_or}
 use Rattle.serde_json.specs.Data.{Data}
@@ -17,7 +17,7 @@ use Rattle.exec_commands.specs.declared.line.Line.{Line}
 use Rattle.exec_commands.specs.declared.line.Served.{Served}
 use Rattle.exec_commands.specs.declared.line.Line.TheVariants as line
 
--- a line is one that only a run that serves reads
+-- a line is one of `serve` sessions alone
 abbrev pub is_service_line : Line → Bool
 is_service_line line.Leave = true
 is_service_line line.Version = true
@@ -29,19 +29,20 @@ is_service_line _ = false
 abbrev pub refused_line : Refusal → About → Line
 refused_line why what = line.Direct (Refused (record { why = why; about = what }))
 
--- a line that asks for this, unless it has what is no tag under that key
+-- this line, or its refusal if its key `tag` holds no tag
 abbrev pub tagged_line : Data → Line → Line
 tagged_line d l = if is_mistagged d then refused_line BadValue (about.Key Tag) else l
 
--- the same, unless its operation has not all of its keys
+-- the same, or the refusal of a key that its operation does not have
 abbrev pub known_line : Data → Line → Line
 known_line d l = option_map_or (λ name. refused_line BadValue (about.Unknown name)) (unknown_key d) (tagged_line d l)
 
--- the line of a JSON value
+-- the line of a JSON value, from its request or its refusal
 abbrev pub line_from : Data → Result Line Refusal → Line
 line_from d (Ok l) = known_line d l
 line_from d (Err why) = refused_line why (about_line why d)
 
+-- the line of a JSON value
 abbrev pub served_line : Data → Line
 served_line d = line_from d (served_line_of d)
 
@@ -49,12 +50,12 @@ served_line d = line_from d (served_line_of d)
 abbrev pub served_read : List ℕ → Line
 served_read bytes = option_map_or served_line (value_of bytes) (refused_line Syntax about.Whole)
 
--- these bytes are more than a line may have
+-- a line of these bytes is too long
 abbrev pub IsTooLong : List ℕ → Type 0
 IsTooLong bytes = nat_le (length bytes) line_limit ≡ false
 
--- These bytes are read so by a run that serves: as that line, but that one in which a key comes twice is refused for it. Memory may be
--- refused, and a line that is too long is refused without being read.
+-- A `serve` session reads these bytes as this result: as the line defined above, or, if a key occurs twice, as the refusal of it. Memory
+-- may be refused, and a line that is too long may be refused without being read.
 abbrev pub IsServedAs : List ℕ → Result Line Refusal → Type 0
 IsServedAs bytes (Ok l) =
     (HasKeyTwice bytes → l ≡ refused_line Syntax about.Twice) × (¬ (HasKeyTwice bytes) → l ≡ served_read bytes)

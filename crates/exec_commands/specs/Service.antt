@@ -1,4 +1,4 @@
--- What only a run that serves says: of itself, of all resources, and the metadata of an agent.
+-- Replies of `serve` sessions alone: about the session, about all resources, and the metadata of an agent as a text.
 use Rattle.std.specs.Borrow.{Bor}
 use Rattle.std.specs.Prelude.{ℕ, true, List, [], ◌∷◌, Option, Some, None, if◌then◌else◌, codes}
 use Rattle.std.specs.Str.{is_utf8}
@@ -12,23 +12,23 @@ use Rattle.exec_commands.specs.declared.service.Service.{Service}
 abbrev pub version_data : Service → Data
 version_data s = object_from ((codes "ok", boolean true) ∷ (codes "version", string s.version.now) ∷ [])
 
--- how all resources are, in their order
+-- the status of all resources, in their order
 abbrev pub statuses_data : List Data → Data
 statuses_data statuses = object_from ((codes "ok", boolean true) ∷ (codes "status", array (items_of statuses)) ∷ [])
 
--- the directory of the journal, where there is one
+-- the directory of the journal, or null for a journal in memory
 abbrev pub journal_data : Option (Bor (List ℕ)) → Data
 journal_data None = null
 journal_data (Some directory) = string directory.now
 
--- the run has opened its journal and takes lines
+-- the ready line: the session has opened its journal and reads lines
 abbrev pub ready_data : Service → Counts → Data
 ready_data s counts = object_from (
     (codes "dropped", natural_data counts.dropped) ∷ (codes "interrupted", natural_data counts.interrupted)
     ∷ (codes "journal", journal_data s.journal) ∷ (codes "ready", boolean true)
     ∷ (codes "resources", natural_data counts.resources) ∷ (codes "version", string s.version.now) ∷ [])
 
--- metadata that are a text, and those that are none
+-- metadata that are a text, and metadata that are not
 abbrev pub text_data : List ℕ → Data
 text_data metadata = object_from ((codes "metadata", string metadata) ∷ (codes "ok", boolean true) ∷ [])
 

@@ -1,4 +1,4 @@
--- The tag of a line: a text of a client's own, of at most 64 bytes of UTF-8, that is repeated in the reply and in the notices of its call.
+-- The tag of a line: a client's text of at most 64 bytes of UTF-8, which the reply and the notices of its call repeat.
 use Rattle.std.specs.Prelude.{◌≡◌, ℕ, nat_le, is_none, Bool, false, List, length, Option, None, Some, option_map, option_and_then}
 use Rattle.std.specs.Prelude.{if◌then◌else◌, codes}
 use Rattle.std.specs.Option.{option_map_or}
@@ -23,7 +23,7 @@ tag_in v = option_and_then short_text (as_str v)
 abbrev pub tag_of : Data → Option (List ℕ)
 tag_of d = option_and_then tag_in (get (codes "tag") d)
 
--- a line has what is no tag under that key
+-- the key `tag` of a line holds anything but a tag
 abbrev pub is_mistagged : Data → Bool
 is_mistagged d = option_map_or (λ v. is_none (tag_in v)) (get (codes "tag") d) false
 
@@ -31,20 +31,20 @@ is_mistagged d = option_map_or (λ v. is_none (tag_in v)) (get (codes "tag") d) 
 abbrev pub tag_read : List ℕ → Option (List ℕ)
 tag_read bytes = option_and_then tag_of (value_of bytes)
 
--- the line of these bytes has that tag; one in which a key comes twice has none
+-- the line of these bytes has this tag; one in which a key occurs twice has none
 abbrev pub IsTaggedAs : List ℕ → Option (List ℕ) → Type 0
 IsTaggedAs bytes tag = (HasKeyTwice bytes → tag ≡ None) × (¬ (HasKeyTwice bytes) → tag ≡ tag_read bytes)
 
--- the tag that a line is to be written with, wherever it is
+-- the tag that a line is to be written with
 abbrev pub told_tag : Tagged → Option (List ℕ)
 told_tag t = option_map (λ tag. tag.now) t.tag
 
--- the same of a line of this form: a run that does not serve writes none
+-- the same of a line of this form: a `run` session writes no tag
 abbrev pub formed_tag : NoticeForm → Option (List ℕ) → Option (List ℕ)
 formed_tag notice_form.Short tag = None
 formed_tag (notice_form.Timed service) tag = tag
 
--- an object with a tag, where there is one
+-- an object with this tag, if any
 abbrev pub with_tag : Option (List ℕ) → Data → Data
 with_tag None d = d
 with_tag (Some tag) d = object_with (codes "tag") (string tag) d

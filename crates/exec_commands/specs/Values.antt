@@ -1,4 +1,4 @@
--- Names and values of a line. A text that is no name is bad-name; a value outside its range is bad-value.
+-- Names and values of a line. An invalid name is refused as bad-name, a value outside its range as bad-value.
 use Rattle.std.specs.Prelude.{ℕ, ◌&&◌, ◌^◌, nat_le, nat_lt, List, length, Bool, Option, None, Some, option_and_then, option_map, Result, Ok, Err, if◌then◌else◌}
 use Rattle.std.specs.Option.{ok_or}
 use Rattle.std.specs.List.{list_all}
@@ -14,30 +14,30 @@ use Rattle.ocf_types.specs.declared.refusal.Refusal.{Refusal}
 use Rattle.ocf_types.specs.declared.refusal.Refusal.TheVariants.{BadName, BadValue}
 use Rattle.exec_commands.specs.Keys.{given}
 
--- a text that passes as a name
+-- a text that is a valid name, or a refusal
 abbrev pub named : (List ℕ → Bool) → List ℕ → Result (List ℕ) Refusal
 named is_name text = if is_name text then Ok text else Err BadName
 
--- a value that is in its range
+-- a value in its range, or a refusal
 abbrev pub valued : {A : Type 0} → Option A → Result A Refusal
 valued found = ok_or found BadValue
 
--- parameters whose names are names
+-- parameters whose names are valid
 abbrev pub are_names : ParamList → Bool
 are_names ps = list_all (λ p. is_param_name p.0) ps
 
 abbrev pub named_params : ParamList → Result ParamList Refusal
 named_params ps = if are_names ps then Ok ps else Err BadName
 
--- at most 64 parameters, whose values are values
+-- at most 64 parameters, with valid values
 abbrev pub valued_params : ParamList → Result ParamList Refusal
 valued_params ps = if nat_le (length ps) params_limit && list_all (λ p. is_param_value p.1) ps then Ok ps else Err BadValue
 
--- parameters, their names before their values
+-- parameters: their names are checked before their values
 abbrev pub params_of : ParamList → Result ParamList Refusal
 params_of ps = given (named_params ps) valued_params
 
--- the check of a level's number and an exit code that is expected
+-- the check with this number of a level and this expected exit code
 abbrev pub check_numbered : ℕ → ℕ → Option Check
 check_numbered level code =
     option_and_then (λ l. option_map (λ x. record { level = l; expect = x }) (expect_of_code code)) (level_numbered level)
@@ -45,7 +45,7 @@ check_numbered level code =
 abbrev pub check_of : ℕ → ℕ → Result Check Refusal
 check_of level code = valued (check_numbered level code)
 
--- the task of an action's word, a level's number and an exit code that is expected: only a monitor has ones other than 0
+-- the task of an action, by its name, with this number of a level and expected exit code: only a monitor has ones other than 0
 abbrev pub task_named : List ℕ → ℕ → ℕ → Result Task Refusal
 task_named word level code = valued (option_and_then (λ a. option_and_then (task_of a) (check_numbered level code)) (action_named word))
 
@@ -57,8 +57,8 @@ millis_of n = if nat_le 1 n && nat_lt n (2 ^ 32) then Ok n else Err BadValue
 abbrev pub call_of : ℕ → Result ℕ Refusal
 call_of n = if nat_le 1 n && nat_le n num_max then Ok n else Err BadValue
 
--- how long a drain takes at most where the line names no limit, and in a run that serves an agent that is asked for its metadata, in
--- milliseconds; and the longest that a line may name, a day
+-- the limits of a drain, and of a request for metadata in a `serve` session, if the line names none, and the greatest limit that a line
+-- may name, a day; in milliseconds
 abbrev pub default_limit : ℕ
 default_limit = 60000
 
@@ -71,7 +71,7 @@ longest_limit = 86400000
 abbrev pub limit_of : ℕ → Result ℕ Refusal
 limit_of n = if nat_le n longest_limit then Ok n else Err BadValue
 
--- a limit, where one is named
+-- the limit, if one is named
 abbrev pub limit_if_named : Option ℕ → Result (Option ℕ) Refusal
 limit_if_named None = Ok None
 limit_if_named (Some n) = given (limit_of n) (λ limit. Ok (Some limit))

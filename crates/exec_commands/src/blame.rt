@@ -72,7 +72,7 @@ fn is_between(from: u64, to: u64, found: &Value) -> bool
     }
 }
 
-// Whether no other action than a monitor is named.
+// Whether the line names no action other than a monitor.
 fn is_of_monitor(line: &Value) -> bool
     ensures { result ≡ is_of_monitor (view line.now) }
 {
@@ -137,7 +137,7 @@ fn key_at_fault(why: Refusal, rules: &[KeyRule], line: &Value) -> Option<Key>
     Some(rule.key())
 }
 
-/// What the refusal of a line is about: the first key that is at fault for such a reason, or `op` where it names no operation.
+/// The subject of a line's refusal: the first key at fault for this reason, or else the whole line; `op` if it names no operation.
 pub fn about_line(why: Refusal, line: &Value) -> About
     ensures { result ≡ about_line why (view line.now) }
 {
@@ -162,7 +162,7 @@ fn unknown_in<'a>(rules: &[KeyRule], object: &'a Map<String, Value>) -> Option<&
     None
 }
 
-/// The first key of a line that its operation does not have, where there is one.
+/// The first key of a line that its operation does not have, if any.
 pub fn unknown_key(line: &Value) -> Option<&str>
     ensures { option_map (λ name. name.now) result ≡ unknown_key (view line.now) }
 {

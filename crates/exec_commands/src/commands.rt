@@ -1,4 +1,4 @@
-//! Commands of JSON values.
+//! Reads commands from JSON values.
 ghost use Rattle.std.specs.Prelude.{◌≡◌, ◌≢◌, Ok, Err, IfOk, IfErr, IsTrue};
 ghost use Rattle.serde_json.specs.View.{view};
 ghost use Rattle.ocf_types.specs.declared.refusal.Refusal.TheVariants.{Memory};

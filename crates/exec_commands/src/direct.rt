@@ -1,9 +1,9 @@
-//! Lines that are answered by what they are alone.
+//! Lines whose reply depends on the line alone.
 use line_keys::LineRefusal;
 
-/// A line of a run that serves which is answered by what it is alone, and what it is answered.
+/// The reply to a line of a `serve` session that depends on the line alone.
 #[derive(Drop)]
 pub enum Direct {
-    /// It is refused for what it holds.
+    /// The line is refused for its content.
     Refused(LineRefusal),
 }

@@ -1,4 +1,4 @@
-//! Ends of what a line asks for, and of turns.
+//! How turns, drains, watches and tidies end, and why there are no metadata, as words and as JSON values.
 ghost use Rattle.std.specs.Prelude.{◌≡◌, IfOk, IsTrue, OnErr};
 ghost use Rattle.serde_json.specs.View.{view};
 ghost use Rattle.exec_commands.specs.Replies.{turn_word, drain_word, tidy_word, start_word, end_data, fault_data};
@@ -15,9 +15,9 @@ pub enum DrainEnd {
     Idle,
     /// Its limit has passed.
     Limit,
-    /// It has made as many turns as a drain may.
+    /// It has made the most turns that a drain may make.
     Turns,
-    /// A turn ended otherwise than done, and the drain with it.
+    /// A turn did not end as done, and ended the drain.
     Turn(TurnEnd),
 }
 
@@ -70,7 +70,7 @@ fn start_word(fault: StartFault) -> &'static str
     }
 }
 
-/// An end, by its word.
+/// The JSON value of an end with this word.
 pub fn end_value(alloc: Global, word: &str) -> Result<Value, AllocError>
     ensures value { IfOk result (λ v. view v ≡ end_data word.now) }
     ensures memory { OnErr result (IsTrue ⟦<Global as Grows>⟧.refuses) }

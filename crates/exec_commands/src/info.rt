@@ -1,4 +1,4 @@
-//! What a resource is, and what it does now.
+//! The reply to `info`: how a resource is registered, and what it does now.
 ghost use Rattle.std.specs.Prelude.{◌≡◌, map, IfOk, IsTrue, OnErr};
 ghost use Rattle.serde_json.specs.View.{view, members_view};
 ghost use Rattle.exec_commands.specs.Objects.{natural_data, param_members};
@@ -82,7 +82,7 @@ fn running_value(alloc: Global, id: &RscId, running: Option<Running>) -> Result<
     )
 }
 
-// The values that an info is made of.
+// The values of the reply that are made before its object.
 #[derive(Drop)]
 struct Parts {
     failed: Value,
@@ -145,7 +145,7 @@ fn object_of(alloc: Global, info: &Info, parts: Parts) -> Result<Value, AllocErr
     })
 }
 
-/// What a resource is, and what it does now.
+/// The reply to `info`: how a resource is registered, and what it does now.
 pub fn info_value(alloc: Global, info: &Info) -> Result<Value, AllocError>
     ensures value { IfOk result (λ v. view v ≡ info_data info.now) }
     ensures memory { OnErr result (IsTrue ⟦<Global as Grows>⟧.refuses) }

@@ -43,7 +43,7 @@ pub fn number_at(line: &Value, key: &str) -> Result<u64, Refusal>
     }
 }
 
-/// The number under a key; none where the key is left out, or holds anything else.
+/// The number under a key; `None` if the key is absent or holds anything else.
 pub fn number_there(line: &Value, key: &str) -> Option<u64>
     ensures { result ≡ number_there key.now (view line.now) }
 {
@@ -53,7 +53,7 @@ pub fn number_there(line: &Value, key: &str) -> Option<u64>
     }
 }
 
-/// The number under a key, or this one where the key is left out.
+/// The number under a key, or `default` if the key is absent.
 pub fn number_or(line: &Value, key: &str, default: u64) -> Result<u64, Refusal>
     ensures value { result ≡ number_or default key.now (view line.now) }
     ensures memory { IfErr result (λ e. e ≢ Memory) }

@@ -1,10 +1,10 @@
-//! Processes that are left of interrupted actions.
+//! Processes of interrupted runs that are still alive.
 ghost use Rattle.std.specs.Prelude.{◌≡◌};
 ghost use Rattle.exec_commands.specs.Replies.{lives_of};
 
 use ocf_types::RunId;
 
-/// A process that is left of an interrupted run, and lives on.
+/// A process of an interrupted run that is still alive.
 #[derive(Clone, Copy)]
 pub struct Left {
     pub run: RunId,
@@ -12,7 +12,7 @@ pub struct Left {
     pub pid: u32,
 }
 
-/// The process that is left of this run, where one is; the first of several.
+/// The first of these processes that belongs to the run, if any.
 pub fn lives_of(left: &[Left], run: u64) -> Option<u32>
     ensures { result ≡ lives_of left.now run }
 {

@@ -1,4 +1,4 @@
-//! Command lines of JSON, and the replies and notices that are written in answer.
+//! Reads lines of JSON, and writes replies and notices as lines of JSON.
 #![tactic(auto)]
 
 mod blame;

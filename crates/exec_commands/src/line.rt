@@ -1,9 +1,9 @@
-//! What a line asks for.
+//! The request of a line.
 use crate::direct::Direct;
 use crate::tag::Tag;
 use ocf_types::{AgentType, Provider, Request};
 
-/// What a command line asks for.
+/// The request of a line.
 #[derive(Drop)]
 pub enum Line {
     /// A command or a question for the executor.
@@ -12,30 +12,30 @@ pub enum Line {
     Drain(u32),
     /// Turns for this many milliseconds, whether or not anything is queued or running: from 1 to 4,294,967,295.
     Watch(u32),
-    /// The whole state, written as the snapshot of the journal's other part.
+    /// A tidy: writes the whole state as the snapshot of the journal's other part.
     Tidy,
-    /// The end of the run, in order: no further command is taken, what runs ends within its timeouts and is recorded and
-    /// reported, and then the run ends. Only a run that serves reads it.
+    /// An orderly end of the session: no further command is accepted, running actions end within their timeouts and are recorded
+    /// and reported, and then the session ends. In a `serve` session only.
     Leave,
-    /// The version of the program. Only a run that serves reads it.
+    /// The version of the program. In a `serve` session only.
     Version,
-    /// How all resources are. Only a run that serves reads it.
+    /// The status of all resources. In a `serve` session only.
     Status,
-    /// The metadata of an agent, which is given this many milliseconds at most: from 0 to 86,400,000; as long as it takes where
-    /// there is no limit. OCF Resource Agent API 1.1, meta-data.
+    /// The metadata of an agent, which may take this many milliseconds at most, from 0 to 86,400,000; any time if there is no
+    /// limit. OCF Resource Agent API 1.1, meta-data.
     Meta {
         provider: Provider,
         agent: AgentType,
         limit: Option<u32>,
     },
-    /// Nothing of the executor: it is answered by what it is alone. Only a run that serves reads it.
+    /// A line whose reply depends on the line alone, not on the executor. In a `serve` session only.
     Direct(Direct),
 }
 
-/// A line of a run that serves, as it was read.
+/// A line of a `serve` session, with its tag.
 #[derive(Drop)]
 pub struct Served {
     pub line: Line,
-    /// What its client knows the reply and the notices by.
+    /// The client's text that the reply and the notices repeat.
     pub tag: Option<Tag>,
 }

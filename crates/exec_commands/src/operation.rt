@@ -1,8 +1,8 @@
-//! Words of operations.
+//! The operations that the key `op` names.
 ghost use Rattle.std.specs.Prelude.{◌≡◌};
 ghost use Rattle.exec_commands.specs.Lines.{command_words, other_words, operation_in, operation_named};
 
-/// What the key `op` of a line names.
+/// An operation that the key `op` of a line names.
 #[derive(Clone, Copy, Debug, PartialEq, Eq)]
 pub enum Operation {
     Register,
@@ -68,7 +68,7 @@ fn other_named(word: &str) -> Option<Operation>
     }
 }
 
-/// The operation of a word.
+/// The operation with this name.
 pub fn operation_named(word: &str) -> Option<Operation>
     ensures { result ≡ operation_named word.now }
 {

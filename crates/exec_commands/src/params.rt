@@ -1,4 +1,4 @@
-//! Parameters of texts.
+//! Makes parameters from texts.
 ghost use Rattle.std.specs.Prelude.{◌≡◌, ◌≢◌, None, Ok, Err, IfOk, IfErr, IsTrue};
 ghost use Rattle.std.specs.List.{list_all};
 ghost use Rattle.ocf_types.specs.Names.{is_param_name};
@@ -60,8 +60,8 @@ fn valued_params(alloc: Global, members: &[(&str, &str)]) -> Result<Params, Refu
     Ok(params)
 }
 
-/// The parameters that these texts are: `BadName` where a name is none, else `BadValue` where there are more than 64
-/// or a value is none.
+/// The parameters with these names and values: `BadName` if a name is invalid, else `BadValue` if there are more than 64
+/// or a value is invalid.
 pub fn params_of(alloc: Global, texts: &Texts<'_>) -> Result<Params, Refusal>
     ensures ok { IfOk result (λ ps. params_of texts.now ≡ Ok ps) }
     ensures err { IfErr result (λ e. e ≢ Memory → params_of texts.now ≡ Err e) }

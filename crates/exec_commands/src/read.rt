@@ -1,4 +1,4 @@
-//! Lines read.
+//! Reads the lines of a `run` session.
 ghost use Rattle.std.specs.Prelude.{◌≡◌, ◌≢◌, ◌<◌, false, length, None, Some, Err, Ok, IfOk, IfErr, IsTrue, OnErr, IfSome, IfNone};
 ghost use Rattle.std.specs.Str.{IsUtf8};
 ghost use Rattle.serde_json.specs.Read.{read};
@@ -35,7 +35,7 @@ fn watch_in(line: &Value) -> Result<Line, Refusal>
     Ok(Line::Watch(millis(number)?.get()))
 }
 
-// It has no limit where the line names none.
+// There is no limit if the line names none.
 fn meta_in(line: &Value) -> Result<Line, Refusal>
     ensures value { result ≡ meta_in (view line.now) }
     ensures memory { IfErr result (λ e. e ≢ Memory) }
@@ -116,7 +116,7 @@ fn line_for(alloc: Global, operation: Operation, line: &Value) -> Result<Line, R
     }
 }
 
-/// What a JSON value asks for, or the first refusal.
+/// The request of a JSON value, or the first refusal.
 pub fn line_of(alloc: Global, value: &Value) -> Result<Line, Refusal>
     ensures ok { IfOk result (λ l. line_of (view value.now) ≡ Ok l) }
     ensures err { IfErr result (λ e. e ≢ Memory → line_of (view value.now) ≡ Err e) }
@@ -128,7 +128,7 @@ pub fn line_of(alloc: Global, value: &Value) -> Result<Line, Refusal>
     }
 }
 
-// The JSON value that these bytes are, where they are one.
+// The JSON value of these bytes, or `None` if they are not JSON.
 fn parsed(alloc: Global, bytes: &[u8]) -> Result<Option<Value>, AllocError>
     ensures some { IfOk result (λ found. IfSome found
         (λ v. IsUtf8 bytes.now × (read bytes.now ≡ Some (view v)))) }
@@ -144,7 +144,7 @@ fn parsed(alloc: Global, bytes: &[u8]) -> Result<Option<Value>, AllocError>
     Global::library_growth(answer)
 }
 
-/// The JSON value that a line is.
+/// The JSON value of a line.
 #[tactic(auto, using(crate::proofs::ValueLemmas::too_long))]
 pub fn value_of(alloc: Global, bytes: &[u8]) -> Result<Value, Refusal>
     ensures ok { IfOk result (λ v. value_of bytes.now ≡ Some (view v)) }
@@ -162,10 +162,9 @@ pub fn value_of(alloc: Global, bytes: &[u8]) -> Result<Value, Refusal>
     }
 }
 
-/// What a line, without its newline, asks for, or why it is refused: the first of syntax, unknown-op, bad-name and
-/// bad-value that holds. Any answer but that to a line of more than 131,072 bytes may be want of memory instead, where the
-/// allocator refused it. No line is one that only a run that serves reads, as one that asks the run to end, and a question for metadata
-/// has no limit but one that it names.
+/// The request of a line, given without its newline, or why it is refused: the first of syntax, unknown-op, bad-name and
+/// bad-value that holds. A line of at most 131,072 bytes is instead refused for memory if the allocator refused it. Operations of
+/// `serve` sessions alone are unknown here, and a request for metadata has a limit only if it names one.
 pub fn read_command(alloc: Global, bytes: &[u8]) -> Result<Line, Refusal>
     ensures ok { IfOk result (λ l. line_read bytes.now ≡ Ok l) }
     ensures refused { IfErr result (λ e. e ≢ Memory → line_read bytes.now ≡ Err e) }

@@ -1,4 +1,4 @@
-//! Refusals, as a run that serves says them.
+//! Refusals, as a `serve` session writes them.
 ghost use Rattle.std.specs.Prelude.{◌≡◌, Some, None, IfOk, IsTrue, OnErr};
 ghost use Rattle.serde_json.specs.View.{view};
 ghost use Rattle.exec_commands.specs.Replies.{keyed_data, refused_data};
@@ -32,7 +32,7 @@ fn keyless_value(alloc: Global, why: Refusal, message: &str) -> Result<Value, Al
     Global::library_growth(json!(in alloc; {"error": word, "message": message, "number": number}))
 }
 
-/// A refusal with the key of the line that it is about, where there is one, and its sentence.
+/// A refusal with the key of the line that it is about, if any, and a message.
 pub fn refused_value(alloc: Global, refusal: &LineRefusal) -> Result<Value, AllocError>
     ensures value { IfOk result (λ v. view v ≡ refused_data refusal.now) }
     ensures memory { OnErr result (IsTrue ⟦<Global as Grows>⟧.refuses) }

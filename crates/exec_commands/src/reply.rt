@@ -1,4 +1,4 @@
-//! Replies, written as lines.
+//! Replies, and their lines in a `run` session.
 ghost use Rattle.std.specs.Prelude.{◌≡◌, ◌++◌, ◌∷◌, [], false, map, IfOk, OnOk, IsTrue, OnErr};
 ghost use Rattle.serde_json.specs.Data.{string};
 ghost use Rattle.serde_json.specs.View.{view};
@@ -19,7 +19,7 @@ use ocf_types::{CallId, Ended, MetaFault, OpKey, Refusal, Reply, RscId, TidyEnd}
 use serde_json::{Value, json};
 use std::alloc::{AllocError, Global};
 
-/// What a line is answered.
+/// The reply to a line.
 #[derive(Drop)]
 pub enum LineReply {
     /// The reply to a request, or a refusal.
@@ -28,17 +28,17 @@ pub enum LineReply {
     Drain(DrainEnd),
     /// How a tidy ended.
     Tidy(TidyEnd),
-    /// The run ends, as it was asked to.
+    /// The session ends, as it was asked to.
     Left,
     /// The metadata of an agent, or why it has none.
     Meta(Result<Vec<u8>, MetaFault>),
-    /// What a line is answered by what it is alone.
+    /// A reply that depends on the line alone.
     Direct(Direct),
-    /// The version of the program. Only a run that serves says it, and what follows.
+    /// The version of the program. This reply and those below are of `serve` sessions alone.
     Version,
-    /// How all resources are.
+    /// The status of all resources.
     Status(Statuses),
-    /// The run has opened its journal, and takes lines from now on.
+    /// The session has opened its journal, and reads lines from now on.
     Ready(Counts),
 }
 
@@ -132,7 +132,7 @@ fn length_value(alloc: Global, metadata: &[u8]) -> Result<Value, AllocError>
     Global::library_growth(json!(in alloc; {"meta": length}))
 }
 
-/// The JSON value of a reply in a run that does not serve.
+/// The JSON value of a reply in a `run` session.
 pub fn reply_value(alloc: Global, reply: &LineReply) -> Result<Value, AllocError>
     ensures value { IfOk result (λ v. view v ≡ reply_data reply.now) }
     ensures memory { OnErr result (IsTrue ⟦<Global as Grows>⟧.refuses) }
@@ -177,8 +177,8 @@ fn push_behind(bytes: &mut Vec<u8>, reply: &LineReply) -> Result<(), AllocError>
     Ok(())
 }
 
-/// The line of a reply in a run that does not serve: the compact text of its JSON value, keys ascending by their bytes, and a newline.
-/// Metadata follow it, and a newline.
+/// The line of a reply in a `run` session: the compact text of its JSON value, keys ascending by their bytes, and a newline.
+/// Metadata follow this line, with a newline of their own.
 #[tactic(auto, using(crate::proofs::FloatLemmas::reply_has_no_float))]
 pub fn write_reply(alloc: Global, reply: &LineReply) -> Result<Vec<u8>, AllocError>
     ensures line { IfOk result (λ b. b.items ≡ reply_line reply.now) }

@@ -1,4 +1,4 @@
-//! Results, as histories show them, and what failed last.
+//! Results, as the replies to `history` and `info` show them.
 ghost use Rattle.std.specs.Prelude.{◌≡◌, map, IfOk, IsTrue, OnErr};
 ghost use Rattle.ocf_codes.specs.ExitCodes.{name_read};
 ghost use Rattle.ocf_codes.specs.OutcomeCodes.{outcome_code};
@@ -30,7 +30,7 @@ fn ended_value(alloc: Global, ended: Ended) -> Result<Value, AllocError>
     }))
 }
 
-/// The result that failed last.
+/// The last failed result, or null.
 pub fn failed_value(alloc: Global, failed: Option<Ended>) -> Result<Value, AllocError>
     ensures value { IfOk result (λ v. view v ≡ failed_data failed) }
     ensures memory { OnErr result (IsTrue ⟦<Global as Grows>⟧.refuses) }

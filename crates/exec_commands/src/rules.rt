@@ -7,12 +7,12 @@ use crate::operation::{Operation, operation_named};
 use line_keys::Key;
 use serde_json::Value;
 
-/// A key that the lines of an operation have beside `op` and `tag`.
+/// A key of an operation's lines, besides `op` and `tag`.
 #[derive(Clone, Copy)]
 pub enum KeyRule {
-    /// It has to be there.
+    /// It is required.
     Needed(Key),
-    /// It may be left out.
+    /// It is optional.
     Free(Key),
 }
 
@@ -26,7 +26,7 @@ impl KeyRule {
         }
     }
 
-    /// Whether it has to be there.
+    /// Whether it is required.
     pub fn is_needed(self) -> bool
         ensures { result ≡ is_needed self }
     {
@@ -86,7 +86,7 @@ fn rules_of(operation: Operation) -> &'static [KeyRule]
     }
 }
 
-// Whether only a run that serves may be asked for what the word names, by a line that has no keys of its own.
+// Whether the word names an operation of `serve` sessions alone. The lines of these have no keys of their own.
 fn is_of_service(word: &str) -> bool
     ensures { result ≡ is_of_service word.now }
 {
@@ -105,7 +105,7 @@ fn rules_named(word: &str) -> Option<&'static [KeyRule]>
     }
 }
 
-/// The keys that a line has by its operation, in the order in which they are looked at; none where it names no operation.
+/// The keys of the line's operation, in the order in which they are checked; `None` if the line names no operation.
 pub fn rules_in(line: &Value) -> Option<&'static [KeyRule]>
     ensures { option_map (λ rules. rules.now) result ≡ rules_in (view line.now) }
 {

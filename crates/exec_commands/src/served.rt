@@ -1,4 +1,4 @@
-//! Lines of runs that serve.
+//! Reads the JSON value of a line of a `serve` session.
 ghost use Rattle.std.specs.Prelude.{◌≡◌, ◌≢◌, Ok, Err, IfOk, IfErr, IsTrue, OnErr};
 ghost use Rattle.serde_json.specs.View.{view};
 ghost use Rattle.ocf_types.specs.declared.refusal.Refusal.TheVariants.{Memory};
@@ -19,7 +19,7 @@ use ocf_types::Refusal;
 use serde_json::Value;
 use std::alloc::{AllocError, Global};
 
-// Turns go on while its agent is waited for, so it has a limit in any case.
+// There is always a limit: turns go on while the agent runs.
 fn served_meta_in(line: &Value) -> Result<Line, Refusal>
     ensures value { result ≡ served_meta_in (view line.now) }
     ensures memory { IfErr result (λ e. e ≢ Memory) }
@@ -58,7 +58,7 @@ pub fn refused_line(why: Refusal, about: About) -> Line
     Line::Direct(Direct::Refused(LineRefusal { why, about }))
 }
 
-// A line that asks for this, unless it has what is no tag under that key.
+// This line, or its refusal if its key `tag` holds no tag.
 fn tagged_line(value: &Value, line: Line) -> Line
     ensures { result ≡ tagged_line (view value.now) line }
 {
@@ -68,7 +68,7 @@ fn tagged_line(value: &Value, line: Line) -> Line
     line
 }
 
-// The same, unless its operation has not all of its keys.
+// The same, or the refusal of a key that its operation does not have.
 fn known_line(alloc: Global, value: &Value, line: Line) -> Result<Line, AllocError>
     ensures line { IfOk result (λ l. l ≡ known_line (view value.now) line) }
     ensures memory { OnErr result (IsTrue ⟦<Global as Grows>⟧.refuses) }

@@ -1,4 +1,4 @@
-//! What only a run that serves says.
+//! Replies of `serve` sessions alone: the version, the ready line, and metadata as a text.
 ghost use Rattle.std.specs.Prelude.{◌≡◌, IfOk, IsTrue, OnErr};
 ghost use Rattle.serde_json.specs.View.{view};
 ghost use Rattle.exec_commands.specs.Service.{journal_data, metadata_data, ready_data, text_data, version_data};
@@ -10,25 +10,25 @@ use serde_json::{Value, json};
 use std::alloc::{AllocError, Global};
 use std::str;
 
-/// What a run that serves says of itself in its lines, and what an executor before it left.
+/// What a `serve` session reports of itself, and the processes that earlier incarnations left.
 #[derive(Clone, Copy)]
 pub struct Service<'a> {
     /// The version of the program.
     pub version: &'a str,
-    /// The directory of the journal, as it was given; none where the journal is kept in memory alone.
+    /// The directory of the journal, as it was given; `None` for a journal in memory.
     pub journal: Option<&'a str>,
-    /// Processes that are left of interrupted actions, and live on.
+    /// Processes of interrupted runs that are still alive.
     pub left: &'a [Left],
 }
 
-/// What a run that serves counted when it opened its journal.
+/// What a `serve` session counted when it opened its journal.
 #[derive(Clone, Copy)]
 pub struct Counts {
-    /// The resources that are registered.
+    /// The registered resources.
     pub resources: usize,
-    /// The results of what the end of the executor before it interrupted.
+    /// The results of actions that the end of the previous incarnation interrupted.
     pub interrupted: usize,
-    /// The results of what was queued then, and is dropped.
+    /// The results of actions that were queued at that end, and are dropped.
     pub dropped: usize,
 }
 
@@ -69,7 +69,7 @@ fn ready_object(
     })
 }
 
-/// The run has opened its journal, and takes lines from now on.
+/// The ready line: the session has opened its journal, and reads lines from now on.
 pub fn ready_value(alloc: Global, service: Service, counts: Counts) -> Result<Value, AllocError>
     ensures value { IfOk result (λ v. view v ≡ ready_data service.entry counts) }
     ensures memory { OnErr result (IsTrue ⟦<Global as Grows>⟧.refuses) }
@@ -89,7 +89,7 @@ fn text_value(alloc: Global, metadata: &str) -> Result<Value, AllocError>
     Global::library_growth(json!(in alloc; {"metadata": metadata, "ok": true}))
 }
 
-/// The metadata of an agent as a JSON text, where they are UTF-8.
+/// The metadata of an agent as a JSON string, or the end `no-text` if they are not UTF-8.
 #[tactic(auto, using(crate::proofs::TextLemmas::metadata_text, crate::proofs::TextLemmas::metadata_no_text))]
 pub fn metadata_value(alloc: Global, metadata: &[u8]) -> Result<Value, AllocError>
     ensures value { IfOk result (λ v. view v ≡ metadata_data metadata.now) }

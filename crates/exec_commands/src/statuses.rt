@@ -1,4 +1,4 @@
-//! How all resources are.
+//! The status of all resources.
 ghost use Rattle.std.specs.Prelude.{◌≡◌, ◌++◌, ◌∷◌, [], false, map, if◌then◌else◌, is_ok, IfOk, IsTrue, OnErr};
 ghost use Rattle.serde_json.specs.View.{items_of, view};
 ghost use Rattle.serde_json.specs.Written.{has_float, items_have_float};
@@ -8,7 +8,7 @@ use growth::{Grows, push};
 use serde_json::{Value, json};
 use std::alloc::{AllocError, Global};
 
-/// How all resources are, a JSON value for each, in order. None has a float, whose text no standard settles.
+/// The status of all resources, a JSON value for each, in order. No value has a float, whose text no standard fixes.
 #[derive(Drop)]
 pub struct Statuses {
     values: Vec<Value>,
@@ -16,7 +16,7 @@ pub struct Statuses {
 }
 
 impl Statuses {
-    /// Of no resources. It takes no memory.
+    /// No resources. It allocates nothing.
     pub fn new(alloc: Global) -> Self
         ensures { result.values.items ≡ [] }
     {
@@ -25,7 +25,7 @@ impl Statuses {
         }
     }
 
-    /// Adds how one more resource is.
+    /// Adds the status of one more resource.
     #[tactic(auto, using(crate::proofs::StatusLemmas::one_more))]
     pub fn push(&mut self, status: Value) -> Result<(), AllocError>
         requires exact { has_float (view status) ≡ false }
@@ -53,7 +53,7 @@ fn copied(alloc: Global, values: &[Value]) -> Result<Vec<Value>, AllocError>
     Ok(copies)
 }
 
-/// How all resources are, as a reply.
+/// The reply with the status of all resources.
 #[tactic(auto, using(crate::proofs::StatusLemmas::statuses_no_float))]
 pub fn statuses_value(alloc: Global, statuses: &Statuses) -> Result<Value, AllocError>
     ensures value { IfOk result (λ v. view v ≡ statuses_data (map view statuses.now.values.items)) }

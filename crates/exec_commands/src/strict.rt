@@ -1,4 +1,4 @@
-//! Lines in which no key may come twice.
+//! Reads the lines of a `serve` session, in which no key may occur twice.
 ghost use Rattle.std.specs.Prelude.{◌≡◌, true, false, None, Ok, IfOk, IfErr, IsTrue, OnErr};
 ghost use Rattle.ocf_types.specs.declared.refusal.Refusal.TheVariants.{Memory};
 ghost use Rattle.exec_commands.specs.Served.{IsServedAs, line_in, served_read};
@@ -52,7 +52,7 @@ fn untagged(line: Line) -> Served
     Served { line, tag: None }
 }
 
-// The line of these bytes, in which no key comes twice.
+// The line of these bytes, in which no key occurs twice.
 fn served_read(alloc: Global, bytes: &[u8]) -> Result<Served, AllocError>
     ensures line { IfOk result (λ s. s.line ≡ served_read bytes.now) }
     ensures tag { IfOk result (λ s. s.tag ≡ tag_read bytes.now) }
@@ -71,7 +71,7 @@ fn served_read(alloc: Global, bytes: &[u8]) -> Result<Served, AllocError>
     }
 }
 
-// The line of these bytes, in which a key may come twice.
+// The line of these bytes, in which a key may occur twice.
 fn line_of_bytes(alloc: Global, bytes: &[u8]) -> Result<Served, AllocError>
     ensures served { IfOk result (λ s. IsServedAs bytes.now (Ok s.line)) }
     ensures tag { IfOk result (λ s. IsTaggedAs bytes.now s.tag) }
@@ -83,10 +83,10 @@ fn line_of_bytes(alloc: Global, bytes: &[u8]) -> Result<Served, AllocError>
     served_read(alloc, bytes)
 }
 
-/// The line of a run that serves that these bytes are: what it asks for, or why it is refused and for which key. It may ask the run to
-/// end, a question for metadata has 30,000 milliseconds where it names no limit, and a line in which an object has a key twice, or
-/// that has a key which its operation has not, is refused. With it goes its tag, also where it is refused, unless a key comes twice in
-/// it. It fails only where the allocator refused memory.
+/// Reads a line of a `serve` session: its request, or why it is refused and for which key. It may ask the session to end. A request
+/// for metadata has 30,000 milliseconds if it names no limit. A line is refused if an object in it has a key twice, or if it has a
+/// key that its operation does not have. The tag is also returned for a refused line, unless a key occurs twice in it. Fails only if
+/// the allocator refused memory.
 pub fn read_strictly(alloc: Global, bytes: &[u8]) -> Result<Served, Refusal>
     ensures served { IsServedAs bytes.now (line_in result) }
     ensures tag { IfOk result (λ s. IsTaggedAs bytes.now s.tag) }

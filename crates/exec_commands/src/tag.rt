@@ -1,4 +1,4 @@
-//! Tags: what a client knows the reply and the notices of a line by.
+//! Tags: texts by which a client matches replies and notices with its lines.
 ghost use Rattle.std.specs.Prelude.{◌≡◌, option_map};
 ghost use Rattle.serde_json.specs.View.{view};
 ghost use Rattle.exec_commands.specs.Tags.{is_mistagged, short_text, tag_in, tag_of};
@@ -7,10 +7,10 @@ use arrayvec::ArrayString;
 use serde_json::Value;
 use std::marker::Model;
 
-/// The most bytes of UTF-8 that a tag has.
+/// The greatest length of a tag, in bytes of UTF-8.
 pub const TAG_LIMIT: usize = 64;
 
-/// A text of at most 64 bytes of UTF-8 that a client gave a line, to know the reply and the notices by. It takes no memory.
+/// A text of at most 64 bytes of UTF-8 in a client's line, which the reply and the notices repeat. It allocates nothing.
 #[derive(Drop)]
 pub struct Tag {
     text: ArrayString<{ TAG_LIMIT }>,
@@ -25,7 +25,7 @@ impl Model for Tag {
 }
 
 impl Tag {
-    /// The tag that this text is; none where it has more than 64 bytes.
+    /// The tag with this text; `None` if it has more than 64 bytes.
     pub fn new(text: &str) -> Option<Self>
         ensures { result ≡ short_text text.now }
     {
@@ -43,7 +43,7 @@ impl Tag {
     }
 }
 
-/// The tag that a value is, if it is one.
+/// The tag that this JSON value is, if it is one.
 pub fn tag_in(found: &Value) -> Option<Tag>
     ensures { result ≡ tag_in (view found.now) }
 {
@@ -63,7 +63,7 @@ pub fn tag_of(line: &Value) -> Option<Tag>
     }
 }
 
-/// Whether a line has what is no tag under that key.
+/// Whether the key `tag` of a line holds anything but a tag.
 pub fn is_mistagged(line: &Value) -> bool
     ensures { result ≡ is_mistagged (view line.now) }
 {

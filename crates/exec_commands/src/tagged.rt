@@ -10,15 +10,15 @@ use growth::Grows;
 use serde_json::{Value, put};
 use std::alloc::{AllocError, Global};
 
-/// How a line is written: in this form, and with this tag. A line of a run that does not serve has none.
+/// How a line is written: in this form, and with this tag. A line of a `run` session has no tag.
 #[derive(Clone, Copy)]
 pub struct Tagged<'a> {
     pub form: NoticeForm<'a>,
-    /// The tag of the line that is answered, or that gave the command whose result is sent.
+    /// The tag of the line that is answered, or of the command whose result is reported.
     pub tag: Option<&'a str>,
 }
 
-/// The tag that a line of this form has.
+/// The tag that a line of this form is written with.
 pub fn formed_tag<'a>(tagged: Tagged<'a>) -> Option<&'a str>
     ensures { option_map (λ tag. tag.now) result
         ≡ formed_tag tagged.entry.form (told_tag tagged.entry) }
@@ -29,7 +29,7 @@ pub fn formed_tag<'a>(tagged: Tagged<'a>) -> Option<&'a str>
     }
 }
 
-// Puts one more text into an object.
+// Puts a text into an object.
 fn put_text(alloc: Global, object: &mut Value, key: &str, text: &str) -> Result<(), AllocError>
     ensures { OnOk result
         (view object.new ≡ object_with key.now (string text.now) (view object.old)) }
@@ -41,7 +41,7 @@ fn put_text(alloc: Global, object: &mut Value, key: &str, text: &str) -> Result<
     Ok(())
 }
 
-/// Puts a tag into an object, where there is one.
+/// Puts the tag, if any, into an object.
 pub fn put_tag(alloc: Global, object: &mut Value, tag: Option<&str>) -> Result<(), AllocError>
     ensures value { OnOk result
         (view object.new ≡ with_tag (option_map (λ tag. tag.now) tag.entry) (view object.old)) }

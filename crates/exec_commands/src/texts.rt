@@ -1,4 +1,4 @@
-//! The texts of an object, which parameters are made of.
+//! Objects whose members are all texts, from which parameters are made.
 ghost use Rattle.std.specs.Prelude.{◌≡◌, ◌≢◌, [], None, Ok, Err, IfOk, IfErr, IsTrue};
 ghost use Rattle.serde_json.specs.View.{view, members_view};
 ghost use Rattle.ocf_types.specs.declared.refusal.Refusal.TheVariants.{Memory};
@@ -53,7 +53,7 @@ fn member_texts<'a>(
 }
 
 impl<'a> Texts<'a> {
-    /// No members. It takes no memory.
+    /// No members. It allocates nothing.
     pub fn new(alloc: Global) -> Self
         ensures { result ≡ [] }
     {
@@ -62,7 +62,7 @@ impl<'a> Texts<'a> {
         }
     }
 
-    /// The members of what is an object of texts.
+    /// The members of an object of texts; any other value is refused as syntax.
     pub fn read(alloc: Global, found: &'a Value) -> Result<Self, Refusal>
         ensures ok { IfOk result (λ t. typed (texts (view found.now)) ≡ Ok t) }
         ensures err { IfErr result (λ e. e ≢ Memory → typed (texts (view found.now)) ≡ Err e) }
@@ -97,7 +97,7 @@ pub fn params_at<'a>(alloc: Global, line: &'a Value) -> Result<Texts<'a>, Refusa
     }
 }
 
-/// The parameters of a line, which may be left out.
+/// The parameters of a line; they are optional.
 pub fn params_if_there<'a>(alloc: Global, line: &'a Value) -> Result<Texts<'a>, Refusal>
     ensures ok { IfOk result (λ t. params_if_there (view line.now) ≡ Ok t) }
     ensures err { IfErr result (λ e. e ≢ Memory → params_if_there (view line.now) ≡ Err e) }

@@ -1,4 +1,4 @@
-//! Replies, as a run of this form writes them.
+//! Writes replies in the form of the session.
 ghost use Rattle.std.specs.Prelude.{◌≡◌, false, option_map, IfOk, IsTrue, OnErr};
 ghost use Rattle.serde_json.specs.View.{view};
 ghost use Rattle.serde_json.specs.Written.{has_float};
@@ -97,8 +97,8 @@ fn write_served_request(
     write_line(alloc, &value)
 }
 
-/// The line of a reply in a run whose notices have this form: one that serves says of a refusal also the key of the line that it is
-/// about, and a sentence, gives metadata as a text in the line, and repeats the tag of the line that is answered.
+/// The line of a reply in a session whose notices have this form. In a `serve` session a refusal also has the key that it is about
+/// and a message, metadata are a text in the line, and the tag of the answered line is repeated.
 pub fn write_told_reply(
     alloc: Global,
     tagged: Tagged,

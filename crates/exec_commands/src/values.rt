@@ -51,7 +51,7 @@ fn check_numbered(level: u64, code: u64) -> Option<Check>
     Some(Check { level, expect })
 }
 
-/// The check of a recurring monitor, of a level's number and the exit code that is expected.
+/// The check of a recurring monitor, from the number of a level and the expected exit code.
 pub fn check(level: u64, code: u64) -> Result<Check, Refusal>
     ensures value { result ≡ check_of level code }
     ensures memory { IfErr result (λ e. e ≢ Memory) }
@@ -62,7 +62,7 @@ pub fn check(level: u64, code: u64) -> Result<Check, Refusal>
     }
 }
 
-/// The task of an action's word, a level's number and the exit code that is expected.
+/// The task of an action, by its name, with the number of a level and the expected exit code.
 pub fn task(word: &str, level: u64, code: u64) -> Result<Task, Refusal>
     ensures value { result ≡ task_named word.now level code }
     ensures memory { IfErr result (λ e. e ≢ Memory) }
@@ -101,7 +101,7 @@ pub fn call_id(number: u64) -> Result<CallId, Refusal>
     }
 }
 
-/// The limit of a drain, or of an agent that is asked for its metadata, in milliseconds.
+/// The limit of a drain or of a request for metadata, in milliseconds.
 pub fn limit(number: u64) -> Result<u32, Refusal>
     ensures value { result ≡ limit_of number }
     ensures memory { IfErr result (λ e. e ≢ Memory) }
@@ -112,7 +112,7 @@ pub fn limit(number: u64) -> Result<u32, Refusal>
     Ok(number as u32)
 }
 
-/// A limit, where one is named.
+/// The limit, if one is named.
 pub fn limit_if_named(number: Option<u64>) -> Result<Option<u32>, Refusal>
     ensures value { result ≡ limit_if_named number }
     ensures memory { IfErr result (λ e. e ≢ Memory) }

@@ -12,7 +12,7 @@ use Rattle.ocf_types.specs.declared.outcome.RunEnd.TheVariants.{Done, TimedOut}
 use Rattle.ocf_types.specs.declared.reply.Notice.{Notice}
 use Rattle.exec_events.specs.Events.{event_line}
 
--- the result of run 7 of an action of web of which this was expected, which took so long
+-- the result of run 7 of an action of web, with this expected exit code and duration
 abbrev of_web_expecting : Expect → Action → Outcome → ℕ → Notice
 of_web_expecting expect a o millis = record {
   id = codes "web";
@@ -31,12 +31,12 @@ stopped : event_line false (of_web action.Monitor (Run (Done 7)) 12) ≡ codes "
 unfolding digits
 stopped = refl
 
--- the same where the monitor expected it to run, for the system's journal
+-- the same if the monitor expected it to run, for the system's journal
 died : event_line true (of_web action.Monitor (Run (Done 7)) 12) ≡ codes "<3>web: monitor not running (OCF_NOT_RUNNING, 7) in 12 ms\n"
 unfolding digits
 died = refl
 
--- and where the monitor expected it to be stopped
+-- and if the monitor expected it to be stopped
 found_stopped : event_line true (of_web_expecting NotRunning action.Monitor (Run (Done 7)) 12)
     ≡ codes "<6>web: monitor not running (OCF_NOT_RUNNING, 7) in 12 ms\n"
 unfolding digits

@@ -1,4 +1,4 @@
-//! A client that sends to another one first, and then to a person.
+//! A client that passes messages to another client, and then writes a line for each result.
 ghost use Rattle.std.specs.Prelude.{◌≡◌, OnOk};
 ghost use Rattle.std.specs.Io.KnownBytes.{Appends};
 ghost use Rattle.std.specs.List.{flat_map};
@@ -16,19 +16,19 @@ use ocf_types::Notice;
 use std::alloc::{AllocError, Global};
 use std::io::Write;
 
-/// Which lines a person is given.
+/// Which lines are written for a person.
 #[derive(Clone, Copy, Debug, PartialEq, Eq)]
 pub enum Events {
-    /// None.
+    /// No lines.
     None,
-    /// One of each result.
+    /// A line for each result.
     Plain,
-    /// One of each result, with its priority in front, as the system's journal reads it. sd-daemon(3).
+    /// A line for each result, prefixed with its priority as the system's journal reads it. sd-daemon(3).
     Marked,
 }
 
-/// A client that sends each message to another one first; where events are asked for, it then writes a line of each result for a
-/// person. What is written for the person, and whether that fails, changes nothing of the run.
+/// A client that passes each message to another client. If events are asked for, it then writes a line for each result, for a
+/// person. A fault in writing these lines has no effect on the session.
 #[derive(Drop)]
 pub struct Eventful<T, W> {
     alloc: Global,
@@ -38,7 +38,7 @@ pub struct Eventful<T, W> {
 }
 
 impl<T, W: Write> Eventful<T, W> {
-    /// Over a client, with a writer for the person.
+    /// A client over another one, with the writer of these lines.
     pub fn new(alloc: Global, client: T, errors: W, events: Events) -> Eventful<T, W>
         ensures client { result.client ≡ client }
     {
@@ -55,11 +55,11 @@ impl<T, W: Write> Eventful<T, W> {
 #[derive(Clone, Copy)]
 struct Making {
     alloc: Global,
-    // Whether each has its mark.
+    // Whether each line has its mark.
     marks: bool,
 }
 
-// Writes the line of a result, and flushes it.
+// Writes the line of a result, and flushes the writer.
 fn write_event<W: Write>(making: &Making, errors: &mut W, notice: &Notice) -> Result<(), IoFault>
     ensures written { OnOk result
         (Appends (W.contents errors.old) (W.contents errors.new)
@@ -70,7 +70,7 @@ fn write_event<W: Write>(making: &Making, errors: &mut W, notice: &Notice) -> Re
     Ok(())
 }
 
-// Writes a line of each result.
+// Writes a line for each result.
 fn write_events<W: Write>(
     making: &Making,
     errors: &mut W,
@@ -86,7 +86,7 @@ fn write_events<W: Write>(
     Ok(())
 }
 
-// The results that are sent.
+// The results in a message.
 fn notices_in<'a>(what: &Told<'a>) -> &'a [Notice]
     ensures { result.now ≡ notices_in what.now }
 {

@@ -1,4 +1,4 @@
-//! Lines for a person of each result, on standard error, by a client that sends to another one first.
+//! Lines for a person, one for each result, on standard error: a client that passes messages to another client.
 #![tactic(auto)]
 
 mod eventful;

@@ -18,7 +18,7 @@ fn add(line: &mut Vec<u8>, more: &str) -> Result<(), AllocError>
     add_bytes(line, more.as_bytes())
 }
 
-// Whether it is a failure whatever was expected.
+// Whether the outcome is a failure whatever exit code was expected.
 fn is_bad(outcome: Outcome) -> bool
     ensures { result ≡ is_bad (tone_of outcome) }
 {
@@ -28,7 +28,7 @@ fn is_bad(outcome: Outcome) -> bool
     }
 }
 
-// Whether it is not known what became of the action.
+// Whether it is not known if the action took effect, or the action never began.
 fn is_unknown(outcome: Outcome) -> bool
     ensures { result ≡ is_unknown outcome }
 {
@@ -38,7 +38,7 @@ fn is_unknown(outcome: Outcome) -> bool
     )
 }
 
-// What a line begins with for the system's journal. sd-daemon(3): the priorities err, warning and info.
+// The prefix of a line for the system's journal. sd-daemon(3): the priorities err, warning and info.
 fn mark_of(failed: bool, outcome: Outcome) -> &'static str
     ensures { result.now ≡ mark_of failed outcome }
 {
@@ -51,7 +51,7 @@ fn mark_of(failed: bool, outcome: Outcome) -> &'static str
     }
 }
 
-// What a result means, in the words of a status.
+// The meaning of a result, in the words of `status`.
 fn event_meaning(action: Action, outcome: Outcome) -> &'static str
     ensures { result.now ≡ event_meaning action outcome }
 {
@@ -62,7 +62,7 @@ fn event_meaning(action: Action, outcome: Outcome) -> &'static str
     }
 }
 
-// The agent's exit code, with its name where it is not 0.
+// Adds the agent's exit code, with its name if it is not 0.
 fn add_code(line: &mut Vec<u8>, outcome: Outcome) -> Result<(), AllocError>
     ensures added { OnOk result (line.new.items ≡ line.old.items ++ code_text outcome) }
     ensures memory { OnErr result (IsTrue ⟦<Global as Grows>⟧.refuses) }
@@ -80,7 +80,7 @@ fn add_code(line: &mut Vec<u8>, outcome: Outcome) -> Result<(), AllocError>
     add(line, ")")
 }
 
-// How long an action ran whose end was seen.
+// Adds how long the action ran, if its end was observed.
 fn add_time(line: &mut Vec<u8>, outcome: Outcome, millis: u64) -> Result<(), AllocError>
     ensures added { OnOk result (line.new.items ≡ line.old.items ++ time_text outcome millis) }
     ensures memory { OnErr result (IsTrue ⟦<Global as Grows>⟧.refuses) }
@@ -93,7 +93,7 @@ fn add_time(line: &mut Vec<u8>, outcome: Outcome, millis: u64) -> Result<(), All
     add_span(line, millis)
 }
 
-// Adds what is said of a result.
+// Adds the text of a result.
 fn add_event(line: &mut Vec<u8>, notice: &Notice) -> Result<(), AllocError>
     ensures added { OnOk result (line.new.items ≡ line.old.items ++ event_text notice.now) }
     ensures memory { OnErr result (IsTrue ⟦<Global as Grows>⟧.refuses) }
@@ -109,7 +109,7 @@ fn add_event(line: &mut Vec<u8>, notice: &Notice) -> Result<(), AllocError>
     add_time(line, ended.outcome, millis)
 }
 
-// Adds the mark, where lines are to have one.
+// Adds the mark, if lines are to have one.
 fn add_mark(
     line: &mut Vec<u8>,
     marks: bool,
@@ -125,7 +125,7 @@ fn add_mark(
     add(line, mark_of(failed, outcome))
 }
 
-/// The line of a result, with its mark or without.
+/// The line of a result, with or without its mark.
 pub fn event_line(alloc: Global, marks: bool, notice: &Notice) -> Result<Vec<u8>, AllocError>
     ensures line { IfOk result (λ line. line.items ≡ event_line marks notice.now) }
     ensures memory { OnErr result (IsTrue ⟦<Global as Grows>⟧.refuses) }

@@ -3,7 +3,7 @@ use Rattle.std.proofs.Common.{◌≡◌, ℕ, ◌+◌, ◌-◌, ◌≤◌, min, 
 use lib.Seq.{take-append-add}
 use Rattle.std.proofs.lemmas.List.{take_min}
 
--- what is appended is cut where the room ends
+-- the bytes that are appended are cut at the capacity
 pub appended : (old part new : List ℕ) (n : ℕ) → length old ≤ 131073 → n ≡ min (length part) (131073 - length old)
     → new ≡ old ++ take n part → new ≡ take 131073 (old ++ part)
 appended old part new n fits is grown =

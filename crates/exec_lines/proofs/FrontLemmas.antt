@@ -1,4 +1,4 @@
--- What a writer holds where a prefix of the bytes was written.
+-- The contents of a writer after a prefix of the bytes was written.
 use Rattle.std.proofs.Common.{◌≡◌, ℕ, ◌+◌, ◌-◌, ◌≤◌, List, Option, length, take, take_all, drop, sym, subst, take-append-drop, length-drop, arith}
 use Rattle.std.proofs.Math.Seq.{take-add}
 use Rattle.std.proofs.KnownBytes.{Appends-trans}

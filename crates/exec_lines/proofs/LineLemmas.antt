@@ -1,4 +1,4 @@
--- Lines as reads bring them, piece by piece.
+-- Lines that are read piece by piece.
 use Rattle.std.proofs.Common.{◌≡◌, ◌≢◌, ℕ, ◌+◌, ◌<◌, ◌≤◌, Bool, true, false, not, cond, List, [], ◌∷◌, ◌++◌, All, Option, Some, None}
 use Rattle.std.proofs.Common.{Result, Ok, IfSome, length, take, drop, get_or, refl, sym, ap, subst, ◌∙◌, arith, zero-add, append_assoc}
 use Rattle.std.proofs.Common.{append-nil, length-append, length-take-le, get_or-take, take_all, take-take, drop_of_length-le, eq-eqb}
@@ -58,7 +58,7 @@ line-unended d h =
       ap (λ n. drop (n + 1) d) place ∙ drop_of_length-le d (omega arith),
     )
 
--- what a reader had left began with this line, and it has left what comes after the line
+-- the rest of the input began with this line, and now is what comes after the line
 abbrev pub HasRead : Option (List ℕ) → Option (List ℕ) → List ℕ → Type 0
 HasRead a c d = IfSome a (λ xs. (0 < length xs) × (first_line xs ≡ d) × (c ≡ Some (after_first_line xs)))
 
@@ -101,7 +101,7 @@ read-none (Some x) (Some y) None done p end q none = absurd q
 read-none (Some x) (Some y) (Some z) [] p end q none = (p ∙ end, ap Some (sym q ∙ end))
 read-none (Some x) (Some y) (Some z) (d ∷ ds) p end q none = absurd (omega arith)
 
--- what is kept of more is what is kept of all
+-- keeping a prefix piece by piece keeps the same prefix
 pub kept-more : (done part old items : List ℕ) → old ≡ take 131073 done → items ≡ take 131073 (old ++ part)
     → items ≡ take 131073 (done ++ part)
 kept-more done part old items before after = after ∙ ap (λ l. take 131073 (l ++ part)) before ∙ at (nat_le (length done) 131073) refl
@@ -114,7 +114,7 @@ kept-more done part old items before after = after ∙ ap (λ l. take 131073 (l 
         take-append-le 131073 (take 131073 done) part (omega (arith, long)) ∙ take-take 131073 131073 done (omega arith)
         ∙ sym (take-append-le 131073 done part (omega (arith, lt)))
 
--- what is kept of a line has no newline either
+-- the kept prefix of a line has no newline either
 pub kept-none : (line items : List ℕ) → items ≡ take 131073 line → NoNewline line → NoNewline items
 kept-none line items e none = subst NoNewline (sym e) (All-take (λ b. b ≢ 10) 131073 line none)
 
@@ -122,7 +122,7 @@ next_of-some : (xs : List ℕ) → 0 < length xs → next_of xs ≡ line_answer 
 next_of-some [] some = absurd (omega arith)
 next_of-some (x ∷ xs) some = refl
 
--- a line of which just what there is room for was kept
+-- a line of which exactly the bytes that fit were kept
 pub kept-whole : (line items : List ℕ) → items ≡ take 131073 line
     → (length items ≡ 131073 → 131072 < length line) × (length items ≢ 131073 → length line ≤ 131072)
 kept-whole line items e =
@@ -157,13 +157,13 @@ answer-none piece line items kept end none = at line (ap length none ∙ refl) k
     at [] zero e = refl
     at (x ∷ xs) zero e = absurd (omega (arith, zero, ap length e ∙ length-take 131073 (x ∷ xs)))
 
--- all the room is taken
+-- the buffer is full
 pub answer-full : (piece : Piece) (line items : List ℕ) → items ≡ take 131073 line → length items ≡ 131073 → TooLong ≡ answer_at piece line
 answer-full piece line items kept full =
     let long = (kept-whole line items kept).0 full in
     answer-long line long ∙ sym (some_answer piece line (omega (arith, long)))
 
--- there is room left, and a line
+-- the buffer is not full, and there is a line
 pub answer-line : (piece : Piece) (line items : List ℕ) → items ≡ take 131073 line → length items ≢ 131073
     → ((piece ≡ Nothing) × (items ≡ []) → ⊥) → Line ≡ answer_at piece line
 answer-line Part line items kept more some = answer-fits line ((kept-whole line items kept).1 more)
@@ -239,7 +239,7 @@ ok_is e = cc
 pub some_line_is : {E : Type 0} {n : Next} → ◌≡◌ {A = Result (Option Next) E} (Ok (Some n)) (Ok (Some Line)) → n ≡ Line
 some_line_is e = cc
 
--- the clauses of a line that was read, in the words of what comes next
+-- the clauses of a line that was read, in terms of the next line
 pub next-of : (a c : Option (List ℕ)) (items : List ℕ) (n : Next) → Clauses a c items n → IsNext a n items c
 next-of None c items n h = tt
 next-of (Some xs) c items n h = (h.answer, h.line, h.rest)

@@ -29,7 +29,7 @@ at_end : (a : Option (List ℕ)) (shown : List ℕ) → IfSome a (λ xs. length 
 at_end None shown end none = tt
 at_end (Some xs) shown end none = end none
 
--- what a read shows, up to the first newline
+-- the bytes that a read shows, up to the first newline
 pub reads-shown : (E : Type 0) (a b c : Option (List ℕ)) (buffered : Option ℕ) (shown : List ℕ) (len : ℕ) (piece : Piece)
     → len ≡ position_or_len is_newline shown → piece ≡ piece_of (length shown) len
     → IfSome a (λ xs. StartsWith xs shown) → IfSome a (λ xs. length shown ≡ 0 → xs ≡ []) → Keeps a b
@@ -62,7 +62,7 @@ reads-shown E a b c buffered shown len piece place is front end kept fits drops 
         (taken (len + 0) len (omega arith) within d, nil_of (take len shown) (omega (arith, empty, long, within)), at_end a shown end empty)
     by false false f w d = taken (len + 0) len (omega arith) within d
 
--- what an unended read took
+-- the bytes that a read without a newline took
 pub at_part : (E : Type 0) (a c : Option (List ℕ)) (part : List ℕ) (p : Piece) → Reads {E = E} a c part (Ok p) → p ≡ Part
     → Consumes a c part
 at_part E a c part p reads is = subst (λ q. Reads {E = E} a c part (Ok q)) is reads

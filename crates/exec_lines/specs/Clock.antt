@@ -1,4 +1,4 @@
--- Times of the system's clock in milliseconds.
+-- Times of a clock in milliseconds.
 use Rattle.std.specs.Prelude.{ℕ, ◌/◌}
 use Rattle.std.specs.declared.time.SystemTime.{SystemTime}
 use Rattle.std.specs.Time.{system_time_nanos}

@@ -1,8 +1,8 @@
--- What is written where a write breaks off.
+-- The bytes that are written if a write fails.
 use Rattle.std.specs.Prelude.{◌≡◌, ℕ, List, ◌++◌, Option}
 use Rattle.std.specs.Io.KnownBytes.{Appends}
 
--- Known bytes grow by a prefix of these: by none of them, by some or by all.
+-- Known bytes grow by a prefix of these bytes, which may be empty or all of them.
 pub record AppendsFront (old new : Option (List ℕ)) (bytes : List ℕ) : Type 0 where
   pub front : List ℕ
   pub rest : List ℕ

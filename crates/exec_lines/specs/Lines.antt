@@ -13,11 +13,11 @@ is_newline b = b == 10
 abbrev pub first_line : List ℕ → List ℕ
 first_line = before_first is_newline
 
--- what comes after the first line and its newline
+-- the bytes after the first line and its newline
 abbrev pub after_first_line : List ℕ → List ℕ
 after_first_line = after_first is_newline
 
--- how many bytes of a line are kept: one more than a line may have, so that a longer one shows
+-- the capacity of a line buffer: one byte more than a line may have, so that a longer one is noticed
 abbrev pub line_room : ℕ
 line_room = line_limit + 1
 
@@ -25,7 +25,7 @@ line_room = line_limit + 1
 abbrev pub line_answer : List ℕ → Next
 line_answer line = if nat_le (length line) line_limit then Line else TooLong
 
--- what comes next in these bytes
+-- the next line of these bytes, or their end
 abbrev pub next_of : List ℕ → Next
 next_of [] = End
 next_of (x ∷ xs) = line_answer (first_line (x ∷ xs))

@@ -1,4 +1,4 @@
-//! The room that a line is read into.
+//! The buffer that a line is read into.
 ghost use Rattle.std.specs.Prelude.{◌≡◌, ◌≤◌, ◌↔◌, [], ◌++◌, IsTrue, IfOk, OnErr, length, take, vec_len, vec_capacity};
 ghost use Rattle.exec_lines.specs.Lines.{line_room};
 
@@ -6,11 +6,11 @@ use growth::{Grows, with_capacity};
 use ocf_types::LINE_LIMIT;
 use std::alloc::{AllocError, Allocator, Global};
 
-// One byte above the greatest length of a line: a full buffer holds the beginning of a longer one.
+// One byte more than the greatest length of a line: a full buffer holds the beginning of a longer line.
 const ROOM: usize = LINE_LIMIT + 1;
 
-/// Room for one line. It takes all its memory when it is made, 131,073 bytes: one byte more than the longest line has,
-/// so that a longer line shows.
+/// A buffer for one line. It allocates all its memory when it is made: 131,073 bytes, one more than the longest line has,
+/// so that a longer line is noticed.
 #[derive(Drop)]
 pub struct LineBuffer<A: Allocator = Global> {
     bytes: Vec<u8, A>,
@@ -21,7 +21,7 @@ pub struct LineBuffer<A: Allocator = Global> {
 impl<A: Grows> LineBuffer<A> {
     ghost use Rattle.exec_lines.specs.Buffer.{line_bytes};
 
-    /// A buffer with no line in it.
+    /// An empty buffer.
     pub fn new(alloc: A) -> Result<LineBuffer<A>, AllocError>
         ensures empty { IfOk result (λ b. line_bytes b ≡ []) }
         ensures memory { OnErr result (IsTrue A.refuses) }
@@ -41,7 +41,7 @@ impl<A: Allocator> LineBuffer<A> {
         self.bytes.as_slice()
     }
 
-    // Whether what was read passes the greatest length of a line.
+    // Whether the bytes that were read exceed the greatest length of a line.
     pub(crate) fn is_full(&self) -> bool
         ensures { IsTrue result ↔ (length (line_bytes self.now) ≡ line_room) }
     {
@@ -55,7 +55,7 @@ impl<A: Allocator> LineBuffer<A> {
         self.bytes.clear();
     }
 
-    // Appends what there is room for.
+    // Appends as many bytes as fit.
     pub(crate) fn append(&mut self, part: &[u8])
         ensures { line_bytes self.new ≡ take line_room (line_bytes self.old ++ part.now) }
     {

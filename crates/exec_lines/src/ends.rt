@@ -1,27 +1,27 @@
-//! The two ends of a run: what commands are read from, and what replies are written to.
+//! The input and the output of a session: commands are read from the one, replies are written to the other.
 ghost use Rattle.std.specs.Prelude.{◌≡◌};
 
 use std::alloc::Allocator;
 use std::io::{BufRead, Write};
 
-/// Input of which it can be asked whether something is there.
+/// Input that can be polled.
 pub trait Input: BufRead {
-    /// Waits for at most this many milliseconds until a read would not wait, and says whether it would not. The end of the
-    /// input and a fault count as there, too: a read reports them. Nothing is read.
+    /// Waits for at most this many milliseconds until a read would not block, and returns whether it would not. The end of the
+    /// input and a fault count as ready; a read reports them. Nothing is read.
     fn is_ready(&mut self, millis: u32) -> bool
         ensures same { Self.remaining self.new ≡ Self.remaining self.old };
 
-    /// Whether what was read already holds a whole line, so that the next one is there without a wait.
+    /// Whether the bytes already read hold a whole line, so that the next line needs no wait.
     fn has_line(&self) -> bool;
 }
 
 /// Output whose reader may be gone.
 pub trait Output: Write {
-    /// Whether what is written may still reach somebody.
+    /// Whether the output may still have a reader.
     fn is_heard(&self) -> bool;
 }
 
-/// All is there at once.
+/// All bytes are ready at once.
 impl Input for &[u8] {
     fn is_ready(&mut self, _millis: u32) -> bool {
         true

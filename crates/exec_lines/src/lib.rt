@@ -1,4 +1,4 @@
-//! Lines of input, replies, the two ends that they come from and go to, and the clock of a run.
+//! Lines of input, replies, the input and the output of a session, and its clock.
 #![tactic(auto)]
 
 mod buffer;

@@ -1,4 +1,4 @@
-//! Lines of input, read in bounded memory.
+//! Reads lines of input in bounded memory.
 ghost use Rattle.std.specs.Prelude.{◌≡◌, ◌≢◌, ◌↔◌, ◌≤◌, ℕ, List, [], ◌++◌, All, IsTrue, IfSome, IfOk, IfErr, OnOk, OnErr, Option, Some, Ok, MatchOption};
 ghost use Rattle.std.specs.Prelude.{length, take};
 ghost use Rattle.std.specs.List.{position_or_len};
@@ -14,25 +14,25 @@ use ocf_types::NUM_MAX;
 use std::alloc::Allocator;
 use std::io::{self, BufRead, ErrorKind};
 
-/// What comes next in the input.
+/// The next line of the input, or its end.
 #[derive(Clone, Copy, PartialEq, Eq)]
 pub enum Next {
     /// A line of at most 131,072 bytes.
     Line,
     /// A longer line.
     TooLong,
-    /// Nothing.
+    /// The end of the input.
     End,
 }
 
-// What one read gave.
+// The result of one read.
 #[derive(Clone, Copy, PartialEq, Eq)]
 enum Piece {
-    // Bytes of the line, which goes on.
+    // Bytes of the line, but not yet its end.
     Part,
-    // The last bytes of the line, and its newline.
+    // The last bytes of the line and its newline.
     Last,
-    // Nothing: the input ends here.
+    // No bytes: the end of the input.
     Nothing,
 }
 
@@ -68,7 +68,7 @@ fn piece_with(bytes: &[u8], len: usize) -> Piece
     }
 }
 
-// One read: what the reader has, up to a newline.
+// Makes one read: the bytes that the reader has, up to a newline.
 fn take_piece<R: BufRead, A: Allocator>(
     reader: &mut R,
     buffer: &mut LineBuffer<A>,
@@ -90,7 +90,7 @@ fn take_piece<R: BufRead, A: Allocator>(
     Ok(piece)
 }
 
-// A read that a signal interrupts is made again.
+// Makes an interrupted read count as one without bytes, so that it is made again.
 fn interrupted(error: io::Error) -> io::Result<Piece>
     ensures part { IfOk result (λ p. p ≡ Piece.Part) }
     ensures retried { IfErr result (λ e. error_kind e ≢ ErrorKind.Interrupted) }
@@ -102,7 +102,7 @@ fn interrupted(error: io::Error) -> io::Result<Piece>
     }
 }
 
-// The input ended before a line began.
+// Whether the input ended before a line began.
 fn is_end<A: Allocator>(buffer: &LineBuffer<A>, piece: Piece) -> bool
     ensures { IsTrue result ↔ ((piece ≡ Piece.Nothing) × (line_bytes buffer.now ≡ [])) }
 {
@@ -122,20 +122,20 @@ fn answer<A: Allocator>(buffer: &LineBuffer<A>, piece: Piece) -> Next
     }
 }
 
-/// Reads once, and goes on with a line in the buffer, which a line that was answered is cleared from before. It gives what
-/// comes next in the input once that line is whole; none while it goes on. An interrupted read gives nothing. After an error
-/// what was read of the line is still there.
+/// Makes one read and appends to the line in the buffer; the caller clears the buffer before a new line. Returns the next line
+/// of the input once it is complete, and `None` before. An interrupted read returns `None`. After an error the bytes of the line
+/// that were read stay in the buffer.
 pub fn gather_line<R: BufRead, A: Allocator>(
     reader: &mut R,
     buffer: &mut LineBuffer<A>,
 ) -> io::Result<Option<Next>>
-    // Where it is known what the reader had left as the line began.
+    // If the rest of the input is known as the line begins.
     ensures gathers { (left : Option (List ℕ))
         → IsMidLine left (line_bytes buffer.old) (R.remaining reader.old)
         → IfOk result (λ next. MatchOption next
         (IsMidLine left (line_bytes buffer.new) (R.remaining reader.new))
         (λ n. IsNext left n (line_bytes buffer.new) (R.remaining reader.new))) }
-    // At any reader.
+    // For any reader.
     ensures fits { result ≡ Ok (Some Next.Line) → length (line_bytes buffer.new) ≤ line_limit }
 {
     let piece = take_piece(reader, buffer)?;
@@ -146,19 +146,19 @@ pub fn gather_line<R: BufRead, A: Allocator>(
 }
 
 /// Reads the next line into the buffer, without its newline; the last line needs none. The rest of a line that is too long
-/// is passed over, its newline too. An interrupted read is made again. After an error the beginning of the line is lost. It
-/// gives up, with the kind `TimedOut`, after 9,007,199,254,740,991 reads.
+/// is skipped, with its newline. An interrupted read is made again. After an error the beginning of the line is lost. Fails with
+/// the kind `TimedOut` after 9,007,199,254,740,991 reads.
 pub fn next_line<R: BufRead, A: Allocator>(
     reader: &mut R,
     buffer: &mut LineBuffer<A>,
 ) -> io::Result<Next>
-    // Where it is known what the reader has left.
+    // If the rest of the input is known.
     ensures next { IfOk result
         (λ n. IsNext (R.remaining reader.old) n (line_bytes buffer.new) (R.remaining reader.new)) }
     ensures lost { OnErr result ((bs : List ℕ) × All (λ b. b ≢ 10) bs
         × Consumes (R.remaining reader.old) (R.remaining reader.new) bs) }
 
-    // At any reader.
+    // For any reader.
     ensures without { All (λ b. b ≢ 10) (line_bytes buffer.new) }
     ensures fits { result ≡ Ok Next.Line → length (line_bytes buffer.new) ≤ line_limit }
     ensures retried { IfErr result (λ e. error_kind e ≢ ErrorKind.Interrupted) }

@@ -1,4 +1,4 @@
-//! Moments of the system's clock.
+//! Clock readings as moments.
 ghost use Rattle.std.specs.Prelude.{◌≡◌, min};
 ghost use Rattle.exec_lines.specs.Clock.{millis_of};
 
@@ -6,7 +6,7 @@ use ocf_types::{Moment, NUM_MAX};
 use std::rt::Clock;
 use std::time::{SystemTime, UNIX_EPOCH};
 
-/// The whole milliseconds from 1970 to this time, cut at the greatest moment.
+/// The whole milliseconds from 1970 to this time, limited to the greatest moment; 0 for a time before 1970.
 pub fn moment_of(time: SystemTime) -> Moment
     ensures { result ≡ min (millis_of time) NUM_MAX }
 {
@@ -16,7 +16,7 @@ pub fn moment_of(time: SystemTime) -> Moment
     }
 }
 
-/// The moment that the system's clock shows, in milliseconds since 1970; 0 where it can't be read or shows a time before 1970.
+/// The reading of this clock, in milliseconds since 1970; 0 if it cannot be read or is before 1970.
 pub fn moment_now(clock: &impl Clock) -> Moment {
     match SystemTime::now(clock) {
         Ok(time) => moment_of(time),

@@ -1,23 +1,23 @@
-//! Readers and writers whose descriptor does not block.
+//! Readers and writers whose descriptor may be non-blocking.
 use crate::poll::{is_hung_up, is_readable, is_writable};
 use crate::{Input, Output};
 use ocf_types::NUM_MAX;
 use std::alloc::Allocator;
 use std::io::{self, BufReader, ErrorKind, Read, Write};
 
-// How long is waited at once, in milliseconds.
+// The length of one wait, in milliseconds.
 const ONCE: u32 = 1_000;
 
-// How long a read waits until it looks whether somebody can read what is replied, in milliseconds.
+// The interval at which a waiting read checks that the replies still have a reader, in milliseconds.
 const UNTIL_A_LOOK: u32 = 500;
 
-/// A reader or a writer of a descriptor, which may be one that does not block: where a call would have to wait, it waits, and
-/// goes on.
+/// A reader or a writer of a descriptor that may be non-blocking: it polls the descriptor and tries again where a call would
+/// block.
 #[derive(Drop)]
 pub struct Patient<T> {
     inner: T,
     descriptor: i32,
-    // Where replies to what is read are written to, if a read is to end once nobody can read them any more.
+    // The descriptor of the replies, if a read is to fail once they have no reader.
     replies: Option<i32>,
 }
 
@@ -32,13 +32,13 @@ impl<T> Patient<T> {
     }
 
     /// The same reader, whose reads fail with the kind `BrokenPipe` within a second after the other end of this descriptor is
-    /// closed, if nothing is there to be read.
+    /// closed, if there is no input.
     pub fn with_replies(mut self, descriptor: i32) -> Patient<T> {
         self.replies = Some(descriptor);
         self
     }
 
-    // Waits for something to be read as long as somebody can read what is replied.
+    // Waits for input as long as the replies have a reader.
     fn await_input(&self) -> io::Result<()> {
         let Some(replies) = self.replies else {
             return Ok(());

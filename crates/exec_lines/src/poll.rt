@@ -1,11 +1,11 @@
-// What descriptors are ready for. POSIX, poll.
+//! Polls descriptors. POSIX, poll.
 use libc::net::{POLLERR, POLLHUP, POLLIN, POLLNVAL, POLLOUT, poll};
 use libc::types::pollfd;
 
-// How long is waited at most by one call, in milliseconds.
+// The greatest wait of one call, in milliseconds.
 const LONGEST: u32 = 60_000;
 
-// Waits for at most this many milliseconds for a descriptor, and gives what it is found to be; none where nothing came.
+// Waits for these events of a descriptor for at most this many milliseconds, and returns its events; `None` after the timeout.
 fn found(descriptor: i32, events: i16, millis: u32) -> Option<i16> {
     let mut asked = [pollfd {
         fd: descriptor,
@@ -19,7 +19,7 @@ fn found(descriptor: i32, events: i16, millis: u32) -> Option<i16> {
     }
 }
 
-/// Waits for at most this many milliseconds, a minute at most, until a read of the descriptor would not wait. A signal
+/// Waits for at most this many milliseconds, and at most a minute, until a read of the descriptor would not block. A signal
 /// counts as ready, and so do a fault and the end of the input, which the read reports.
 pub fn is_readable(descriptor: i32, millis: u32) -> bool {
     found(descriptor, POLLIN, millis).is_some()
@@ -30,8 +30,8 @@ pub fn is_writable(descriptor: i32, millis: u32) -> bool {
     found(descriptor, POLLOUT, millis).is_some()
 }
 
-/// Whether what is written to the descriptor reaches nobody any more: the other end of a pipe, a socket or a terminal is
-/// closed, or there is no such descriptor.
+/// Whether the descriptor has no reader any more: the other end of a pipe, a socket or a terminal is closed, or there is no such
+/// descriptor.
 pub fn is_hung_up(descriptor: i32) -> bool {
     match found(descriptor, 0, 0) {
         Some(events) => events & (POLLERR | POLLHUP | POLLNVAL) != 0,

@@ -1,4 +1,4 @@
-//! What goes out.
+//! Writes bytes to the output.
 ghost use Rattle.std.specs.Prelude.{OnErr, OnOk};
 ghost use Rattle.std.specs.Io.{WritesAtMost};
 ghost use Rattle.std.specs.Io.KnownBytes.{Appends, WriteAppends};
@@ -7,7 +7,7 @@ ghost use Rattle.exec_lines.specs.Fronts.{AppendsFront};
 use ocf_types::NUM_MAX;
 use std::io::{self, ErrorKind, Write};
 
-// One write, and how many bytes it took. One that a signal interrupts took none, and one that takes none is an error.
+// Makes one write and returns how many bytes it took: 0 if a signal interrupted it. A write that takes none is otherwise an error.
 fn write_once<W: Write>(writer: &mut W, bytes: &[u8]) -> io::Result<usize>
     ensures bound { WritesAtMost result bytes.now }
     ensures taken { WriteAppends (W.contents writer.old) (W.contents writer.new) result bytes.now }
@@ -19,8 +19,8 @@ fn write_once<W: Write>(writer: &mut W, bytes: &[u8]) -> io::Result<usize>
     }
 }
 
-/// Writes the bytes. An interrupted write is made again. After an error a prefix of them is written. It gives up, with the
-/// kind `TimedOut`, after 9,007,199,254,740,991 writes.
+/// Writes the bytes. An interrupted write is made again. After an error a prefix of them is written. Fails with the kind
+/// `TimedOut` after 9,007,199,254,740,991 writes.
 pub fn write_bytes<W: Write>(writer: &mut W, bytes: &[u8]) -> io::Result<()>
     ensures written { OnOk result
         (Appends (W.contents writer.old) (W.contents writer.new) bytes.now) }
@@ -37,8 +37,8 @@ pub fn write_bytes<W: Write>(writer: &mut W, bytes: &[u8]) -> io::Result<()>
     Err(io::Error::from(ErrorKind::TimedOut))
 }
 
-/// Writes the bytes and flushes the writer, so that at `Ok` they are handed to the system. After an error a prefix of them
-/// is written.
+/// Writes the bytes and flushes the writer, so that after `Ok` the system has them. After an error a prefix of them is
+/// written.
 pub fn write_flushed<W: Write>(writer: &mut W, bytes: &[u8]) -> io::Result<()>
     ensures written { OnOk result
         (Appends (W.contents writer.old) (W.contents writer.new) bytes.now) }

@@ -1,4 +1,4 @@
-//! The clock of a run.
+//! The clock of a session.
 ghost use Rattle.std.specs.Prelude.{◌≡◌, ◌+◌, ◌-◌, ◌≤◌};
 ghost use Rattle.std.specs.Duration.{as_nanos, max_nanos};
 
@@ -8,27 +8,27 @@ use std::io;
 use std::rt::Clock;
 use std::time::Duration;
 
-// The longest pause in which the processor is offered to others again and again, in place of a sleep, in microseconds: the
-// system lets a sleep last some 50 microseconds longer than it was asked for.
+// The longest pause that yields the processor repeatedly instead of sleeping, in microseconds: the system prolongs a sleep by
+// some 50 microseconds.
 const OFFERED: u64 = 100;
 
-// How often the processor is offered in one pause at most.
+// The greatest number of yields in one pause.
 const OFFERS: u32 = 1_000;
 
-/// The clock of a run: it shows the wall clock's time as the run began, or that of its journal where that is greater, and
-/// from then on counts up as the monotonic clock does. So a step of the wall clock changes no timeout, no interval and no
-/// limit, and a journal whose clock is ahead goes on from there. A sleep of at most 100 microseconds is exact: the processor is
-/// offered to others until it is over.
+/// The clock of a session. It begins with the reading of the wall clock, or with the last moment of the journal if that is
+/// greater, and then advances with the monotonic clock. So a step of the wall clock changes no timeout, interval or limit, and
+/// a journal that is ahead of the wall clock goes on from its last moment. A sleep of at most 100 microseconds is exact: it
+/// yields the processor until the time has passed.
 #[derive(Drop)]
 pub struct RunClock<'a, K> {
     clock: &'a K,
-    // What it shows as the run begins, since 1970.
+    // The reading as the session begins, since 1970.
     begun: Duration,
-    // What the monotonic clock shows then; none where it can't be read: then the wall clock is shown.
+    // The reading of the monotonic clock at that time; `None` if it cannot be read: then the wall clock is used.
     from: Option<Duration>,
 }
 
-// What the clock of a run shows that began at this time, so long afterwards: it goes from one reading to the other.
+// The reading of a session's clock that began with `begun`, when the monotonic clock has advanced from `from` to `now`.
 fn shown(begun: Duration, from: Duration, now: Duration) -> Duration
     ensures counted { as_nanos begun + (as_nanos now - as_nanos from) ≤ max_nanos
         → as_nanos result ≡ as_nanos begun + (as_nanos now - as_nanos from) }
@@ -38,7 +38,7 @@ fn shown(begun: Duration, from: Duration, now: Duration) -> Duration
 }
 
 impl<'a, K: Clock> RunClock<'a, K> {
-    /// The clock of a run that begins now, over a journal whose last event is of this moment.
+    /// The clock of a session that begins now, over a journal whose last event has this moment.
     pub fn new(clock: &'a K, journal: Moment) -> RunClock<'a, K> {
         let wall = clock.since_1970().unwrap_or(Duration::ZERO);
         RunClock {
@@ -49,7 +49,7 @@ impl<'a, K: Clock> RunClock<'a, K> {
     }
 }
 
-// Offers the processor to others until so much time has passed, and says whether it has: not where the clock does not go on.
+// Yields the processor until this time has passed, and returns whether it has; it gives up if the clock does not advance.
 fn offers(clock: &impl Clock, duration: Duration) -> bool {
     let Ok(begun) = clock.monotonic() else {
         return false;

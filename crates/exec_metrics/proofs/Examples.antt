@@ -19,7 +19,7 @@ runs : single family.Runs 17
 unfolding digits
 runs = refl
 
--- what is escaped, and an id, which never is
+-- the bytes that are escaped, and an id, which never has one
 escapes : label (codes "a") (codes "x\"y\\z\n") ≡ codes "a=\"x\\\"y\\\\z\\n\""
 escapes = refl
 
@@ -42,7 +42,7 @@ web = (
   },
 )
 
--- what a family has of it, 3.2 s after that
+-- its samples in a family, 3.2 s after that
 abbrev of_web : Family → List ℕ
 of_web f = samples 12700 f web
 

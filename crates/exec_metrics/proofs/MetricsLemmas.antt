@@ -1,4 +1,4 @@
--- What is written of a state that is found on the parts, where they were measured.
+-- The metrics of a state that is found on parts of this measure.
 use Rattle.std.proofs.Common.{◌≡◌, ℕ, List, Option, Result, Ok, Err, subst}
 use Rattle.ocf_types.specs.State.{State}
 use Rattle.disk_model.specs.Image.{Image}
@@ -53,7 +53,7 @@ module _ {T : Type 0} (reads : Image) (now : ℕ) (old new : Option (List ℕ)) 
   writes (Err fault.Full) found is_size has written = absurd written
   writes (Err fault.ChildrenIgnored) found is_size has written = absurd written
 
--- the same where the journal was opened on a disk that was measured so
+-- the same for a journal that was opened on a disk of this measure
 pub writes_opened : {T : Type 0} (now : ℕ) (old new : Option (List ℕ)) (size : Size) (counts : List (List ℕ × RunCount)) (p : Place) (s : State)
     (first opened last : View) (ended : Result T Fault) → OpensAt p s first opened → (first.honest → IsSize first.reads size)
     → (first.honest → (t : State) → FoundAs t first.reads → HasCounts first.reads counts)

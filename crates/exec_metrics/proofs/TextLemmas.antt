@@ -1,4 +1,4 @@
--- What is written of items, with one more of them.
+-- The text of a list of items, with one more item.
 use Rattle.std.proofs.Common.{◌≡◌, ℕ, ◌+◌, ◌<◌, ◌++◌, List, [], ◌∷◌, Result, Ok, Err, OnOk, length, take, get_or, slice_index, sym, ap, ◌∙◌}
 use Rattle.std.proofs.lemmas.List.{append-nil, append_assoc, take_more}
 use Rattle.std.proofs.lemmas.Grind.{flat_map-append, get_or_default_zero}
@@ -8,13 +8,13 @@ use Rattle.ocf_types.specs.Places.{entry_at, no_entry}
 use Rattle.ocf_types.specs.Resource.{Resource}
 use Rattle.ocf_types.specs.State.{State}
 
--- one item more, at an index within
+-- one more item, at an index within the list
 pub item_more : {X : Type 0} (f : X → List ℕ) (xs : List X) (i : ℕ) (x : X) (front : List ℕ) → i < length xs → x ≡ get_or xs i x
     → (front ++ flat_map f (take i xs)) ++ f x ≡ front ++ flat_map f (take (i + 1) xs)
 item_more f xs i x front lt is =
     append_assoc front (flat_map f (take i xs)) (f x) ∙ ap (λ t. front ++ t) (sym (flat_more f xs i x lt is))
 
--- one resource more
+-- one more resource
 pub entry_more : (f : List ℕ × Resource → List ℕ) (s : State) (i : ℕ) (front : List ℕ) → i < length s.resources
     → (front ++ flat_map f (take i s.resources)) ++ f (entry_at s i) ≡ front ++ flat_map f (take (i + 1) s.resources)
 entry_more f s i front lt =
@@ -23,7 +23,7 @@ entry_more f s i front lt =
     let all = ap (flat_map f) (take_more s.resources i no_entry lt) ∙ flat_map-append f es (entry_at s i ∷ []) in
     append_assoc front (flat_map f es) (f (entry_at s i)) ∙ ap (λ t. front ++ t) (one ∙ sym all)
 
--- one byte more
+-- one more byte
 pub byte_more : (f : ℕ → List ℕ) (bs : List ℕ) (i : ℕ) (front now : List ℕ) → i < length bs → now ≡ front ++ flat_map f (take i bs)
     → now ++ f (slice_index bs i) ≡ front ++ flat_map f (take (i + 1) bs)
 byte_more f bs i front now lt is =
@@ -33,12 +33,12 @@ byte_more f bs i front now lt is =
     index_is : (bs : List ℕ) (i : ℕ) → i < length bs → slice_index bs i ≡ get_or bs i (slice_index bs i)
     index_is bs i lt = sym (get_or_default_zero bs i (slice_index bs i) lt)
 
--- a text that was added, and what was added after it
+-- a text that was added, and a text that was added after it
 pub join : {T E : Type 0} (r : Result T E) (old x mid y new : List ℕ) → mid ≡ old ++ x → OnOk r (new ≡ mid ++ y) → OnOk r (new ≡ old ++ (x ++ y))
 join (Ok done) old x mid y new first rest = rest ∙ ap (λ (t : List ℕ). t ++ y) first ∙ append_assoc old x y
 join (Err e) old x mid y new first rest = tt
 
--- the same of a text of something, which is this
+-- the same for a text that depends on a value, which equals this one
 pub join_of : {T E A : Type 0} (r : Result T E) (f : A → List ℕ) (a b : A) (old mid y new : List ℕ) → a ≡ b → mid ≡ old ++ f a
     → OnOk r (new ≡ mid ++ y) → OnOk r (new ≡ old ++ (f b ++ y))
 join_of r f a b old mid y new is first rest = join r old (f b) mid y new (first ∙ ap (λ c. old ++ f c) is) rest

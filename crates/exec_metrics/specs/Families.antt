@@ -1,4 +1,4 @@
--- The families of metrics: their names, types and helps, as the text format of Prometheus has them (exposition formats, version 0.0.4).
+-- The families of metrics: their names, types and helps in the text format of Prometheus (exposition formats, version 0.0.4).
 use Rattle.std.specs.Prelude.{ℕ, List, ◌++◌, codes}
 use Rattle.exec_metrics.specs.declared.family.Family.{Family}
 use Rattle.exec_metrics.specs.declared.family.Family.TheVariants as family
@@ -22,24 +22,24 @@ name family.MonitorCode = codes "ocfexec_monitor_last_code"
 name family.MonitorAge = codes "ocfexec_monitor_last_age_seconds"
 
 abbrev pub help : Family → List ℕ
-help family.Epoch = codes "How often the journal was written anew, its making included."
+help family.Epoch = codes "Number of snapshots written to the journal, the first one included."
 help family.Bytes = codes "Bytes of the journal up to the end of its last record."
-help family.Calls = codes "Actions and recurring monitors that were asked for since the journal was made."
+help family.Calls = codes "Actions and recurring monitors that were accepted since the journal was made."
 help family.Runs = codes "Actions that were begun since the journal was made."
 help family.Resources = codes "Resources that are registered."
-help family.State = codes "1 for the state that the last results of a resource tell, and 0 for each other one."
+help family.State = codes "1 for the state of a resource by its last results, 0 for every other state."
 help family.Queued = codes "Actions of a resource that wait for their turn."
 help family.Running = codes "Actions of a resource that run."
 help family.ResourceRuns = codes "Runs of a resource that ended since the snapshot of the journal's current part."
 help family.ResourceFailures = codes "Runs of a resource that failed since the snapshot of the journal's current part."
 help family.LastCode = codes "The exit code of the last result of a resource."
 help family.LastAge = codes "Seconds since the last result of a resource."
-help family.FailureCode = codes "The exit code of what failed last of a resource."
-help family.FailureAge = codes "Seconds since what failed last of a resource ended."
+help family.FailureCode = codes "The exit code of the last failure of a resource."
+help family.FailureAge = codes "Seconds since the last failure of a resource."
 help family.MonitorCode = codes "The exit code of the last result of a recurring monitor."
 help family.MonitorAge = codes "Seconds since the last result of a recurring monitor."
 
--- what is only ever counted up is a counter
+-- the type of a family: a value that only increases is a counter
 abbrev pub kind : Family → List ℕ
 kind family.Calls = codes "counter"
 kind family.Runs = codes "counter"

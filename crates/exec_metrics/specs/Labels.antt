@@ -1,4 +1,4 @@
--- Labels, and their values with what the text format of Prometheus escapes: the backslash, the double quote and the newline.
+-- Labels. In their values the text format of Prometheus escapes the backslash, the double quote and the newline.
 use Rattle.std.specs.Prelude.{ℕ, ◌==◌, if◌then◌else◌, List, [], ◌∷◌, ◌++◌, codes}
 use Rattle.std.specs.List.{flat_map}
 

@@ -1,4 +1,4 @@
--- What is written of a journal as metrics.
+-- The metrics of a journal.
 use Rattle.std.specs.Prelude.{◌≡◌, ℕ, ◌-◌, ⊤, List, ◌++◌, length, codes, decimal, Option, Result, Ok, Err}
 use Rattle.std.specs.List.{flat_map}
 use Rattle.std.specs.Io.KnownBytes.{Appends}
@@ -19,10 +19,11 @@ use Rattle.run_counts.specs.Counts.{tally}
 use Rattle.run_counts.specs.Runs.{Ran}
 use Rattle.run_counts.specs.declared.count.RunCount.{RunCount}
 
--- a family of one sample without labels
+-- a sample without labels
 abbrev pub bare : Family → ℕ → List ℕ
 bare f n = name f ++ codes " " ++ decimal n ++ codes "\n"
 
+-- a family of one sample without labels
 abbrev pub single : Family → ℕ → List ℕ
 single f n = header f ++ bare f n
 
@@ -30,7 +31,7 @@ single f n = header f ++ bare f n
 abbrev pub of_each : ℕ → State → Family → List ℕ
 of_each now s f = header f ++ flat_map (samples now f) s.resources
 
--- how large the journal is, and how much it has recorded
+-- the size of the journal, the numbers of calls and runs, and the number of resources
 abbrev pub size_text : Size → List ℕ
 size_text size = single family.Epoch size.epoch ++ single family.Bytes size.bytes
 
@@ -40,11 +41,11 @@ counts_text s = single family.Calls (s.next_call - 1) ++ single family.Runs (s.n
 abbrev pub journal_text : Size → State → List ℕ
 journal_text size s = size_text size ++ counts_text s ++ single family.Resources (length s.resources)
 
--- how the resources are, and what they do
+-- the states of the resources, and their queued and running actions
 abbrev pub states_text : ℕ → State → List ℕ
 states_text now s = of_each now s family.State ++ of_each now s family.Queued ++ of_each now s family.Running
 
--- what their last results are, their last failures, and the last results of their monitors
+-- the last results of the resources, their last failures, and the last results of their monitors
 abbrev pub last_text : ℕ → State → List ℕ
 last_text now s = of_each now s family.LastCode ++ of_each now s family.LastAge
 
@@ -57,19 +58,19 @@ monitors_text now s = of_each now s family.MonitorCode ++ of_each now s family.M
 abbrev pub results_text : ℕ → State → List ℕ
 results_text now s = last_text now s ++ failures_text now s ++ monitors_text now s
 
--- the metrics at a moment of a journal of this size, of the counts of each resource's runs, and of its state
+-- the metrics, at a moment, of a journal with this size, these counts of each resource's runs, and this state
 abbrev pub metrics_text : ℕ → Size → (List ℕ → RunCount) → State → List ℕ
 metrics_text now size counts s = journal_text size s ++ states_text now s ++ runs_text counts s ++ results_text now s
 
--- what is written of a text, by how that ended
+-- what is written of a text, by the result of writing
 abbrev pub IsWritten : {T : Type 0} → List ℕ → Option (List ℕ) → Option (List ℕ) → Result T Fault → Type 0
 IsWritten text old new (Ok done) = Appends old new text
 IsWritten text old new (Err fault.ReplyMemory) = new ≡ old
 IsWritten text old new (Err fault.InputOrOutput) = ⊤
 IsWritten text old new (Err _) = ⊥
 
--- the state that is found on these parts, the size of the journal, and the runs since the snapshot of its current part; and the metrics
--- of these at a moment are written
+-- The metrics, at a moment, of the state that is found on these parts, the size of the journal, and the runs since the snapshot of its
+-- current part are written.
 pub record WritesFound (T : Type 0) (reads : Image) (now : ℕ) (old new : Option (List ℕ)) (ended : Result T Fault) : Type 0 where
   pub state : State
   pub found : FoundAs state reads
@@ -79,7 +80,7 @@ pub record WritesFound (T : Type 0) (reads : Image) (now : ℕ) (old new : Optio
   pub ran : RanOn reads runs
   pub written : IsWritten (metrics_text now size (tally runs) state) old new ended
 
--- the same, or nothing where the pair is not read; damage that is reported is the one that is found
+-- the same, or nothing if the parts are not read; the damage that is reported is that which is found
 abbrev pub WritesAs : {T : Type 0} → Image → ℕ → Option (List ℕ) → Option (List ℕ) → Result T Fault → Type 0
 WritesAs reads now old new (Err (fault.Damaged damage)) = HasDamage reads damage × (new ≡ old)
 WritesAs reads now old new (Err fault.Disk) = new ≡ old

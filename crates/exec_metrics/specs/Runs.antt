@@ -1,4 +1,4 @@
--- The samples that count runs, by the counts of each id.
+-- The samples that count runs, from the counts of each id.
 use Rattle.std.specs.Prelude.{ℕ, List, [], ◌++◌}
 use Rattle.std.specs.List.{flat_map}
 use Rattle.ocf_types.specs.Resource.{Resource}
@@ -22,6 +22,6 @@ run_samples counts f e = run_sample f e.0 (counts e.0)
 abbrev pub of_each_run : (List ℕ → RunCount) → State → Family → List ℕ
 of_each_run counts s f = header f ++ flat_map (run_samples counts f) s.resources
 
--- how many runs of each resource ended, and how many of them failed
+-- the number of runs of each resource that ended, and the number of those that failed
 abbrev pub runs_text : (List ℕ → RunCount) → State → List ℕ
 runs_text counts s = of_each_run counts s family.ResourceRuns ++ of_each_run counts s family.ResourceFailures

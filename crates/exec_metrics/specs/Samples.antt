@@ -1,4 +1,4 @@
--- The samples of a resource: a line each.
+-- The samples of a resource, one line each.
 use Rattle.std.specs.Prelude.{ℕ, ◌-◌, ◌/◌, ◌==◌, Bool, if◌then◌else◌, List, [], ◌++◌, length, slice_get, codes, decimal}
 use Rattle.std.specs.Prelude.{Option, Some, None, is_some, option_map}
 use Rattle.std.specs.List.{flat_map}
@@ -22,7 +22,7 @@ use Rattle.exec_metrics.specs.declared.family.Family.TheVariants as family
 abbrev pub begun : Family → List ℕ → List ℕ
 begun f id = name f ++ codes "{" ++ label (codes "resource") id
 
--- a sample's line from after its last label on
+-- the rest of a sample's line, after its last label
 abbrev pub valued : ℕ → List ℕ
 valued n = codes "} " ++ decimal n ++ codes "\n"
 
@@ -30,18 +30,18 @@ valued n = codes "} " ++ decimal n ++ codes "\n"
 abbrev pub plain : Family → List ℕ → ℕ → List ℕ
 plain f id n = begun f id ++ valued n
 
--- 1 for what is so
+-- 1 for true, 0 for false
 abbrev pub bit : Bool → ℕ
 bit is = if is then 1 else 0
 
 abbrev pub is_same : Condition → Condition → Bool
 is_same c d = bytes_eq (condition_word c) (condition_word d)
 
--- whether a resource that is so is in this state
+-- the sample for a state: whether it is the state of the resource
 abbrev pub state_sample : List ℕ → Condition → Condition → List ℕ
 state_sample id is c = begun family.State id ++ next_label (codes "state") (condition_word c) ++ valued (bit (is_same is c))
 
--- the same of each state: of those in which it runs, and of those in which a person is asked for
+-- the samples for all states: those of a running resource, those that need somebody's attention, and those that do not
 abbrev pub running_samples : List ℕ → Condition → List ℕ
 running_samples id is = state_sample id is Started ++ state_sample id is Promoted
 
@@ -54,15 +54,15 @@ calm_samples id is = state_sample id is NeverRun ++ running_samples id is ++ sta
 abbrev pub state_samples : List ℕ → Condition → List ℕ
 state_samples id is = calm_samples id is ++ bad_samples id is
 
--- how old a result is that there is, in whole seconds; one that is ahead of the clock is new
+-- the age of a result, if there is one, in whole seconds; 0 for one that is ahead of the clock
 abbrev pub age : ℕ → Option Ended → Option ℕ
 age now found = option_map (λ e. (now - e.at) / 1000) found
 
--- what a code is of
+-- the labels of a code: the action and the outcome
 abbrev pub code_labels : Ended → List ℕ
 code_labels e = next_label (codes "action") (action_word e.action) ++ next_label (codes "outcome") (outcome_word e.outcome)
 
--- the code of a result, and its age; none where there is no result
+-- the samples for the code of a result and for its age; empty if there is no result
 abbrev pub code_sample : Family → List ℕ → Option Ended → List ℕ
 code_sample f id None = []
 code_sample f id (Some e) = begun f id ++ code_labels e ++ valued (outcome_code e.outcome)
@@ -75,15 +75,15 @@ age_sample f id (Some n) = plain f id n
 abbrev pub last_result : List Ended → Option Ended
 last_result es = if length es == 0 then None else slice_get es (length es - 1)
 
--- which recurring monitor a sample is of
+-- the label for the interval of a recurring monitor
 abbrev pub interval_label : Recur → List ℕ
 interval_label m = codes ",interval_ms=\"" ++ decimal m.interval ++ codes "\""
 
--- of a result how it ended, and its code
+-- the outcome of a result, and its code
 abbrev pub outcome_value : Ended → List ℕ
 outcome_value e = next_label (codes "outcome") (outcome_word e.outcome) ++ valued (outcome_code e.outcome)
 
--- the code of a monitor's last result, and its age
+-- the samples for the code of a monitor's last result and for its age; empty if there is no result
 abbrev pub monitor_code : List ℕ → Recur → Option Ended → List ℕ
 monitor_code id m None = []
 monitor_code id m (Some e) = begun family.MonitorCode id ++ interval_label m ++ outcome_value e
@@ -92,14 +92,14 @@ abbrev pub monitor_age : List ℕ → Recur → Option ℕ → List ℕ
 monitor_age id m None = []
 monitor_age id m (Some n) = begun family.MonitorAge id ++ interval_label m ++ valued n
 
--- the same of a monitor among these results
+-- the same for a monitor, from these results of its resource
 abbrev pub code_of_monitor : List ℕ → List Ended → Recur → List ℕ
 code_of_monitor id es m = monitor_code id m (last_of (is_run m.call) es)
 
 abbrev pub age_of_monitor : ℕ → List ℕ → List Ended → Recur → List ℕ
 age_of_monitor now id es m = monitor_age id m (age now (last_of (is_run m.call) es))
 
--- the samples of a resource in a family: of the families of the journal it has none
+-- the samples of a resource in a family; it has none in the families of the journal
 abbrev pub samples : ℕ → Family → List ℕ × Resource → List ℕ
 samples now family.State e = state_samples e.0 (condition_of e.1.history)
 samples now family.Queued e = plain family.Queued e.0 (length e.1.history.queue)

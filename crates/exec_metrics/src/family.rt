@@ -11,40 +11,40 @@ use std::alloc::{AllocError, Global};
 pub enum Family {
     /// The epoch of the journal.
     Epoch,
-    /// How many bytes the journal has.
+    /// The bytes of the journal.
     Bytes,
-    /// How many calls were given.
+    /// The number of calls.
     Calls,
-    /// How many runs were begun.
+    /// The number of runs that were begun.
     Runs,
-    /// How many resources there are.
+    /// The number of resources.
     Resources,
-    /// How a resource is.
+    /// The state of a resource.
     State,
-    /// What is queued.
+    /// The number of queued actions.
     Queued,
-    /// What runs.
+    /// The number of running actions.
     Running,
-    /// How many runs of a resource ended since the snapshot.
+    /// The number of runs of a resource that ended since the snapshot.
     ResourceRuns,
-    /// How many of them failed.
+    /// The number of those that failed.
     ResourceFailures,
-    /// The code of a resource's last result.
+    /// The exit code of a resource's last result.
     LastCode,
-    /// Its age.
+    /// The age of that result.
     LastAge,
-    /// The code of what failed last.
+    /// The exit code of a resource's last failure.
     FailureCode,
-    /// Its age.
+    /// The age of that failure.
     FailureAge,
-    /// The code of a monitor's last result.
+    /// The exit code of a monitor's last result.
     MonitorCode,
-    /// Its age.
+    /// The age of that result.
     MonitorAge,
 }
 
 impl Family {
-    /// Its name.
+    /// The name of the family.
     pub fn name(self) -> &'static str
         ensures { result.now ≡ name self }
     {
@@ -68,20 +68,20 @@ impl Family {
         }
     }
 
-    // What it says, in a sentence.
+    // The help of the family, in a sentence.
     fn help(self) -> &'static str
         ensures { result.now ≡ help self }
     {
         match self {
-            Family::Epoch => "How often the journal was written anew, its making included.",
+            Family::Epoch => "Number of snapshots written to the journal, the first one included.",
             Family::Bytes => "Bytes of the journal up to the end of its last record.",
             Family::Calls => {
-                "Actions and recurring monitors that were asked for since the journal was made."
+                "Actions and recurring monitors that were accepted since the journal was made."
             }
             Family::Runs => "Actions that were begun since the journal was made.",
             Family::Resources => "Resources that are registered.",
             Family::State => {
-                "1 for the state that the last results of a resource tell, and 0 for each other one."
+                "1 for the state of a resource by its last results, 0 for every other state."
             }
             Family::Queued => "Actions of a resource that wait for their turn.",
             Family::Running => "Actions of a resource that run.",
@@ -93,14 +93,14 @@ impl Family {
             }
             Family::LastCode => "The exit code of the last result of a resource.",
             Family::LastAge => "Seconds since the last result of a resource.",
-            Family::FailureCode => "The exit code of what failed last of a resource.",
-            Family::FailureAge => "Seconds since what failed last of a resource ended.",
+            Family::FailureCode => "The exit code of the last failure of a resource.",
+            Family::FailureAge => "Seconds since the last failure of a resource.",
             Family::MonitorCode => "The exit code of the last result of a recurring monitor.",
             Family::MonitorAge => "Seconds since the last result of a recurring monitor.",
         }
     }
 
-    // Its type.
+    // The type of the family.
     fn kind(self) -> &'static str
         ensures { result.now ≡ kind self }
     {

@@ -1,4 +1,4 @@
-//! Labels.
+//! Adds labels, with their values escaped.
 ghost use Rattle.std.specs.Prelude.{◌≡◌, ◌++◌, IsTrue, OnErr, OnOk};
 ghost use Rattle.exec_metrics.specs.Labels.{escaped, escaped_byte, label, next_label};
 

@@ -1,4 +1,4 @@
-//! What a journal holds, as metrics for Prometheus.
+//! Writes the contents of a journal as metrics for Prometheus.
 #![tactic(auto)]
 
 mod add;

@@ -16,7 +16,7 @@ use ocf_codes::code_of;
 use ocf_types::{Ended, Moment, Recur, RscId, StateView};
 use std::alloc::{AllocError, Global};
 
-// Adds which recurring monitor a sample is of.
+// Adds the label for the interval of a recurring monitor.
 fn add_interval(text: &mut Vec<u8>, recur: &Recur) -> Result<(), AllocError>
     ensures added { OnOk result (text.new.items ≡ text.old.items ++ interval_label recur.now) }
     ensures memory { OnErr result (IsTrue ⟦<Global as Grows>⟧.refuses) }
@@ -26,7 +26,7 @@ fn add_interval(text: &mut Vec<u8>, recur: &Recur) -> Result<(), AllocError>
     add(text, "\"")
 }
 
-// Adds how a result ended, and its code.
+// Adds the outcome of a result, and its code.
 fn add_outcome(text: &mut Vec<u8>, ended: &Ended) -> Result<(), AllocError>
     ensures added { OnOk result (text.new.items ≡ text.old.items ++ outcome_value ended.now) }
     ensures memory { OnErr result (IsTrue ⟦<Global as Grows>⟧.refuses) }
@@ -35,7 +35,7 @@ fn add_outcome(text: &mut Vec<u8>, ended: &Ended) -> Result<(), AllocError>
     finish(text, u64::from(code_of(ended.outcome)))
 }
 
-// Adds the code of a monitor's last result, where there is one.
+// Adds the code of a monitor's last result, if there is one.
 fn add_code(
     text: &mut Vec<u8>,
     id: &RscId,
@@ -54,7 +54,7 @@ fn add_code(
     add_outcome(text, &ended)
 }
 
-// Adds the age of a monitor's last result, where there is one.
+// Adds the age of a monitor's last result, if there is one.
 fn add_age(
     text: &mut Vec<u8>,
     id: &RscId,

@@ -12,7 +12,7 @@ use ocf_codes::code_of;
 use ocf_types::{Ended, Moment, RscId, StateView};
 use std::alloc::{AllocError, Global};
 
-/// How old a result is that there is, in whole seconds. One that is ahead of the clock is new.
+/// The age of a result, if there is one, in whole seconds; 0 for one that is ahead of the clock.
 pub fn age(now: Moment, found: Option<Ended>) -> Option<u64>
     ensures { result ≡ age now found }
 {
@@ -22,7 +22,7 @@ pub fn age(now: Moment, found: Option<Ended>) -> Option<u64>
     }
 }
 
-/// The last result of a resource that is kept.
+/// The last result in a resource's history.
 pub fn last_result(state: &State, place: usize) -> Option<Ended>
     requires { place < length state.now.state.resources }
     ensures { result ≡ last_result (at_place state.now.state place).history.ended }
@@ -35,7 +35,7 @@ pub fn last_result(state: &State, place: usize) -> Option<Ended>
     }
 }
 
-// Adds of what a code is.
+// Adds the labels of a code: the action and the outcome.
 fn add_code_labels(text: &mut Vec<u8>, ended: &Ended) -> Result<(), AllocError>
     ensures added { OnOk result (text.new.items ≡ text.old.items ++ code_labels ended.now) }
     ensures memory { OnErr result (IsTrue ⟦<Global as Grows>⟧.refuses) }
@@ -44,7 +44,7 @@ fn add_code_labels(text: &mut Vec<u8>, ended: &Ended) -> Result<(), AllocError>
     add_next_label(text, "outcome", ended.outcome.word().as_bytes())
 }
 
-/// Adds the code of a result, where there is one.
+/// Adds the code of a result, if there is one.
 pub fn add_code(
     text: &mut Vec<u8>,
     family: Family,
@@ -63,7 +63,7 @@ pub fn add_code(
     finish(text, u64::from(code_of(ended.outcome)))
 }
 
-/// Adds the age of a result, where there is one.
+/// Adds the age of a result, if there is one.
 pub fn add_age(
     text: &mut Vec<u8>,
     family: Family,

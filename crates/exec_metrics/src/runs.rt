@@ -1,4 +1,4 @@
-//! The counts of runs.
+//! Adds the counts of runs.
 ghost use Rattle.std.specs.Prelude.{◌≡◌, ◌++◌, IsTrue, OnErr, OnOk};
 ghost use Rattle.std.specs.List.{flat_map};
 ghost use Rattle.exec_metrics.specs.Runs.{of_each_run, run_sample, run_samples, runs_text};
@@ -12,7 +12,7 @@ use ocf_types::{RscId, StateView};
 use run_counts::{RunCount, RunCounts, count_of};
 use std::alloc::{AllocError, Global};
 
-// Adds the count of a resource in a family, where the family has one.
+// Adds the count of a resource in a family, if the family has one.
 fn add_run_sample(
     text: &mut Vec<u8>,
     family: Family,
@@ -63,7 +63,7 @@ fn add_run_family(
     add_run_samples(text, counts, state, family)
 }
 
-/// Adds how many runs of each resource ended, and how many of them failed.
+/// Adds the number of runs of each resource that ended, and the number of those that failed.
 pub fn add_runs(text: &mut Vec<u8>, counts: &RunCounts, state: &State) -> Result<(), AllocError>
     ensures added { OnOk result (text.new.items
         ≡ text.old.items ++ runs_text (count_at counts.now.entries) state.now.state) }

@@ -43,7 +43,7 @@ pub fn add_plain(
     finish(text, value)
 }
 
-/// 1 for what is so.
+/// 1 for true, 0 for false.
 pub fn bit(is: bool) -> u64
     ensures { result ≡ bit is }
 {

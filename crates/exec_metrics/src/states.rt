@@ -1,4 +1,4 @@
-//! How a resource is, and what it does.
+//! Adds the state of a resource, as a sample for each state.
 ghost use Rattle.std.specs.Prelude.{◌≡◌, ◌++◌, IsTrue, OnErr, OnOk};
 ghost use Rattle.exec_metrics.specs.Samples.{bad_samples, calm_samples, is_same, running_samples, state_sample, state_samples};
 
@@ -16,7 +16,7 @@ fn is_same(is: Condition, condition: Condition) -> bool
     is.word().as_bytes() == condition.word().as_bytes()
 }
 
-// Adds whether a resource that is so is in this state.
+// Adds the sample for a state: whether it is the state of the resource.
 fn add_state(
     text: &mut Vec<u8>,
     id: &RscId,
@@ -32,7 +32,7 @@ fn add_state(
     finish(text, bit(is_same(is, condition)))
 }
 
-// Adds the same of the states in which it runs.
+// Adds the samples for the states of a running resource.
 fn add_running(text: &mut Vec<u8>, id: &RscId, is: Condition) -> Result<(), AllocError>
     ensures added { OnOk result (text.new.items ≡ text.old.items ++ running_samples id.now is) }
     ensures memory { OnErr result (IsTrue ⟦<Global as Grows>⟧.refuses) }
@@ -41,7 +41,7 @@ fn add_running(text: &mut Vec<u8>, id: &RscId, is: Condition) -> Result<(), Allo
     add_state(text, id, is, Condition::Promoted)
 }
 
-// Adds the same of the states in which no person is asked for.
+// Adds the samples for the states that need nobody's attention.
 fn add_calm(text: &mut Vec<u8>, id: &RscId, is: Condition) -> Result<(), AllocError>
     ensures added { OnOk result (text.new.items ≡ text.old.items ++ calm_samples id.now is) }
     ensures memory { OnErr result (IsTrue ⟦<Global as Grows>⟧.refuses) }
@@ -51,7 +51,7 @@ fn add_calm(text: &mut Vec<u8>, id: &RscId, is: Condition) -> Result<(), AllocEr
     add_state(text, id, is, Condition::Stopped)
 }
 
-// Adds the same of the states in which a person is asked for.
+// Adds the samples for the states that need somebody's attention.
 fn add_bad(text: &mut Vec<u8>, id: &RscId, is: Condition) -> Result<(), AllocError>
     ensures added { OnOk result (text.new.items ≡ text.old.items ++ bad_samples id.now is) }
     ensures memory { OnErr result (IsTrue ⟦<Global as Grows>⟧.refuses) }
@@ -60,7 +60,7 @@ fn add_bad(text: &mut Vec<u8>, id: &RscId, is: Condition) -> Result<(), AllocErr
     add_state(text, id, is, Condition::Unknown)
 }
 
-/// Adds the same of each state.
+/// Adds the samples for all states.
 pub fn add_states(text: &mut Vec<u8>, id: &RscId, is: Condition) -> Result<(), AllocError>
     ensures added { OnOk result (text.new.items ≡ text.old.items ++ state_samples id.now is) }
     ensures memory { OnErr result (IsTrue ⟦<Global as Grows>⟧.refuses) }

@@ -20,16 +20,16 @@ use journal_measure::{Measured, Size};
 use ocf_types::{Moment, StateView};
 use std::alloc::{AllocError, Global};
 
-/// When metrics are taken, and of which journal.
+/// The moment at which metrics are taken, and the measure of the journal.
 #[derive(Drop)]
 pub struct Taken {
     /// The moment from which ages are counted.
     pub moment: Moment,
-    /// What is measured of the journal.
+    /// The measure of the journal.
     pub measured: Measured,
 }
 
-// A resource's place, and the family of which its samples are.
+// The index of a resource, and the family of its samples.
 #[derive(Clone, Copy)]
 struct Row {
     place: usize,
@@ -112,7 +112,7 @@ fn add_single(text: &mut Vec<u8>, family: Family, value: u64) -> Result<(), Allo
     add_bare(text, family, value)
 }
 
-// Adds how large the journal is.
+// Adds the size of the journal.
 fn add_size(text: &mut Vec<u8>, size: Size) -> Result<(), AllocError>
     ensures added { OnOk result (text.new.items ≡ text.old.items ++ size_text size) }
     ensures memory { OnErr result (IsTrue ⟦<Global as Grows>⟧.refuses) }
@@ -121,7 +121,7 @@ fn add_size(text: &mut Vec<u8>, size: Size) -> Result<(), AllocError>
     add_single(text, Family::Bytes, size.bytes)
 }
 
-// Adds how much it has recorded since it was made.
+// Adds the numbers of calls and runs since the journal was created.
 fn add_counts(text: &mut Vec<u8>, state: &State) -> Result<(), AllocError>
     ensures added { OnOk result (text.new.items ≡ text.old.items ++ counts_text state.now.state) }
     ensures memory { OnErr result (IsTrue ⟦<Global as Grows>⟧.refuses) }
@@ -132,7 +132,7 @@ fn add_counts(text: &mut Vec<u8>, state: &State) -> Result<(), AllocError>
     add_single(text, Family::Runs, runs)
 }
 
-// Adds what is said of the journal.
+// Adds the families of the journal.
 fn add_journal(text: &mut Vec<u8>, size: Size, state: &State) -> Result<(), AllocError>
     ensures added { OnOk result (text.new.items
         ≡ text.old.items ++ journal_text size state.now.state) }
@@ -143,7 +143,7 @@ fn add_journal(text: &mut Vec<u8>, size: Size, state: &State) -> Result<(), Allo
     add_single(text, Family::Resources, state.len() as u64)
 }
 
-// Adds how the resources are, and what they do.
+// Adds the states of the resources, and their queued and running actions.
 fn add_all_states(text: &mut Vec<u8>, now: Moment, state: &State) -> Result<(), AllocError>
     ensures added { OnOk result (text.new.items ≡ text.old.items ++ states_text now state.now.state) }
     ensures memory { OnErr result (IsTrue ⟦<Global as Grows>⟧.refuses) }
@@ -153,7 +153,7 @@ fn add_all_states(text: &mut Vec<u8>, now: Moment, state: &State) -> Result<(), 
     add_each(text, now, state, Family::Running)
 }
 
-// Adds what their last results are.
+// Adds the last results of the resources.
 fn add_last(text: &mut Vec<u8>, now: Moment, state: &State) -> Result<(), AllocError>
     ensures added { OnOk result (text.new.items ≡ text.old.items ++ last_text now state.now.state) }
     ensures memory { OnErr result (IsTrue ⟦<Global as Grows>⟧.refuses) }
@@ -162,7 +162,7 @@ fn add_last(text: &mut Vec<u8>, now: Moment, state: &State) -> Result<(), AllocE
     add_each(text, now, state, Family::LastAge)
 }
 
-// Adds what failed last.
+// Adds the last failures of the resources.
 fn add_failures(text: &mut Vec<u8>, now: Moment, state: &State) -> Result<(), AllocError>
     ensures added { OnOk result (text.new.items ≡ text.old.items ++ failures_text now state.now.state) }
     ensures memory { OnErr result (IsTrue ⟦<Global as Grows>⟧.refuses) }
@@ -171,7 +171,7 @@ fn add_failures(text: &mut Vec<u8>, now: Moment, state: &State) -> Result<(), Al
     add_each(text, now, state, Family::FailureAge)
 }
 
-// Adds what the last results of their monitors are.
+// Adds the last results of the monitors.
 fn add_monitors(text: &mut Vec<u8>, now: Moment, state: &State) -> Result<(), AllocError>
     ensures added { OnOk result (text.new.items ≡ text.old.items ++ monitors_text now state.now.state) }
     ensures memory { OnErr result (IsTrue ⟦<Global as Grows>⟧.refuses) }

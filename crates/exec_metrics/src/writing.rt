@@ -1,4 +1,4 @@
-//! What a journal holds, as metrics.
+//! Measures and opens a journal, and writes its metrics.
 ghost use Rattle.std.specs.Prelude.{◌≡◌, IsErrOf, IfOk, IfErr};
 ghost use Rattle.ocf_types.specs.State.{State as PlainState};
 ghost use Rattle.disk_model.specs.View.{Increased};
@@ -23,7 +23,7 @@ use ocf_types::Moment;
 use std::alloc::Global;
 use std::io::Write;
 
-// Why a journal was not opened, as the program ends with it.
+// The fault of the program for a journal that was not opened.
 fn opening_fault(fault: JournalFault) -> Fault
     ensures { result ≡ opening_fault fault }
 {
@@ -55,7 +55,7 @@ fn write_metrics<W: Write>(
     }
 }
 
-// Opens a journal and writes what it holds, where this was measured of it.
+// Opens a journal of this measure and writes its metrics.
 #[tactic(auto, using(exec_output::proofs::TextLemmas::opening_cause))]
 fn write_measured<D: Disk + Drop, W: Write>(
     alloc: Global,
@@ -84,9 +84,9 @@ fn write_measured<D: Disk + Drop, W: Write>(
     }
 }
 
-/// Measures a journal, opens it without a boot and writes what it holds as metrics at a moment, in the text format of Prometheus: of
-/// each family its help, its type, and the samples of each resource, in order of registration. It is all written, or the fault is that
-/// of input or output, or of memory for the text. The disk is handed back.
+/// Measures a journal, opens it without a boot and writes its metrics at this moment, in the text format of Prometheus: for each
+/// family its help, its type, and the samples of each resource, in order of registration. Returns the disk, and a fault if measuring,
+/// opening or writing failed.
 pub fn metrics<D: Disk + Drop, W: Write>(
     alloc: Global,
     disk: D,

@@ -1,4 +1,4 @@
--- What adding arguments and subcommands leaves, and what a parse met.
+-- The command line after adding arguments and subcommands, and the result of a parse.
 use Rattle.std.proofs.Common.{◌≡◌, Bool, false, ◌||◌, List, Option, Some, None, option_map, refl, ap, ap₂, ◌∙◌, sym}
 use Rattle.std.proofs.Math.Bool.{or-false}
 use Rattle.std.proofs.lemmas.Option.{none-some}

@@ -1,4 +1,4 @@
--- What a parse of the command line's arguments met, and arguments that give no options.
+-- The result of parsing the arguments of the command line, and arguments that give no options.
 use Rattle.std.proofs.Common.{◌≡◌, ◌≢◌, true, is_some, inl, inr, List, [], Option, None, Some, option_map, unwrap_or, ap, subst, ◌∙◌, sym}
 use Rattle.clap.specs.Words.{Row, Text, app_of, fault_of, is_simple, is_simple_and_free, subcommand_name_of, subcommand_of}
 use Rattle.clap.specs.Words.{subcommand_rows_of, HasMatchesOf, Kinds}
@@ -17,7 +17,7 @@ use Rattle.exec_options.specs.declared.words.Wanted.{Wanted}
 use Rattle.ocf_types.specs.Laws.{some_is}
 use Rattle.exec_options.proofs.AppLemmas.{both_parts, name_in_rows}
 
--- the subcommand that a parse met is the one that the arguments name
+-- the subcommand in the result of a parse is the one that the arguments name
 pub met : (command : Command) (words : List Text) (m : ArgMatches) (name : Text) (rows : List Row) → app_of command ≡ ocfexec_app
     → HasMatchesOf (app_of command) words m
     → Some name ≡ subcommand_name_of m → Some rows ≡ option_map (λ p. p.1) (subcommand_rows_of m)
@@ -26,17 +26,17 @@ met command words m name rows app matches is_name are_rows =
     let same : subcommand_rows_of m ≡ subcommand_of (app_of command) words = (matches (ap is_simple app)).1 in
     sym (ap (λ a. subcommand_of a words) app) ∙ sym same ∙ both_parts (subcommand_rows_of m) name rows (is_name ∙ name_in_rows m) are_rows
 
--- where `clap` refuses the arguments of the command line by just these kinds
+-- `clap` refuses the arguments of the command line by exactly these kinds
 pub faults : (command : Command) (words : List Text) (P : Kinds → Type 0) → app_of command ≡ ocfexec_app
     → (is_simple_and_free (app_of command) ≡ true → P (fault_of (app_of command) words)) → P (fault_of ocfexec_app words)
 faults command words P app holds = subst (λ a. P (fault_of a words)) app (holds (ap is_simple_and_free app))
 
--- arguments that name another subcommand name none that has a journal
+-- arguments that name another subcommand name no subcommand that has a journal
 pub unnamed : (words : List Text) (name : Text) (rows : List Row) → subcommand_of ocfexec_app words ≡ Some (name, rows)
     → ((s : Subcommand) → name ≢ subcommand_word s) → Unnamed words
 unnamed words name rows named none s found names = none s (ap (λ (p : Text × List Row). p.0) (some_is _ _ (sym named ∙ names)))
 
--- a subcommand's arguments ask for the options that are read from its rows
+-- the arguments of a subcommand give the options that are read from its rows
 pub given : (home : Option Text) (words : List Text) (name : Text) (rows : List Row) (s : Subcommand) (w : Wanted)
     → subcommand_of ocfexec_app words ≡ Some (name, rows) → name ≡ subcommand_word s → IsJournalWanted s home rows w → AsksFor home words w
 given home words name rows s (wanted.Journal o) named is (same, placed, read) = record {
@@ -76,7 +76,7 @@ shown_once words name rows P named is flaw = record {
   has_flaw = flaw;
 }
 
--- arguments with no place for a journal, or another flaw, give no options
+-- arguments that name no journal, or have another flaw, give no options
 pub flawed : (home : Option Text) (words : List Text) (name : Text) (rows : List Row) (s : Subcommand) (fault : WordsFault)
     → fault_of ocfexec_app words ≡ [] → subcommand_of ocfexec_app words ≡ Some (name, rows) → name ≡ subcommand_word s
     → HasPlacedFlaw s home rows fault → IsFault home words fault
@@ -120,7 +120,7 @@ fault_kind home words Since h = absurd h
 fault_kind home words Timeout h = absurd h
 fault_kind home words Memory h = h
 
--- the texts that a match gives, and none
+-- the texts of an argument, or no texts if it is absent
 pub texts_given : {X : Type 0} (o all : Option (List X)) (xs : List X) → o ≡ all → o ≡ Some xs → xs ≡ unwrap_or all []
 texts_given o all xs e is = sym (ap (λ r. unwrap_or r []) (sym e ∙ is))
 

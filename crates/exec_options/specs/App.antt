@@ -1,5 +1,5 @@
--- The command line of `ocfexec` as `clap` reads it: `run` and `serve` with all options of a journal, of the agents' site and of what
--- agents write; `show`, `status`, `log` and `metrics` with the place of a journal, and what each has of its own; and `once`.
+-- The command line of `ocfexec` as `clap` reads it: `run` and `serve` with all options of the journal, of the agents' site and of the
+-- output of agents; `show`, `status`, `log` and `metrics` with the directory of a journal and options of their own; and `once`.
 use Rattle.std.specs.Prelude.{[], ◌∷◌, Some, true, codes}
 use Rattle.clap.specs.Words.{App, Rule, Text, new_app, new_rule, with_rule, with_subcommand}
 use Rattle.clap.specs.declared.builder.ArgAction.TheVariants.{Append, SetTrue}
@@ -8,7 +8,7 @@ use Rattle.clap.specs.declared.builder.ArgAction.TheVariants.{Append, SetTrue}
 abbrev pub text_rule : Text → Rule
 text_rule id = record (new_rule id) { long = Some id; value_names = 1 }
 
--- an option with one text, for which this one is taken where it is left out
+-- an option with one text, and a default
 abbrev pub text_rule_or : Text → Text → Rule
 text_rule_or id default = record (text_rule id) { defaults = default ∷ [] }
 
@@ -16,11 +16,11 @@ text_rule_or id default = record (text_rule id) { defaults = default ∷ [] }
 abbrev pub word_rule : Text → Rule
 word_rule id = record (new_rule id) { value_names = 1 }
 
--- an argument that has to be there
+-- a required argument
 abbrev pub needed_rule : Text → Rule
 needed_rule id = record (word_rule id) { required = true }
 
--- arguments that are no options, as many as there are
+-- any number of arguments that are no options
 abbrev pub words_rule : Text → Rule
 words_rule id = record (word_rule id) { action = Some Append }
 
@@ -38,31 +38,31 @@ default_path = codes "/usr/sbin:/usr/bin:/sbin:/bin"
 abbrev pub default_tidy_at : Text
 default_tidy_at = codes "6291456"
 
--- an action's timeout where it names none
+-- the default timeout of an action
 abbrev pub default_orphans : Text
 default_orphans = codes "20000"
 
--- the id and the timeout of an action that is run once
+-- the defaults of an action that is run once
 abbrev pub default_id : Text
 default_id = codes "once"
 
 abbrev pub default_timeout : Text
 default_timeout = codes "20000"
 
--- where the journal is
+-- the options for where the journal is kept
 abbrev pub with_place_app : App → App
 with_place_app a =
     let a₁ = with_rule a (text_rule (codes "journal")) in
     with_rule a₁ (flag_rule (codes "memory"))
 
--- that, whether root opens one that other users can write, and when it is tidied
+-- these options, whether root opens a journal that other users can write, and when the journal is tidied
 abbrev pub with_journal_app : App → App
 with_journal_app a =
     let a₁ = with_place_app a in
     let a₂ = with_rule a₁ (flag_rule (codes "any-owner")) in
     with_rule a₂ (text_rule_or (codes "tidy-at") default_tidy_at)
 
--- where the agents are, and whether they get Pacemaker's own variables
+-- the options for where the agents are, what they are run with, and whether they get Pacemaker's own variables
 abbrev pub with_site_app : App → App
 with_site_app a =
     let a₁ = with_rule a (text_rule_or (codes "root") default_root) in
@@ -70,8 +70,8 @@ with_site_app a =
     let a₃ = with_rule a₂ (text_rule_or (codes "path") default_path) in
     with_rule a₃ (flag_rule (codes "meta-variables"))
 
--- where agents write, and whether results are said; how long is waited at most for what a killed executor's agents still do, and
--- whether it lives on then
+-- the options for the output of agents and the lines of results, for the wait for agents that a killed executor left running, and
+-- whether these are left alone after the wait
 abbrev pub with_agent_app : App → App
 with_agent_app a =
     let a₁ = with_rule a (text_rule (codes "log")) in
@@ -80,11 +80,11 @@ with_agent_app a =
     let a₄ = with_rule a₃ (text_rule_or (codes "orphans") default_orphans) in
     with_rule a₄ (flag_rule (codes "leave-orphans"))
 
+-- all options of `run` and `serve`
 abbrev pub with_options_app : App → App
 with_options_app a = with_agent_app (with_site_app (with_journal_app a))
 
--- which resource is asked for, whether as JSON, whether what has failed shows in the status of the process, and where the agents'
--- reasons are
+-- the arguments of `status`: a resource, JSON, the exit status for failed resources, and the directory of the agents' logs
 abbrev pub with_status_app : App → App
 with_status_app a =
     let a₁ = with_rule a (word_rule (codes "resource")) in
@@ -92,7 +92,7 @@ with_status_app a =
     let a₃ = with_rule a₂ (flag_rule (codes "exit-code")) in
     with_rule a₃ (text_rule (codes "logs"))
 
--- which resource is asked for, from which moment on, whether as JSON, and whether of a damaged journal too
+-- the arguments of `log`: a resource, the first moment, JSON, and whether a damaged journal is read
 abbrev pub with_log_app : App → App
 with_log_app a =
     let a₁ = with_rule a (word_rule (codes "resource")) in
@@ -100,7 +100,7 @@ with_log_app a =
     let a₃ = with_rule a₂ (flag_rule (codes "json")) in
     with_rule a₃ (flag_rule (codes "salvage"))
 
--- which agent is to do what, as what resource and for how long at most
+-- the arguments of `once`: the agent, the action, the parameters, the timeout, and the id of the resource
 abbrev pub with_call_app : App → App
 with_call_app a =
     let a₁ = with_rule a (needed_rule (codes "agent")) in
@@ -109,7 +109,7 @@ with_call_app a =
     let a₄ = with_rule a₃ (text_rule_or (codes "timeout") default_timeout) in
     with_rule a₄ (text_rule_or (codes "id") default_id)
 
--- a subcommand is asked for; `--version` prints the version
+-- the top level: a subcommand is required, and `--version` prints the version
 abbrev pub top_app : App
 top_app =
     let a = new_app (codes "ocfexec") in

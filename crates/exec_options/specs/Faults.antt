@@ -1,4 +1,4 @@
--- The faults of arguments that give no options.
+-- The faults of arguments that give no options. Rows are what `clap` read of a subcommand's arguments.
 use Rattle.std.specs.Prelude.{◌≡◌, ◌⊎◌, ℕ, ⊤, true, false, List, [], Option, None, codes, is_some}
 use Rattle.clap.specs.Words.{Kinds, Row, Text, IsAmong, fault_of, first_of, kind_of}
 use Rattle.clap.specs.declared.error.Error.{Error}
@@ -13,7 +13,7 @@ use Rattle.exec_options.specs.Subcommands.{once_word, subcommand_word}
 use Rattle.exec_options.specs.Words.{IsNumberTo, IsTimeout, Names, is_absolute, longest_wait, orphans_text, place_in, root_text, tidy_text}
 use Rattle.exec_options.specs.Words.{timeout_text}
 
--- a text that was asked for, and no mistake
+-- help or the version was asked for; it is no mistake
 abbrev pub IsAsked : ErrorKind → Type 0
 IsAsked k = (k ≡ DisplayHelp) ⊎ (k ≡ DisplayVersion)
 
@@ -29,7 +29,7 @@ HasFaultKind kinds Since = ⊥
 HasFaultKind kinds Timeout = ⊥
 HasFaultKind kinds Memory = ⊤
 
--- the arguments name a subcommand and where its journal is, and the other options that they name have this flaw
+-- the arguments name a subcommand and where its journal is, and their rows have this flaw
 pub record Flawed (named : Option Text) (words : List Text) (flaw : List Row → Type 0) : Type 0 where
   pub subcommand : Subcommand
   pub rows : List Row
@@ -37,13 +37,13 @@ pub record Flawed (named : Option Text) (words : List Text) (flaw : List Row →
   pub placed : is_some (place_in subcommand named rows) ≡ true
   pub has_flaw : flaw rows
 
--- the arguments name an action that is to be run once, and what they name beside it has this flaw
+-- the arguments name an action that is run once, and their rows have this flaw
 pub record OnceFlawed (words : List Text) (flaw : List Row → Type 0) : Type 0 where
   pub rows : List Row
   pub names : Names words once_word rows
   pub has_flaw : flaw rows
 
--- the arguments name a subcommand, and no place for its journal
+-- the arguments name a subcommand, and not where its journal is
 pub record Unplaced (named : Option Text) (words : List Text) : Type 0 where
   pub subcommand : Subcommand
   pub rows : List Row
@@ -54,27 +54,27 @@ pub record Unplaced (named : Option Text) (words : List Text) : Type 0 where
 abbrev pub Unnamed : List Text → Type 0
 Unnamed words = (s : Subcommand) (rows : List Row) → ¬ Names words (subcommand_word s) rows
 
--- what `--tidy-at` names is no number up to a part's limit
+-- the text of `--tidy-at` is no number up to a part's limit
 abbrev pub TidyAtFlaw : List Row → Type 0
 TidyAtFlaw rows = (n : ℕ) → ¬ IsNumberTo part_limit (tidy_text rows) n
 
--- what `--root` names is no absolute path
+-- the text of `--root` is no absolute path
 abbrev pub RootFlaw : List Row → Type 0
 RootFlaw rows = is_absolute (root_text rows) ≡ false
 
--- what `--orphans` names is no number of milliseconds up to a day
+-- the text of `--orphans` is no number of milliseconds up to a day
 abbrev pub OrphansFlaw : List Row → Type 0
 OrphansFlaw rows = (n : ℕ) → ¬ IsNumberTo longest_wait (orphans_text rows) n
 
--- `--since` is named; no moment was found in its text
+-- `--since` is given; no moment was found for its text
 abbrev pub SinceFlaw : List Row → Type 0
 SinceFlaw rows = is_some (first_of (codes "since") rows) ≡ true
 
--- what `--timeout` names is no number of milliseconds that an action may take
+-- the text of `--timeout` is no number of milliseconds that an action may take
 abbrev pub TimeoutFlaw : List Row → Type 0
 TimeoutFlaw rows = (n : ℕ) → ¬ IsTimeout (timeout_text rows) n
 
--- the flaw that a fault reports; want of memory is none
+-- the flaw that a fault reports; want of memory is no flaw
 abbrev pub HasFlaw : List Row → WordsFault → Type 0
 HasFlaw rows TidyAt = TidyAtFlaw rows
 HasFlaw rows Root = RootFlaw rows
@@ -83,20 +83,20 @@ HasFlaw rows Since = SinceFlaw rows
 HasFlaw rows Memory = ⊤
 HasFlaw rows _ = ⊥
 
--- the same, or that there is no place for its journal
+-- the same, or that the journal is not named
 abbrev pub HasPlacedFlaw : Subcommand → Option Text → List Row → WordsFault → Type 0
 HasPlacedFlaw s named rows Choice = place_in s named rows ≡ None
 HasPlacedFlaw s named rows fault = (is_some (place_in s named rows) ≡ true) × HasFlaw rows fault
 
--- the same of an action that is to be run once
+-- the flaw that a fault reports of an action that is run once
 abbrev pub HasOnceFlaw : List Row → WordsFault → Type 0
 HasOnceFlaw rows Root = RootFlaw rows
 HasOnceFlaw rows Timeout = TimeoutFlaw rows
 HasOnceFlaw rows Memory = ⊤
 HasOnceFlaw rows _ = ⊥
 
--- `clap` refuses the arguments for this, or takes them and yet they give no options: by the place of their journal, or else by
--- another option; the environment names this directory
+-- `clap` refuses the arguments for this, or accepts them and they give no options: the journal is not named, or an option has a
+-- flaw. The environment names the directory `named`, if any.
 abbrev pub IsFault : Option Text → List Text → WordsFault → Type 0
 IsFault named words Choice = (fault_of ocfexec_app words ≡ []) × (Unplaced named words ⊎ Unnamed words)
 IsFault named words TidyAt = (fault_of ocfexec_app words ≡ []) × Flawed named words TidyAtFlaw
@@ -110,7 +110,7 @@ IsFault named words fault = HasFaultKind (fault_of ocfexec_app words) fault
 abbrev pub AsksForText : Option Text → List Text → Type 0
 AsksForText named words = (text : Error) × IsFault named words (Help text)
 
--- the arguments are not those of the command line, or name a moment or a timeout that is none
+-- the arguments do not fit the command line, or their moment or timeout is not valid
 abbrev pub IsMisused : Option Text → List Text → Type 0
 IsMisused named words =
     ((text : Error) × IsFault named words (Usage text)) ⊎ (IsFault named words Since ⊎ IsFault named words Timeout)

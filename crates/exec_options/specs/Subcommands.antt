@@ -1,4 +1,4 @@
--- The arguments that name what the program does.
+-- The names of the subcommands.
 use Rattle.std.specs.Prelude.{ℕ, Bool, true, false, List, codes}
 use Rattle.exec_options.specs.declared.options.Subcommand.{Subcommand}
 use Rattle.exec_options.specs.declared.options.Subcommand.TheVariants.{Run, Serve, Show, Status, Log, Metrics}
@@ -11,11 +11,11 @@ subcommand_word Status = codes "status"
 subcommand_word Log = codes "log"
 subcommand_word Metrics = codes "metrics"
 
--- the one that has no journal
+-- the name of the subcommand that has no journal
 abbrev pub once_word : List ℕ
 once_word = codes "once"
 
--- it looks at a journal, which another program may hold, and starts no agent
+-- a subcommand only reads a journal, which another process may have open, and starts no agent
 abbrev pub is_look : Subcommand → Bool
 is_look Run = false
 is_look Serve = false

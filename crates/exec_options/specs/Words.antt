@@ -1,4 +1,4 @@
--- The options that arguments give.
+-- The options that arguments give. Rows are what `clap` read of a subcommand's arguments.
 use Rattle.std.specs.Prelude.{◌≡◌, ◌<◌, ◌≤◌, ◌==◌, ◌^◌, length, map, take, ℕ, Bool, true, false, if◌then◌else◌, List, [], ◌∷◌}
 use Rattle.std.specs.Prelude.{Option, Some, None, option_map, unwrap_or, codes, bytes_eq}
 use Rattle.std.specs.Str.Parse.{IsNumeral, digits_value, without_leading_plus}
@@ -16,11 +16,12 @@ use Rattle.exec_options.specs.declared.options.JournalPlace.TheVariants.{Folder,
 use Rattle.exec_options.specs.App.{default_id, default_orphans, default_path, default_root, default_tidy_at, default_timeout, ocfexec_app}
 use Rattle.exec_options.specs.Subcommands.{is_look, once_word, subcommand_word}
 
--- the directory that is named, or none in memory
+-- the directory of a journal; `None` for one in memory
 abbrev pub folder_of : JournalPlace → Option Text
 folder_of (Folder dir) = Some dir.now
 folder_of Memory = None
 
+-- the text of a flag that is given
 abbrev pub is_true_text : Option Text → Bool
 is_true_text (Some t) = bytes_eq t (codes "true")
 is_true_text None = false
@@ -29,25 +30,25 @@ is_true_text None = false
 abbrev pub package_folder : Text
 package_folder = codes "/var/lib/ocfexec"
 
--- the directory that is looked at where no journal is named: the one that the environment names, or the package's; who is to start
--- agents has to name one
+-- the directory that is read if no journal is named: the one that the environment names, or the package's; a subcommand that starts
+-- agents has none
 abbrev pub default_folder : Subcommand → Option Text → Option Text
 default_folder s named = if is_look s then Some (unwrap_or named package_folder) else None
 
--- a directory, or memory as none, by what `--journal` names and whether `--memory` is given: both is no place, and neither is one
--- where a default serves
+-- where the journal is kept: a directory, or `Some None` for memory, from the text of `--journal` and whether `--memory` is given; `None`
+-- if both are given, or neither and there is no default
 abbrev pub place_of : Option Text → Option Text → Bool → Option (Option Text)
 place_of default (Some folder) true = None
 place_of default (Some folder) false = Some (Some folder)
 place_of default None true = Some None
 place_of default None false = option_map Some default
 
--- where the journal is that a subcommand's arguments name, where the environment names this directory
+-- where the journal is kept by the rows of a subcommand, if the environment names the directory `named`
 abbrev pub place_in : Subcommand → Option Text → List Row → Option (Option Text)
 place_in s named rows =
     place_of (default_folder s named) (first_of (codes "journal") rows) (is_true_text (first_of (codes "memory") rows))
 
--- what `--tidy-at`, `--orphans`, `--root` and `--timeout` name, or their defaults
+-- the texts of `--tidy-at`, `--orphans`, `--root` and `--timeout`, or their defaults
 abbrev pub tidy_text : List Row → Text
 tidy_text rows = unwrap_or (first_of (codes "tidy-at") rows) default_tidy_at
 
@@ -60,20 +61,20 @@ root_text rows = unwrap_or (first_of (codes "root") rows) default_root
 abbrev pub timeout_text : List Row → Text
 timeout_text rows = unwrap_or (first_of (codes "timeout") rows) default_timeout
 
--- the longest wait that `--orphans` may name, in milliseconds: a day
+-- the greatest wait that `--orphans` may name, in milliseconds: a day
 abbrev pub longest_wait : ℕ
 longest_wait = ORPHANS_LIMIT
 
--- a text of decimal digits, a plus before them or not, is this number, and at most this limit
+-- a text of decimal digits, with or without a plus before them, denotes this number, which is at most this limit
 abbrev pub IsNumberTo : ℕ → Text → ℕ → Type 0
 IsNumberTo limit text n =
     IsNumeral 10 (without_leading_plus text) × (digits_value 10 (without_leading_plus text) ≡ n) × (n ≤ limit)
 
--- a number of milliseconds that an action may take: one at least
+-- a text denotes this number of milliseconds that an action may take, at least 1
 abbrev pub IsTimeout : Text → ℕ → Type 0
 IsTimeout text n = IsNumeral 10 (without_leading_plus text) × (digits_value 10 (without_leading_plus text) ≡ n) × (0 < n) × (n < 2 ^ 32)
 
--- a moment whose text as RFC 3339 has it begins with this one, which is not empty, and the first moment where no text is named
+-- a moment whose text in the form of RFC 3339 begins with this text, which is not empty; 0 if no text is given
 abbrev pub IsSince : Option Text → ℕ → Type 0
 IsSince (Some text) at = (0 < length text) × (take (length text) (moment_text at) ≡ text)
 IsSince None at = at ≡ 0
@@ -83,11 +84,11 @@ abbrev pub is_absolute : Text → Bool
 is_absolute (b ∷ more) = b == 47
 is_absolute [] = false
 
--- the journal of these options is where a subcommand's rows say, where the environment names this directory
+-- the journal of these options is where the rows of the subcommand say, if the environment names the directory `named`
 abbrev pub IsPlacedAt : Option Text → List Row → Options → Type 0
 IsPlacedAt named rows o = place_in o.subcommand named rows ≡ Some (folder_of o.journal)
 
--- the other options are what a subcommand's rows hold, a default in place of what they lack
+-- the other options are those of a subcommand's rows, with the defaults for absent ones
 pub record IsReadFrom (rows : List Row) (o : Options) : Type 0 where
   pub any_owner : o.any_owner ≡ is_true_text (first_of (codes "any-owner") rows)
   pub tidy_at : IsNumberTo part_limit (tidy_text rows) o.tidy_at
@@ -107,7 +108,7 @@ pub record IsReadFrom (rows : List Row) (o : Options) : Type 0 where
   pub since : IsSince (first_of (codes "since") rows) o.since
   pub salvage : o.salvage ≡ is_true_text (first_of (codes "salvage") rows)
 
--- the same of the options of an action that is run once
+-- the same for the options of an action that is run once
 pub record IsOnceFrom (rows : List Row) (o : OnceOptions) : Type 0 where
   pub agent : o.agent.now ≡ unwrap_or (first_of (codes "agent") rows) []
   pub action : o.action.now ≡ unwrap_or (first_of (codes "action") rows) []
@@ -120,12 +121,12 @@ pub record IsOnceFrom (rows : List Row) (o : OnceOptions) : Type 0 where
   pub path : o.path.now ≡ unwrap_or (first_of (codes "path") rows) default_path
   pub meta_variables : o.meta_variables ≡ is_true_text (first_of (codes "meta-variables") rows)
 
--- a subcommand with these rows asks for this
+-- a subcommand with these rows gives these options
 abbrev pub IsJournalWanted : Subcommand → Option Text → List Row → Wanted → Type 0
 IsJournalWanted s named rows (wanted.Journal o) = (o.subcommand ≡ s) × IsPlacedAt named rows o × IsReadFrom rows o
 IsJournalWanted s named rows (wanted.Once o) = ⊥
 
--- an action that is to be run once, with these rows, is this
+-- an action that is run once, with these rows, gives these options
 abbrev pub IsOnceWanted : List Row → Wanted → Type 0
 IsOnceWanted rows (wanted.Journal o) = ⊥
 IsOnceWanted rows (wanted.Once o) = IsOnceFrom rows o
@@ -134,20 +135,20 @@ IsOnceWanted rows (wanted.Once o) = IsOnceFrom rows o
 abbrev pub Names : List Text → Text → List Row → Type 0
 Names words name rows = subcommand_of ocfexec_app words ≡ Some (name, rows)
 
--- the arguments name a subcommand whose rows hold the options, where the environment names this directory
+-- the arguments name a subcommand whose rows give these options, if the environment names the directory `named`
 pub record Gives (named : Option Text) (words : List Text) (o : Options) : Type 0 where
   pub rows : List Row
   pub names : Names words (subcommand_word o.subcommand) rows
   pub placed : IsPlacedAt named rows o
   pub read : IsReadFrom rows o
 
--- the arguments name an action that is to be run once, and their rows hold these options
+-- the arguments name an action that is run once, and their rows give these options
 pub record GivesOnce (words : List Text) (o : OnceOptions) : Type 0 where
   pub rows : List Row
   pub names : Names words once_word rows
   pub read : IsOnceFrom rows o
 
--- the arguments ask for this
+-- the arguments give these options
 abbrev pub AsksFor : Option Text → List Text → Wanted → Type 0
 AsksFor named words (wanted.Journal o) = Gives named words o
 AsksFor named words (wanted.Once o) = GivesOnce words o

@@ -1,4 +1,4 @@
-//! The command line as `clap` knows it, with its help texts.
+//! The command line as `clap` gets it, with its help texts.
 ghost use Rattle.std.specs.Prelude.{◌≡◌, false, IfOk, codes};
 ghost use Rattle.clap.specs.Words.{app_of, rule_of, new_app};
 ghost use Rattle.clap.specs.declared.builder.command.Command.TheViews.{out-Command};
@@ -10,26 +10,26 @@ use crate::texts;
 use clap::{Arg, ArgAction, Command};
 use std::alloc::{AllocError, Global};
 
-/// The directory of the package's journal, which is looked at where none is named.
+/// The directory of the package's journal, which subcommands that start no agent read if none is named.
 pub const JOURNAL: &str = "/var/lib/ocfexec";
 
-/// The id of the resource of an action that is run once where nothing is named.
+/// The default id of the resource of an action that is run once.
 pub const ID: &str = "once";
 
-/// How many milliseconds an action that is run once may take where nothing is named.
+/// The default timeout of an action that is run once, in milliseconds.
 pub const TIMEOUT: &str = "20000";
 
-/// The directory of the agents where none is named.
+/// The default directory of the agents.
 pub const ROOT: &str = "/usr/lib/ocf";
 
-/// The `PATH` of the agents where none is named.
+/// The default `PATH` of the agents.
 pub const PATH: &str = "/usr/sbin:/usr/bin:/sbin:/bin";
 
-/// How many bytes the journal holds at most before it is tidied, where nothing is named: three quarters of a part's limit.
+/// The default number of bytes of the journal's part above which it is tidied: three quarters of a part's limit.
 pub const TIDY_AT: &str = "6291456";
 
-/// How many milliseconds an opening waits at most for what a killed executor's agents still do, where nothing is named: an
-/// action's timeout where it names none.
+/// The default limit of an opening's wait for agents that a killed executor left running, in milliseconds: the default timeout
+/// of an action.
 pub const ORPHANS: &str = "20000";
 
 fn text_option<'a>(alloc: Global, id: &'a str, value: &'a str, help: &'a str) -> Arg<'a>
@@ -69,7 +69,7 @@ fn word<'a>(alloc: Global, id: &'a str, value: &'a str, help: &'a str) -> Arg<'a
     Arg::new(alloc, id).value_name(value).help(help)
 }
 
-// An argument that has to be there.
+// A required argument.
 fn needed<'a>(alloc: Global, id: &'a str, value: &'a str, help: &'a str) -> Arg<'a>
     ensures rule { rule_of result ≡ needed_rule id.entry.now }
     ensures local { result.global ≡ false }
@@ -77,7 +77,7 @@ fn needed<'a>(alloc: Global, id: &'a str, value: &'a str, help: &'a str) -> Arg<
     word(alloc, id, value, help).required(true)
 }
 
-// Arguments that are no options, as many as there are.
+// Any number of arguments that are no options.
 fn words<'a>(alloc: Global, id: &'a str, value: &'a str, help: &'a str) -> Arg<'a>
     ensures rule { rule_of result ≡ words_rule id.entry.now }
     ensures local { result.global ≡ false }
@@ -164,13 +164,13 @@ fn with_agent_options<'a>(alloc: Global, command: Command<'a>) -> Result<Command
         alloc,
         "log",
         "FILE",
-        "Append what agents write to FILE, or to standard error if FILE is -; without --log and --logs it is lost",
+        "Append the output of agents to FILE, or to standard error if FILE is -; without --log and --logs it is discarded",
     ))?;
     let command = command.arg(text_option(
         alloc,
         "logs",
         "DIR",
-        "Append what the agents of a resource write to DIR/ID.log, which is opened again for each action",
+        "Append the output of the agents of a resource to DIR/ID.log, which is reopened for each action",
     ))?;
     let command = command.arg(flag(
         alloc,
@@ -187,7 +187,7 @@ fn with_agent_options<'a>(alloc: Global, command: Command<'a>) -> Result<Command
     command.arg(flag(
         alloc,
         "leave-orphans",
-        "Do not kill such agents after that wait: name their processes on standard error",
+        "Do not kill such agents after that wait; report their processes on standard error",
     ))
 }
 
@@ -226,7 +226,7 @@ fn with_status_options<'a>(alloc: Global, command: Command<'a>) -> Result<Comman
         alloc,
         "logs",
         "DIR",
-        "Print with a last failure the last reason in DIR/ID.log, which run --logs DIR writes",
+        "Print the last reason in DIR/ID.log, which run --logs DIR writes, after a last failure",
     ))
 }
 
@@ -251,7 +251,7 @@ fn with_log_options<'a>(alloc: Global, command: Command<'a>) -> Result<Command<'
     command.arg(flag(
         alloc,
         "salvage",
-        "Of a damaged journal, print the records before the damage of each part, and where they end",
+        "Print the records of a damaged journal up to the damage in each part, and where they end",
     ))
 }
 

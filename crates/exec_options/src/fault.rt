@@ -1,4 +1,4 @@
-//! Arguments that give no options.
+//! Why arguments give no options.
 ghost use Rattle.std.specs.Prelude.{◌≡◌, IsTrue};
 ghost use Rattle.clap.specs.Words.{HasKind, Kinds};
 ghost use Rattle.exec_options.specs.Faults.{HasFaultKind};
@@ -7,32 +7,31 @@ use clap::error::ErrorKind;
 use growth::Grows;
 use std::alloc::{AllocError, Global};
 
-/// Why the arguments give no options. It has no text of its own but `clap`'s: what the program then says and ends with is
-/// the program's.
+/// Why the arguments give no options. It has no texts but those of `clap`; the program chooses its messages and exit status.
 #[derive(Debug, Drop)]
 pub enum WordsFault {
-    /// They ask for help or for the version: its text, for the standard output.
+    /// They ask for help or for the version; the text is for standard output.
     Help(clap::Error),
-    /// They are not those of the command line: `clap`'s text, for the standard error.
+    /// They do not fit the command line; `clap`'s text is for standard error.
     Usage(clap::Error),
-    /// They name both of `--journal` and `--memory`, or none where agents are to be started.
+    /// They name both of `--journal` and `--memory`, or neither though agents are to be started.
     Choice,
-    /// They name a text for `--tidy-at` that is no number up to a part's limit.
+    /// The text of `--tidy-at` is no number up to a part's limit.
     TidyAt,
-    /// They name a text for `--root` that is no absolute path.
+    /// The text of `--root` is no absolute path.
     Root,
-    /// They name a text for `--orphans` that is no number of milliseconds up to a day.
+    /// The text of `--orphans` is no number of milliseconds up to a day.
     Orphans,
-    /// They name a text for `--since` in which no moment was found.
+    /// No moment was found for the text of `--since`.
     Since,
-    /// They name a text for `--timeout` that is no number of milliseconds that an action may take.
+    /// The text of `--timeout` is no number of milliseconds that an action may take.
     Timeout,
-    /// There was no memory to read them.
+    /// There was not enough memory to read them.
     Memory,
 }
 
 impl WordsFault {
-    /// What `clap`'s error means.
+    /// The fault of an error of `clap`.
     pub(crate) fn from_clap(error: clap::Error) -> WordsFault
         ensures kinds { (kinds : Kinds) → HasKind kinds error → HasFaultKind kinds result }
         ensures memory { result ≡ WordsFault.Memory → IsTrue ⟦<Global as Grows>⟧.refuses }

@@ -1,4 +1,4 @@
-//! The arguments of `ocfexec`'s command line, read by `clap`.
+//! Reads the arguments of `ocfexec`'s command line by `clap`.
 #![tactic(auto)]
 
 mod app;

@@ -1,22 +1,22 @@
-//! What the arguments of the command line ask for.
+//! The options of the subcommands with a journal.
 ghost use Rattle.std.specs.Prelude.{◌≡◌, ◌≢◌, IfSome, IfNone};
 ghost use Rattle.exec_options.specs.declared.options.Subcommand.{Subcommand};
 ghost use Rattle.exec_options.specs.Subcommands.{is_look, subcommand_word};
 
-/// What the program does.
+/// A subcommand that has a journal.
 #[derive(Clone, Copy, Debug, PartialEq, Eq)]
 pub enum Subcommand {
-    /// Reads commands and answers each.
+    /// Reads commands and replies to each.
     Run,
-    /// The same, and makes turns by itself.
+    /// The same, and also makes turns between commands.
     Serve,
-    /// Prints what the journal holds.
+    /// Prints the contents of the journal as JSON.
     Show,
-    /// Prints the same as a table for a person.
+    /// Prints them as a table for a person.
     Status,
     /// Prints the records of the journal.
     Log,
-    /// Prints what the journal holds as metrics.
+    /// Prints the contents of the journal as metrics.
     Metrics,
 }
 
@@ -43,7 +43,7 @@ impl Subcommand {
         }
     }
 
-    /// Whether it looks at a journal, which another program may hold, and starts no agent.
+    /// Whether it only reads a journal, which another process may have open, and starts no agent.
     pub fn is_look(self) -> bool
         ensures { result ≡ is_look self }
     {
@@ -56,48 +56,47 @@ impl Subcommand {
 pub enum JournalPlace<'a> {
     /// In the files of this directory.
     Folder(&'a str),
-    /// In memory: it ends with the program.
+    /// In memory: it is lost when the program ends.
     Memory,
 }
 
-/// What the arguments of the command line ask for.
+/// The options of a subcommand with a journal.
 #[derive(Clone, Copy, Debug, PartialEq, Eq)]
 pub struct Options<'a> {
     pub subcommand: Subcommand,
     pub journal: JournalPlace<'a>,
-    /// Whether root opens a journal whose directory or files other users can write, too.
+    /// Whether root also opens a journal whose directory or files other users can write.
     pub any_owner: bool,
     /// The directory of the agents, an absolute path: an agent is the file `resource.d/PROVIDER/TYPE` in it.
     pub root: &'a str,
-    /// The program that each agent is started through, or none.
+    /// The program that each agent is run through, or `None`.
     pub via: Option<&'a str>,
-    /// What `PATH` is in the environment of the agents.
+    /// The `PATH` in the environment of the agents.
     pub path: &'a str,
-    /// The journal is tidied once it holds more bytes than this; 0 for never. It is at most a part's limit.
+    /// The journal is tidied once it has more bytes than this; 0 for never. At most a part's limit.
     pub tidy_at: u64,
     /// Whether agents get Pacemaker's own variables too.
     pub meta_variables: bool,
-    /// The file that what agents write is appended to, `-` for the standard error of the program, or none: then it is lost.
+    /// The file to which the output of agents is appended, `-` for the program's standard error; `None` discards it.
     pub log: Option<&'a str>,
-    /// The directory of the files that what agents write is appended to, one of each resource, or none.
+    /// The directory of the files to which the output of agents is appended, one for each resource, or `None`.
     pub logs: Option<&'a str>,
-    /// Whether each result is said on standard error.
+    /// Whether a line for each result is written to standard error.
     pub events: bool,
-    /// How long an opening waits at most for what an interrupted action left, in milliseconds: as long as that action's own
-    /// timeout had still to run, and no longer than this, which is a day at most. What outlives the wait is then ended with
-    /// its descendants, as the timeout would have ended it; 0: at once.
+    /// The limit of an opening's wait for the processes of an interrupted action, in milliseconds, at most a day; 0 for no wait. The
+    /// opening waits for what is left of the action's own timeout, and no longer than this. Processes that are still alive are then
+    /// killed with their descendants, as the timeout would have killed them.
     pub orphans: u64,
-    /// Whether what an interrupted action left lives on where it outlives that wait, in place of being ended with its
-    /// descendants.
+    /// Whether processes of an interrupted action that outlive that wait are left alone instead of being killed.
     pub leave_orphans: bool,
-    /// The id of the one resource whose status or records are asked for, or none.
+    /// The id of the only resource whose status or records are printed, or `None` for all.
     pub resource: Option<&'a str>,
-    /// Whether a status or records are given as lines of JSON.
+    /// Whether the status or the records are printed as lines of JSON.
     pub json: bool,
-    /// Whether a status ends otherwise than well where a resource has failed, or it is not known how it is.
+    /// Whether `status` ends with another exit status than 0 if a resource is failed or unknown.
     pub exit_code: bool,
-    /// The moment from which on records are asked for, in milliseconds since 1970; 0 for all.
+    /// Records before this moment are not printed; in milliseconds since 1970, 0 for all.
     pub since: u64,
-    /// Whether the records of a damaged journal are asked for, and where they end.
+    /// Whether the records of a damaged journal are printed, and where they end.
     pub salvage: bool,
 }

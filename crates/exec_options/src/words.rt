@@ -1,4 +1,4 @@
-//! The options that the arguments give.
+//! Reads the options from the arguments.
 ghost use Rattle.std.specs.Prelude.{◌≡◌, ℕ, [], true, map, string_bytes, codes, option_map, unwrap_or, IfOk, IfErr, IsTrue, OnErr, OnOk, IfSome, IfNone};
 ghost use Rattle.clap.specs.Words.{all_of, first_of, rows_of, found_of, fault_of};
 ghost use Rattle.exec_options.specs.App.{ocfexec_app};
@@ -18,12 +18,12 @@ use log_lines::moment_begun;
 use ocf_types::{ORPHANS_LIMIT, PART_LIMIT};
 use std::alloc::{AllocError, Global};
 
-/// What the arguments of the command line ask for.
+/// The options that the arguments of the command line give.
 #[derive(Debug, Drop)]
 pub enum Wanted<'a> {
-    /// To do this with a journal.
+    /// Those of a subcommand with a journal.
     Journal(Options<'a>),
-    /// To run an action once, without a journal.
+    /// Those of an action that is run once, without a journal.
     Once(OnceOptions<'a>),
 }
 
@@ -42,7 +42,7 @@ fn is_set(matches: &ArgMatches<'_>, id: &str) -> bool
     }
 }
 
-// The directory that is looked at where no journal is named; who is to start agents has to name one.
+// The directory to read if no journal is named; a subcommand that starts agents has none.
 fn default_folder<'a>(subcommand: Subcommand, named: Option<&'a str>) -> Option<&'a str>
     ensures { option_map (λ s. s.now) result
         ≡ default_folder subcommand (option_map (λ s. s.now) named.entry) }
@@ -54,7 +54,7 @@ fn default_folder<'a>(subcommand: Subcommand, named: Option<&'a str>) -> Option<
     }
 }
 
-// Where the journal is, where the environment names this directory.
+// Where the journal is kept, if the environment names the directory `named`.
 fn journal_place<'a>(
     subcommand: Subcommand,
     named: Option<&'a str>,
@@ -74,7 +74,7 @@ fn journal_place<'a>(
     }
 }
 
-// The number up to a limit that a text is.
+// The number that a text denotes, if it is at most this limit.
 fn number_to(limit: u64, text: &str) -> Option<u64>
     ensures number { IfSome result (IsNumberTo limit text.now) }
     ensures none { IfNone result ((n : ℕ) → ¬ IsNumberTo limit text.now n) }
@@ -136,7 +136,7 @@ fn root<'a>(matches: &ArgMatches<'a>) -> Result<&'a str, WordsFault>
     }
 }
 
-// The moment from which on records are asked for: the first one where none is named.
+// The moment from which on records are printed; 0 if none is named.
 fn since(alloc: Global, matches: &ArgMatches<'_>) -> Result<u64, WordsFault>
     ensures moment { IfOk result
         (IsSince (first_of (codes "since") (rows_of (found_of matches.now)))) }
@@ -156,7 +156,7 @@ fn since(alloc: Global, matches: &ArgMatches<'_>) -> Result<u64, WordsFault>
     }
 }
 
-// How long an action may take, in milliseconds.
+// The timeout of an action, in milliseconds.
 fn timeout(matches: &ArgMatches<'_>) -> Result<u32, WordsFault>
     ensures number { IfOk result (IsTimeout (timeout_text (rows_of (found_of matches.now)))) }
     ensures fault { IfErr result
@@ -171,7 +171,7 @@ fn timeout(matches: &ArgMatches<'_>) -> Result<u32, WordsFault>
     }
 }
 
-// All texts that the arguments give for this.
+// All texts of this argument.
 fn texts_of<'a, 'm>(matches: &'m ArgMatches<'a>, id: &str) -> Option<&'m [&'a str]>
     ensures { option_map (λ texts. map (λ s. s.now) texts.now) result
         ≡ all_of id.now (rows_of (found_of matches.now)) }
@@ -179,7 +179,7 @@ fn texts_of<'a, 'm>(matches: &'m ArgMatches<'a>, id: &str) -> Option<&'m [&'a st
     matches.get_raw(id)
 }
 
-// The parameters that an action is run with.
+// The parameters of an action.
 fn parameters<'a>(alloc: Global, matches: &ArgMatches<'a>) -> Result<Vec<&'a str>, AllocError>
     ensures texts { IfOk result (λ texts. map (λ s. s.now) texts.items
         ≡ unwrap_or (all_of (codes "parameters") (rows_of (found_of matches.now))) []) }
@@ -215,7 +215,7 @@ fn once_of<'a>(alloc: Global, matches: &ArgMatches<'a>) -> Result<Wanted<'a>, Wo
     }))
 }
 
-// The options that a subcommand's arguments give besides the place of its journal.
+// The options of a subcommand with this journal.
 fn options_of<'a>(
     alloc: Global,
     subcommand: Subcommand,
@@ -253,7 +253,7 @@ fn options_of<'a>(
     })
 }
 
-// What the arguments of a subcommand with a journal ask for.
+// The options of a subcommand with a journal, from its arguments.
 fn journal_of<'a>(
     alloc: Global,
     subcommand: Subcommand,
@@ -277,8 +277,8 @@ fn journal_of<'a>(
     }
 }
 
-/// What these arguments ask for, the program's name first, where the environment names this directory for a journal. Each fault
-/// says why they ask for nothing.
+/// Reads the options from the arguments, which begin with the name of the program. `named` is the directory of a journal that the
+/// environment names, if any.
 pub fn read_words<'a>(
     alloc: Global,
     named: Option<&'a str>,

@@ -1,9 +1,9 @@
--- The last reason of a log's end, computed on examples.
+-- The last reason in the tail of a log, computed on examples.
 use Rattle.std.proofs.Common.{◌≡◌, [], refl}
 use Rattle.std.specs.Prelude.{codes}
 use Rattle.exit_reasons.specs.Reasons.{reason_in, shown_byte}
 
--- a graphic character stays, all else is shown by its number
+-- a graphic character stays, every other byte is written as its number
 letter : shown_byte 97 ≡ codes "a"
 letter = refl
 
@@ -20,7 +20,7 @@ not_ascii = refl
 one_line : reason_in (codes "no such file\nocf-exit-reason:another\n") ≡ codes "no such file"
 one_line = refl
 
--- or at the end, where that is a newline that is not there yet
+-- or at the end of the tail, if its newline is not yet there
 cut_off : reason_in (codes "no such fi") ≡ codes "no such fi"
 cut_off = refl
 

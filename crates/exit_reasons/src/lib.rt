@@ -1,4 +1,4 @@
-//! The last reason for a failure that the end of an agent's log gives.
+//! Finds the last reason for a failure in the tail of an agent's log.
 #![tactic(auto)]
 
 mod reason;

@@ -8,10 +8,10 @@ use crate::tail::{Tail, WORD};
 use growth::Grows;
 use std::alloc::{AllocError, Global};
 
-// The most bytes of a reason that are shown.
+// The greatest number of bytes of a reason that are shown.
 const REASON_LIMIT: usize = 512;
 
-// How many bytes there are before the first newline.
+// The number of bytes before the first newline.
 fn line_len(bytes: &[u8]) -> usize
     ensures len { result ≡ position_or_len is_newline bytes.now }
     ensures within { result ≤ length bytes.now }
@@ -22,7 +22,7 @@ fn line_len(bytes: &[u8]) -> usize
     }
 }
 
-// The reason of a line, of which this follows its first word.
+// The reason of a line, from the bytes after its prefix.
 #[tactic(auto, using(std::proofs::lemmas::List::take_min))]
 fn reason_in(alloc: Global, rest: &[u8]) -> Result<Vec<u8>, AllocError>
     ensures reason { IfOk result (λ text. text.items ≡ reason_in rest.now) }
@@ -34,8 +34,8 @@ fn reason_in(alloc: Global, rest: &[u8]) -> Result<Vec<u8>, AllocError>
     Ok(text)
 }
 
-/// The reason of the last line with one, as it is shown: 512 bytes of it at most, each that a terminal does not show as it is by
-/// its number.
+/// The reason of the last line that has one, for a terminal: at most 512 bytes of it, where a byte that is not plain is written as
+/// its hexadecimal number.
 pub fn last_reason(alloc: Global, tail: &Tail<'_>) -> Result<Option<Vec<u8>>, AllocError>
     ensures reason { IfOk result
         (λ found. option_map (λ text. text.items) found ≡ last_reason tail.now) }

@@ -1,4 +1,4 @@
-//! Bytes of a log as they are shown.
+//! Escapes the bytes of a log for a terminal.
 ghost use Rattle.std.specs.Prelude.{◌≡◌, ◌<◌, ◌++◌, IsTrue, OnErr, OnOk};
 ghost use Rattle.std.specs.List.{flat_map};
 ghost use Rattle.exit_reasons.specs.Reasons.{hex_digit, is_plain, shown_byte};
@@ -6,7 +6,7 @@ ghost use Rattle.exit_reasons.specs.Reasons.{hex_digit, is_plain, shown_byte};
 use growth::{Grows, append, push};
 use std::alloc::{AllocError, Global};
 
-// Whether a terminal shows a byte as it is.
+// Whether a byte needs no escape: a graphic character of ASCII or a space, and no backslash.
 fn is_plain(byte: u8) -> bool
     ensures { result ≡ is_plain byte }
 {
@@ -39,7 +39,7 @@ fn add_shown_byte(text: &mut Vec<u8>, byte: u8) -> Result<(), AllocError>
     }
 }
 
-/// Adds bytes as they are shown.
+/// Appends bytes, escaped for a terminal.
 #[tactic(auto, using(crate::proofs::Lemmas::byte_more))]
 pub fn add_shown(text: &mut Vec<u8>, bytes: &[u8]) -> Result<(), AllocError>
     ensures added { OnOk result (text.new.items ≡ text.old.items ++ flat_map shown_byte bytes.now) }

@@ -1,16 +1,16 @@
-//! The end of a log, and where its last reason begins.
+//! The tail of a log, and the offset of its last reason.
 ghost use Rattle.std.specs.Prelude.{◌≡◌, ◌<◌, ◌≤◌, ◌+◌, length, IfSome, IsTrue};
 ghost use Rattle.exit_reasons.specs.Reasons.{begins_line, is_reason_at, last_offset, reason_word};
 
-/// What a line with a reason begins with.
+/// The prefix of a line with a reason.
 pub(crate) const WORD: &str = "ocf-exit-reason:";
 
-/// The end of an agent's log.
+/// The tail of an agent's log.
 #[derive(Clone, Copy)]
 pub struct Tail<'a> {
-    /// Its bytes.
+    /// The bytes of the tail.
     pub bytes: &'a [u8],
-    /// Whether the log has no byte before them.
+    /// Whether these are all bytes of the log.
     pub is_whole: bool,
 }
 

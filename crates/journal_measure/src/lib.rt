@@ -1,4 +1,4 @@
-//! How large a journal is, and which runs ended since the snapshot of its current part.
+//! Measures the size of a journal, and counts the runs that ended since the snapshot of its current part.
 #![tactic(auto)]
 
 mod measuring;

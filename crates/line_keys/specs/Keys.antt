@@ -1,4 +1,4 @@
--- The keys of lines, and what each may hold.
+-- The keys of lines, and the values that each may hold.
 use Rattle.std.specs.Prelude.{ℕ, List, ◌++◌, codes, decimal}
 use Rattle.ocf_types.specs.Limits.{num_max}
 use Rattle.line_keys.specs.declared.key.Key.{Key}
@@ -6,7 +6,7 @@ use Rattle.line_keys.specs.declared.key.Key.TheVariants as key
 use Rattle.line_keys.specs.declared.range.Range.{Range}
 use Rattle.line_keys.specs.declared.range.Range.TheVariants as range
 
--- a key as a line has it
+-- the name of a key in a line
 abbrev pub key_word : Key → List ℕ
 key_word key.Op = codes "op"
 key_word key.Id = codes "id"
@@ -23,7 +23,7 @@ key_word key.Limit = codes "limit"
 key_word key.WatchLimit = codes "limit"
 key_word key.Tag = codes "tag"
 
--- what a key may hold
+-- the values that a key may hold
 abbrev pub range_of : Key → Range
 range_of key.Op = range.Operation
 range_of key.Id = range.Id
@@ -40,7 +40,7 @@ range_of key.Limit = range.Number 0 86400000
 range_of key.WatchLimit = range.Number 1 4294967295
 range_of key.Tag = range.Tag
 
--- the same as a part of a sentence
+-- a range as a part of a sentence
 abbrev pub range_text : Range → List ℕ
 range_text range.Operation = codes "the name of an operation, a text"
 range_text range.Id = codes "a text of 1 to 64 letters, digits, '_', '-', '.' and ':', but not '.' or '..'"

@@ -1,4 +1,4 @@
--- The sentence of a refusal, and the key that it is about.
+-- The message of a refusal, and the key that it is about.
 use Rattle.std.specs.Prelude.{ℕ, List, ◌++◌, Option, None, Some, option_map, codes}
 use Rattle.ocf_types.specs.declared.refusal.Refusal.{Refusal}
 use Rattle.ocf_types.specs.declared.refusal.Refusal.TheVariants as refusal
@@ -8,7 +8,7 @@ use Rattle.line_keys.specs.declared.key.Key.TheVariants as key
 use Rattle.line_keys.specs.declared.refused.About.{About}
 use Rattle.line_keys.specs.declared.refused.About.TheVariants as about
 
--- the key that a refusal of a well formed line is about, where there is one
+-- the key that a refusal of a well-formed line is about, if any
 abbrev pub key_of : Refusal → Option Key
 key_of refusal.UnknownResource = Some key.Id
 key_of refusal.Busy = Some key.Id
@@ -19,7 +19,7 @@ key_of refusal.TooLarge = Some key.Params
 key_of refusal.NotQueued = Some key.Call
 key_of _ = None
 
--- what a refusal says by itself
+-- the message of a refusal that is about no single key
 abbrev pub refusal_text : Refusal → List ℕ
 refusal_text refusal.Syntax = codes "a line must be one JSON object of at most 131072 bytes"
 refusal_text refusal.UnknownOp = codes "there is no such operation"
@@ -28,30 +28,30 @@ refusal_text refusal.BadValue = codes "a value is outside its range"
 refusal_text refusal.UnknownResource = codes "no resource of this id is registered"
 refusal_text refusal.Exists = codes "a resource of this id is registered, or has a recurring monitor of this interval"
 refusal_text refusal.Busy = codes "an action of this resource is queued or running"
-refusal_text refusal.QueueFull = codes "32 actions of this resource are queued, and no more can be"
-refusal_text refusal.RecurringFull = codes "this resource has 8 recurring monitors, and can have no more"
+refusal_text refusal.QueueFull = codes "32 actions of this resource are queued, which is the limit"
+refusal_text refusal.RecurringFull = codes "this resource has 8 recurring monitors, which is the limit"
 refusal_text refusal.NoSuchRecurring = codes "this resource has no recurring monitor of this interval"
 refusal_text refusal.NotQueued = codes "no action of this call is queued for this resource"
-refusal_text refusal.TooManyResources = codes "256 resources are registered, and no more can be"
-refusal_text refusal.TooLarge = codes "the parameters are too many: their event has more than 16384 bytes"
+refusal_text refusal.TooManyResources = codes "256 resources are registered, which is the limit"
+refusal_text refusal.TooLarge = codes "the parameters are too large: their event has more than 16384 bytes"
 refusal_text refusal.CallsSpent = codes "the last call id, 9007199254740991, is spent"
-refusal_text refusal.JournalFull = codes "the journal is full; a tidy makes room"
+refusal_text refusal.JournalFull = codes "the journal is full; a tidy frees space"
 refusal_text refusal.Memory = codes "there was not enough memory; nothing was done"
 refusal_text refusal.Disk = codes "the journal's device failed, and the executor is closed"
 refusal_text refusal.Closed = codes "the executor is closed"
 
--- what a key may hold, as a sentence
+-- the message that says what a key may hold
 abbrev pub key_text : Key → List ℕ
 key_text k = key_word k ++ (codes " must be " ++ range_text (range_of k))
 
--- the sentence of a refusal: what the key may hold that it is about, or else what the refusal says by itself
+-- the message of a refusal: what the key at fault may hold, or else a message for the kind of refusal
 abbrev pub message_of : Refusal → About → List ℕ
 message_of why about.Whole = refusal_text why
 message_of why about.Twice = codes "an object of the line has a key twice"
 message_of why (about.Key k) = key_text k
 message_of why (about.Unknown name) = codes "this operation has no such key"
 
--- the key of the line that a refusal is about, where there is one
+-- the key of the line that a refusal is about, if any
 abbrev pub about_key : Refusal → About → Option (List ℕ)
 about_key why about.Whole = option_map key_word (key_of why)
 about_key why about.Twice = None

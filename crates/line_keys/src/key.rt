@@ -1,11 +1,11 @@
-//! Keys of lines.
+//! The keys of lines, and the range of each.
 ghost use Rattle.std.specs.Prelude.{◌≡◌};
 ghost use Rattle.line_keys.specs.Keys.{key_word, range_of};
 
 use crate::range::{LONGEST_LIMIT, Range};
 use ocf_types::NUM_MAX;
 
-/// A key of a command line.
+/// A key of a line.
 #[derive(Clone, Copy, Debug, PartialEq, Eq)]
 pub enum Key {
     Op,
@@ -19,11 +19,11 @@ pub enum Key {
     Expect,
     Interval,
     Call,
-    /// The limit of a drain, or of an agent that is asked for its metadata.
+    /// The limit of a drain, or of a request for metadata.
     Limit,
     /// The limit of a watch.
     WatchLimit,
-    /// What a client knows the reply and the notices of its line by.
+    /// The client's text that the reply and the notices repeat.
     Tag,
 }
 
@@ -33,7 +33,7 @@ const MILLIS: Range = Range::Number {
 };
 
 impl Key {
-    /// The key as a line has it.
+    /// The name of the key in a line.
     pub fn word(self) -> &'static str
         ensures { result.now ≡ key_word self }
     {
@@ -54,7 +54,7 @@ impl Key {
         }
     }
 
-    /// What it may hold.
+    /// The values that the key may hold.
     pub fn range(self) -> Range
         ensures { result ≡ range_of self }
     {

@@ -1,4 +1,4 @@
-//! The keys of command lines, what each may hold, and why a line was refused.
+//! The keys of lines, the values that each may hold, and the messages of refusals.
 #![tactic(auto)]
 
 mod key;

@@ -1,4 +1,4 @@
-//! The sentence of a refusal.
+//! The message of a refusal.
 ghost use Rattle.std.specs.Prelude.{◌≡◌, ◌++◌, codes, IfOk, IsTrue, OnErr, string_bytes};
 ghost use Rattle.line_keys.specs.Keys.{key_word, range_of, range_text};
 ghost use Rattle.line_keys.specs.Messages.{key_text, message_of, refusal_text};
@@ -9,7 +9,7 @@ use growth::{Grows, push_text, text_of};
 use ocf_types::Refusal;
 use std::alloc::{AllocError, Global};
 
-// What a refusal says by itself.
+// The message of a refusal that is about no single key.
 fn refusal_text(why: Refusal) -> &'static str
     ensures { result.now ≡ refusal_text why }
 {
@@ -23,21 +23,21 @@ fn refusal_text(why: Refusal) -> &'static str
             "a resource of this id is registered, or has a recurring monitor of this interval"
         }
         Refusal::Busy => "an action of this resource is queued or running",
-        Refusal::QueueFull => "32 actions of this resource are queued, and no more can be",
-        Refusal::RecurringFull => { "this resource has 8 recurring monitors, and can have no more" }
+        Refusal::QueueFull => "32 actions of this resource are queued, which is the limit",
+        Refusal::RecurringFull => { "this resource has 8 recurring monitors, which is the limit" }
         Refusal::NoSuchRecurring => "this resource has no recurring monitor of this interval",
         Refusal::NotQueued => "no action of this call is queued for this resource",
-        Refusal::TooManyResources => "256 resources are registered, and no more can be",
-        Refusal::TooLarge => "the parameters are too many: their event has more than 16384 bytes",
+        Refusal::TooManyResources => "256 resources are registered, which is the limit",
+        Refusal::TooLarge => "the parameters are too large: their event has more than 16384 bytes",
         Refusal::CallsSpent => "the last call id, 9007199254740991, is spent",
-        Refusal::JournalFull => "the journal is full; a tidy makes room",
+        Refusal::JournalFull => "the journal is full; a tidy frees space",
         Refusal::Memory => "there was not enough memory; nothing was done",
         Refusal::Disk => "the journal's device failed, and the executor is closed",
         Refusal::Closed => "the executor is closed",
     }
 }
 
-// What a key may hold.
+// The message that says what a key may hold.
 fn key_text(alloc: Global, key: Key) -> Result<String, AllocError>
     ensures text { IfOk result (λ t. string_bytes t ≡ key_text key) }
     ensures memory { OnErr result (IsTrue ⟦<Global as Grows>⟧.refuses) }
@@ -48,7 +48,7 @@ fn key_text(alloc: Global, key: Key) -> Result<String, AllocError>
     Ok(text)
 }
 
-/// The sentence of a refusal: what the key may hold that it is about, or else what the refusal says by itself.
+/// The message of a refusal: what the key at fault may hold, or else a message for the kind of refusal.
 pub fn message_of(alloc: Global, why: Refusal, about: &About) -> Result<String, AllocError>
     ensures text { IfOk result (λ t. string_bytes t ≡ message_of why about.now) }
     ensures memory { OnErr result (IsTrue ⟦<Global as Grows>⟧.refuses) }

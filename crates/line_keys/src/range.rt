@@ -1,4 +1,4 @@
-//! What keys may hold.
+//! The values that keys may hold.
 ghost use Rattle.std.specs.Prelude.{◌≡◌, ◌++◌, decimal, IsTrue, OnErr, OnOk, string_bytes};
 ghost use Rattle.line_keys.specs.Keys.{range_text};
 
@@ -9,10 +9,10 @@ use std::alloc::{AllocError, Global};
 /// The longest limit that a line may name, a day in milliseconds.
 pub const LONGEST_LIMIT: u64 = 86_400_000;
 
-/// What a key may hold.
+/// The values that a key may hold.
 #[derive(Clone, Copy, Debug, PartialEq, Eq)]
 pub enum Range {
-    /// The word of an operation.
+    /// The name of an operation.
     Operation,
     /// The id of a resource.
     Id,
@@ -20,19 +20,19 @@ pub enum Range {
     Name,
     /// Parameters.
     Params,
-    /// The word of an action.
+    /// The name of an action.
     Action,
-    /// A monitor's level.
+    /// The level of a monitor.
     Level,
-    /// The exit code that is expected of a monitor.
+    /// The expected exit code of a monitor.
     Expect,
-    /// A text of a client's own, in UTF-8.
+    /// A tag: a client's text, in UTF-8.
     Tag,
-    /// A number from one to another, both of them included.
+    /// A number in this range, with both bounds included.
     Number { from: u64, to: u64 },
 }
 
-// Adds a number in decimal digits.
+// Appends a number in decimal digits.
 fn add_number(text: &mut String, number: u64) -> Result<(), AllocError>
     ensures text { OnOk result (string_bytes text.new ≡ string_bytes text.old ++ decimal number) }
     ensures memory { OnErr result (IsTrue ⟦<Global as Grows>⟧.refuses) }
@@ -41,7 +41,7 @@ fn add_number(text: &mut String, number: u64) -> Result<(), AllocError>
     push_text(text, buffer.format(number))
 }
 
-// Adds the sentence's part that says from where to where a number may lie.
+// Appends the bounds of a number, as a part of a sentence.
 fn add_numbers(text: &mut String, from: u64, to: u64) -> Result<(), AllocError>
     ensures text { OnOk result (string_bytes text.new
         ≡ string_bytes text.old ++ range_text (Range.Number from to)) }
@@ -54,7 +54,7 @@ fn add_numbers(text: &mut String, from: u64, to: u64) -> Result<(), AllocError>
 }
 
 impl Range {
-    /// Adds what it holds, as a part of a sentence.
+    /// Appends the range, as a part of a sentence.
     pub fn add_to(self, text: &mut String) -> Result<(), AllocError>
         ensures text { OnOk result (string_bytes text.new ≡ string_bytes text.old ++ range_text self) }
         ensures memory { OnErr result (IsTrue ⟦<Global as Grows>⟧.refuses) }

@@ -6,27 +6,27 @@ use crate::key::Key;
 use ocf_env::Text;
 use ocf_types::Refusal;
 
-/// What a refusal of a line is about.
+/// The subject of a line's refusal.
 #[derive(Drop)]
 pub enum About {
-    /// No key of its own: the refusal says all.
+    /// The whole line: the kind of refusal says all.
     Whole,
-    /// A key that comes twice in an object.
+    /// A key that occurs twice in an object.
     Twice,
-    /// What this key holds, or that it is missing.
+    /// The value of this key, or its absence.
     Key(Key),
     /// A key that the operation does not have.
     Unknown(Text),
 }
 
-/// Why a line of a run that serves was refused, and what in it.
+/// Why a line of a `serve` session was refused, and what in it is at fault.
 #[derive(Drop)]
 pub struct LineRefusal {
     pub why: Refusal,
     pub about: About,
 }
 
-// The key that a refusal of a well formed line is about, where there is one.
+// The key that a refusal of a well-formed line is about, if any.
 fn key_of(why: Refusal) -> Option<Key>
     ensures { result ≡ key_of why }
 {
@@ -41,7 +41,7 @@ fn key_of(why: Refusal) -> Option<Key>
     }
 }
 
-/// The key of the line that a refusal is about, where there is one.
+/// The key of the line that a refusal is about, if any.
 pub fn about_key(why: Refusal, about: &About) -> Option<&str>
     ensures { option_map (λ key. key.now) result ≡ about_key why about.now }
 {

@@ -1,4 +1,4 @@
--- What is in a list, by recursion on the list.
+-- Membership in a list, by recursion on the list.
 use Rattle.std.proofs.Common.{◌≡◌, ◌⊎◌, inl, inr, zero, suc, List, [], ◌∷◌, ◌++◌, arith}
 use Rattle.std.specs.List.{Contains}
 

@@ -1,4 +1,4 @@
--- How long words of actions are.
+-- The lengths of the names of actions.
 use Rattle.std.proofs.Common.{◌≤◌, length, lit≤}
 use Rattle.ocf_types.specs.Actions.{action_word}
 use Rattle.ocf_types.specs.declared.action.Action.{Action}

@@ -1,4 +1,4 @@
--- The environment's list has just the variables of the set.
+-- The list of the environment has exactly the variables of the set.
 use Rattle.std.proofs.Common.{◌≡◌, ◌⊎◌, inl, inr, ℕ, List, [], ◌∷◌, ◌++◌, refl, subst, ap, codes, decimal, ◌↔◌}
 use Rattle.std.specs.List.{Contains}
 use Rattle.ocf_types.specs.Params.{ParamList}
@@ -14,7 +14,7 @@ use Rattle.ocf_env.specs.Lists.{level_pairs, version_pairs, param_pairs, instanc
 use Rattle.ocf_env.specs.Lists.{meta_pairs}
 use Rattle.ocf_env.proofs.Amongs.{Among, among, contained, among_left, among_right, among_cases}
 
--- the variables of agents, in the two parts of a list that have them
+-- the variables of every invocation, in the two segments of a list that have them
 record InParts (site : SiteView) (provider agent : List ℕ) (x : Pair) : Type 0 where
   here : Among x version_pairs ⊎ Among x (last_pairs site provider agent)
 
@@ -81,7 +81,7 @@ param_from (p ∷ ps) x (inr a) = let f = param_from ps x a in (f.0, inr f.1, f.
 abbrev behind : SiteView → Registration → List Pair
 behind site r = instance_pair r.id ∷ last_pairs site r.provider r.agent
 
--- what is in a part of the list is in the list
+-- a pair in a segment of the list is in the list
 from_level : (site : SiteView) (r : Registration) (t : Task) (x : Pair) → Among x (level_pairs t) → Among x (action_pairs site r t)
 unfolding action_pairs
 from_level site r t x a = among_left (level_pairs t) (version_pairs ++ instance_pairs site r) x a
@@ -118,7 +118,7 @@ listed site r t name value (parameter {name = p} {value = v} h) =
     from_rest site r t (reskey p, v)
     (among_left (param_pairs r.params) (behind site r) (reskey p, v) (param_among r.params p v (among r.params (p, v) h)))
 
--- what is in a part of the list is a variable
+-- a pair in a segment of the list is a variable
 level_only : (site : SiteView) (r : Registration) (t : Task) (x : Pair) → Among x (level_pairs t) → IsVariable site r t x.0 x.1
 level_only site r (task.Monitor check) x (inl e) = subst (λ (p : Pair). IsVariable site r (task.Monitor check) p.0 p.1) e (level refl)
 level_only site r (task.Monitor check) x (inr a) = absurd a

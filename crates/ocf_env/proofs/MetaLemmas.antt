@@ -1,4 +1,4 @@
--- The environment with Pacemaker's variables: its order, and what is in it.
+-- The environment with Pacemaker's variables: its order and its members.
 use Rattle.std.proofs.Common.{◌≡◌, ◌↔◌, inl, inr, ℕ, Bool, true, false, List, refl, sym, ◌∙◌, ap, subst, codes, decimal}
 use Rattle.std.specs.Prelude.{bytes_eq}
 use Rattle.std.specs.List.{Contains}
@@ -22,7 +22,7 @@ meta_order running xs h =
     let two = with_new (name_pair running) one in
     new_ascends (timeout_pair running) two (new_ascends (name_pair running) one (new_ascends (interval_pair running) xs h))
 
--- a name that another pair has not is not named by it
+-- inserting a pair with another name does not add this name
 still_new : (p : Pair) (wanted : List ℕ) (xs : List Pair) → bytes_eq p.0 wanted ≡ false → is_named wanted xs ≡ false
     → is_named wanted (with_new p xs) ≡ false
 still_new p wanted xs differ none = by (is_named wanted (with_new p xs)) refl
@@ -50,7 +50,7 @@ name_timeout running = refl
 abbrev Are : SiteView → Registration → Running → List Pair → Type 0
 Are site r running xs = (n v : List ℕ) → Contains xs (n, v) ↔ IsVariable site r running.task n v
 
--- a name that no variable has is none of the list's
+-- a name that no variable has is not in the list
 none_named : (site : SiteView) (r : Registration) (running : Running) (xs : List Pair) → Are site r running xs → (n : List ℕ)
     → ((other : List ℕ) → IsVariable site r running.task n other → ⊥) → is_named n xs ≡ false
 none_named site r running xs are n none = by (is_named n xs) refl
@@ -59,21 +59,21 @@ none_named site r running xs are n none = by (is_named n xs) refl
     by false is = is
     by true is = let found = named n xs is in absurd (none found.0 ((are n found.0).0 (contained xs (n, found.0) found.1)))
 
--- a name that is none of the list's, no variable has
+-- no variable has a name that is not in the list
 no_variable : (site : SiteView) (r : Registration) (running : Running) (xs ys : List Pair) → Are site r running xs
     → ((x : Pair) → Among x xs → Among x ys) → (n : List ℕ) → is_named n ys ≡ false → (other : List ℕ)
     → IsVariable site r running.task n other → ⊥
 no_variable site r running xs ys are more n none other v =
     unnamed n other ys none (more (n, other) (among xs (n, other) ((are n other).1 v)))
 
--- one of Pacemaker's variables that was put into a longer list
+-- one of Pacemaker's variables that was inserted into a longer list is given
 put : (site : SiteView) (r : Registration) (running : Running) (xs ys : List Pair) → site.meta ≡ true → Are site r running xs
     → ((x : Pair) → Among x xs → Among x ys) → (p x : Pair) → IsMetaVariable running p.0 p.1 → p ≡ x → is_named p.0 ys ≡ false
     → IsGiven site r running x.0 x.1
 put site r running xs ys asked are more p x is same none =
     subst (λ (q : Pair). IsGiven site r running q.0 q.1) same (meta asked is (no_variable site r running xs ys are more p.0 none))
 
--- what is in the longer list is given
+-- each pair of the longer list is given
 given_only : (site : SiteView) (r : Registration) (running : Running) (xs : List Pair) → site.meta ≡ true → Are site r running xs → (x : Pair)
     → Among x (with_meta running xs) → IsGiven site r running x.0 x.1
 unfolding with_meta
@@ -93,7 +93,7 @@ given_only site r running xs asked are x a =
       ]
     ]
 
--- and each that is given is in it
+-- each pair that is given is in the longer list
 given_each : (site : SiteView) (r : Registration) (running : Running) (xs : List Pair) → Are site r running xs → (n v : List ℕ)
     → IsGiven site r running n v → Among (n, v) (with_meta running xs)
 unfolding with_meta
@@ -166,7 +166,7 @@ pub param_wins : (site : SiteView) (r : Registration) (running : Running) (n min
 param_wins site r running n mine value lawful there given =
     given_once site r running (reskey n) value mine lawful given (own (parameter there))
 
--- one after another
+-- the three insertions, one after another
 pub all_added : (running : Running) (xs one two three : List Pair) (i n t : List ℕ) → i ≡ decimal running.interval
     → n ≡ action_word (action_of running.task) → t ≡ decimal running.timeout
     → one ≡ with_new (codes "OCF_RESKEY_CRM_meta_interval", i) xs → two ≡ with_new (codes "OCF_RESKEY_CRM_meta_name", n) one

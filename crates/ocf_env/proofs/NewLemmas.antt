@@ -1,4 +1,4 @@
--- A list with a pair more, where its name is none of them.
+-- A list with one more pair, unless its name is in the list.
 use Rattle.std.proofs.Common.{◌≡◌, ◌⊎◌, inl, inr, ℕ, zero, suc, Bool, true, false, ◌||◌, ◌+◌, List, [], ◌∷◌, Option, Some, None, refl, sym, ◌∙◌, ap, subst, arith}
 use Rattle.std.specs.Prelude.{cond, count_by, insert, bytes_eq, if◌then◌else◌}
 use Rattle.std.specs.List.{list_any}
@@ -36,7 +36,7 @@ is_named name xs = list_any (λ x. bytes_eq x.0 name) xs
 abbrev pub lesser : List ℕ → List Pair → ℕ
 lesser name xs = count_by (λ x. is_before x.0 name) xs
 
--- what is named, and what is not
+-- names that are in a list, and names that are not
 pub named : (name : List ℕ) (xs : List Pair) → is_named name xs ≡ true → (value : List ℕ) × Among (name, value) xs
 named name [] h = absurd cc
 named name (x ∷ xs) h = by (named name xs) (bytes_eq x.0 name) refl
@@ -56,14 +56,14 @@ unnamed name value (x ∷ xs) h (inl e) =
     cc
 unnamed name value (x ∷ xs) h (inr a) = unnamed name value xs (or_parts (bytes_eq x.0 name) (is_named name xs) h).1 a
 
--- the two ways of a pair more
+-- the two cases: the name is in the list, or not
 pub new_there : (p : Pair) (xs : List Pair) → is_named p.0 xs ≡ true → xs ≡ with_new p xs
 new_there p xs h = rw h refl
 
 pub new_put : (p : Pair) (xs ys : List Pair) (k : ℕ) → is_named p.0 xs ≡ false → k ≡ lesser p.0 xs → ys ≡ insert xs k p → ys ≡ with_new p xs
 new_put p xs ys k h at is = is ∙ rw (at, h) refl
 
--- what is inserted is there, with all others and nothing else
+-- a list after an insertion has the inserted pair, all others and nothing else
 inserted : (xs : List Pair) (k : ℕ) (p x : Pair) → Among x (insert xs k p) → (p ≡ x) ⊎ Among x xs
 inserted xs zero p x (inl e) = inl e
 inserted xs zero p x (inr a) = inr a
@@ -83,7 +83,7 @@ others [] (suc k) p x a = absurd a
 others (y ∷ ys) (suc k) p x (inl e) = inl e
 others (y ∷ ys) (suc k) p x (inr a) = inr (others ys k p x a)
 
--- which pairs a list has then
+-- the pairs of the list with one more
 pub new_cases : (p : Pair) (xs : List Pair) (x : Pair) → Among x (with_new p xs) → Among x xs ⊎ ((p ≡ x) × (is_named p.0 xs ≡ false))
 new_cases p xs x = by (is_named p.0 xs) refl
   where
@@ -105,7 +105,7 @@ new_here p xs h = subst (λ b. Among p (if b then xs else insert xs (lesser p.0 
 lesser_more : (name : List ℕ) (x : Pair) (xs : List Pair) → lesser name (x ∷ xs) ≡ cond (is_before x.0 name) 1 0 + lesser name xs
 lesser_more name x xs = sum_by-cons (λ y. cond (is_before y.0 name) 1 0) x xs
 
--- after a name that comes later none is lesser
+-- in a list that begins after a later name, no name is lesser
 none_lesser : (name last : List ℕ) (xs : List Pair) → is_before name last ≡ true → are_ascending_after (Some last) xs ≡ true
     → lesser name xs ≡ 0
 none_lesser name last [] h s = refl
@@ -117,7 +117,7 @@ none_lesser name last (x ∷ xs) h s =
 one_more : (n : ℕ) → 1 + n ≡ suc n
 one_more n = omega arith
 
--- a new name in its place leaves the list in order
+-- inserting a new name in order keeps the list sorted
 in_order : (last : Option (List ℕ)) (p : Pair) (xs : List Pair) → is_after last p.0 ≡ true → are_ascending_after last xs ≡ true
     → is_named p.0 xs ≡ false → are_ascending_after last (insert xs (lesser p.0 xs) p) ≡ true
 in_order last p [] after s n = and_true _ _ after refl

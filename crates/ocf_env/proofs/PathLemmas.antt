@@ -1,4 +1,4 @@
--- The agent's file, part by part.
+-- The path of an agent's file, piece by piece.
 use Rattle.std.proofs.Common.{◌≡◌, ℕ, List, ◌++◌, refl, codes}
 use Rattle.ocf_env.specs.Programs.{agent_path}
 

@@ -6,7 +6,7 @@ use Rattle.ocf_env.specs.Places.{Pair}
 use Rattle.ocf_env.specs.Variables.{reskey}
 use Rattle.ocf_env.specs.Lists.{param_pairs}
 
--- a pair whose value is another spelled the same
+-- a pair whose value equals another
 pub valued : (old new : List Pair) (name v w : List ℕ) → new ≡ old ++ (name, v) ∷ [] → v ≡ w → new ≡ old ++ (name, w) ∷ []
 valued old new name v w e f = e ∙ ap (λ (x : List ℕ). old ++ (name, x) ∷ []) f
 
@@ -23,7 +23,7 @@ params_more ps i p old mid new h at e f =
     f ∙ ap (λ (l : List Pair). l ++ (reskey p.0, p.1) ∷ []) e ∙ append_assoc old (param_pairs (take i ps)) ((reskey p.0, p.1) ∷ [])
     ∙ ap (λ (l : List Pair). old ++ l) (sym listed)
 
--- the parts of a list that were appended one after another
+-- a list to which five pieces were appended, one after another
 pub in_five : (none one two three four five a b c e : List Pair) (d : Pair) → none ≡ [] → one ≡ none ++ a → two ≡ one ++ b
     → three ≡ two ++ c → four ≡ three ++ d ∷ [] → five ≡ four ++ e
     → five ≡ a ++ (b ++ (c ++ d ∷ e))

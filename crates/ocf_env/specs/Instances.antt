@@ -5,10 +5,10 @@ use Rattle.ocf_types.specs.Kinds.{Registration}
 use Rattle.ocf_types.specs.Resource.{Resource}
 use Rattle.ocf_env.specs.declared.launches.Instance.{Instance}
 
--- an instance with its names and parameters, wherever they are
+-- the registration that an instance borrows
 abbrev pub registered : Instance ParamList → Registration
 registered i = record { id = i.id.now; provider = i.provider.now; agent = i.agent.now; params = i.params.now }
 
--- the registration of a resource as it is now
+-- the current registration of a resource
 abbrev pub registration_of : List ℕ → Resource → Registration
 registration_of id r = record { id = id; provider = r.provider; agent = r.agent; params = r.params }

@@ -1,4 +1,4 @@
--- The call of an agent, as a registration and the site say it. OCF Resource Agent API 1.1, invocation.
+-- The invocation of an agent, from its registration and the site. OCF Resource Agent API 1.1, invocation.
 use Rattle.std.specs.Prelude.{◌≡◌, ◌↔◌, ℕ, List, Contains, IsTrue}
 use Rattle.ocf_types.specs.Actions.{action_of, action_word}
 use Rattle.ocf_types.specs.Kinds.{Registration}
@@ -8,8 +8,8 @@ use Rattle.ocf_env.specs.Programs.{agent_path, program_at, arguments_at}
 use Rattle.ocf_env.specs.MetaVariables.{IsGiven}
 use Rattle.ocf_env.specs.Variables.{are_ascending}
 
--- this calls the agent of a registration for an action: its program and its arguments, and an environment that is sorted
--- and holds just the variables that the action is given
+-- an invocation of the agent of a registration for an action: its program and arguments, and an environment that is sorted
+-- and has exactly the variables that the action is given
 pub record IsInvocation (site : SiteView) (r : Registration) (running : Running) (call : Call) : Type 0 where
   pub program : call.program ≡ program_at site.via (agent_path site.root r.provider r.agent)
   pub arguments : call.arguments ≡ arguments_at site.via (agent_path site.root r.provider r.agent) (action_word (action_of running.task))

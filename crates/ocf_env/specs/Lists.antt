@@ -10,7 +10,7 @@ use Rattle.ocf_types.specs.declared.operation.Running.{Running}
 use Rattle.ocf_env.specs.Places.{SiteView, Pair}
 use Rattle.ocf_env.specs.Variables.{reskey}
 
--- OCF Resource Agent API 1.1, OCF_CHECK_LEVEL: of a monitor only
+-- OCF Resource Agent API 1.1, OCF_CHECK_LEVEL: for a monitor only
 abbrev pub level_pairs : Task → List Pair
 level_pairs (Monitor check) = (codes "OCF_CHECK_LEVEL", decimal (level_number check.level)) ∷ []
 level_pairs _ = []
@@ -51,7 +51,7 @@ action_pairs site r task = level_pairs task ++ (version_pairs ++ instance_pairs 
 unfoldable pub meta_pairs : SiteView → List ℕ → List ℕ → List Pair
 meta_pairs site provider agent = version_pairs ++ last_pairs site provider agent
 
--- with a pair more, in its place by name, but where its name is there already
+-- the list with one more pair, inserted in the order of names unless its name is in the list
 abbrev pub with_new : Pair → List Pair → List Pair
 with_new p xs =
     if list_any (λ x. bytes_eq x.0 p.0) xs then xs else insert xs (count_by (λ x. is_before x.0 p.0) xs) p
@@ -66,6 +66,6 @@ name_pair running = (codes "OCF_RESKEY_CRM_meta_name", action_word (action_of ru
 abbrev pub timeout_pair : Running → Pair
 timeout_pair running = (codes "OCF_RESKEY_CRM_meta_timeout", decimal running.timeout)
 
--- with them, each but where its name is there already
+-- the list with these three, each unless its name is in the list
 unfoldable pub with_meta : Running → List Pair → List Pair
 with_meta running xs = with_new (timeout_pair running) (with_new (name_pair running) (with_new (interval_pair running) xs))

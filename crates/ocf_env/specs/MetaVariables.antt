@@ -1,4 +1,4 @@
--- The variables of an action that Pacemaker sets beside the standard's.
+-- The variables of an action that Pacemaker sets in addition to those of the standard.
 use Rattle.std.specs.Prelude.{◌≡◌, true, ℕ, List, codes, decimal}
 use Rattle.ocf_types.specs.Actions.{action_of, action_word}
 use Rattle.ocf_types.specs.Kinds.{Registration}
@@ -6,14 +6,14 @@ use Rattle.ocf_types.specs.declared.operation.Running.{Running}
 use Rattle.ocf_env.specs.Places.{SiteView}
 use Rattle.ocf_env.specs.Variables.{IsVariable}
 
--- the name of the action, its interval in milliseconds, which is 0 for a one-time action, and its timeout in milliseconds: set by
--- Pacemaker beside those that Pacemaker Explained names, and read by agents of the package resource-agents, as by ocf_is_probe
+-- The name of the action, its interval in milliseconds, which is 0 for a one-time action, and its timeout in milliseconds. Pacemaker
+-- sets them in addition to those that Pacemaker Explained names; agents of the package resource-agents read them, as in ocf_is_probe.
 pub data IsMetaVariable (running : Running) : List ℕ → List ℕ → Type 0 where
   interval : IsMetaVariable running (codes "OCF_RESKEY_CRM_meta_interval") (decimal running.interval)
   name : IsMetaVariable running (codes "OCF_RESKEY_CRM_meta_name") (action_word (action_of running.task))
   timeout : IsMetaVariable running (codes "OCF_RESKEY_CRM_meta_timeout") (decimal running.timeout)
 
--- what an action is given: its variables, and where the site says so Pacemaker's, each but where a variable of its name is
+-- a variable of an action's environment: one of its own or, if the site says so, one of Pacemaker's whose name no own variable has
 pub data IsGiven (site : SiteView) (r : Registration) (running : Running) : List ℕ → List ℕ → Type 0 where
   own : {name value : List ℕ} → IsVariable site r running.task name value → IsGiven site r running name value
   meta : {name value : List ℕ} → site.meta ≡ true → IsMetaVariable running name value

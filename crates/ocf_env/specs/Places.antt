@@ -1,7 +1,7 @@
--- Sites, instances of agents, and how they are called.
+-- Sites, variables and invocations, as contracts see them.
 use Rattle.std.specs.Prelude.{ℕ, Bool, List, Option}
 
--- where agents are: OCF_ROOT, PATH, and a program to run them through; and whether they get Pacemaker's own variables
+-- a site: OCF_ROOT, PATH, the program to run agents through, if any, and whether they get Pacemaker's own variables
 pub record SiteView : Type 0 where
   pub root : List ℕ
   pub path : List ℕ
@@ -12,7 +12,7 @@ pub record SiteView : Type 0 where
 abbrev pub Pair : Type 0
 Pair = List ℕ × List ℕ
 
--- a program, its arguments and its whole environment
+-- an invocation: a program, its arguments and its whole environment
 pub record Call : Type 0 where
   pub program : List ℕ
   pub arguments : List (List ℕ)

@@ -12,7 +12,7 @@ use Rattle.ocf_env.specs.Places.{SiteView, Pair}
 abbrev pub reskey : List ℕ → List ℕ
 reskey name = codes "OCF_RESKEY_" ++ name
 
--- what each call of an agent has: OCF Resource Agent API 1.1, environment variables; PATH is this profile's own
+-- a variable of every invocation of an agent: OCF Resource Agent API 1.1, environment variables; PATH is this profile's own
 pub data IsAgentVariable (site : SiteView) (provider agent : List ℕ) : List ℕ → List ℕ → Type 0 where
   major : IsAgentVariable site provider agent (codes "OCF_RA_VERSION_MAJOR") (codes "1")
   minor : IsAgentVariable site provider agent (codes "OCF_RA_VERSION_MINOR") (codes "1")
@@ -21,18 +21,18 @@ pub data IsAgentVariable (site : SiteView) (provider agent : List ℕ) : List �
   below_root : IsAgentVariable site provider agent (codes "OCF_ROOT") site.root
   with_path : IsAgentVariable site provider agent (codes "PATH") site.path
 
--- what an action has: the same, the level of a monitor, the instance, and each parameter
+-- a variable of an action: one of these, the level of a monitor, the instance, or a parameter
 pub data IsVariable (site : SiteView) (r : Registration) (task : Task) : List ℕ → List ℕ → Type 0 where
   of_agent : {name value : List ℕ} → IsAgentVariable site r.provider r.agent name value → IsVariable site r task name value
   level : {check : Check} → task ≡ Monitor check → IsVariable site r task (codes "OCF_CHECK_LEVEL") (decimal (level_number check.level))
   instance : IsVariable site r task (codes "OCF_RESOURCE_INSTANCE") r.id
   parameter : {name value : List ℕ} → Contains r.params (name, value) → IsVariable site r task (reskey name) value
 
--- the names strictly ascend by their bytes, all after the last one
+-- the names strictly ascend by their bytes, the first after `last`
 abbrev pub are_ascending_after : Option (List ℕ) → List Pair → Bool
 are_ascending_after last [] = true
 are_ascending_after last (x ∷ xs) = is_after last x.0 && are_ascending_after (Some x.0) xs
 
--- sorted by name, so no name is there twice
+-- the pairs are sorted by name, so no name occurs twice
 abbrev pub are_ascending : List Pair → Bool
 are_ascending = are_ascending_after None

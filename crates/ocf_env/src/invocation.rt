@@ -1,4 +1,4 @@
-//! Programs with their arguments and environments.
+//! Invocations: programs with their arguments and environments.
 ghost use Rattle.std.specs.Prelude.{◌≡◌, IfOk, IsTrue, OnErr, Some, None};
 ghost use Rattle.ocf_env.specs.Programs.{agent_path, program_at, arguments_at};
 
@@ -10,7 +10,7 @@ use ocf_types::{AgentType, Provider};
 use std::alloc::{AllocError, Allocator, Global};
 use std::marker::Model;
 
-/// A program with its arguments, and with its whole environment sorted by name. OCF Resource Agent API 1.1, actions.
+/// A program with its arguments and its whole environment, sorted by name. OCF Resource Agent API 1.1, actions.
 #[derive(Drop)]
 pub struct Invocation<A: Allocator = Global> {
     program: Text<A>,
@@ -113,7 +113,7 @@ fn through<A: Grows>(
     })
 }
 
-/// The call of an agent's file for an action: through the site's program, where it has one.
+/// The invocation of an agent's file for an action, through the site's program if it has one.
 pub fn called<A: Grows, S: Allocator>(
     alloc: A,
     site: &Site<S>,

@@ -1,4 +1,4 @@
-//! Calls of agents.
+//! Launches: the invocations of agents for actions and for metadata.
 ghost use Rattle.std.specs.Prelude.{◌≡◌, ◌↔◌, ℕ, List, codes, IfOk, OnErr, Contains, IsTrue};
 ghost use Rattle.ocf_env.specs.Instances.{registered};
 ghost use Rattle.ocf_env.specs.Invocations.{IsInvocation};
@@ -14,8 +14,8 @@ use growth::Grows;
 use ocf_types::{AgentType, CallId, Millis, Params, Provider, RscId, RunId, Running, Task};
 use std::alloc::{AllocError, Allocator, Global};
 
-/// An instance of an agent: its id, provider, type and parameters, which are elsewhere. `P` is the type of parameters. OCF
-/// Resource Agent API 1.1, OCF_RESOURCE_INSTANCE.
+/// An instance of an agent: its id, provider, type and parameters, all borrowed. `P` is the type of parameters. OCF Resource
+/// Agent API 1.1, OCF_RESOURCE_INSTANCE.
 #[derive(Drop)]
 pub struct Instance<'a, P> {
     pub id: &'a RscId,
@@ -24,8 +24,8 @@ pub struct Instance<'a, P> {
     pub params: &'a P,
 }
 
-/// What starts an action of an instance: the call of its agent, the instance's id, and the call id, run number and timeout
-/// of the action. `I` is the type of the call.
+/// An action of an instance, ready to be spawned: the agent's invocation, the instance's id, and the call id, run number and
+/// timeout of the action. `I` is the type of the invocation.
 #[derive(Drop)]
 pub struct LaunchOf<I> {
     pub invocation: I,
@@ -35,7 +35,7 @@ pub struct LaunchOf<I> {
     pub timeout: Millis,
 }
 
-/// A launch whose texts lie in memory of the allocator.
+/// A launch whose texts are allocated from `A`.
 pub type Launch<A = Global> = LaunchOf<Invocation<A>>;
 
 fn action_variables<A: Grows, S: Allocator, P: Allocator>(
@@ -59,7 +59,7 @@ fn action_variables<A: Grows, S: Allocator, P: Allocator>(
     Ok(pairs)
 }
 
-// What an action is given: its variables, and where the site says so Pacemaker's.
+// The environment of an action: its variables, and Pacemaker's if the site says so.
 fn given_variables<A: Grows, S: Allocator, P: Allocator>(
     alloc: A,
     site: &Site<S>,
@@ -98,11 +98,11 @@ fn meta_variables<A: Grows, S: Allocator>(
     Ok(pairs)
 }
 
-/// What starts an action of an instance. The agent gets just the variables of OCF Resource Agent API 1.1 that
+/// The launch of an action of an instance. The agent gets exactly the variables of OCF Resource Agent API 1.1 that
 /// `IsVariable` lists, OCF_CHECK_LEVEL for a monitor only, OCF_RESOURCE_PROVIDER as Pacemaker sets it, PATH, and one
-/// OCF_RESKEY_ variable for each parameter. Where the site says so it also gets those of `IsMetaVariable`: the action's
-/// name, and its interval and timeout in milliseconds. Otherwise no OCF_RESKEY_CRM_meta_ variable is set but that of a
-/// parameter which an administrator named so, and that one is never replaced.
+/// OCF_RESKEY_ variable for each parameter. If the site says so, it also gets those of `IsMetaVariable`: the action's name,
+/// and its interval and timeout in milliseconds. A parameter that an administrator named like one of these is never replaced;
+/// if the site does not say so, no other OCF_RESKEY_CRM_meta_ variable is set.
 pub fn launch<A: Grows, S: Allocator, P: Allocator>(
     alloc: A,
     site: &Site<S>,
@@ -131,7 +131,7 @@ pub fn launch<A: Grows, S: Allocator, P: Allocator>(
     })
 }
 
-/// The call that asks an agent for its metadata, which needs no instance: neither OCF_CHECK_LEVEL nor
+/// The invocation that asks an agent for its metadata. It needs no instance: neither OCF_CHECK_LEVEL nor
 /// OCF_RESOURCE_INSTANCE is set, nor any OCF_RESKEY_ variable. OCF Resource Agent API 1.1, meta-data.
 pub fn launch_meta<A: Grows, S: Allocator>(
     alloc: A,

@@ -1,4 +1,4 @@
-//! Laws of the environment, each the contract of a function that does nothing.
+//! Lemmas about the environment, each the contract of a function that does nothing.
 ghost use Rattle.std.specs.Prelude.{◌≡◌, ◌↔◌, ℕ, false, List, Contains};
 ghost use Rattle.ocf_types.specs.Kinds.{Registration};
 ghost use Rattle.ocf_types.specs.Params.{AreParams};
@@ -8,7 +8,7 @@ ghost use Rattle.ocf_env.specs.MetaVariables.{IsGiven};
 ghost use Rattle.ocf_env.specs.Places.{SiteView};
 ghost use Rattle.ocf_env.specs.Variables.{IsVariable, reskey};
 
-/// A parameter shadows no other variable: what begins with OCF_RESKEY_ is a parameter's, and no name has two values.
+/// A parameter shadows no other variable: a name that begins with OCF_RESKEY_ is a parameter's, and no name has two values.
 /// OCF Resource Agent API 1.1, OCF_RESKEY_.
 pub fn no_shadow()
     ensures parameters { (site : SiteView) (r : Registration) (task : Task) (name value : List ℕ)
@@ -18,8 +18,8 @@ pub fn no_shadow()
         → IsVariable site r task name v → IsVariable site r task name w → v ≡ w }
 {}
 
-/// Without Pacemaker's variables an action is given just its own; with them no name has two values, and a parameter of one
-/// of their names has the value that it was given.
+/// Without Pacemaker's variables an action gets exactly its own. With them no name has two values, and a parameter with one
+/// of their names keeps its value.
 pub fn meta_beside()
     ensures without { (site : SiteView) (r : Registration) (running : Running) (name value : List ℕ)
         → site.meta ≡ false

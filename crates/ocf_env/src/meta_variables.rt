@@ -1,4 +1,4 @@
-//! The variables that Pacemaker sets beside the standard's.
+//! The variables that Pacemaker sets in addition to those of the standard.
 ghost use Rattle.std.specs.Prelude.{◌≡◌, ◌↔◌, ℕ, List, IfOk, OnErr, OnOk, Contains, IsTrue, bytes_eq, count_by};
 ghost use Rattle.std.specs.List.{list_any};
 ghost use Rattle.ocf_types.specs.Params.{is_before};
@@ -32,7 +32,7 @@ fn is_there<A: Allocator>(pairs: &[(Text<A>, Text<A>)], name: &str) -> bool
     pairs.iter().any(|p| p.0.as_str() == name)
 }
 
-// Adds a variable in its place by name, but where there is one of this name.
+// Inserts a variable in the order of names, unless there is one with this name.
 fn add_new<A: Grows>(
     alloc: A,
     pairs: &mut Pairs<A>,
@@ -54,7 +54,7 @@ fn add_new<A: Grows>(
     Ok(())
 }
 
-/// Adds the interval, the name and the timeout of an action, each in its place by name, but where there is a variable of this
+/// Inserts the interval, the name and the timeout of an action in the order of names, each unless there is a variable with its
 /// name. They are Pacemaker's own; agents of the package resource-agents read them, as in `ocf_is_probe`.
 pub fn add_meta<A: Grows>(
     alloc: A,

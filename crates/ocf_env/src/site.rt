@@ -1,13 +1,12 @@
-//! Where agents are.
+//! Where agents are and what they are run with.
 ghost use Rattle.std.specs.Prelude.{◌≡◌, Some, None, IfSome, IfNone, false};
 
 use crate::text::Text;
 use std::alloc::{Allocator, Global};
 use std::marker::Model;
 
-/// Where agents are and what they are run with: the directory above `resource.d`, the search path that they get, and a
-/// program to run them through, if there is one; and whether they get Pacemaker's own variables. OCF Resource Agent API
-/// 1.1, OCF_ROOT.
+/// Where agents are and what they are run with: the directory above `resource.d`, their search path, the program to run them
+/// through, if any, and whether they get Pacemaker's own variables. OCF Resource Agent API 1.1, OCF_ROOT.
 #[derive(Drop)]
 pub struct Site<A: Allocator = Global> {
     root: Text<A>,
@@ -25,8 +24,8 @@ impl<A: Allocator> Model for Site<A> {
 }
 
 impl<A: Allocator> Site<A> {
-    /// The site of a root, a search path and perhaps a program to run agents through. Agents get the variables of the
-    /// standard alone.
+    /// The site with this root, search path and program to run agents through, if any. Agents get only the variables of the
+    /// standard.
     pub fn new(root: Text<A>, path: Text<A>, via: Option<Text<A>>) -> Self
         ensures { result ≡ record { root = root; path = path; via = via; meta = false } }
     {
@@ -38,7 +37,7 @@ impl<A: Allocator> Site<A> {
         }
     }
 
-    /// The same site, whose agents get Pacemaker's own variables or not.
+    /// The same site, with or without Pacemaker's own variables for agents.
     pub fn with_meta(self, meta: bool) -> Self
         ensures { result ≡ record self { meta = meta } }
     {
@@ -52,7 +51,7 @@ impl<A: Allocator> Site<A> {
         self.root.as_str()
     }
 
-    /// The search path that agents get, PATH.
+    /// The search path of agents, PATH.
     pub fn path(&self) -> &str
         ensures { result.now ≡ self.now.path }
     {
@@ -66,7 +65,7 @@ impl<A: Allocator> Site<A> {
         self.meta
     }
 
-    /// The program that agents are run through.
+    /// The program that agents are run through, if any.
     pub fn via(&self) -> Option<&str>
         ensures known { IfSome result (λ via. self.now.via ≡ Some via.now) }
         ensures none { IfNone result (self.now.via ≡ None) }

@@ -1,4 +1,4 @@
-//! Texts in memory of an allocator.
+//! Texts that contracts see as bytes.
 ghost use Rattle.std.specs.Prelude.{◌≡◌, ◌++◌, IfOk, IsTrue, OnErr};
 ghost use Rattle.std.specs.String.{string_bytes};
 ghost use Rattle.std.specs.Str.{IsAscii};
@@ -8,7 +8,7 @@ use std::alloc::{AllocError, Allocator, Global};
 use std::marker::Model;
 use std::str::from_utf8;
 
-/// A text that contracts see as just its bytes, wherever they lie in memory.
+/// A text whose view is its bytes, without their address.
 #[derive(Drop)]
 pub struct Text<A: Allocator = Global> {
     text: String<A>,
@@ -47,7 +47,7 @@ pub fn copied<A: Grows>(alloc: A, text: &str) -> Result<Text<A>, AllocError>
     Ok(Text::new(text_of(alloc, text)?))
 }
 
-/// Two texts in one.
+/// The concatenation of two texts.
 pub fn joined<A: Grows>(alloc: A, head: &str, tail: &str) -> Result<Text<A>, AllocError>
     ensures text { IfOk result (λ t. t ≡ head.now ++ tail.now) }
     ensures memory { OnErr result (IsTrue A.refuses) }

@@ -1,4 +1,4 @@
-//! Variables, in the order of their names.
+//! Appends the variables of an environment, in the order of their names.
 ghost use Rattle.std.specs.Prelude.{◌≡◌, ◌++◌, [], ◌∷◌, IsTrue, OnErr, OnOk, decimal};
 ghost use Rattle.ocf_types.specs.Actions.{level_number};
 ghost use Rattle.ocf_types.specs.Params.{AreParams};
@@ -138,7 +138,7 @@ fn push_site<A: Grows, S: Allocator>(
     push_pair(alloc, pairs, "PATH", site.path())
 }
 
-/// Appends what comes last: provider, type, root and path. OCF Resource Agent API 1.1, OCF_RESOURCE_TYPE.
+/// Appends the last variables: provider, type, root and path. OCF Resource Agent API 1.1, OCF_RESOURCE_TYPE.
 pub fn push_last<A: Grows, S: Allocator>(
     alloc: A,
     pairs: &mut Pairs<A>,

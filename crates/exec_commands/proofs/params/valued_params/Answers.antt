@@ -10,7 +10,7 @@ use Rattle.exec_commands.specs.Values.{valued_params}
 use Rattle.exec_commands.proofs.ParamLemmas.{after_at, name_at, bad_value, valued}
 use Rattle.exec_commands.proofs.params.valued_params.Goals as goal
 
--- what is past the end
+-- the item past the end
 abbrev none : TextPair
 none = (record { ref_ptr = (0, 0); now = [] }, record { ref_ptr = (0, 0); now = [] })
 

@@ -1,4 +1,4 @@
--- What was read so far holds no newline, and as much of it as fits was kept.
+-- The bytes read so far have no newline, and as many of them as fit were kept.
 use Rattle.std.proofs.Common.{◌≡◌, ℕ, List, take}
 use Rattle.std.specs.Io.KnownBytes.{Consumes}
 use Rattle.exec_lines.specs.Buffer.{line_bytes}

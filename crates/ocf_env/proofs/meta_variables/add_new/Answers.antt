@@ -12,7 +12,7 @@ returns-then-is_there-clause-pairs g c =
     ∙ c.if-is_there.true in
     new_there (name, c.args.value.now) xs there
 
--- what a growth that was not refused leaves
+-- the list after an insertion that was not refused
 put_in : (ok bad : Bool) (old new more : ParamList) → new ≡ (if ok then more else old) → ok ≡ not bad → bad ≡ false → new ≡ more
 put_in ok bad old new more h e f = h ∙ ap (λ b. if b then more else old) (e ∙ ap not f)
 
