@@ -68,7 +68,7 @@ for log in "$here/none/log" "$here/root" "$here/pipe"; do
     same "--log $log, status for a person" 7 "$status"
     same "--log $log, first line for a person" "ocfexec: input or output" "$(head -n 1 "$here/err")"
     sed -n 2p "$here/err" | grep -q -F -e "$log: " || differs "--log $log, why" "$log: .." "$(cat "$here/err")"
-    same "--log $log, advice" "Nothing was changed. Check the file of --log, its folder and its permissions." "$(sed -n 3p "$here/err")"
+    same "--log $log, advice" "Nothing was changed. Check the file of --log, its directory and its permissions." "$(sed -n 3p "$here/err")"
     [ ! -e "$here/journal" ] || differs "the journal" "none" "$(ls -l "$here/journal")"
 done
 same "--log $here/pipe, why" "$here/pipe: a named pipe, whose reader may go; give a file, or - for standard error" \

@@ -241,7 +241,7 @@ class Endings(helper.Check):
         ends = [run.awaits(lambda value, name=name, what=what: helper.is_notice(value, id=name, action=what))[1]
                 for name, what in (("r0", "monitor"), ("r0", "stop"), ("other", "start"))]
         self.assertEqual([end["outcome"] for end in ends], ["not-started", "timed-out", "done"])
-        told = self.said().count("until it ends this executor starts no action of r0 but a stop\n")
+        told = self.said().count("until it ends, no action of r0 except stop is started\n")
         self.assertEqual(told, 2, "for the start, and for the stop")
 
     def behind(self, mount):
@@ -264,13 +264,13 @@ class Endings(helper.Check):
     def test_no_shell(self):
         """where there is no shell the agent itself is killed, and what it started is named"""
         child = self.behind("mount --bind /dev/null /bin/sh")
-        self.assertRegex(self.said(), rf"pid {child} \(\w+\), which an action started, was killed and still lives\n")
+        self.assertRegex(self.said(), rf"pid {child} \(\w+\), started by an action, is still alive after SIGKILL\n")
 
     @unittest.skipUnless(os.getuid() == 0 and can("unshare", "-m", "true"), "run as root, with unshare")
     def test_no_proc(self):
         """where /proc lists nothing the agent itself is killed, and that what it started cannot be found is said"""
         self.behind("mount -t tmpfs none /proc")
-        self.assertIn("ocfexec: what a killed action started cannot all be found in /proc and stopped: ", self.said())
+        self.assertIn("ocfexec: cannot find and stop all processes that a killed action started: ", self.said())
 
 
 if __name__ == "__main__":

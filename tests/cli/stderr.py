@@ -19,7 +19,7 @@ import helper  # noqa: E402
 from helper import PROGRAM  # noqa: E402
 
 EXEC_FORMAT = "Exec format error (os error 8)"
-LEFT_OUT = "ocfexec: lines that could not be written here before this one: {}\n"
+LEFT_OUT = "ocfexec: messages dropped before this one, since standard error could not be written: {}\n"
 
 
 def refused(run, name, error):
@@ -162,7 +162,7 @@ class StandardError(helper.Check):
         run.tell(helper.register("r1", "Stuck"), helper.action("r1", "start", timeout=500))
         _, notice = run.awaits(helper.is_notice)
         self.assertEqual(notice["outcome"], "timed-out")
-        self.assertRegex(taken(self.reader), r"\Aocfexec: pid \d+ \(Stuck\) of run 1 was killed and still lives\n")
+        self.assertRegex(taken(self.reader), r"\Aocfexec: pid \d+ \(Stuck\) of run 1 is still alive after SIGKILL\n")
 
     def test_cut(self):
         """a line is cut at 4,096 bytes, its newline among them"""
@@ -234,7 +234,7 @@ class StandardError(helper.Check):
         run.stdout.close()
         self.assertEqual(run.wait(helper.PATIENCE), 7)
         run.stdin.close()
-        wanted = ["nobody reads standard output any more", "Check what standard input and output are connected to. "]
+        wanted = ["the reader of standard output has gone", "Check what standard input and output are connected to. "]
         self.is_told((7, taken(self.reader)), 7, "input or output", wanted)
 
     def test_gone(self):

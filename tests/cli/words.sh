@@ -160,7 +160,7 @@ ends 0 "" show --memory
 wrote "show --memory, beside the environment" '{"ok":true,"resources":[]}'
 for word in run serve; do ends 2 "ocfexec: give one of --journal and --memory" "$word"; done
 OCFEXEC_JOURNAL=$here/none ends 5 "ocfexec: disk" show
-OCFEXEC_JOURNAL=$(printf '\377') ends 2 "ocfexec: words are not UTF-8" show
+OCFEXEC_JOURNAL=$(printf '\377') ends 2 "ocfexec: an argument or OCFEXEC_JOURNAL is not UTF-8" show
 unset OCFEXEC_JOURNAL
 if [ ! -e /var/lib/ocfexec ]; then
     ends 5 "ocfexec: disk" show
@@ -184,8 +184,8 @@ for moment in no 2026-13-01 2026-11-27T06:30Z; do
 done
 ends 5 "ocfexec: disk" run --journal "$here/none"
 ends 5 "ocfexec: disk" show --journal=
-ends 2 "ocfexec: words are not UTF-8" run --memory --via "$(printf 'a\377')"
-ends 2 "ocfexec: words are not UTF-8" "$(printf '\377')"
+ends 2 "ocfexec: an argument or OCFEXEC_JOURNAL is not UTF-8" run --memory --via "$(printf 'a\377')"
+ends 2 "ocfexec: an argument or OCFEXEC_JOURNAL is not UTF-8" "$(printf '\377')"
 misused "Usage: .* <COMMAND>"
 misused "unrecognized subcommand 'fly'" fly
 misused "unexpected argument '--fast'" run --memory --fast

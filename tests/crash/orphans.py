@@ -128,7 +128,7 @@ class Orphans(helper.Check):
         self.assertNotEqual(self.living(), [], "the old start lives on")
         self.assertEqual(second.ends(), 0)
         err = self.said()
-        self.assertRegex(err, r"\A(ocfexec: pid \d+ of start of r1, which was interrupted, still lives\n)+\Z")
+        self.assertRegex(err, r"\A(ocfexec: pid \d+ of the interrupted start of r1 is left running\n)+\Z")
         with open(f"/proc/{err.split()[2]}/cmdline", encoding="utf-8") as words:
             self.assertEqual(words.read().split("\0")[1:3], [self.place("resource.d/test/Slow"), "start"], "the old start's pid")
 
@@ -147,7 +147,7 @@ class Orphans(helper.Check):
         _, first = second.awaits(lambda value: True)
         self.assertEqual(first["outcome"], "interrupted")
         self.assertTrue(helper.is_alive(first["lives"]), "what is told as alive is")
-        self.assertIn(f"pid {first['lives']} of start of r1", self.said())
+        self.assertIn(f"pid {first['lives']} of the interrupted start of r1", self.said())
 
     def test_ended_at_the_limit(self):
         """what is left past the limit is ended, with what it waits for"""
@@ -157,7 +157,7 @@ class Orphans(helper.Check):
         self.within(since, 0.7, 2.2)
         second.tell(*does("stop"))
         self.assertEqual(second.ends(), 0)
-        self.assertRegex(self.said(), r"\A(ocfexec: pid \d+ of start of r1, which was interrupted, is ended\n)+\Z")
+        self.assertRegex(self.said(), r"\A(ocfexec: pid \d+ of the interrupted start of r1 is killed\n)+\Z")
         self.assertEqual(self.living(), [], "nothing of the old start lives, so it never comes up")
         self.assertFalse(os.path.exists(self.log), "the old start never came up")
 
@@ -239,7 +239,7 @@ class Orphans(helper.Check):
         second = self.opened("--orphans", "300", env={**os.environ, "OCF_RESOURCE_INSTANCE": "r1"})
         self.reported(second)
         self.assertEqual(second.ends(), 0)
-        self.assertEqual(self.said().count("is ended"), 1)
+        self.assertEqual(self.said().count("is killed"), 1)
 
     def test_daemon(self):
         """a daemon of an interrupted start lives on"""

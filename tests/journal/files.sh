@@ -170,7 +170,7 @@ if [ "$(id -u)" -ne 0 ]; then
     journal unreadable
     chmod 200 unreadable/part-a
     refused unreadable 5 "ocfexec: disk" "unreadable/part-a: Permission denied"
-    same "no permission, advice" "No permission: the journal is its owner's alone; look at it as that user, or as root." \
+    same "no permission, advice" "No permission: only its owner can open the journal; run this as that user, or as root." \
         "$(tail -n 1 "$here/err")"
 fi
 checked "a part that holds no journal, is empty beside one that was tidied, or cannot be read"
@@ -178,7 +178,7 @@ checked "a part that holds no journal, is empty beside one that was tidied, or c
 # One executor at a time
 hold made
 refused made 5 "ocfexec: disk" "made: in use by another executor"
-same "in use, advice" "In use: one executor at a time holds a journal; show, status, log and metrics look at it meanwhile." \
+same "in use, advice" "In use: only one executor at a time can hold a journal; show, status, log and metrics can read it meanwhile." \
     "$(tail -n 1 "$here/err")"
 ln made/part-a linked_a && mkdir other && mv linked_a other/part-a && : > other/part-b
 refused other 5 "ocfexec: disk" "other/part-a: in use by another executor"
@@ -368,7 +368,7 @@ echo "$? $(stat -c %s device/reserved/part-a)" > status
 : > other_err
 JOURNAL_STREAM=$(stat -c %d:%i other_err) "$1" run --journal device/other < lines > other_out 2> other_err
 FILLS
-    unknown="cannot be written, so a later executor may not know all processes of this one: No space left on device (os error 28)"
+    unknown="cannot be written, so the next executor may miss processes that this one leaves: No space left on device (os error 28)"
     $apart sh fills "$program"
     read -r ended size < status
     same "reserved room, status" 0 "$ended"

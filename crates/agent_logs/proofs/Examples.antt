@@ -8,11 +8,11 @@ use Rattle.agent_logs.specs.declared.lines.LoggedEnd.{LoggedEnd}
 use Rattle.agent_logs.specs.declared.lines.LoggedEnd.TheVariants.{Exited, Signaled, Killed, Refused}
 use Rattle.agent_logs.specs.declared.lines.Stamp.{Stamp}
 
--- a line of a log of its own
+-- the stamp of a line in the log of one resource
 abbrev own : Stamp
 own = record { id = None; at = 1795769472345 }
 
--- run 7, which ended so after 121 ms
+-- the line of run 7, which ended in this way after 121 ms
 abbrev line : LoggedEnd → List ℕ
 line end = ended_line own (record { run = 7; end = end; millis = 121 })
 

@@ -1,4 +1,4 @@
--- The lines around an agent's own output: one before them, and one after its end.
+-- The lines around an agent's own output: one before it, and one after its end.
 use Rattle.std.specs.Prelude.{ℕ, List, [], ◌++◌, Option, Some, None, codes, decimal}
 use Rattle.std.specs.Borrow.{Bor}
 use Rattle.log_lines.specs.Dates.{moment_text}
@@ -11,15 +11,16 @@ use Rattle.agent_logs.specs.declared.lines.LoggedEnd.{LoggedEnd}
 use Rattle.agent_logs.specs.declared.lines.LoggedEnd.TheVariants.{Exited, Signaled, Killed, Lost, Refused}
 use Rattle.agent_logs.specs.declared.lines.Stamp.{Stamp}
 
--- the id of the resource, where one log has the lines of all
+-- the id of the resource, in a log of all resources
 abbrev pub id_text : Option (Bor (List ℕ)) → List ℕ
 id_text None = []
 id_text (Some id) = id.now ++ codes ": "
 
--- what each line begins with: the id, and the moment in UTC as RFC 3339 has it
+-- the beginning of each line: the id, and the moment in UTC as RFC 3339 writes it
 abbrev pub stamp_text : Stamp → List ℕ
 stamp_text s = id_text s.id ++ moment_text s.at ++ codes " "
 
+-- a call, a run and a number of milliseconds
 abbrev pub call_text : ℕ → List ℕ
 call_text call = codes "call " ++ decimal call
 
@@ -29,11 +30,11 @@ run_text run = codes "run " ++ decimal run
 abbrev pub millis_text : ℕ → List ℕ
 millis_text millis = decimal millis ++ codes " ms"
 
--- the action, and how long it may take
+-- the action and its timeout
 abbrev pub task_text : Begun → List ℕ
 task_text b = codes ": " ++ b.action.now ++ codes ", timeout " ++ millis_text b.timeout
 
--- before the output: the call, its run, the action and its timeout
+-- the line before the output: the call, its run, the action and its timeout
 abbrev pub begun_line : Stamp → Begun → List ℕ
 begun_line s b = stamp_text s ++ call_text b.call ++ codes " begins as " ++ run_text b.run ++ task_text b ++ codes "\n"
 
@@ -41,7 +42,7 @@ begun_line s b = stamp_text s ++ call_text b.call ++ codes " begins as " ++ run_
 abbrev pub code_text : ℕ → List ℕ
 code_text code = codes ": " ++ name_read code ++ codes " (" ++ decimal code ++ codes ")"
 
--- why an agent was not started
+-- why an agent was not spawned
 abbrev pub refusal_text : StartFault → List ℕ
 refusal_text Missing = codes " was not started: the agent's file is missing"
 refusal_text Denied = codes " was not started: the agent's file may not be run"
@@ -55,6 +56,6 @@ end_text Killed millis = codes " was killed after " ++ millis_text millis
 end_text Lost millis = codes " was given up after " ++ millis_text millis
 end_text (Refused fault) millis = refusal_text fault
 
--- after its end: the run, and how it ended
+-- the line after the end: the run, and how it ended
 abbrev pub ended_line : Stamp → Ended → List ℕ
 ended_line s e = stamp_text s ++ run_text e.run ++ end_text e.end e.millis ++ codes "\n"

@@ -23,19 +23,19 @@ fn text_of(id: &RscId) -> &str {
 }
 
 impl LogDirectory {
-    /// The directory of this path.
+    /// The directory at this path.
     pub fn new(rt: HostRuntime, path: String) -> LogDirectory {
         LogDirectory { rt, path }
     }
 
-    // The path of a resource's log. An id has no slash, so that the log is in this directory; and since its name ends with `.log`,
-    // it is neither `.` nor `..`, nor the name of a log that was rotated, as `ID.log.1`.
+    // The path of a resource's log. An id has no slash, so the log is in this directory. Its name ends with `.log`, so it is neither
+    // `.` nor `..` nor that of a rotated log, as `ID.log.1`.
     fn path_of(&self, id: &RscId) -> Result<String, AllocError> {
         format!(in self.rt.alloc(); "{}/{}.log", self.path, text_of(id))
     }
 
-    /// Opens the log of a resource, to append to it, and makes it where nothing is there. It is an error where something else than
-    /// a file is there, as a link or a named pipe, whose opening would wait for a reader. POSIX, open.
+    /// Opens the log of a resource to append to it, and creates it if it does not exist. Anything but a plain file is an error, as a
+    /// link or a named pipe, whose opening would wait for a reader. POSIX, open.
     pub fn open(&self, id: &RscId) -> io::Result<File> {
         let path = self.path_of(id)?;
         let mut options = OpenOptions::new();

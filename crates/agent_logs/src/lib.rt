@@ -1,4 +1,4 @@
-//! Logs of what agents write: where they are, and the lines around an agent's own output.
+//! Logs of agents' output: where they are, and the lines around an agent's own output.
 #![tactic(auto)]
 
 mod directory;

@@ -8,7 +8,7 @@ use ocf_codes::{name, read_code};
 use ocf_types::{CallId, Millis, Moment, RscId, RunId, StartFault};
 use std::alloc::{AllocError, Global};
 
-/// What each line begins with: when it was written and, where one log has the lines of all resources, the id.
+/// The beginning of a line: when it was written and, in a log of all resources, the id.
 #[derive(Clone, Copy)]
 pub struct Stamp<'a> {
     pub id: Option<&'a RscId>,
@@ -20,13 +20,13 @@ pub struct Stamp<'a> {
 pub struct Begun<'a> {
     pub call: CallId,
     pub run: RunId,
-    /// The word for the action.
+    /// The name of the action.
     pub action: &'a str,
-    /// How long it may take.
+    /// Its timeout.
     pub timeout: Millis,
 }
 
-/// How a run ended, as its log says it.
+/// How a run ended, as it is logged.
 #[derive(Clone, Copy, Debug, PartialEq, Eq)]
 pub enum LoggedEnd {
     /// The agent ended with this exit code.
@@ -35,9 +35,9 @@ pub enum LoggedEnd {
     Signaled(u8),
     /// It was killed: its timeout has passed, or the executor ends.
     Killed,
-    /// The system does not say whether it runs, and it was given up.
+    /// The system failed to answer a poll, and it was given up.
     Lost,
-    /// It was not started.
+    /// The agent was not spawned.
     Refused(StartFault),
 }
 
@@ -46,7 +46,7 @@ pub enum LoggedEnd {
 pub struct Ended {
     pub run: RunId,
     pub end: LoggedEnd,
-    /// How many milliseconds have passed since it was begun.
+    /// How many milliseconds have passed since its begin.
     pub millis: u64,
 }
 
@@ -104,7 +104,7 @@ fn add_millis(line: &mut Vec<u8>, before: &str, millis: u64) -> Result<(), Alloc
     add(line, " ms")
 }
 
-// The action, and how long it may take.
+// Adds the action and its timeout.
 fn add_task(line: &mut Vec<u8>, begun: &Begun<'_>) -> Result<(), AllocError>
     ensures added { OnOk result (line.new.items ≡ line.old.items ++ task_text begun.now) }
     ensures memory { OnErr result (IsTrue ⟦<Global as Grows>⟧.refuses) }
@@ -133,7 +133,7 @@ pub fn begun_line(
     Ok(line)
 }
 
-// The name and the number of an exit code.
+// Adds the name and the number of an exit code.
 fn add_code(line: &mut Vec<u8>, code: u8) -> Result<(), AllocError>
     ensures added { OnOk result (line.new.items ≡ line.old.items ++ code_text code) }
     ensures memory { OnErr result (IsTrue ⟦<Global as Grows>⟧.refuses) }
@@ -145,7 +145,7 @@ fn add_code(line: &mut Vec<u8>, code: u8) -> Result<(), AllocError>
     add(line, ")")
 }
 
-// Why an agent was not started.
+// Why an agent was not spawned.
 fn refusal_text(fault: StartFault) -> &'static str
     ensures { result.now ≡ refusal_text fault }
 {
@@ -156,7 +156,7 @@ fn refusal_text(fault: StartFault) -> &'static str
     }
 }
 
-// How a run ended, after this many milliseconds.
+// Adds how a run ended, after this many milliseconds.
 fn add_end(line: &mut Vec<u8>, end: LoggedEnd, millis: u64) -> Result<(), AllocError>
     ensures added { OnOk result (line.new.items ≡ line.old.items ++ end_text end millis) }
     ensures memory { OnErr result (IsTrue ⟦<Global as Grows>⟧.refuses) }

@@ -1,4 +1,4 @@
-//! Where agents write.
+//! The destinations of agents' output.
 use crate::directory::LogDirectory;
 use crate::lines::{Begun, Ended, Stamp, begun_line, ended_line};
 use exec_lines::moment_now;
@@ -13,10 +13,10 @@ use std::rt::Clock;
 use std::str;
 use std::time::Duration;
 
-// For how many seconds nothing more is said of a log that fails.
+// For how many seconds a failing log is not reported again.
 const SILENCE: u64 = 60;
 
-// A place to which agents write.
+// A destination of agents' output.
 #[derive(Drop)]
 enum Place {
     // The standard error of this program.
@@ -27,25 +27,25 @@ enum Place {
     Directory(LogDirectory),
 }
 
-// A log that is kept.
+// A log other than none.
 #[derive(Drop)]
 struct Kept {
     alloc: Global,
     place: Place,
-    // When it was said last that the log fails, by the monotonic clock.
+    // When a failure of the log was last reported, by the monotonic clock.
     told: Cell<Option<Duration>>,
 }
 
-/// Where the standard output and error of agents go: what each writes is appended there, between a line of its begin and one of its
-/// end, or it goes nowhere. It is no pipe of this program's, so an agent's descendant that outlives the executor goes on writing.
+/// Where the standard output and error of agents go. The output of each is appended, between a line of its begin and one of its end,
+/// or it is discarded. It does not pass through a pipe of this program, so a descendant that outlives the executor can go on writing.
 ///
-/// A log that cannot be written stops no action: it is named on standard error, once in a minute at most.
+/// A log that cannot be written hinders no action: it is reported on standard error, once in a minute at most.
 #[derive(Drop)]
 pub struct Log {
     kept: Option<Kept>,
 }
 
-/// What an agent's standard output and error are.
+/// The standard output and error of an agent.
 #[derive(Drop)]
 pub struct Streams {
     pub output: Stdio,
@@ -53,7 +53,7 @@ pub struct Streams {
 }
 
 impl Streams {
-    // What is written is lost.
+    // Streams that discard what is written.
     fn none() -> Streams {
         Streams {
             output: Stdio::null(),
@@ -61,7 +61,7 @@ impl Streams {
         }
     }
 
-    // Both are this stream. It fails where this process may open no descriptor more.
+    // Both write to this stream. It fails if this process may open no more descriptors.
     fn of_stream(stream: &OwnedFd) -> io::Result<Streams> {
         Ok(Streams {
             output: Stdio::from(stream.try_clone()?),
@@ -69,7 +69,7 @@ impl Streams {
         })
     }
 
-    // Both are this file. It fails where this process may open no descriptor more.
+    // Both write to this file. It fails if this process may open no more descriptors.
     fn of_file(file: &File) -> io::Result<Streams> {
         Ok(Streams {
             output: Stdio::from(file.try_clone()?),
@@ -78,7 +78,7 @@ impl Streams {
     }
 }
 
-// Writes a line to a file, all of it at once where the system takes it so.
+// Writes a line to a file, in one call if the system takes all of it.
 fn write_line(mut file: &File, line: &[u8]) -> io::Result<()> {
     file.write_all(line)
 }
@@ -92,7 +92,7 @@ impl Kept {
         }
     }
 
-    // Whether it is to be said that the log fails, which then is said.
+    // Whether a failure of the log is to be reported now; if so, this counts as its report.
     fn is_to_tell(&self, rt: &impl Clock) -> bool {
         let Ok(now) = rt.monotonic() else {
             return false;
@@ -107,7 +107,7 @@ impl Kept {
         !is_recent
     }
 
-    // Says on standard error that the log fails, once in a minute at most.
+    // Reports on standard error that the log fails, once in a minute at most.
     fn tell<R: Clock + Eprint>(&self, rt: &R, id: &RscId, error: &io::Error) {
         if !self.is_to_tell(rt) {
             return;
@@ -121,7 +121,7 @@ impl Kept {
         };
     }
 
-    // The stamp of a line that is written now: with the id where the log has the lines of all resources.
+    // The stamp of a line that is written now, with the id if the log is one of all resources.
     fn stamp<'a>(&self, rt: &impl Clock, id: &'a RscId) -> Stamp<'a> {
         let id = match &self.place {
             Place::Directory(_) => None,
@@ -133,7 +133,7 @@ impl Kept {
         }
     }
 
-    // Says a line on standard error, on which nothing waits.
+    // Writes a line to standard error, without waiting.
     fn say<R: Eprint>(&self, rt: &R, line: &[u8]) {
         let _ = rt.eprint(str::from_utf8(line).unwrap_or_default());
     }
@@ -145,7 +145,7 @@ impl Kept {
         }
     }
 
-    // Opens the log of a resource, writes a line there, and gives the file.
+    // Opens the log of a resource, writes a line to it, and returns the file. A failure is reported.
     fn open<R: Clock + Eprint>(
         &self,
         rt: &R,
@@ -165,7 +165,7 @@ impl Kept {
         }
     }
 
-    // Writes the line of a begin, and gives what the agent writes to.
+    // Writes the line of a begin, and returns the streams of the agent.
     fn begin<R: Clock + Eprint>(&self, rt: &R, id: &RscId, line: &[u8]) -> io::Result<Streams> {
         match &self.place {
             Place::Errors(stream) => {
@@ -194,7 +194,7 @@ impl Kept {
 }
 
 impl Log {
-    /// They write nowhere.
+    /// The output of agents is discarded.
     pub fn none() -> Log {
         Log { kept: None }
     }
@@ -205,27 +205,27 @@ impl Log {
         }
     }
 
-    /// They write to this stream, which is the standard error of this program, by a descriptor of the log's own: one above the
-    /// standard streams, so what is meant for a stream that was closed does not land there. It fails where it is closed itself, or
-    /// no descriptor more is had.
+    /// Agents write to this stream, the standard error of this program, by another descriptor, above those of the standard streams: so
+    /// output that was meant for a closed stream does not land there. It fails if the stream is closed, or if this process may open no
+    /// more descriptors.
     pub fn to_errors(alloc: Global, stream: &impl AsFd) -> io::Result<Log> {
         let stream = stream.as_fd().try_clone_to_owned()?;
         Ok(Log::at(alloc, Place::Errors(stream)))
     }
 
-    /// They write to this file, all of them, by a descriptor above the standard streams.
+    /// All agents write to this file, by a descriptor above those of the standard streams.
     pub fn to_file(alloc: Global, file: &File) -> io::Result<Log> {
         Ok(Log::at(alloc, Place::File(file.try_clone()?)))
     }
 
-    /// Each writes to the log of its resource in this directory.
+    /// Each agent writes to the log of its resource in this directory.
     pub fn to_directory(alloc: Global, directory: LogDirectory) -> Log {
         Log::at(alloc, Place::Directory(directory))
     }
 
-    /// Writes the line of a run that begins, and gives what its agent writes to. A log of a resource that cannot be opened or
-    /// written is reported, and the action goes on: the agent then writes nowhere. It fails only where this process may open no
-    /// further descriptor, or there is no memory for the line.
+    /// Writes the line of a run that begins, and returns the streams of its agent. If the log of a resource cannot be opened, that is
+    /// reported, and the agent's output is discarded. It fails only if this process may open no more descriptors, or there is no memory for
+    /// the line.
     pub fn begin<R: Clock + Eprint>(
         &self,
         rt: &R,
@@ -239,7 +239,7 @@ impl Log {
         kept.begin(rt, id, line.as_slice())
     }
 
-    /// Writes the line of a run that has ended. Where it finds no memory there is no line.
+    /// Writes the line of a run that has ended. Without memory for the line there is none.
     pub fn end<R: Clock + Eprint>(&self, rt: &R, id: &RscId, ended: Ended) {
         let Some(kept) = &self.kept else {
             return;

@@ -1,4 +1,4 @@
--- The index of a run among others, and who is left without it.
+-- The index of a run in a list, and what is left without it.
 use Rattle.std.specs.Prelude.{◌≡◌, ◌==◌, ◌<◌, ℕ, zero, suc, ◌+◌, List, [], ◌∷◌, Some, None, Contains}
 use Rattle.std.specs.Prelude.{cond, false, filter, length, map, not, slice_get, slice_index_or, slice_set, true}
 use Rattle.std.specs.List.{position_from, remove}
@@ -9,7 +9,7 @@ use Rattle.std.proofs.lemmas.Bool.{cond_both, eqb-false, eqb-true}
 use Rattle.child_model.specs.Children.{without_run}
 use Rattle.child_model.specs.Laws.{first_or_rest}
 
--- the place that is found has the run
+-- the index that is found has the run
 pub found_at : {X : Type 0} (f : X → ℕ) (run i k : ℕ) (xs : List X) → position_from (λ x. f x == run) i xs ≡ Some k
     → (j : ℕ) × (k ≡ i + j) × (slice_get (map f xs) j ≡ Some run)
 found_at f run i k [] = λ e. absurd cc
@@ -24,7 +24,7 @@ pub found : {X : Type 0} (f : X → ℕ) (run k : ℕ) (xs : List X) → positio
 found f run k xs e = let at = found_at f run 0 k xs e in
     ap (slice_get (map f xs)) (let same : k ≡ at.0 = omega (arith, at.1) in same) ∙ at.2
 
--- and is among the others
+-- the index that is found is within the list
 pub found_within : {X : Type 0} (f : X → ℕ) (run k : ℕ) (xs : List X) → position_from (λ x. f x == run) 0 xs ≡ Some k → k < length xs
 found_within f run k xs e = let within : k < length (map f xs) = slice_get_within (map f xs) k run (found f run k xs e) in
     omega (arith, within, length-map xs f)
@@ -47,27 +47,27 @@ not_found f run i (x ∷ xs) =
       | inr rest ↦ not_found f run (i + 1) xs e rest
     ])
 
--- what is at the place of a run has it
+-- the element at the index of a run has this run
 pub run_at : {X : Type 0} (f : X → ℕ) (run k : ℕ) (xs : List X) (d : X) → slice_get (map f xs) k ≡ Some run
     → f (slice_index_or xs k d) ≡ run
 run_at f run k [] d e = absurd cc
 run_at f run zero (x ∷ xs) d e = cc
 run_at f run (suc k) (x ∷ xs) d e = run_at f run k xs d e
 
--- those of another run
+-- the elements of all other runs
 abbrev others : {X : Type 0} → (X → ℕ) → ℕ → List X → List X
 others f run = filter (λ x. not (f x == run))
 
--- one of this run is none of them
+-- an element of this run is not among them
 left_out : {X : Type 0} (f : X → ℕ) (run : ℕ) (x : X) (xs : List X) → f x ≡ run → others f run (x ∷ xs) ≡ others f run xs
 left_out f run x xs same = ap (λ b. cond (not b) (x ∷ others f run xs) (others f run xs)) (eq-eqb (f x) run same)
 
--- one more in front of both is one more of both, or of none
+-- lists with the same elements of other runs still have so after the same element is put before both
 put_on : {X : Type 0} (f : X → ℕ) (run : ℕ) (x : X) (xs ys : List X) → others f run xs ≡ others f run ys
     → others f run (x ∷ xs) ≡ others f run (x ∷ ys)
 put_on f run x xs ys same = ap (λ zs. cond (not (f x == run)) (x ∷ zs) zs) same
 
--- their runs are the live ones without this run
+-- their runs are the live runs without this run
 pub runs-others : {X : Type 0} (f : X → ℕ) (run : ℕ) (xs : List X) → map f (others f run xs) ≡ without_run run (map f xs)
 runs-others f run [] = refl
 runs-others f run (x ∷ xs) =
@@ -77,7 +77,7 @@ runs-others f run (x ∷ xs) =
       | false ↦ ap (λ ys. f x ∷ ys) (runs-others f run xs)
     ]
 
--- they are the same where one of this run is taken out, or another of this run put in its place
+-- they do not change when an element of this run is removed, or replaced by another of this run
 others-removed : {X : Type 0} (f : X → ℕ) (run k : ℕ) (xs : List X) → slice_get (map f xs) k ≡ Some run
     → others f run (remove xs k) ≡ others f run xs
 others-removed f run k [] e = absurd cc
@@ -92,7 +92,7 @@ others-set f run zero (x ∷ xs) y d e same =
     left_out f run y xs (same ∙ was) ∙ sym (left_out f run x xs was)
 others-set f run (suc k) (x ∷ xs) y d e same = put_on f run x (slice_set xs k y) xs (others-set f run k xs y d e same)
 
--- who is left after the one at a place and all others of its run are taken out
+-- what is left after the element at an index and all others of its run are removed
 pub taken : {X : Type 0} (f : X → ℕ) (run k : ℕ) (xs ys zs : List X) → slice_get (map f xs) k ≡ Some run → ys ≡ remove xs k
     → zs ≡ others f run ys → zs ≡ others f run xs
 taken f run k xs ys zs at gone kept = kept ∙ ap (others f run) gone ∙ others-removed f run k xs at

@@ -1,4 +1,4 @@
--- What a command says of its variables, where the environment is sorted by name.
+-- The variables of a command whose environment is sorted by name.
 use Rattle.std.specs.Prelude.{◌≡◌, ◌⊎◌, ℕ, zero, suc, Bool, true, false, List, [], ◌∷◌, Option, Some, None, Contains, bytes_eq, cond}
 use Rattle.std.specs.Process.{var_after}
 use Rattle.std.proofs.Common.{ap, arith, inl, inr, refl, subst, sym, ◌∙◌}
@@ -8,7 +8,7 @@ use Rattle.ocf_types.specs.Params.{is_after, is_before}
 use Rattle.ocf_env.specs.Places.{Pair}
 use Rattle.ocf_env.specs.Variables.{are_ascending_after}
 
--- what is said of a name that comes before all others stays
+-- the value of a name that comes before all others does not change
 stays : (name last : List ℕ) (pairs : List Pair) (before : Option (Option (List ℕ))) → (is_before name last ≡ true) ⊎ (name ≡ last)
     → are_ascending_after (Some last) pairs ≡ true
     → var_after Some Some name before pairs ≡ before
@@ -20,14 +20,14 @@ stays name last (p ∷ ps) before le h =
     ap (λ b. var_after Some Some name (cond b (Some (Some p.1)) before) ps) (before_differs name p.0 later)
     ∙ stays name p.0 ps before (inl later) s.1
 
--- the first pair's name is given its value
+-- the name of the first pair has its value
 at_first : (name : List ℕ) (p : Pair) (ps : List Pair) (before : Option (Option (List ℕ))) → p.0 ≡ name
     → are_ascending_after (Some p.0) ps ≡ true → var_after Some Some name before (p ∷ ps) ≡ Some (Some p.1)
 at_first name p ps before same h =
     ap (λ b. var_after Some Some name (cond b (Some (Some p.1)) before) ps) ((bytes_eq-Decides p.0 name).1 same)
     ∙ stays name p.0 ps (Some (Some p.1)) (inr (sym same)) h
 
--- a name that is given a value has it
+-- a name has a value only by a pair that is there
 pub given_only : (last : Option (List ℕ)) (pairs : List Pair) (name value : List ℕ) → are_ascending_after last pairs ≡ true
     → var_after Some Some name None pairs ≡ Some (Some value) → Contains pairs (name, value)
 given_only last [] name value h e = absurd cc
@@ -48,7 +48,7 @@ given_only last (p ∷ ps) name value h e =
         let rest : Contains ps (name, value) = later (sym (ap (λ b. var_after Some Some name (cond b (Some (Some p.1)) None) ps) is) ∙ e) in
         (suc rest.0, omega (arith, rest.1), rest.2)
 
--- and each that is there is given its value
+-- each pair that is there gives its name its value
 pub given_each : (last : Option (List ℕ)) (pairs : List Pair) (name value : List ℕ) → are_ascending_after last pairs ≡ true
     → Contains pairs (name, value) → var_after Some Some name None pairs ≡ Some (Some value)
 given_each last [] name value h there = absurd (omega (arith, there.1))

@@ -1,14 +1,14 @@
--- What is asked of the system for a call.
+-- The command for a call of an agent.
 use Rattle.std.specs.Prelude.{◌≡◌, ℕ, List, codes, Option, Some, None, true}
 use Rattle.std.specs.Process.{clears_env, command_args, command_dir, command_program, command_var, var_after}
 use Rattle.std.specs.declared.process.command.Command.{Command}
 use Rattle.ocf_env.specs.Places.{Call, Pair}
 
--- what a command says of a variable where it is given these pairs and nothing else
+-- the value of a variable in a command that has these pairs and no other variables
 abbrev pub given : List Pair → List ℕ → Option (Option (List ℕ))
 given pairs name = var_after Some Some name None pairs
 
--- the command asks for just this call: its program with its arguments, with its variables and no other, in the root directory
+-- the command asks for exactly this call: its program with its arguments, its variables and no others, in the root directory
 pub record Asks {M : Type 0} (c : Command M) (call : Call) : Type 0 where
   pub program : command_program c ≡ call.program
   pub arguments : command_args c ≡ call.arguments

@@ -1,4 +1,4 @@
--- What the system answers, and what children answer then.
+-- How the system's answers about an agent process are reported.
 use Rattle.std.specs.Prelude.{◌≡◌, Option, Some, None, Result, Ok, Err, ℤ, pos, unwrap_or}
 use Rattle.std.specs.Process.{exit_code, exit_signal}
 use Rattle.std.specs.declared.io.Error.{Error}
@@ -10,23 +10,23 @@ use Rattle.ocf_types.specs.declared.outcome.StartFault.TheVariants.{Missing, Den
 use Rattle.child_model.specs.declared.answer.Poll.{Poll}
 use Rattle.child_model.specs.declared.answer.Poll.TheVariants.{Running, Exited, Signaled, Fault}
 
--- why an agent was not started, by the kind of the system's error
+-- why an agent was not spawned, by the kind of the system's error
 abbrev pub start_fault : ErrorKind → StartFault
 start_fault NotFound = Missing
 start_fault PermissionDenied = Denied
 start_fault _ = Other
 
--- the number of the signal that ended a child, as signal(7) numbers them; 0 where the system names none
+-- the number of the signal that ended a process, as signal(7) numbers them; 0 where the system names none
 abbrev pub signal_of : ExitStatus → ℤ
 signal_of status = unwrap_or (exit_signal status) (pos 0)
 
--- a child that ended in this way is reported in this way: by its exit code, or where it has none by the signal that ended it
+-- the report of an end by its status: its exit code, or where it has none the signal that ended the process
 abbrev pub TellsEnd : Poll → ExitStatus → Type 0
 TellsEnd (Exited code) status = exit_code status ≡ Some (pos code)
 TellsEnd (Signaled signal) status = (exit_code status ≡ None) × (signal_of status ≡ pos signal)
 TellsEnd _ status = ⊥
 
--- what a child says when the system was asked for its end and answered so
+-- the result of a poll by the system's answer
 abbrev pub Tells : Poll → Result (Option ExitStatus) Error → Type 0
 Tells answer (Ok None) = answer ≡ Running
 Tells answer (Ok (Some status)) = TellsEnd answer status

@@ -1,4 +1,4 @@
--- What contracts see of scripted children.
+-- The views of scripted agent processes.
 use Rattle.std.specs.Prelude.{ℕ, None}
 use Rattle.std.specs.VecDeque.{deque_items}
 use Rattle.child_model.specs.Children.{ChildrenView}
@@ -10,12 +10,14 @@ use Rattle.child_keeper.specs.declared.scripted.Scripted.{Scripted}
 abbrev pub script_view : {M : Type 0} → Script M → ScriptView
 script_view s = record { starts = deque_items s.starts; polls = deque_items s.polls; kills = deque_items s.kills; fault_in = 0 }
 
--- with a fault planned this many calls ahead
+-- the script with a fault planned this many calls ahead
 abbrev pub planned_in : ℕ → ScriptView → ScriptView
 planned_in calls v = record { starts = v.starts; polls = v.polls; kills = v.kills; fault_in = calls }
 
+-- the rest of the script, with its planned fault
 abbrev pub script_of : {M : Type 0} → Scripted M → ScriptView
 script_of c = planned_in c.fault_in (script_view c.script)
 
+-- the view that each kind of agent processes has
 abbrev pub children_of : {M : Type 0} → Scripted M → ChildrenView
 children_of c = record { book = c.book.entries.items; log = c.book.log.items; room = c.book.room; last_run = c.last_run; live = c.live.runs.items; site = None }

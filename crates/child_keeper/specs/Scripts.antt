@@ -1,4 +1,4 @@
--- What scripted children answer next.
+-- The next answers of scripted agent processes.
 use Rattle.std.specs.Prelude.{ℕ, ◌-◌, ◌==◌, List, [], ◌∷◌, Result, Ok, Err, drop, if◌then◌else◌}
 use Rattle.ocf_types.specs.declared.outcome.StartFault.{StartFault}
 use Rattle.ocf_types.specs.declared.outcome.StartFault.TheVariants.{Other}
@@ -13,15 +13,16 @@ pub record ScriptView : Type 0 where
   pub kills : List (Result Unit KillFault)
   pub fault_in : ℕ
 
--- the next answer of a list, and after its end this one
+-- the next answer of a list, or `last` after its end
 abbrev pub head_or : {A : Type 0} → A → List A → A
 head_or last [] = last
 head_or last (a ∷ rest) = a
 
--- a call that was planned to fault does, and takes the answer of its list
+-- the answer of a call: the fault if it was planned for this call, else the next one of its list
 abbrev pub answered : {A : Type 0} → A → A → ScriptView → List A → A
 answered fault last v list = if v.fault_in == 1 then fault else head_or last list
 
+-- the next answer to a start, a poll and a kill
 abbrev pub next_start : ScriptView → Result Unit StartFault
 next_start v = answered (Err Other) (Ok tt) v v.starts
 
@@ -31,7 +32,7 @@ next_poll v = answered poll.Fault poll.Running v v.polls
 abbrev pub next_kill : ScriptView → Result Unit KillFault
 next_kill v = answered (Err (record {})) (Ok tt) v v.kills
 
--- the script after a call: the answer that was given is taken from its list
+-- the script after a call: one answer less in its list, and the fault one call nearer
 abbrev pub started_on : ScriptView → ScriptView
 started_on v = record { starts = drop 1 v.starts; polls = v.polls; kills = v.kills; fault_in = v.fault_in - 1 }
 

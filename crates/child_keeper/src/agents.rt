@@ -1,4 +1,4 @@
-// The children that live, each under its run.
+//! The agent processes that live, each under its run.
 ghost use Rattle.std.specs.Prelude.{◌≡◌, ◌↔◌, ◌+◌, ◌<◌, ◌≤◌, ◌==◌, ◌++◌, [], ◌∷◌, Contains, IfNone, IfOk, IfSome, IsTrue, OnErr, OnSome};
 ghost use Rattle.std.specs.Prelude.{Some, length, slice_get, vec_len};
 ghost use Rattle.std.specs.List.{position_from};
@@ -15,24 +15,24 @@ use std::io;
 use std::process::{Child, ExitStatus, OpenProcess};
 use std::time::Duration;
 
-/// A child, its run, and the resource whose action it does.
+/// An agent process, its run, and the resource whose action it performs.
 #[derive(Drop)]
 pub struct Agent<P: OpenProcess + Drop> {
     pub run: RunId,
     pub id: RscId,
-    /// When it was begun, by the monotonic clock.
+    /// When it was spawned, by the monotonic clock.
     pub begun: Duration,
     pub child: Child<P>,
 }
 
-/// The children that live, by their start.
+/// The agent processes that live, in the order in which they were spawned.
 #[derive(Drop)]
 pub struct Agents<P: OpenProcess + Drop, A: Allocator> {
     pub agents: Vec<Agent<P>, A>,
     pub ghost room: { live_limit ≤ vec_capacity agents },
 }
 
-// The index of the first child of a run.
+// The index of the first agent process of a run.
 fn first_of<P: OpenProcess + Drop>(agents: &[Agent<P>], run: RunId) -> Option<usize>
     ensures { result ≡ position_from (λ a. a.run == run) 0 agents.now }
 {
@@ -46,7 +46,7 @@ fn kill_each<P: OpenProcess + Drop>(agents: &mut [Agent<P>]) {
 }
 
 impl<P: OpenProcess + Drop, A: Grows> Agents<P, A> {
-    /// None, with room for all that may live. It fails only where memory is refused.
+    /// An empty list with the capacity for all that may live. It fails only where memory is refused.
     pub fn new(alloc: A) -> Result<Agents<P, A>, AllocError>
         ensures none { IfOk result (λ a. runs_of a.agents.items ≡ []) }
         ensures memory { OnErr result (IsTrue A.refuses) }
@@ -57,7 +57,7 @@ impl<P: OpenProcess + Drop, A: Grows> Agents<P, A> {
 }
 
 impl<P: OpenProcess + Drop, A: Allocator> Agents<P, A> {
-    /// One child more. It takes no memory.
+    /// Adds an agent process. It takes no memory.
     pub fn add(&mut self, agent: Agent<P>)
         requires few { length (runs_of self.old.agents.items) < LIVE_LIMIT }
         ensures added { runs_of self.new.agents.items
@@ -67,14 +67,14 @@ impl<P: OpenProcess + Drop, A: Allocator> Agents<P, A> {
         self.agents.push_reserved(agent);
     }
 
-    // The index of the first child of a run.
+    // The index of the first agent process of a run.
     fn first(&self, run: RunId) -> Option<usize>
         ensures { result ≡ position_from (λ a. a.run == run) 0 self.now.agents.items }
     {
         first_of(self.agents.as_slice(), run)
     }
 
-    // The index of the child of a run.
+    // The index of the agent process of a run.
     fn place(&self, run: RunId) -> usize
         requires lives { Contains (runs_of self.now.agents.items) run }
         ensures within { result < vec_len self.now.agents }
@@ -86,7 +86,7 @@ impl<P: OpenProcess + Drop, A: Allocator> Agents<P, A> {
         }
     }
 
-    /// Asks a child whether it has ended, without waiting for it.
+    /// Polls the agent process of a run, without waiting for its end.
     pub fn ask(&mut self, run: RunId) -> io::Result<Option<ExitStatus>>
         requires lives { Contains (runs_of self.old.agents.items) run }
         ensures stay { runs_of self.new.agents.items ≡ runs_of self.old.agents.items }
@@ -96,7 +96,7 @@ impl<P: OpenProcess + Drop, A: Allocator> Agents<P, A> {
         self.agents[place].child.try_wait()
     }
 
-    /// The child of a run, which is no more among them.
+    /// Removes the agent process of a run and returns it.
     pub fn take(&mut self, run: RunId) -> Agent<P>
         requires lives { Contains (runs_of self.old.agents.items) run }
         ensures gone { runs_of self.new.agents.items
@@ -111,7 +111,7 @@ impl<P: OpenProcess + Drop, A: Allocator> Agents<P, A> {
         agent
     }
 
-    /// The child that was started last, with its run; it is no more among them. None: there is none.
+    /// Removes the agent process that was added last and returns it: `None` if the list is empty.
     pub fn pop(&mut self) -> Option<Agent<P>>
         ensures fewer { OnSome result (vec_len self.new.agents + 1 ≡ vec_len self.old.agents) }
         ensures none { IfNone result (runs_of self.new.agents.items ≡ []) }
@@ -121,21 +121,21 @@ impl<P: OpenProcess + Drop, A: Allocator> Agents<P, A> {
         self.agents.pop()
     }
 
-    /// Kills each child.
+    /// Kills each agent process.
     pub fn kill(&mut self)
         ensures stay { vec_len self.new.agents ≡ vec_len self.old.agents }
     {
         kill_each(self.agents.as_mut_slice());
     }
 
-    /// Lets go of each child that has ended.
+    /// Reaps and removes each agent process that has ended.
     pub fn sweep(&mut self)
         ensures fewer { vec_len self.new.agents ≤ vec_len self.old.agents }
     {
         self.agents.retain_mut(|agent| still_runs(&mut agent.child));
     }
 
-    /// Whether the child of a run is among them.
+    /// Whether the agent process of a run is among them.
     pub fn contains(&self, run: RunId) -> bool
         ensures lives { IsTrue result ↔ Contains (runs_of self.now.agents.items) run }
     {
@@ -145,7 +145,7 @@ impl<P: OpenProcess + Drop, A: Allocator> Agents<P, A> {
         }
     }
 
-    /// How many they are.
+    /// The number of agent processes.
     pub fn len(&self) -> usize
         ensures { result ≡ length (runs_of self.now.agents.items) }
     {

@@ -1,4 +1,4 @@
-// The book of answers, and their log.
+//! The book of answers and their log.
 ghost use Rattle.std.specs.Prelude.{◌≡◌, ◌+◌, ◌<◌, ◌≤◌, ◌++◌, [], ◌∷◌, IfOk, IsTrue, OnErr, length, vec_len};
 ghost use Rattle.std.specs.Vec.{vec_capacity};
 
@@ -7,8 +7,8 @@ use growth::{GROWTH_LIMIT, Grows, with_capacity};
 use past::Past;
 use std::alloc::{AllocError, Allocator};
 
-/// The answers since the book was emptied, in their order, and how many more it takes; and for contracts alone all answers
-/// ever, which no memory holds.
+/// The answers since the book was last cleared, in order, and how many more fit. The log, which exists only in contracts, has
+/// all answers ever given.
 #[derive(Drop)]
 pub struct Book<A: Allocator> {
     pub entries: Vec<Entry, A>,
@@ -18,7 +18,7 @@ pub struct Book<A: Allocator> {
 }
 
 impl<A: Grows> Book<A> {
-    /// A book for this many entries. It fails only where memory is refused; there is none for more than [`GROWTH_LIMIT`] entries.
+    /// An empty book for this many entries. It fails where memory is refused, and for more than [`GROWTH_LIMIT`] entries.
     pub fn new(alloc: A, room: usize) -> Result<Book<A>, AllocError>
         ensures empty { IfOk result (λ b. b.entries.items ≡ []) }
         ensures no_log { IfOk result (λ b. b.log.items ≡ []) }
@@ -35,7 +35,7 @@ impl<A: Grows> Book<A> {
 }
 
 impl<A: Allocator> Book<A> {
-    /// One entry more. It takes no memory.
+    /// Adds an entry. It takes no memory.
     pub fn note(&mut self, entry: Entry)
         requires room { 0 < self.old.room }
         ensures noted { self.new.entries.items ≡ self.old.entries.items ++ entry ∷ [] }
@@ -47,7 +47,7 @@ impl<A: Allocator> Book<A> {
         self.entries.push_reserved(entry);
     }
 
-    /// Takes all entries out. Their places are free again, and the log is as it was.
+    /// Removes all entries, which makes their capacity free again. The log does not change.
     pub fn clear(&mut self)
         ensures entries { self.new.entries.items ≡ [] }
         ensures log { self.new.log ≡ self.old.log }

@@ -1,4 +1,4 @@
-// The command that is started for an invocation.
+//! The command that is spawned for an invocation.
 ghost use Rattle.std.specs.Prelude.{◌≡◌, ◌++◌, ◌∷◌, [], ℕ, List, IfOk, IsTrue, OnErr, OnOk, None, Some, bytes_eq, codes, if◌then◌else◌, true};
 ghost use Rattle.std.specs.Process.{SameDir, SameEnv, SameProgramAndArgs, clears_env, command_args, command_dir, command_program};
 ghost use Rattle.std.specs.Process.{command_var, var_after};
@@ -95,7 +95,7 @@ fn bare<A: Grows>(alloc: A, program: &str) -> Result<Command<A>, AllocError>
     Ok(command)
 }
 
-/// Has a command write its output and its errors there.
+/// Sets where a command writes its standard output and its standard error.
 pub fn write_to<A: Grows>(command: &mut Command<A>, output: Stdio, errors: Stdio)
     ensures call { SameProgramAndArgs command.old command.new }
     ensures environment { SameEnv command.old command.new }
@@ -105,7 +105,7 @@ pub fn write_to<A: Grows>(command: &mut Command<A>, output: Stdio, errors: Stdio
     command.stderr(errors);
 }
 
-// With nothing to read and nowhere to write.
+// Connects the standard streams of a command to `/dev/null`.
 fn silence<A: Grows>(command: &mut Command<A>)
     ensures call { SameProgramAndArgs command.old command.new }
     ensures environment { SameEnv command.old command.new }
@@ -116,8 +116,8 @@ fn silence<A: Grows>(command: &mut Command<A>)
     command.stderr(Stdio::null());
 }
 
-/// The command of an invocation: its program with its arguments, its variables and no other, in the root directory, with
-/// nothing to read and nowhere to write.
+/// The command of an invocation: its program with its arguments, its variables and no others, in the root directory, with its
+/// standard streams connected to `/dev/null`.
 pub fn command_of<A: Grows, L: Allocator>(
     alloc: A,
     invocation: &Invocation<L>,

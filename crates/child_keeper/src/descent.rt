@@ -1,4 +1,4 @@
-//! What belongs to agents that are to end.
+//! The processes that belong to agents that are to be ended.
 use crate::agents::Agent;
 use proc_files::{ActionMark, ProcFiles, Process};
 use process_ends::{Environments, Sought};
@@ -6,7 +6,7 @@ use std::alloc::{AllocError, Allocator};
 use std::process::OpenProcess;
 use std::{io, slice};
 
-/// Agents that are to end, and their background jobs in the session of this process.
+/// A search for agents that are to be ended, and for their background jobs in the session of this process.
 #[derive(Drop)]
 pub struct AgentsSought<'a, R, P: OpenProcess + Drop, A: Allocator> {
     rt: &'a R,
@@ -15,7 +15,7 @@ pub struct AgentsSought<'a, R, P: OpenProcess + Drop, A: Allocator> {
     environments: Environments<A>,
 }
 
-// The agent whose process this is: a child of this process, under the agent's number.
+// The agent whose process this is: a child of the executor's process, with the agent's process number.
 fn agent_of<'a, P: OpenProcess + Drop>(
     process: &Process,
     own: &Process,
@@ -27,7 +27,7 @@ fn agent_of<'a, P: OpenProcess + Drop>(
     agents.iter().find(|agent| agent.child.id() == process.pid)
 }
 
-// The actions of the agents that the table has, by which their background jobs are known.
+// A mark of the action of each agent in the table, by which its background jobs are recognized.
 fn marks<'a, P: OpenProcess + Drop, A: Allocator + Copy>(
     alloc: A,
     table: &[Process],

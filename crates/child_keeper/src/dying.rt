@@ -1,4 +1,4 @@
-//! Agents that were killed and live on.
+//! Killed agents that have not ended yet.
 ghost use Rattle.std.specs.Prelude.{◌≡◌, ◌<◌, ◌≤◌, ◌++◌, [], ◌∷◌, IfOk, IsTrue, List, OnErr};
 ghost use Rattle.std.specs.VecDeque.{deque_capacity, deque_items, deque_len};
 ghost use Rattle.child_model.specs.Children.{live_limit};
@@ -12,8 +12,7 @@ use std::alloc::{AllocError, Allocator};
 use std::collections::VecDeque;
 use std::process::OpenProcess;
 
-/// Agents that were killed and were not seen to end yet, the oldest first. One that has ended stays a zombie until it is asked
-/// for here.
+/// Killed agents that were not reaped yet, oldest first. One that has ended stays a zombie until `sweep` reaps it.
 #[derive(Drop)]
 pub struct Dying<P: OpenProcess + Drop, A: Allocator> {
     pub agents: VecDeque<Agent<P>, A>,
@@ -22,7 +21,7 @@ pub struct Dying<P: OpenProcess + Drop, A: Allocator> {
 }
 
 impl<P: OpenProcess + Drop, A: Grows> Dying<P, A> {
-    /// None, with room for as many as may live. It fails only where memory is refused.
+    /// An empty list with the capacity for as many as may live. It fails only where memory is refused.
     pub fn new(alloc: A) -> Result<Dying<P, A>, AllocError>
         ensures none { IfOk result (λ d. deque_items d.agents ≡ []) }
         ensures memory { OnErr result (IsTrue A.refuses) }
@@ -34,7 +33,7 @@ impl<P: OpenProcess + Drop, A: Grows> Dying<P, A> {
 }
 
 impl<P: OpenProcess + Drop, A: Allocator> Dying<P, A> {
-    /// Asks each agent whether it has ended, and keeps those that have not. It never waits.
+    /// Reaps and removes each agent that has ended. It never waits.
     pub fn sweep(&mut self)
         ensures fewer { deque_len self.new.agents ≤ deque_len self.old.agents }
     {
@@ -46,7 +45,7 @@ impl<P: OpenProcess + Drop, A: Allocator> Dying<P, A> {
         self.agents.iter().any(|agent| agent.id == *id)
     }
 
-    // Makes a place free where none is: where no agent has ended the oldest is let go.
+    // Makes capacity for one more if there is none: it removes the agents that have ended, or else the oldest one.
     fn make_room(&mut self)
         ensures room { deque_len self.new.agents < LIVE_LIMIT }
     {
@@ -58,7 +57,7 @@ impl<P: OpenProcess + Drop, A: Allocator> Dying<P, A> {
         }
     }
 
-    /// One agent more, the last. It takes no memory.
+    /// Adds an agent at the end. It takes no memory.
     pub fn add(&mut self, agent: Agent<P>)
         ensures kept { (others : List _) × (deque_items self.new.agents ≡ others ++ agent ∷ []) }
     {

@@ -1,4 +1,4 @@
-//! The end of agents with all that they started.
+//! Ends agents with all processes that they started.
 ghost use Rattle.std.specs.Prelude.{◌≤◌, vec_len};
 
 use crate::agents::{Agent, Agents};
@@ -10,7 +10,7 @@ use std::io::Eprint;
 use std::process::{OpenProcess, Processes};
 use std::rt::Clock;
 
-// Lets go of each agent and each other process that has ended; whether any is left.
+// Removes each agent and each other process that has ended, and returns whether any is left.
 fn sweep<R: ProcFiles, P: OpenProcess + Drop, A: Allocator, B: Allocator>(
     rt: &R,
     agents: &mut Agents<P, A>,
@@ -23,7 +23,7 @@ fn sweep<R: ProcFiles, P: OpenProcess + Drop, A: Allocator, B: Allocator>(
     !agents.agents.is_empty() || !processes.is_empty()
 }
 
-// Waits for killed agents and other processes together, and lets go of each that has ended.
+// Waits for the end of killed agents and other processes, up to a tenth of a second, and removes each that has ended.
 fn await_ends<R: Clock + ProcFiles, P: OpenProcess + Drop, A: Allocator, B: Allocator>(
     rt: &R,
     agents: &mut Agents<P, A>,
@@ -39,12 +39,12 @@ fn await_ends<R: Clock + ProcFiles, P: OpenProcess + Drop, A: Allocator, B: Allo
     }
 }
 
-// Whether a process is that of one of these agents, which are named apart.
+// Whether a process is one of these agents, which are named on standard error by themselves.
 fn is_agent<P: OpenProcess + Drop>(process: &Process, agents: &[Agent<P>]) -> bool {
     agents.iter().any(|agent| agent.child.id() == process.pid)
 }
 
-// What agents are and started, stopped.
+// Suspends agents and all processes that they started, and returns them: none if the search cannot begin, which is reported.
 fn stopped_agents<
     R: Processes + Clock + Eprint + ProcFiles,
     P: OpenProcess + Drop,
@@ -59,8 +59,8 @@ fn stopped_agents<
     }
 }
 
-/// Ends agents with all that they started, and waits for it, a tenth of a second at most. Agents that live on stay among them;
-/// what else lives on is named on standard error.
+/// Ends agents with all processes that they started, and waits for their end, a tenth of a second at most. Agents that live on
+/// stay in the list; other processes that live on are named on standard error.
 pub fn end_agents<
     R: Processes + Clock + Eprint + ProcFiles,
     P: OpenProcess + Drop,
@@ -72,7 +72,7 @@ pub fn end_agents<
     let sent = send_signal(rt, alloc, Signal::Kill, found.as_slice());
     agents.kill();
     if sent.is_err() {
-        // the end of the agents may have made room for the shell
+        // the end of the agents may have freed what the shell needs
         let _ = send_signal(rt, alloc, Signal::Kill, found.as_slice());
     }
     await_ends(rt, agents, &mut found);

@@ -1,4 +1,4 @@
-// What the system's answers say of a child.
+//! How the system's answers about an agent process are reported.
 ghost use Rattle.std.specs.Prelude.{◌≡◌, pos};
 ghost use Rattle.std.specs.IoError.{error_kind};
 ghost use Rattle.child_keeper.specs.Ends.{Tells, TellsEnd, signal_of, start_fault};
@@ -10,7 +10,7 @@ use std::io::ErrorKind;
 use std::os::unix::process::ExitStatusExt;
 use std::process::ExitStatus;
 
-/// Why an agent was not started. A `#!` line that names no program is a missing file too.
+/// Why an agent was not spawned. A missing interpreter of its `#!` line is a missing file too.
 pub fn start_fault(error: &io::Error) -> StartFault
     ensures { result ≡ start_fault (error_kind error.now) }
 {
@@ -21,14 +21,14 @@ pub fn start_fault(error: &io::Error) -> StartFault
     }
 }
 
-// The number of the signal that ended a child, 0 where the system names none.
+// The number of the signal that ended an agent process, 0 where the system names none.
 fn signal_of(status: ExitStatus) -> u8
     ensures { pos result ≡ signal_of status }
 {
     (status.signal().unwrap_or(0).cast_unsigned() % 256) as u8
 }
 
-/// How a child ended.
+/// How an agent process ended.
 pub fn end_of(status: ExitStatus) -> Poll
     ensures { TellsEnd result status }
 {
@@ -38,7 +38,7 @@ pub fn end_of(status: ExitStatus) -> Poll
     }
 }
 
-/// What a child says, by what the system answered when it was asked for its end.
+/// The result of a poll, by the system's answer.
 pub fn poll_of(answer: &io::Result<Option<ExitStatus>>) -> Poll
     ensures { Tells result answer.now }
 {

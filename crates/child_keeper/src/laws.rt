@@ -1,4 +1,4 @@
-//! Laws of commands and of metadata, each the contract of a function that does nothing.
+//! Lemmas about commands and metadata, each the contract of a function that does nothing.
 ghost use Rattle.std.specs.Prelude.{◌≡◌, ◌↔◌, ℕ, List, Contains, IsTrue, Some};
 ghost use Rattle.ocf_env.specs.Places.{Pair};
 ghost use Rattle.ocf_env.specs.Variables.{are_ascending};
@@ -11,8 +11,8 @@ pub fn just_its_variables()
         → (given pairs name ≡ Some (Some value)) ↔ Contains pairs (name, value) }
 {}
 
-/// Metadata that are whole since a poll are whole since each poll before it: all that the agent had to write then, after what was kept
-/// of it.
+/// Metadata that are whole as seen from a poll are whole as seen from each earlier poll: what was kept then, followed by all that
+/// the agent had still to write.
 pub fn metadata_are_whole()
     ensures { (old now : AskedView) (metadata : List ℕ) → GoesOn old now
         → IsWholeAnswer now metadata → IsWholeAnswer old metadata }

@@ -1,4 +1,4 @@
-//! Agents that run, as children of the executor, and the book of what each of them answered.
+//! Running agents, which are child processes of the executor, and the book of what each of them answered.
 #![tactic(auto)]
 
 mod agents;

@@ -1,4 +1,4 @@
-// The runs whose children live.
+//! The runs whose agent processes live.
 ghost use Rattle.std.specs.Prelude.{◌≡◌, ◌↔◌, ◌<◌, ◌≤◌, ◌++◌, [], ◌∷◌, Contains, IfOk, IsTrue, OnErr, length};
 ghost use Rattle.std.specs.Vec.{vec_capacity};
 ghost use Rattle.child_model.specs.Children.{without_run, live_limit};
@@ -7,10 +7,10 @@ use growth::{Grows, with_capacity};
 use ocf_types::{RESOURCES_LIMIT, RunId};
 use std::alloc::{AllocError, Allocator};
 
-/// How many children may live at once: one for each resource that can be registered.
+/// How many agent processes may live at once: one for each resource that can be registered.
 pub const LIVE_LIMIT: usize = RESOURCES_LIMIT;
 
-/// The live runs, by their start.
+/// The live runs, in the order in which they were spawned.
 #[derive(Drop)]
 pub struct LiveRuns<A: Allocator> {
     pub runs: Vec<RunId, A>,
@@ -18,7 +18,7 @@ pub struct LiveRuns<A: Allocator> {
 }
 
 impl<A: Grows> LiveRuns<A> {
-    /// None, with room for all that may live. It fails only where memory is refused.
+    /// An empty list with the capacity for all that may live. It fails only where memory is refused.
     pub fn new(alloc: A) -> Result<LiveRuns<A>, AllocError>
         ensures empty { IfOk result (λ l. l.runs.items ≡ []) }
         ensures memory { OnErr result (IsTrue A.refuses) }
@@ -29,7 +29,7 @@ impl<A: Grows> LiveRuns<A> {
 }
 
 impl<A: Allocator> LiveRuns<A> {
-    /// One live run more. It takes no memory.
+    /// Adds a live run. It takes no memory.
     pub fn add(&mut self, run: RunId)
         requires few { length self.old.runs.items < LIVE_LIMIT }
         ensures added { self.new.runs.items ≡ self.old.runs.items ++ run ∷ [] }
@@ -37,14 +37,14 @@ impl<A: Allocator> LiveRuns<A> {
         self.runs.push_reserved(run);
     }
 
-    /// This run lives no more.
+    /// Removes a run.
     pub fn remove(&mut self, run: RunId)
         ensures removed { self.new.runs.items ≡ without_run run self.old.runs.items }
     {
         self.runs.retain(|live| live.get() != run.get());
     }
 
-    /// None lives any more.
+    /// Removes all runs.
     pub fn clear(&mut self)
         ensures empty { self.new.runs.items ≡ [] }
     {

@@ -24,18 +24,18 @@ use std::io::{self, Eprint, Read};
 use std::process::{Child, Command, ExitStatus, OpenProcess, Processes, Stdio};
 use std::rt::Clock;
 
-/// An agent that was asked for its metadata and has not answered yet. It is polled until it answers, or given up: so it cannot be
-/// dropped.
+/// An agent that was asked for its metadata and has not answered yet. It cannot be dropped: it is polled until it answers, or
+/// given up.
 pub struct MetaChild<P: OpenProcess, A: Allocator> {
     child: Child<P>,
     stdout: Option<P::Stdout>,
     output: MetaOutput<A>,
     progress: Progress,
-    // Until when it may take; as long as it takes where there is none.
+    // When the agent must have answered; `None` where it has no limit.
     deadline: Option<Deadline>,
 }
 
-/// What a poll of an agent finds that is asked for its metadata.
+/// The result of a poll of an agent that is asked for its metadata.
 pub enum MetaPoll<P: OpenProcess, A: Allocator> {
     /// It has not answered yet.
     Waits(MetaChild<P, A>),
@@ -43,7 +43,7 @@ pub enum MetaPoll<P: OpenProcess, A: Allocator> {
     Answered(Result<Vec<u8, A>, MetaFault>),
 }
 
-// The command that asks an agent for its metadata, with a pipe to write them to.
+// The command that asks an agent for its metadata, with a pipe for its output.
 fn meta_command<A: Grows, S: Allocator>(
     alloc: A,
     site: &Site<S>,
@@ -58,7 +58,7 @@ fn meta_command<A: Grows, S: Allocator>(
     Ok(command)
 }
 
-// The fault of a question for metadata that the system does not start.
+// Why the agent was not spawned.
 fn refused_meta<R: Eprint>(
     rt: &R,
     provider: &Provider,
@@ -69,7 +69,7 @@ fn refused_meta<R: Eprint>(
     refused(rt, format_args!("meta-data of {provider}:{agent}"), error)
 }
 
-// The exit code that a child is taken to have ended with: 1 where a signal ended it.
+// The exit code that an agent counts as having ended with: 1 where a signal ended it.
 fn code_of(status: ExitStatus) -> u8
     ensures { CountsAs status result }
 {
@@ -79,7 +79,7 @@ fn code_of(status: ExitStatus) -> u8
     }
 }
 
-// The exit code of a child, if it has ended.
+// The exit code of an agent, if it has ended.
 fn exit_code<P: OpenProcess>(child: &mut Child<P>) -> Result<Option<u8>, MetaFault>
     ensures ended { IfOk result
         (λ ended. IfSome ended (λ code. EndedWith (child_status child.new) code)) }
@@ -93,8 +93,7 @@ fn exit_code<P: OpenProcess>(child: &mut Child<P>) -> Result<Option<u8>, MetaFau
     }
 }
 
-// The exit code of a child whose output was read this far, once both have ended, or why the child is waited for no more. It has this
-// many milliseconds left.
+// The exit code of an agent once it and its output have ended, or why the wait for it is over. It has `left` milliseconds left.
 fn code_now<P: OpenProcess>(
     child: &mut Child<P>,
     progress: Progress,
@@ -117,7 +116,7 @@ fn code_now<P: OpenProcess>(
     Ok(code)
 }
 
-// The metadata of an agent that wrote this and ended with this code, or why it has none.
+// The metadata of an agent with this output and this exit code, or why it has none.
 fn answer_of<A: Allocator>(output: MetaOutput<A>, code: u8) -> Result<Vec<u8, A>, MetaFault>
     ensures given { IfOk result (λ metadata. (code ≡ 0) × (output.is_whole ≡ true)
         × (metadata.items ≡ output.bytes.items)) }
@@ -133,7 +132,7 @@ fn answer_of<A: Allocator>(output: MetaOutput<A>, code: u8) -> Result<Vec<u8, A>
     }
 }
 
-// Reads what a stream has by now, if there is one.
+// Reads the bytes that a stream has ready, if there is a stream.
 fn read_from<S: Read + Waited, A: Allocator>(
     stream: &mut Option<S>,
     output: &mut MetaOutput<A>,
@@ -152,8 +151,9 @@ impl<P: OpenProcess + Drop, A: Grows> MetaChild<P, A>
 where
     P::Stdout: Waited,
 {
-    /// Starts an agent that is asked for its metadata, and has `limit` milliseconds for them, or as long as it takes. All memory for them is taken here.
-    /// Errors come in this order: memory is refused, for them or for the command; the system does not start the agent.
+    /// Asks an agent for its metadata. It has `limit` milliseconds, or as long as it takes where there is no limit. All memory for
+    /// the metadata is taken here. Errors come in this order: memory is refused, for the metadata or for the command; the system
+    /// does not spawn the agent.
     pub fn start<R: Processes<Started = P> + Clock + Eprint, S: Allocator>(
         rt: &R,
         alloc: A,
@@ -186,9 +186,9 @@ where
         }
     }
 
-    /// Looks whether the agent has answered by now, without waiting for it: it has once it has ended and nobody else holds its
-    /// output. Errors come in this order: its output or its end cannot be read, or is not there in time, and then it was ended
-    /// with all that descends from it; it did not end with 0; it wrote too much.
+    /// Returns the answer if there is one, without waiting for it. The agent has answered once it has ended and no other process
+    /// holds its output. Errors come in this order: its output or its end cannot be read, or does not come in time, and then the
+    /// agent was ended with all its descendants; its exit code was not 0; it wrote too much.
     pub fn poll<R: Processes + Clock + Eprint + ProcFiles>(
         mut self,
         rt: &R,
@@ -227,7 +227,7 @@ where
         output
     }
 
-    // How many milliseconds it has left: the greatest number where it has no limit.
+    // How many milliseconds the agent has left: `u32::MAX` where it has no limit.
     fn left(&self, clock: &impl Clock) -> u32 {
         match self.deadline {
             Some(deadline) => deadline.left(clock),
@@ -235,7 +235,7 @@ where
         }
     }
 
-    /// Waits until a poll may find more: up to the limit for its output, and one pause once that is at its end.
+    /// Waits until a poll may find more: for output, up to the limit, or for one pause once the output has ended.
     pub fn wait(&self, clock: &impl Clock, pauses: &mut Pauses) {
         match (&self.stdout, self.progress) {
             (Some(stdout), Progress::Open) => {
@@ -247,7 +247,7 @@ where
         }
     }
 
-    /// Ends an agent that is waited for no more, with all that descends from it. One that lives on is named on standard error.
+    /// Gives the agent up and ends it with all its descendants. An agent that lives on is named on standard error.
     pub fn give_up<R: Processes + Clock + Eprint + ProcFiles>(mut self, rt: &R, alloc: A) {
         if end_child(rt, alloc, &mut self.child) {
             tell_alive(rt, &self.child, "meta-data");

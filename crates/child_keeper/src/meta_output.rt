@@ -1,4 +1,4 @@
-//! What an agent writes that is asked for its metadata.
+//! The output of an agent that is asked for its metadata.
 ghost use Rattle.std.specs.Prelude.{◌≡◌, ◌≤◌, ◌++◌, [], true, IfOk, IsTrue, OnErr, vec_len};
 ghost use Rattle.std.specs.Io.KnownBytes.{IsAtEnd};
 ghost use Rattle.ocf_types.specs.Limits.{metadata_limit};
@@ -12,7 +12,7 @@ use std::io::{ErrorKind, Read};
 // How many bytes are read at once.
 const CHUNK: usize = 4_096;
 
-// How many reads are made at most without a look at anything else.
+// How many reads one poll makes at most.
 const READS: u32 = 16;
 
 /// How far a stream was read.
@@ -36,7 +36,7 @@ pub struct MetaOutput<A: Allocator> {
 }
 
 impl<A: Grows> MetaOutput<A> {
-    /// Nothing was read, and there is room for all. It fails only where memory is refused.
+    /// No bytes yet, with the capacity for [`METADATA_LIMIT`]. It fails only where memory is refused.
     pub fn new(alloc: A) -> Result<MetaOutput<A>, AllocError>
         ensures none { IfOk result (λ output. output.bytes.items ≡ []) }
         ensures whole { IfOk result (λ output. output.is_whole ≡ true) }
@@ -52,7 +52,7 @@ impl<A: Grows> MetaOutput<A> {
 impl<A: Allocator> MetaOutput<A> {
     ghost use Rattle.child_keeper.specs.MetaOutputs.{KeepsAll};
 
-    // Keeps what was read next, where it fits.
+    // Appends what was read next, if it fits; else the output is no longer whole.
     fn keep(&mut self, chunk: &[u8])
         ensures whole { self.new.is_whole ≡ true → self.old.is_whole ≡ true }
         ensures kept { self.new.is_whole ≡ true
@@ -63,7 +63,7 @@ impl<A: Allocator> MetaOutput<A> {
             && self.bytes.extend_from_slice(chunk).is_ok();
     }
 
-    /// Reads what a stream has by now, without waiting for it: at most 16 times 4,096 bytes.
+    /// Reads the bytes that a stream has ready, without waiting: at most 16 times 4,096 bytes.
     pub fn read_ready<S: Read + Waited>(&mut self, stream: &mut S) -> Progress
         ensures kept { KeepsAll (S.remaining stream.old) (S.remaining stream.new)
             self.old self.new }

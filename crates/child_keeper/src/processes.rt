@@ -1,4 +1,4 @@
-//! Children of the system.
+//! Agents as processes of the system.
 ghost use Rattle.std.specs.Prelude.{◌≡◌, ◌<◌, ◌≤◌, [], Contains, IfOk, IsTrue, None, OnErr};
 ghost use Rattle.child_keeper.specs.Agents.{runs_of};
 ghost use Rattle.child_model.specs.Children.{without_run};
@@ -27,18 +27,18 @@ use std::rt::Clock;
 use std::time::Duration;
 use std::{mem, process};
 
-/// Agents as processes of the system. Each runs in the root directory with just the variables of its launch, and reads
-/// nothing and writes where the log says; it has no descriptor but 0, 1 and 2, blocks no signal and is ended by SIGPIPE, and
-/// has the umask of this process. OCF Resource Agent API 1.1, actions.
+/// Agents as processes of the system. Each runs in the root directory with exactly the variables of its launch, reads nothing and
+/// writes where the log says. It has no descriptor but 0, 1 and 2, blocks no signal, is ended by SIGPIPE, and has the umask of
+/// this process. OCF Resource Agent API 1.1, actions.
 ///
-/// What was killed ends in `end_killed`, all of it together: each agent with all its descendants and its background jobs in this
-/// session, which are stopped first, so that none of them starts others unseen. Its end is waited for, a tenth of a second at
-/// most: what outlives that is named on standard error, by its number and its command. While an agent that was killed lives on,
-/// its resource's next actions but a stop are refused as [`StartFault::Other`].
+/// `end_killed` ends all killed agents at once, each with its descendants and its background jobs in this session. All of them
+/// get SIGSTOP first, so that none of them spawns others unseen. It waits for their end a tenth of a second at most, and names
+/// each process that lives on by its number and its command on standard error. While a killed agent lives on, the next actions
+/// of its resource except a stop are refused as [`StartFault::Other`].
 ///
-/// A start takes the memory of its command from the allocator, and is refused as [`StartFault::Other`] where there is none, or
-/// no descriptor more. The error is said on standard error then, as with each start that is refused so by the system; and so is the
-/// number of a signal that ended an agent.
+/// A spawn takes the memory of its command from the allocator. It is refused as [`StartFault::Other`] if memory or descriptors
+/// have run out, or the system refuses it for any cause but a missing file or permission; the error is then reported on standard
+/// error. So is the number of a signal that ended an agent.
 #[derive(Drop)]
 pub struct Processes<R: process::Processes + Drop, A: Allocator + Copy = Global> {
     rt: R,
@@ -54,9 +54,9 @@ pub struct Processes<R: process::Processes + Drop, A: Allocator + Copy = Global>
 impl<R: process::Processes + Clock + Eprint + ProcFiles + Drop, A: Grows> Processes<R, A> {
     ghost use Rattle.child_keeper.specs.Processes.{processes_of};
 
-    /// No children yet, which will write to the log, with a book of this many entries. Memory for the book and for all processes
-    /// that may live is taken here. It fails only where memory is refused; there is none for a book of more than
-    /// [`GROWTH_LIMIT`] entries.
+    /// No agent processes yet; they will write to this log. The book has the capacity for this many entries. Its memory and that for
+    /// all processes that may live are taken here. It fails where memory is refused, and for a book of more than [`GROWTH_LIMIT`]
+    /// entries.
     pub fn new(rt: R, alloc: A, log: Log, book: usize) -> Result<Processes<R, A>, AllocError>
         ensures children { IfOk result
             (λ p. processes_of p ≡ record { book = []; log = []; room = book; last_run = 0; live = []; site = None }) }
@@ -74,7 +74,7 @@ impl<R: process::Processes + Clock + Eprint + ProcFiles + Drop, A: Grows> Proces
         })
     }
 
-    // Ends what was given up.
+    // Ends the agents that were given up.
     fn end_given_up(&mut self)
         ensures same { processes_of self.new ≡ processes_of self.old }
         ensures none { runs_of self.new.killed.agents.items ≡ [] }
@@ -82,7 +82,7 @@ impl<R: process::Processes + Clock + Eprint + ProcFiles + Drop, A: Grows> Proces
         end_all(&self.rt, self.alloc, &mut self.killed, &mut self.dying);
     }
 
-    // Starts an agent, unless one of its resource that was killed lives on. Why the system refuses it is said on standard error.
+    // Spawns an agent, unless a killed one of its resource lives on. A refusal by the system is written to the log.
     fn spawned<L: Allocator>(&mut self, launch: &Launch<L>) -> Result<Child<R::Started>, StartFault>
         ensures same { processes_of self.new ≡ processes_of self.old }
         ensures live { self.new.live ≡ self.old.live }
@@ -101,7 +101,7 @@ impl<R: process::Processes + Clock + Eprint + ProcFiles + Drop, A: Grows> Proces
         }
     }
 
-    // Gives a child up, to be ended. The log says so.
+    // Gives an agent up, to be ended later, and writes that to the log.
     fn give_up(&mut self, run: RunId, end: LoggedEnd)
         requires lives { Contains (processes_of self.old).live run }
         ensures gone { processes_of self.new
@@ -119,12 +119,12 @@ impl<R: process::Processes + Clock + Eprint + ProcFiles + Drop, A: Grows> Proces
     }
 }
 
-// The moment of the monotonic clock, by which times are measured.
+// A reading of the monotonic clock, zero where it fails.
 fn monotonic(rt: &impl Clock) -> Duration {
     rt.monotonic().unwrap_or(Duration::ZERO)
 }
 
-// How many milliseconds have passed since a moment of the monotonic clock.
+// How many milliseconds have passed since a reading of the monotonic clock.
 fn millis_since(rt: &impl Clock, begun: Duration) -> u64 {
     let passed = monotonic(rt).saturating_sub(begun);
     u64::try_from(passed.as_millis()).unwrap_or(u64::MAX)
@@ -145,14 +145,14 @@ fn log_end<R: Clock + Eprint, P: OpenProcess + Drop>(
     log.end(rt, &agent.id, ended);
 }
 
-// Writes to the log that the agents of a run that ends are killed.
+// Writes to the log that all these agents are killed, because the session ends.
 fn log_killed<R: Clock + Eprint, P: OpenProcess + Drop>(rt: &R, log: &Log, agents: &[Agent<P>]) {
     for agent in agents {
         log_end(rt, log, agent, LoggedEnd::Killed);
     }
 }
 
-// Writes to the log that an agent was not started.
+// Writes to the log that an agent was not spawned.
 fn log_refused<R: Clock + Eprint, L: Allocator>(
     rt: &R,
     log: &Log,
@@ -167,7 +167,7 @@ fn log_refused<R: Clock + Eprint, L: Allocator>(
     log.end(rt, &launch.id, ended);
 }
 
-// Ends agents that were given up. What lives on is named, and asked for later.
+// Ends agents that were given up. Those that live on are named on standard error and reaped later.
 fn end_all<
     R: process::Processes + Clock + Eprint + ProcFiles,
     P: OpenProcess + Drop,
@@ -184,23 +184,23 @@ fn end_all<
     }
 }
 
-// Says on standard error that an agent lives on that was killed, and that it holds its resource up.
+// Reports on standard error that a killed agent lives on, and that it delays the actions of its resource.
 fn tell_killed<R: Eprint + ProcFiles, P: OpenProcess + Drop>(rt: &R, agent: &Agent<P>) {
     let run = agent.run.get();
     tell_alive(rt, &agent.child, format_args!("run {run}"));
     let id = name_text(agent.id.as_bytes());
     let _ = rt.eprintln(format_args!(
-        "ocfexec: until it ends this executor starts no action of {id} but a stop"
+        "ocfexec: until it ends, no action of {id} except stop is started"
     ));
 }
 
-// Says on standard error which signal ended an agent, since its result does not record that.
+// Reports on standard error which signal ended an agent, since its result does not record that.
 fn tell_signaled<R: Eprint, P: OpenProcess + Drop>(rt: &R, agent: &Agent<P>, signal: u8) {
     let (run, id) = (agent.run.get(), name_text(agent.id.as_bytes()));
     let _ = rt.eprintln(format_args!("ocfexec: run {run} of {id} was ended by signal {signal}"));
 }
 
-// The word for the action of an invocation: its last argument.
+// The name of the action of an invocation: its last argument.
 fn action_of<L: Allocator>(invocation: &Invocation<L>) -> &str {
     match invocation.arguments().last() {
         Some(action) => action.as_str(),
@@ -208,12 +208,13 @@ fn action_of<L: Allocator>(invocation: &Invocation<L>) -> &str {
     }
 }
 
-// Whether a launch is that of a stop, which is started whatever lives of its resource. OCF Resource Agent API 1.1, stop.
+// Whether a launch is that of a stop, which is spawned even while a killed agent of its resource lives on. OCF Resource Agent
+// API 1.1, stop.
 fn is_stop<L: Allocator>(launch: &Launch<L>) -> bool {
     action_of(&launch.invocation) == "stop"
 }
 
-// The fault of a start that the system refuses.
+// Why an agent was not spawned.
 fn refused_run<R: Eprint, L: Allocator>(
     rt: &R,
     launch: &Launch<L>,
@@ -223,7 +224,7 @@ fn refused_run<R: Eprint, L: Allocator>(
     refused(rt, format_args!("run {run} of {id}"), error)
 }
 
-// Starts the program of a launch, which the log says before.
+// Writes to the log that a launch begins, and spawns its agent.
 fn spawn<R: process::Processes + Clock + Eprint, A: Allocator + Copy, L: Allocator>(
     rt: &R,
     alloc: A,

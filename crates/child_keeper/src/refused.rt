@@ -1,4 +1,4 @@
-// What is said of an agent that the system does not start.
+//! Reports an agent that the system did not spawn.
 ghost use Rattle.std.specs.Prelude.{◌≡◌};
 ghost use Rattle.std.specs.IoError.{error_kind};
 ghost use Rattle.child_keeper.specs.Ends.{start_fault};
@@ -14,7 +14,7 @@ pub fn name_text(name: &[u8]) -> &str {
     str::from_utf8(name).unwrap_or_default()
 }
 
-/// Why an agent was not started, by the system's error. The error is reported on standard error where the recorded result does
+/// Why an agent was not spawned, by the system's error. The error is reported on standard error where the recorded result does
 /// not say which one it was.
 pub fn refused<R: Eprint, W: Display + Drop>(rt: &R, what: W, error: &io::Error) -> StartFault
     ensures { result ≡ start_fault (error_kind error.now) }

@@ -1,11 +1,11 @@
-//! What scripted children are to answer.
+//! The script of simulated agent processes.
 use crate::{KillFault, Poll};
 use ocf_types::StartFault;
 use std::alloc::{Allocator, Global};
 use std::collections::VecDeque;
 
-/// The answers to starts, to polls and to kills, each in its order. After the last one a child starts, runs on and lets
-/// itself be killed.
+/// The answers to starts, polls and kills, each list in its order. After the end of its list a start succeeds, a poll answers
+/// that the process runs, and a kill succeeds.
 #[derive(Drop)]
 pub struct Script<A: Allocator = Global> {
     pub starts: VecDeque<Result<(), StartFault>, A>,

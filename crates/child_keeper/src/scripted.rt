@@ -1,4 +1,4 @@
-//! Children that play a script.
+//! Simulated agent processes that answer by a script.
 ghost use Rattle.std.specs.Prelude.{◌≡◌, ◌-◌, ◌<◌, ◌==◌, ◌≤◌, [], Contains, IfOk, IsTrue, None, OnErr, drop, length};
 ghost use Rattle.std.specs.VecDeque.{deque_items};
 ghost use Rattle.exec_journal.specs.Journal.{journal_disk};
@@ -17,7 +17,7 @@ use ocf_types::{RunId, StartFault};
 use std::alloc::{AllocError, Allocator, Global};
 use std::collections::VecDeque;
 
-/// Children that answer what a script says, and start nothing. They take no memory once they are made.
+/// Agent processes that answer what a script says; nothing is spawned. They take no memory after they are made.
 #[derive(Drop)]
 pub struct Scripted<A: Allocator = Global> {
     script: Script<A>,
@@ -30,8 +30,8 @@ pub struct Scripted<A: Allocator = Global> {
 impl<A: Grows> Scripted<A> {
     ghost use Rattle.child_keeper.specs.Scripted.{children_of, planned_in, script_of, script_view};
 
-    /// Children that play a script, with a book of this many entries. It fails only where memory is refused; there is none for
-    /// a book of more than [`GROWTH_LIMIT`] entries.
+    /// Agent processes that answer by a script, with a book of this many entries. It fails where memory is refused, and for a book
+    /// of more than [`GROWTH_LIMIT`] entries.
     pub fn new(alloc: A, script: Script<A>, book: usize) -> Result<Scripted<A>, AllocError>
         ensures children { IfOk result
             (λ c. children_of c ≡ record { book = []; log = []; room = book; last_run = 0; live = []; site = None }) }
@@ -47,8 +47,8 @@ impl<A: Grows> Scripted<A> {
         })
     }
 
-    /// The start, poll or kill that is this many calls ahead, 1 for the next one, will fail; 0 cancels the plan. The answer
-    /// of its list is consumed and not given.
+    /// The start, poll or kill that is this many calls ahead, 1 for the next one, will fail; 0 cancels the plan. The call still
+    /// consumes the next answer of its list.
     pub fn plan_fault(&mut self, calls: u64)
         ensures planned { script_of self.new ≡ planned_in calls (script_of self.old) }
         ensures children { children_of self.new ≡ children_of self.old }
@@ -56,7 +56,7 @@ impl<A: Grows> Scripted<A> {
         self.fault_in = calls;
     }
 
-    // One call more: whether it is to fault.
+    // Counts a call, and returns whether it is to fail.
     fn faults(&mut self) -> bool
         ensures counted { self.new ≡ record self.old { fault_in = self.old.fault_in - 1 } }
         ensures value { result ≡ (self.old.fault_in == 1) }
@@ -67,7 +67,7 @@ impl<A: Grows> Scripted<A> {
     }
 }
 
-// The next answer of a list, and after its end the last one again.
+// Takes the next answer from a list: `last` after its end.
 fn next_of<T: Drop, A: Allocator>(list: &mut VecDeque<T, A>, last: T) -> T
     ensures value { result ≡ head_or last (deque_items list.old) }
     ensures rest { deque_items list.new ≡ drop 1 (deque_items list.old) }

@@ -6,7 +6,7 @@ use std::process::ChildStdout;
 
 /// A stream whose bytes can be waited for.
 pub trait Waited {
-    /// Waits for at most this many milliseconds. Gives whether a read would not block then: there are bytes, or no more will come.
+    /// Waits for at most this many milliseconds. Returns whether a read would not block then: there are bytes, or the stream has ended.
     fn is_ready(&self, millis: u32) -> bool;
 }
 
@@ -17,7 +17,7 @@ impl Waited for ChildStdout {
             events: POLLIN,
             revents: 0,
         }];
-        // a signal ends it early, and then it is not ready
+        // a signal ends the wait early; the stream then counts as not ready
         poll(&mut asked, i32::try_from(millis).unwrap_or(i32::MAX)) > 0
     }
 }

@@ -1,4 +1,4 @@
--- What contracts see of children, and what each call does to it.
+-- The view of agent processes, and how each call changes it.
 use Rattle.std.specs.Prelude.{◌≡◌, ℕ, ◌+◌, ◌-◌, ◌==◌, ⊤, List, [], ◌∷◌, ◌++◌, filter, length, not, Option, Some, None, Result, Ok, Err, All}
 use Rattle.std.specs.Prelude.{Contains}
 use Rattle.ocf_env.specs.Places.{SiteView}
@@ -11,12 +11,12 @@ use Rattle.child_model.specs.declared.answer.KillFault.{KillFault}
 use Rattle.child_model.specs.declared.answer.Poll.{Poll}
 use Rattle.child_model.specs.declared.answer.Poll.TheVariants as poll
 
--- how many children may live at once: one for each resource
+-- how many agent processes may live at once: one for each resource
 abbrev pub live_limit : ℕ
 live_limit = resources_limit
 
--- the book of answers and how many more it takes, the log of all answers ever, which no memory holds, the greatest run that
--- was asked to start (0 where none was), the runs that live, by their start, and the site that the children insist on, if any
+-- the book of answers and how many more entries fit, the log of all answers, which exists only in contracts, the greatest run for
+-- which a start was called (0 if none was), the live runs in the order of their starts, and the site that agents must be at, if any
 pub record ChildrenView : Type 0 where
   pub book : List Entry
   pub log : List Entry
@@ -25,16 +25,16 @@ pub record ChildrenView : Type 0 where
   pub live : List ℕ
   pub site : Option SiteView
 
--- where this site is insisted on, if any, agents may be started at that one
+-- agents may be started at a site: at any, or only at the one that they must be at
 abbrev pub Admits : Option SiteView → SiteView → Type 0
 Admits None site = ⊤
 Admits (Some insisted) site = site ≡ insisted
 
--- the live runs but this one
+-- the live runs except this one
 abbrev pub without_run : ℕ → List ℕ → List ℕ
 without_run run live = filter (λ r. not (r == run)) live
 
--- what the book says of a start, a poll and a kill
+-- the answer in the book to a start, a poll and a kill
 abbrev pub start_answer : Result Unit StartFault → Answer
 start_answer answer = asked.Start answer
 
@@ -44,49 +44,49 @@ poll_answer answer = asked.Poll answer
 abbrev pub kill_answer : Result Unit KillFault → Answer
 kill_answer answer = asked.Kill answer
 
--- one entry more: of this run, at this count of device calls
+-- these entries and one more: of this run, at this count of device calls
 abbrev pub noted : List Entry → ℕ → ℕ → Answer → List Entry
 noted entries run at answer = entries ++ record { run = run; at = at; answer = answer } ∷ []
 
--- the same in the book, where it takes a place, and in the log
+-- the view with one more entry, in the book, which has capacity for one fewer then, and in the log
 abbrev pub with_entry : ChildrenView → ℕ → ℕ → Answer → ChildrenView
 with_entry v run at answer = record v { book = noted v.book run at answer; log = noted v.log run at answer; room = v.room - 1 }
 
--- a run that was started lives
+-- the live runs after a start: this run too, if it succeeded
 abbrev pub live_started : Result Unit StartFault → ℕ → List ℕ → List ℕ
 live_started (Ok x) run live = live ++ run ∷ []
 live_started (Err fault) run live = live
 
--- a run that was polled lives where it still runs
+-- the live runs after a poll: without this run, unless it still runs
 abbrev pub live_polled : Poll → ℕ → List ℕ → List ℕ
 live_polled poll.Running run live = live
 live_polled _ run live = without_run run live
 
--- after a start of a run, asked when the journal's disk had had this many device calls
+-- the view after a start of a run, called when the journal's disk had had this many device calls
 abbrev pub after_start : ChildrenView → ℕ → ℕ → Result Unit StartFault → ChildrenView
 after_start v run at answer = record (with_entry v run at (start_answer answer)) { last_run = run; live = live_started answer run v.live }
 
--- after a poll of a run
+-- the view after a poll of a run
 abbrev pub after_poll : ChildrenView → ℕ → Poll → ChildrenView
 after_poll v run answer = record (with_entry v run 0 (poll_answer answer)) { live = live_polled answer run v.live }
 
--- after a kill of a run: it lives no more, whatever the kill answered
+-- the view after a kill of a run: it no longer lives, whatever the kill answered
 abbrev pub after_kill : ChildrenView → ℕ → Result Unit KillFault → ChildrenView
 after_kill v run answer = record (with_entry v run 0 (kill_answer answer)) { live = without_run run v.live }
 
--- after all were given up
+-- the view after all agent processes were given up
 abbrev pub given_up : ChildrenView → ChildrenView
 given_up v = record v { live = [] }
 
--- after the book was emptied: the places of its entries are free again, and the log is as it was
+-- the view after the book was cleared: the capacity of its entries is free again, and the log has not changed
 abbrev pub emptied : ChildrenView → ChildrenView
 emptied v = record v { book = []; room = v.room + length v.book }
 
--- this entry is the last one of the book and of the log now, after all that were there
+-- this entry was appended to the book and to the log
 abbrev pub Adds : ChildrenView → ChildrenView → Entry → Type 0
 Adds old new entry = (new.book ≡ old.book ++ entry ∷ []) × (new.log ≡ old.log ++ entry ∷ [])
 
--- what the book says of a start, whether or not it was done
+-- an answer is one to a start, which may have succeeded or not
 abbrev pub IsOfStart : Answer → Type 0
 IsOfStart (asked.Start answer) = ⊤
 IsOfStart _ = ⊥
@@ -95,6 +95,6 @@ IsOfStart _ = ⊥
 abbrev pub Asked : List Entry → ℕ → ℕ → Type 0
 Asked book run at = (answer : Answer) × IsOfStart answer × Contains book (record { run = run; at = at; answer = answer })
 
--- none of these entries is a start's
+-- none of these entries is that of a start
 abbrev pub AsksNothing : List Entry → Type 0
 AsksNothing entries = All (λ e. IsOfStart e.answer → ⊥) entries

@@ -1,4 +1,4 @@
--- What a book asked for, and who lives without a run.
+-- The starts that a book asked for, and the live runs without one.
 use Rattle.std.specs.Prelude.{◌≡◌, ◌≢◌, ◌↔◌, ◌⊎◌, ℕ, zero, suc, ◌+◌, ◌≤◌, ◌==◌, List, [], ◌∷◌, ◌++◌, length, not, Contains}
 use Rattle.std.proofs.Common.{inl, inr, arith, sym, ◌∙◌}
 use Rattle.std.proofs.lemmas.Bool.{cond_both, eqb-false, not-true, not-false, eqb-true}
@@ -6,7 +6,7 @@ use Rattle.std.proofs.lemmas.List.Elements.{All-contains, Contains-append_left, 
 use Rattle.child_model.specs.declared.answer.Entry.{Entry}
 use Rattle.child_model.specs.Children.{Asked, AsksNothing, IsOfStart, without_run}
 
--- a book asked for what its two parts asked for
+-- two books after one another asked for what either asked for
 pub asked_append : (b c : List Entry) (run at : ℕ) → Asked (b ++ c) run at ↔ (Asked b run at ⊎ Asked c run at)
 asked_append b c run at = (
   λ a. elim (Contains-append_cases b c (record { run = run; at = at; answer = a.0 }) a.2) [
@@ -21,11 +21,12 @@ asked_append b c run at = (
   ],
 )
 
--- entries of polls and kills asked for nothing
+-- entries of polls and kills ask for nothing
 pub asked_polls : (entries : List Entry) (run at : ℕ) → AsksNothing entries → Asked entries run at → ⊥
 asked_polls entries run at none asked =
     All-contains (λ (e : Entry). IsOfStart e.answer → ⊥) entries (record { run = run; at = at; answer = asked.0 }) none asked.2 asked.1
 
+-- an element of a list is the first or one of the rest
 pub first_or_rest : (x r : ℕ) (live : List ℕ) → Contains (x ∷ live) r → (x ≡ r) ⊎ Contains live r
 first_or_rest x r live (zero, h, e) = inl e
 first_or_rest x r live (suc k, h, e) = inr (k, omega (arith, h), e)
@@ -33,7 +34,7 @@ first_or_rest x r live (suc k, h, e) = inr (k, omega (arith, h), e)
 in_rest : (x r : ℕ) (live : List ℕ) → Contains live r → Contains (x ∷ live) r
 in_rest x r live h = (suc h.0, omega (arith, h.1), h.2)
 
--- the others still live without a run
+-- the other runs still live without a run
 pub kept : (run r : ℕ) (live : List ℕ) → r ≢ run → Contains live r → Contains (without_run run live) r
 kept run r [] other lives = lives
 kept run r (x ∷ live) other lives = elim (first_or_rest x r live lives) [
@@ -43,7 +44,7 @@ kept run r (x ∷ live) other lives = elim (first_or_rest x r live lives) [
       (λ _. in_rest x r (without_run run live) (kept run r live other h)) (λ _. kept run r live other h)
 ]
 
--- who lives without a run lived, and is another
+-- a run that lives without another lived before, and is not the other
 pub lived : (run r : ℕ) (live : List ℕ) → Contains (without_run run live) r → Contains live r × (r ≢ run)
 lived run r [] lives = absurd (omega (arith, lives.1))
 lived run r (x ∷ live) lives =
@@ -55,7 +56,7 @@ lived run r (x ∷ live) lives =
     (λ _ rest. (in_rest x r live (lived run r live rest).0, (lived run r live rest).1))
     lives
 
--- without a run no more live, and fewer where it lived
+-- without a run as many live at most, and fewer if it lived
 pub no_more : (run : ℕ) (live : List ℕ) → length (without_run run live) ≤ length live
 no_more run [] = omega arith
 no_more run (x ∷ live) =

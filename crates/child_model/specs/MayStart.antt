@@ -1,4 +1,4 @@
--- When an agent may be started, and which.
+-- When an agent may be started, and with which launch.
 use Rattle.std.specs.Prelude.{◌≡◌, Option, Some}
 use Rattle.ocf_types.specs.Resource.{Resource}
 use Rattle.ocf_types.specs.State.{State, resource_at}
@@ -12,8 +12,8 @@ use Rattle.ocf_env.specs.Places.{Call, SiteView}
 use Rattle.ocf_env.specs.declared.launches.LaunchOf.{LaunchOf}
 use Rattle.child_model.specs.Children.{Admits}
 
--- At this state an action runs under the launch's call and run in the resource of its id; the launch calls the agent that
--- is registered there, for that action, with the parameters that are registered, at the site that is insisted on, if any.
+-- in this state an action runs, under the launch's call and run, in the resource of its id; the launch calls the agent that is
+-- registered there for that action, with the registered parameters, at the site that agents must be at, if any
 pub record IsLaunch (insisted : Option SiteView) (s : State) (launch : LaunchOf Call) : Type 0 where
   pub site : SiteView
   pub admitted : Admits insisted site
@@ -25,7 +25,7 @@ pub record IsLaunch (insisted : Option SiteView) (s : State) (launch : LaunchOf 
   pub run_is : running.run ≡ launch.run
   pub invocation : IsInvocation site (registration_of launch.id resource) running launch.invocation
 
--- the journal, over a disk in this view, is settled at a state in which the launched action runs: whatever a crash leaves,
--- its begin is found; the launch is at the site that is insisted on, if any
+-- the journal, over a disk in this view, is settled at a state in which the launched action runs: its begin is found after every
+-- crash. The launch is at the site that agents must be at, if any
 abbrev pub MayStart : {D M : Type 0} → Option SiteView → Journal D M → View → LaunchOf Call → Type 0
 MayStart insisted j v launch = (s : State) × Settled j v s × IsLaunch insisted s launch

@@ -1,42 +1,42 @@
-//! What children answer, and the book's entries.
+//! The answers about agent processes, and the entries of the book.
 use ocf_types::{RunId, StartFault};
 use thiserror::Error;
 
-/// What a child answered when it was asked whether it still runs.
+/// The result of a poll of an agent process.
 #[derive(Clone, Copy)]
 pub enum Poll {
-    /// It does.
+    /// It still runs.
     Running,
     /// It ended with this exit code. OCF Resource Agent API 1.1, exit codes.
     Exited(u8),
     /// This signal ended it, as signal(7) numbers them; 0 where the system names none.
     Signaled(u8),
-    /// It could not be asked. It is given up.
+    /// The system failed to answer. The process is given up.
     Fault,
 }
 
-/// The system refused to kill a child. It is given up all the same.
+/// The system refused to kill an agent process, which is given up all the same.
 #[derive(Clone, Copy, Debug, PartialEq, Eq, Error)]
 #[error("an agent could not be killed: look for its process")]
 pub struct KillFault;
 
-/// What a child was asked for, and what it answered.
+/// A call for an agent process, with its result.
 #[derive(Clone, Copy)]
 pub enum Answer {
-    /// To start.
+    /// Its start.
     Start(Result<(), StartFault>),
-    /// Whether it still runs.
+    /// A poll.
     Poll(Poll),
-    /// To be killed.
+    /// A kill.
     Kill(Result<(), KillFault>),
 }
 
-/// One answer of a child.
+/// An entry of the book: one call and its result.
 #[derive(Clone, Copy)]
 pub struct Entry {
-    /// The run that was asked.
+    /// The run that was started, polled or killed.
     pub run: RunId,
-    /// For a start how many device calls the journal's disk had had, else 0.
+    /// For a start, how many device calls the journal's disk had had by then; else 0.
     pub at: u64,
     pub answer: Answer,
 }

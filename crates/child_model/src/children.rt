@@ -1,4 +1,4 @@
-//! Children as the executor sees them.
+//! Agent processes as the executor sees them.
 ghost use Rattle.std.specs.Prelude.{◌≡◌, ◌↔◌, ◌<◌, Contains, IsTrue, length};
 ghost use Rattle.exec_journal.specs.Journal.{journal_disk};
 ghost use Rattle.child_model.specs.Children.{ChildrenView, after_kill, after_poll, after_start, emptied, given_up, live_limit};
@@ -11,14 +11,14 @@ use ocf_env::Launch;
 use ocf_types::{RunId, StartFault};
 use std::alloc::Allocator;
 
-/// Agents that were started, each under its run number, and the book of what they answered.
+/// Agent processes, each under its run number, and the book of their answers.
 ///
-/// `start`, `poll` and `kill` add one entry each, with the answer that they return. None of the calls takes memory of its
-/// own; what the system needs to start a program is the system's.
+/// `start`, `poll` and `kill` add one entry each, with the answer that they return. The calls take no memory, except what the
+/// system needs to spawn a program.
 pub trait Children {
     ghost view: { Self → ChildrenView };
 
-    /// Starts an agent, once the journal has its begin for good. Its run lives from then on, unless the start is refused.
+    /// Spawns an agent. Its begin must be durable in the journal. Its run then lives, unless the system refuses the spawn.
     fn start<D: Disk + Drop, A: Allocator + Copy, L: Allocator>(
         &mut self,
         journal: &Journal<D, A>,
@@ -33,48 +33,49 @@ pub trait Children {
             ≡ after_start (view self.old) launch.now.run
             (D.view (journal_disk journal.now)).clock result };
 
-    /// Asks a child whether it still runs. One that has ended, or that cannot be asked, lives no more.
+    /// Polls the agent process of a run. If it has ended, or the system fails to answer, the run no longer lives.
     fn poll(&mut self, run: RunId) -> Poll
         requires room { 0 < (view self.old).room }
         requires lives { Contains (view self.old).live run }
         ensures polled { view self.new ≡ after_poll (view self.old) run result };
 
-    /// Gives a child up to be killed. It lives no more, whatever the system answers. Its process may end as late as in the next
-    /// `end_killed`, together with all others that were killed.
+    /// Gives an agent process up, to be killed. Its run no longer lives, whatever the system answers. The process may end as late as
+    /// in the next `end_killed`, together with all others that were killed.
     fn kill(&mut self, run: RunId) -> Result<(), KillFault>
         requires room { 0 < (view self.old).room }
         requires lives { Contains (view self.old).live run }
         ensures killed { view self.new ≡ after_kill (view self.old) run result };
 
-    /// Ends all processes that were killed or given up since, with what each of them started, and waits for them together.
+    /// Ends all agent processes that were killed or given up since the last call, with all processes that they started, and waits for
+    /// them together.
     fn end_killed(&mut self)
         ensures same { view self.new ≡ view self.old };
 
-    /// Kills every child that lives and ends its processes. It adds no entry.
+    /// Kills every agent process that lives, and ends all that it started. It adds no entry.
     fn give_up_all(&mut self)
         ensures given_up { view self.new ≡ given_up (view self.old) };
 
-    /// Empties the book.
+    /// Clears the book.
     fn clear_book(&mut self)
         ensures emptied { view self.new ≡ emptied (view self.old) };
 
-    /// The greatest run that was asked to start, 0 where none was.
+    /// The greatest run for which a start was called, 0 if none was.
     fn last_run(&self) -> u64
         ensures value { result ≡ (view self.now).last_run };
 
-    /// The answers since the book was emptied, in their order.
+    /// The answers since the book was last cleared, in order.
     fn book(&self) -> &[Entry]
         ensures value { result.now ≡ (view self.now).book };
 
-    /// How many entries more the book takes.
+    /// How many more entries fit into the book.
     fn room(&self) -> usize
         ensures value { result ≡ (view self.now).room };
 
-    /// Whether the child of a run lives.
+    /// Whether a run lives.
     fn is_live(&self, run: RunId) -> bool
         ensures value { IsTrue result ↔ Contains (view self.now).live run };
 
-    /// How many children live.
+    /// How many runs live.
     fn live_count(&self) -> usize
         ensures value { result ≡ length (view self.now).live };
 }

@@ -1,4 +1,4 @@
-//! Laws of children and of their book, each the contract of a function that does nothing.
+//! Lemmas about agent processes and their book, each the contract of a function that does nothing.
 ghost use Rattle.std.specs.Prelude.{◌≡◌, ◌≢◌, ◌↔◌, ◌⊎◌, ℕ, ◌+◌, ◌≤◌, List, ◌++◌, Contains, IsOk, Result};
 ghost use Rattle.std.specs.Prelude.{cond, is_ok, length};
 ghost use Rattle.ocf_types.specs.declared.outcome.StartFault.{StartFault};
@@ -9,8 +9,8 @@ ghost use Rattle.child_model.specs.declared.answer.KillFault.{KillFault};
 ghost use Rattle.child_model.specs.declared.answer.Poll.{Poll};
 ghost use Rattle.child_model.specs.declared.answer.Poll.TheVariants.{Running};
 
-/// A call adds one entry at the end of the book and of the log, of the run that it names, with the answer that it returned.
-/// The log of all answers ever stays where the book is emptied or the children are given up.
+/// A call appends one entry to the book and to the log, with its run and the answer that it returned. The log of all answers
+/// does not change when the book is cleared or all agent processes are given up.
 pub fn one_entry()
     ensures start { (v : ChildrenView) (run at : ℕ) (answer : Result Unit StartFault)
         → Adds v (after_start v run at answer)
@@ -24,15 +24,15 @@ pub fn one_entry()
     ensures stays { (v : ChildrenView) → ((emptied v).log ≡ v.log) × ((given_up v).log ≡ v.log) }
 {}
 
-/// An entry determines what its call answered: no two answers to a start have the same entry, and so for a poll and a kill.
+/// An entry determines the answer of its call: different answers to a start have different entries, and so for a poll and a kill.
 pub fn answers_are_told()
     ensures start { (a b : Result Unit StartFault) → start_answer a ≡ start_answer b → a ≡ b }
     ensures poll { (a b : Poll) → poll_answer a ≡ poll_answer b → a ≡ b }
     ensures kill { (a b : Result Unit KillFault) → kill_answer a ≡ kill_answer b → a ≡ b }
 {}
 
-/// A book asked for the starts of its parts, and an empty one for none. A start's entry asks for its run at its count of
-/// device calls and for nothing else; those of polls and kills ask for nothing.
+/// A book asked for the starts of both its halves, and one without entries of starts for none. The entry of a start asks for its
+/// run at its count of device calls and for nothing else; the entries of polls and kills ask for nothing.
 pub fn starts_asked()
     ensures joined { (b c : List Entry) (run at : ℕ) → Asked (b ++ c) run at
         ↔ (Asked b run at ⊎ Asked c run at) }
@@ -48,8 +48,8 @@ pub fn starts_asked()
         ↔ Asked v.book r t }
 {}
 
-/// After a call each run lives exactly when it lived before, except the one that is named: it lives after a start that
-/// succeeded, and does not after a kill or after a poll that reports anything but that it runs.
+/// After a call each run lives exactly when it lived before, except the run of the call: it lives after a start that succeeded,
+/// and does not live after a kill or a poll that reports anything but that it still runs.
 pub fn who_lives()
     ensures start { (v : ChildrenView) (run at r : ℕ) (answer : Result Unit StartFault)
         → Contains (after_start v run at answer).live r
@@ -61,8 +61,8 @@ pub fn who_lives()
         → Contains (after_kill v run answer).live r ↔ (Contains v.live r × (r ≢ run)) }
 {}
 
-/// A start that is done is one more live run, one that is refused none. A poll is none more, and at least one fewer where
-/// the run lived and the answer is not that it runs; so is a kill where the run lived.
+/// A start that succeeds adds one live run, a refused one none. A poll adds none, and removes at least one if the run lived and
+/// the answer is not that it still runs. A kill removes at least one if the run lived.
 pub fn how_many_live()
     ensures start { (v : ChildrenView) (run at : ℕ) (answer : Result Unit StartFault)
         → length (after_start v run at answer).live ≡ length v.live + cond (is_ok answer) 1 0 }

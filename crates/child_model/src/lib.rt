@@ -1,4 +1,4 @@
-//! What an executor asks of its children: to start, poll and kill agents, with a book of the answers.
+//! The calls by which an executor starts, polls and kills agent processes, and the book of their answers.
 #![tactic(auto)]
 
 mod answer;

@@ -1,5 +1,5 @@
-//! What the program says on standard error as it starts and as it ends: of the fault that ends it, of a stream that failed, and of
-//! signals that it was started with as ignored.
+//! Reports on standard error when the program starts and ends: the fault that ends it, a standard stream that failed, and the
+//! signals that were ignored when it started.
 #![tactic(auto)]
 
 mod signals;

@@ -1,4 +1,4 @@
-//! Which signals the program was started with as ignored.
+//! The signals that were ignored when the program started.
 use proc_files::{is_ignored, read_head};
 use process_ends::System;
 use std::alloc::{AllocError, Global};
@@ -39,11 +39,11 @@ const INHERITED: [(u8, &str); 27] = [
     (31, "SIGSYS"),
 ];
 
-// How much is read of what the system says about this process.
+// How many bytes of `/proc/self/status` are read.
 const STATUS_LIMIT: usize = 16_384;
 
-/// Whether SIGCHLD is ignored: then the system itself reaps each child, and reports of none how it ended. Where the system
-/// does not say, it is taken as not ignored. Linux, signal(7) and wait(2).
+/// Whether SIGCHLD is ignored: the system then reaps each child itself, and reports no exit status. `false` where `/proc` cannot be
+/// read. Linux, signal(7) and wait(2).
 pub fn children_ignored(rt: &HostRuntime) -> bool {
     let mut status = [0u8; STATUS_LIMIT];
     match read_head(rt, "/proc/self/status", &mut status) {
@@ -52,7 +52,7 @@ pub fn children_ignored(rt: &HostRuntime) -> bool {
     }
 }
 
-// The line of a status that says which signals are ignored, with its newline; nothing if there is none.
+// The line SigIgn of a status, with its newline: empty if there is none.
 fn ignored_line(status: &[u8]) -> &[u8] {
     let mut lines = status.split_inclusive(|byte| *byte == b'\n');
     match lines.find(|line| line.starts_with(b"SigIgn:")) {
@@ -61,8 +61,7 @@ fn ignored_line(status: &[u8]) -> &[u8] {
     }
 }
 
-// The names of the signals that agents inherit as ignored, by that line of the program, as `SIGINT, SIGQUIT`. It fails only where
-// memory is refused.
+// The names of the signals that agents inherit as ignored, by that line, as `SIGINT, SIGQUIT`. It fails only where memory is refused.
 fn ignored_names(alloc: Global, line: &[u8]) -> Result<String, AllocError> {
     let mut names = String::new(alloc);
     for (number, name) in INHERITED.iter() {
@@ -76,7 +75,8 @@ fn ignored_names(alloc: Global, line: &[u8]) -> Result<String, AllocError> {
     Ok(names)
 }
 
-/// Names on standard error the signals that agents inherit as ignored, in one line, if there are any and the system says so.
+/// Reports the signals that agents inherit as ignored, in one line on standard error. Nothing is written if there are none or
+/// `/proc` cannot be read.
 pub fn tell_ignored(system: &System<'_>) {
     let rt = system.host();
     let mut status = [0u8; STATUS_LIMIT];

@@ -1,5 +1,5 @@
-//! What standard error says of the fault that ends the program: one line, for a program that reads it. A person, at a
-//! terminal or in the system's journal, is also told what caused it and what can be done about it.
+//! Reports of the fault that ends the program: one line on standard error. If a person reads that, at a terminal or in the
+//! system's journal, lines with the cause and with advice follow.
 use exec_output::Fault;
 use process_ends::System;
 use std::fmt::Display;
@@ -11,7 +11,7 @@ use std::{fs, str};
 // A path that leads to standard error. Linux, proc(5).
 const STANDARD_ERROR: &str = "/proc/self/fd/2";
 
-// How many bytes two numbers of 64 bits have at most in decimals, with a colon between them.
+// How many bytes two decimal numbers of 64 bits have at most, with a colon between them.
 const STREAM_LIMIT: usize = 41;
 
 // The device and the inode that a text names, as `66306:1234`. systemd.exec(5), JOURNAL_STREAM.
@@ -20,8 +20,8 @@ fn device_and_inode(text: &str) -> Option<(u64, u64)> {
     Some((device.parse().ok()?, inode.parse().ok()?))
 }
 
-/// Whether standard error is the stream to the system's journal that the environment names. It takes no memory, of which there may
-/// be none.
+/// Whether standard error is the stream to the system's journal that the environment names. It takes no memory, since there may be
+/// none.
 pub fn is_journal(rt: &HostRuntime) -> bool {
     let mut room = [0u8; STREAM_LIMIT];
     let Ok(length) = rt.var("JOURNAL_STREAM", &mut room) else {
@@ -41,32 +41,32 @@ fn is_for_a_person(rt: &HostRuntime) -> bool {
     rt.stderr().is_terminal() || is_journal(rt)
 }
 
-/// Names a fault, in its one line.
+/// Writes the line of a fault.
 pub fn name(system: &System<'_>, fault: Fault) {
     let _ = system.eprintln(format_args!("ocfexec: {fault}"));
 }
 
-/// Adds a line for a person, and none where a program reads standard error.
+/// Writes a line if a person reads standard error.
 pub fn explain<W: Display + Drop>(system: &System<'_>, text: W) {
     if is_for_a_person(system.host()) {
         let _ = system.eprintln(text);
     }
 }
 
-/// Adds for a person what can be done about a fault, where there is more to say than its line.
+/// Writes the advice for a fault, if there is any and a person reads it.
 pub fn advise(system: &System<'_>, fault: Fault) {
     if let Some(advice) = fault.advice() {
         explain(system, advice);
     }
 }
 
-/// Names a fault, and tells a person what can be done about it.
+/// Reports a fault, with advice for a person.
 pub fn report(system: &System<'_>, fault: Fault) {
     name(system, fault);
     advise(system, fault);
 }
 
-/// Names a fault, and tells a person what caused it and what can be done about it.
+/// Reports a fault, with its cause and advice for a person.
 pub fn report_cause<W: Display + Drop>(system: &System<'_>, fault: Fault, cause: W) {
     name(system, fault);
     explain(system, cause);

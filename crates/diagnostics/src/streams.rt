@@ -1,4 +1,4 @@
-//! Standard input and output: which of them failed, and why.
+//! The errors of standard input and standard output.
 use crate::standard_error::{advise, explain, name};
 use exec_lines::Patient;
 use exec_output::Fault;
@@ -6,13 +6,13 @@ use process_ends::System;
 use std::cell::Cell;
 use std::io::{self, ErrorKind, Read, Write};
 
-/// The first error that a stream met, or none.
+/// The first error that a stream met, if any.
 #[derive(Drop)]
 pub struct FirstError {
     met: Cell<Option<io::Error>>,
 }
 
-/// A reader or a writer whose first error is noted. A call that is only to be made again has met none.
+/// A reader or a writer whose first error is noted. An error after which the call is just repeated does not count.
 #[derive(Drop)]
 pub struct Noted<'a, T> {
     inner: T,
@@ -57,21 +57,21 @@ impl<W: Write> Write for Noted<'_, W> {
 }
 
 impl FirstError {
-    /// None yet.
+    /// No error yet.
     pub fn none() -> FirstError {
         FirstError {
             met: Cell::new(None),
         }
     }
 
-    /// This one.
+    /// This error.
     pub fn of(error: io::Error) -> FirstError {
         FirstError {
             met: Cell::new(Some(error)),
         }
     }
 
-    /// Whether it is that nobody reads what is written any more.
+    /// Whether it is that the reader has gone.
     pub fn is_unread(&self) -> bool {
         match self.met.get() {
             Some(error) => error.kind() == ErrorKind::BrokenPipe,
@@ -90,8 +90,8 @@ impl FirstError {
     }
 }
 
-// Says that input or output failed, and to a person which of them and why. Where neither met an error, the program ended
-// because nobody reads its output.
+// Reports that input or output failed, with the stream and its error for a person. If neither met an error, the program ended because
+// the reader of its output has gone.
 fn tell(system: &System<'_>, input: &FirstError, output: &FirstError) {
     name(system, Fault::InputOrOutput);
     match (input.met.get(), output.met.get()) {
@@ -107,18 +107,18 @@ fn tell(system: &System<'_>, input: &FirstError, output: &FirstError) {
                 format_args!("standard output could not be written: {error}"),
             );
         }
-        (None, None) => explain(system, "nobody reads standard output any more"),
+        (None, None) => explain(system, "the reader of standard output has gone"),
     }
 }
 
-/// Says why what was to be shown or reported is not all written, where output failed. No command was read by then.
+/// Reports a failure of output that ended the program before any command was read.
 pub fn tell_shown(system: &System<'_>, output: &FirstError, ended: Result<(), Fault>) {
     if let Err(Fault::InputOrOutput) = ended {
         tell(system, &FirstError::none(), output);
     }
 }
 
-/// Says why a run ended before its input did, where input or output failed, and what can be done about it.
+/// Reports a failure of input or output that ended a session before its input did, with advice.
 pub fn tell_run(
     system: &System<'_>,
     input: &FirstError,

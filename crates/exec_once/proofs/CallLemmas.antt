@@ -1,4 +1,4 @@
--- What a command asks for whose streams are set.
+-- Commands whose streams are set.
 use Rattle.std.proofs.Common.{◌∙◌}
 use Rattle.std.specs.Process.{SameDir, SameEnv, SameProgramAndArgs}
 use Rattle.std.specs.declared.process.command.Command.{Command}
@@ -7,7 +7,7 @@ use Rattle.ocf_env.specs.Places.{Call, SiteView}
 use Rattle.exec_once.specs.Calls.{AsksForCall, IsCallFor}
 use Rattle.exec_once.specs.declared.call.OnceCall.{OnceCall}
 
--- it asks for the same call as before
+-- a command whose streams are set asks for the same call as before
 pub still_asks : {M : Type 0} (site : SiteView) (c : OnceCall) (old new : Command M) (call : Call) → IsCallFor site c call → Asks old call
     → SameProgramAndArgs old new → SameEnv old new → SameDir old new → AsksForCall site c new
 still_asks site c old new call is asks same env dir = (

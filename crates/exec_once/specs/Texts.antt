@@ -1,10 +1,10 @@
--- What the word of an action that is to be run once names.
+-- The names of actions that are to be run once.
 use Rattle.std.specs.Prelude.{◌≡◌, ℕ, List, codes}
 use Rattle.ocf_types.specs.Actions.{action_of, action_word}
 use Rattle.exec_once.specs.declared.call.What.{What}
 use Rattle.exec_once.specs.declared.call.What.TheVariants.{MetaData, Action}
 
--- the word is that of what is to be done, and within this time
+-- the word names what is to be run, with this timeout
 abbrev pub IsWhat : List ℕ → ℕ → What → Type 0
 IsWhat word timeout MetaData = word ≡ codes "meta-data"
 IsWhat word timeout (Action running) =

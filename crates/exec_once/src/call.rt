@@ -1,4 +1,4 @@
-//! What is to be run once, and how its agent is called.
+//! An action that is to be run once, and the call of its agent.
 ghost use Rattle.std.specs.Prelude.{IfOk, OnErr, IsTrue};
 ghost use Rattle.exec_once.specs.Calls.{IsCallFor};
 
@@ -7,10 +7,10 @@ use ocf_env::{Instance, Invocation, Site, launch, launch_meta};
 use ocf_types::{AgentType, Params, Provider, RscId, Running};
 use std::alloc::{AllocError, Allocator, Global};
 
-/// What an agent is to do.
+/// What the agent is called for.
 #[derive(Clone, Copy)]
 pub enum What {
-    /// To give its metadata. OCF Resource Agent API 1.1, meta-data.
+    /// Its metadata. OCF Resource Agent API 1.1, meta-data.
     MetaData,
     /// An action.
     Action(Running),
@@ -26,7 +26,7 @@ pub struct OnceCall {
     pub params: Params,
 }
 
-/// How the agent of a site is called for it.
+/// The invocation of the agent for it at this site.
 pub fn invocation_of<S: Allocator>(
     alloc: Global,
     site: &Site<S>,

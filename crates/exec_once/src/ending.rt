@@ -1,4 +1,4 @@
-//! How an action ended that was run once.
+//! The end of an action that was run once.
 ghost use Rattle.std.specs.Prelude.{◌≡◌, ◌<◌, IfSome, IfNone, pos};
 ghost use Rattle.std.specs.Process.{child_status};
 ghost use Rattle.child_keeper.specs.Ends.{signal_of};
@@ -14,11 +14,11 @@ pub enum OnceEnd {
     Exited(u8),
     /// This signal ended its agent.
     Signaled(u8),
-    /// It still ran as its timeout passed.
+    /// Its timeout passed before it ended.
     TimedOut,
     /// The system did not report how it ended.
     Lost,
-    /// It was not started.
+    /// Its agent was not spawned.
     NotStarted,
 }
 
@@ -36,14 +36,14 @@ impl OnceEnd {
     }
 }
 
-// The number of the signal that ended a child, 0 where the system names none.
+// The number of the signal that ended an agent, 0 where the system names none.
 fn signal_of(status: ExitStatus) -> u8
     ensures { pos result ≡ signal_of status }
 {
     (status.signal().unwrap_or(0).cast_unsigned() % 256) as u8
 }
 
-// How a child ended, by the status that the system reports.
+// How an agent ended, by the status that the system reports.
 fn end_of(status: ExitStatus) -> OnceEnd
     ensures { TellsStatus status result }
 {
@@ -53,7 +53,7 @@ fn end_of(status: ExitStatus) -> OnceEnd
     }
 }
 
-/// How a child with this many milliseconds left has ended, or `None` where it is to be asked again.
+/// How an agent that has this many milliseconds left has ended: `None` if it is to be polled again.
 pub fn end_now<P: OpenProcess>(child: &mut Child<P>, left: u32) -> Option<OnceEnd>
     ensures ended { IfSome result (IsEndNow (child_status child.new) left) }
     ensures none { IfNone result (0 < left) }

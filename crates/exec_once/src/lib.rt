@@ -1,4 +1,4 @@
-//! One action of an agent, run here and now: without a journal, with the terminal for its output.
+//! Runs one action of an agent at once: without a journal, and with this program's standard output and error for the agent's.
 #![tactic(auto)]
 
 mod call;

@@ -4,18 +4,24 @@ ghost use Rattle.exec_once.specs.Texts.{IsWhat};
 
 use crate::call::What;
 use ocf_types::{
-    Action, AgentType, CallId, Check, Millis, Moment, ParamName, ParamValue, Params, Provider,
-    RunId, Running, Task, ValueError,
+    Action, AgentType, BadName, CallId, Check, Millis, Moment, ParamName, ParamValue, Params,
+    Provider, RunId, Running, Task, ValueError,
 };
 use std::alloc::Global;
 
-/// Why arguments name no action that can be run once.
+/// Why the parameters of an action are refused.
 #[derive(Clone, Copy, Debug, PartialEq, Eq)]
 pub enum OnceFault {
-    /// A parameter is no `NAME=VALUE`, or there are too many.
+    /// A parameter is not of the form `NAME=VALUE`, or there are too many.
     Parameter,
     /// There is no memory for the parameters.
     Memory,
+}
+
+impl From<BadName> for OnceFault {
+    fn from(_e: BadName) -> OnceFault {
+        OnceFault::Parameter
+    }
 }
 
 impl From<ValueError> for OnceFault {
@@ -27,7 +33,7 @@ impl From<ValueError> for OnceFault {
     }
 }
 
-/// The provider and the type of an agent that a text as `heartbeat:Dummy` names.
+/// The provider and the type of an agent, by a text such as `heartbeat:Dummy`.
 pub fn read_agent(text: &str) -> Option<(Provider, AgentType)> {
     let (provider, agent) = text.split_once(':')?;
     match (
@@ -39,7 +45,8 @@ pub fn read_agent(text: &str) -> Option<(Provider, AgentType)> {
     }
 }
 
-/// What is to be done, by its word, within a time. The call and the run are the first ones, since nothing counts them.
+/// The action of this name, or the metadata, with this timeout in milliseconds. Call and run are the first ones, since nothing counts
+/// them.
 pub fn read_what(word: &str, timeout: u32) -> Option<What>
     ensures { IfSome result (IsWhat word.now timeout) }
 {
@@ -57,21 +64,17 @@ pub fn read_what(word: &str, timeout: u32) -> Option<What>
     }))
 }
 
-// A parameter as `NAME=VALUE`.
+// A parameter of the form `NAME=VALUE`.
 fn read_parameter(alloc: Global, text: &str) -> Result<(ParamName, ParamValue), OnceFault> {
     let Some((name, value)) = text.split_once('=') else {
         return Err(OnceFault::Parameter);
     };
-    let Ok(name) = ParamName::new(name.as_bytes()) else {
-        return Err(OnceFault::Parameter);
-    };
-    match ParamValue::new(alloc, value.as_bytes()) {
-        Ok(value) => Ok((name, value)),
-        Err(error) => Err(OnceFault::from(error)),
-    }
+    let name = ParamName::new(name.as_bytes())?;
+    let value = ParamValue::new(alloc, value.as_bytes())?;
+    Ok((name, value))
 }
 
-/// The parameters that texts name; a later one takes the place of an earlier one of its name.
+/// The parameters in these texts; a later one replaces an earlier one of the same name.
 pub fn read_parameters(alloc: Global, texts: &[&str]) -> Result<Params, OnceFault> {
     let mut params = Params::new(alloc);
     for text in texts {

@@ -1,4 +1,4 @@
-//! How an action is run once.
+//! Runs an action once.
 ghost use Rattle.std.specs.Prelude.{IfOk, OnErr, IsTrue};
 ghost use Rattle.std.specs.Process.{SameDir, SameEnv, SameProgramAndArgs};
 ghost use Rattle.exec_once.specs.Calls.{AsksForCall};
@@ -15,7 +15,7 @@ use std::io::Eprint;
 use std::process::{Child, Command, OpenProcess, Processes, Stdio};
 use std::rt::Clock;
 
-// Has a command write where this program does.
+// Has a command write to this program's standard output and standard error.
 fn write_here(command: &mut Command)
     ensures call { SameProgramAndArgs command.old command.new }
     ensures environment { SameEnv command.old command.new }
@@ -25,7 +25,7 @@ fn write_here(command: &mut Command)
     command.stderr(Stdio::inherit());
 }
 
-// The command that is started for it: just the call of its agent.
+// The command that is spawned: exactly the call of the agent.
 #[tactic(auto, using(crate::proofs::CallLemmas::still_asks))]
 fn command_for<S: Allocator>(
     alloc: Global,
@@ -41,7 +41,7 @@ fn command_for<S: Allocator>(
     Ok(command)
 }
 
-// Asks a child for its end until it has ended or its time is past.
+// Polls an agent until it has ended or its time is up.
 fn await_end<R: Clock, P: OpenProcess>(rt: &R, child: &mut Child<P>, millis: u32) -> OnceEnd {
     let deadline = Deadline::after(rt, millis);
     let mut pauses = Pauses::within(millis);
@@ -54,8 +54,8 @@ fn await_end<R: Clock, P: OpenProcess>(rt: &R, child: &mut Child<P>, millis: u32
     OnceEnd::Lost
 }
 
-/// Runs an action, and waits for its end for at most this many milliseconds: then its agent is killed, with all its descendants.
-/// The agent has nothing to read, and writes where this program does. Why it was not started is reported on standard error.
+/// Runs an action, and waits for its end for at most this many milliseconds; then the agent is killed, with all its descendants. The
+/// agent's standard input is empty, and its output goes to this program's. If it is not spawned, the cause is reported on standard error.
 pub fn run_once<R: Processes + Clock + Eprint + ProcFiles, S: Allocator>(
     rt: &R,
     alloc: Global,

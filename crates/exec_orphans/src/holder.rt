@@ -1,4 +1,4 @@
-//! Which executor held a journal last: it leaves a record of itself in the journal's directory.
+//! The record that an executor leaves of itself in its journal's directory.
 use file_disk::OWNER_ONLY;
 use proc_files::{ProcFiles, read_head};
 use process_ends::System;
@@ -8,36 +8,36 @@ use std::io::{self, Eprint, ErrorKind, Write};
 use std::os::unix::fs::OpenOptionsExt;
 use std::str;
 
-// How many bytes are read of such a file, and of the system's own.
+// How many bytes are read of such a file, and of each file of the system.
 const LIMIT: usize = 256;
 
-/// What an executor records of itself: the session that its agents are in, and which moment of its clock was at which time
-/// after the system's boot. So a later executor knows the processes of these agents, and since when each of them runs.
+/// The record of an executor: the session of its agents, and a moment of its clock with the system's uptime at that moment. With
+/// it a later executor finds the processes of these agents, and computes since when each of them runs.
 #[derive(Clone, Copy)]
 pub struct Holder {
-    /// POSIX, getsid.
+    /// The session that its agents are in. POSIX, getsid.
     pub session: u32,
-    /// In milliseconds, as in the journal.
+    /// A moment of its clock, in milliseconds as in the journal.
     pub moment: u64,
-    /// How long after the system's boot that was, in milliseconds.
+    /// The system's uptime at that moment, in milliseconds.
     pub uptime: u64,
 }
 
 impl Holder {
-    /// The moment that its clock shows so long after the system's boot, in milliseconds.
+    /// The moment of its clock at this uptime of the system, both in milliseconds.
     pub fn moment_at(self, uptime: u64) -> u64 {
         self.moment
             .saturating_add(uptime.saturating_sub(self.uptime))
     }
 }
 
-// The first words of a small file of the system.
+// The text of a small file, cut at the length of the buffer.
 fn text_in<'a>(rt: &HostRuntime, path: &str, room: &'a mut [u8]) -> Option<&'a str> {
     let length = read_head(rt, path, room).ok()?;
     str::from_utf8(&room[..length]).ok()
 }
 
-// The milliseconds of seconds with two decimals.
+// The milliseconds in a number of seconds that has two decimals.
 fn millis_of(text: &str) -> Option<u64> {
     let (seconds, hundredths) = text.split_once('.')?;
     let seconds = seconds.parse::<u64>().ok()?.checked_mul(1_000)?;
@@ -45,19 +45,19 @@ fn millis_of(text: &str) -> Option<u64> {
     seconds.checked_add(u64::from(hundredths) * 10)
 }
 
-/// How long ago the system was booted, in milliseconds. Linux, proc(5), uptime.
+/// The system's uptime in milliseconds. Linux, proc(5), uptime.
 pub fn uptime(rt: &HostRuntime) -> Option<u64> {
     let mut room = [0u8; LIMIT];
     let (uptime, _) = text_in(rt, "/proc/uptime", &mut room)?.split_once(' ')?;
     millis_of(uptime)
 }
 
-// Which boot of the system this is, by its name. Linux, random(4).
+// The identifier of this boot of the system. Linux, random(4).
 fn boot_id<'a>(rt: &HostRuntime, room: &'a mut [u8]) -> Option<&'a str> {
     Some(text_in(rt, "/proc/sys/kernel/random/boot_id", room)?.trim_end())
 }
 
-// What a text says of an executor of this boot.
+// The record in a text, if it is that of an executor of this boot.
 fn holder_in(text: &str, boot: &str) -> Option<Holder> {
     let (found, rest) = text.split_once(' ')?;
     if found != boot {
@@ -72,7 +72,7 @@ fn holder_in(text: &str, boot: &str) -> Option<Holder> {
     })
 }
 
-/// What the last executor of this boot left in this directory, if anything.
+/// The record that the last executor left in this directory, if that ran in this boot.
 pub fn read_holder(rt: &HostRuntime, folder: &str) -> Option<Holder> {
     let (mut room, mut name) = ([0u8; LIMIT], [0u8; LIMIT]);
     let path = format!(in rt.alloc(); "{folder}/executor").ok()?;
@@ -82,7 +82,7 @@ pub fn read_holder(rt: &HostRuntime, folder: &str) -> Option<Holder> {
     )
 }
 
-// Writes a new file beside the old one, and renames it over that.
+// Writes the record to a new file beside the old one, and renames it over the old one.
 fn put(rt: &HostRuntime, folder: &str, moment: u64) -> io::Result<()> {
     let mut room = [0u8; LIMIT];
     let (Some(boot), Some(uptime)) = (boot_id(rt, &mut room), uptime(rt)) else {
@@ -107,7 +107,7 @@ fn put(rt: &HostRuntime, folder: &str, moment: u64) -> io::Result<()> {
 pub fn leave_word(system: &System<'_>, folder: &str, moment: u64) {
     if let Err(error) = put(system.host(), folder, moment) {
         let _ = system.eprintln(format_args!(
-            "ocfexec: {folder}/executor cannot be written, so a later executor may not know all processes of this one: {error}"
+            "ocfexec: {folder}/executor cannot be written, so the next executor may miss processes that this one leaves: {error}"
         ));
     }
 }

@@ -13,7 +13,7 @@ use std::alloc::{AllocError, Global};
 use std::fmt::{self, Display, Formatter};
 use std::str;
 
-/// An action that was interrupted, of the agent in this file.
+/// An interrupted action, with the file of its agent.
 #[derive(Drop)]
 pub struct Interrupted {
     id: RscId,
@@ -21,14 +21,14 @@ pub struct Interrupted {
     action: Action,
     /// Its run.
     pub run: RunId,
-    /// When it began, in clock ticks after the system's boot; no process of it started before.
+    /// When it began, in clock ticks after the system's boot. None of its processes started before.
     since: u64,
     /// How long it may still go on.
     pub deadline: Deadline,
 }
 
 impl Interrupted {
-    /// What its background jobs are known by, in these sessions.
+    /// The mark by which its background jobs in these sessions are recognized.
     pub fn mark<'a>(&'a self, sessions: &'a [u32]) -> ActionMark<'a> {
         ActionMark {
             instance: self.id.as_bytes(),
@@ -38,7 +38,7 @@ impl Interrupted {
         }
     }
 
-    /// Whether a command line is that of the action.
+    /// Whether a command line calls this action of its agent.
     pub fn is_called_by(&self, cmdline: &[u8]) -> bool
         ensures { IsTrue result ↔ Calls cmdline.now self.now.file (action_word self.now.action) }
     {
@@ -66,7 +66,7 @@ impl Display for Interrupted {
     }
 }
 
-// What runs in the resource at a place of a state, as an action that was interrupted.
+// The action that runs in the resource at an index of a state, as an interrupted action.
 fn interrupted_at(
     alloc: Global,
     site: &Site,
@@ -87,7 +87,7 @@ fn interrupted_at(
     })
 }
 
-/// The actions that run at a state, which its executor left.
+/// The interrupted actions of a state: those that ran when its executor ended.
 pub fn all_interrupted(
     alloc: Global,
     site: &Site,

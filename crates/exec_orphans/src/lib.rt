@@ -1,5 +1,5 @@
-//! What is left of the actions of an executor that is gone: the record that it left in the journal's directory, which processes
-//! belong to these actions, and how these are waited for and ended before their interruption is recorded.
+//! The processes that an executor's actions left when it ended: the record that an executor leaves in the journal's directory, which
+//! processes belong to its actions, and how they are waited for and ended before the interruption is recorded.
 #![tactic(auto)]
 
 mod holder;

@@ -1,4 +1,4 @@
-//! What is left of actions whose executor is gone.
+//! The processes that are left of interrupted actions.
 use crate::holder::read_holder;
 use crate::interrupted::{Interrupted, all_interrupted};
 use crate::times::Times;
@@ -19,17 +19,17 @@ const CMDLINE_LIMIT: usize = 16_384;
 // How many bytes are read of an environment: an agent's has at most 64 parameters of at most 1,024 bytes, and some more.
 const ENVIRON_LIMIT: usize = 131_072;
 
-// How long it is from one look to the next, in milliseconds.
+// The pause between two scans of the processes, in milliseconds.
 const PAUSE: u64 = 10;
 
-/// What an opening does about processes that are left of interrupted actions.
+/// What an opening does about the processes of interrupted actions.
 #[derive(Clone, Copy)]
 pub struct Orphans<'a> {
     /// The directory of the journal.
     pub folder: &'a str,
-    /// How long they may go on at most, in milliseconds.
+    /// How long it waits for them at most, in milliseconds.
     pub limit: u64,
-    /// Whether they live on after that.
+    /// Whether they are left alone after that, instead of ended.
     pub leave: bool,
 }
 
@@ -40,7 +40,7 @@ struct Orphan<'a> {
     of: &'a Interrupted,
 }
 
-// Interrupted actions whose processes are looked for: each agent, and its background jobs in these sessions.
+// A search for the processes of interrupted actions: their agents, and the background jobs of these in these sessions.
 #[derive(Drop)]
 struct ActionsSought<'a> {
     rt: &'a HostRuntime,
@@ -68,7 +68,7 @@ impl<'a> ActionsSought<'a> {
         })
     }
 
-    // The action whose agent a process is, by its command line and its environment.
+    // The action whose agent this process is, by its command line and its environment.
     fn agent_of(&mut self, process: &Process) -> Option<&'a Interrupted> {
         let (rt, actions) = (self.rt, self.actions);
         let length = rt.read_of(process.pid, PidFile::CommandLine, &mut self.cmdline);
@@ -84,7 +84,7 @@ impl<'a> ActionsSought<'a> {
             .copied()
     }
 
-    // The action whose background job a process is.
+    // The action whose background job this process is.
     fn job_of(&mut self, process: &Process) -> Option<&'a Interrupted> {
         for action in self.actions {
             let mark = action.mark(self.sessions);
@@ -95,7 +95,7 @@ impl<'a> ActionsSought<'a> {
         None
     }
 
-    // The action that a process is left of.
+    // The action that a process belongs to, unless the process has ended.
     fn action_of(&mut self, process: &Process) -> Option<&'a Interrupted> {
         if process.has_ended {
             return None;
@@ -106,7 +106,7 @@ impl<'a> ActionsSought<'a> {
         }
     }
 
-    // What is left of the actions now. This process, and those that it descends from, are left of none.
+    // The processes that are left of the actions now. This process and its ancestors are never among them.
     fn look(&mut self) -> io::Result<Vec<Orphan<'a>>> {
         let alloc = self.rt.alloc();
         let table = self.rt.processes(alloc)?;
@@ -142,16 +142,17 @@ impl Sought for ActionsSought<'_> {
     }
 }
 
-// Names a process whose action may go on no more.
+// Reports a process whose action is past its deadline.
 fn tell_late(out: &impl Eprint, orphan: &Orphan<'_>, leave: bool) {
-    let done = if leave { "still lives" } else { "is ended" };
+    let done = if leave { "left running" } else { "killed" };
     let _ = out.eprintln(format_args!(
-        "ocfexec: pid {} of {}, which was interrupted, {done}",
+        "ocfexec: pid {} of the interrupted {} is {done}",
         orphan.process.pid, orphan.of
     ));
 }
 
-// Deals with the processes whose actions may go on no more, but for those that were dealt with before.
+// Names the processes whose actions are past their deadlines, except those that were named before, adds them to `dealt`, and ends
+// the processes of these actions unless they are to be left.
 fn deal_with(
     system: &System<'_>,
     how: Orphans<'_>,
@@ -180,8 +181,8 @@ fn deal_with(
     Ok(())
 }
 
-// Looks for what is left of these actions until nothing is that may go on, and deals with what may not: what was dealt with. It
-// fails with the kind `BrokenPipe` once nobody can read what would be reported.
+// Scans until each process that is left of these actions is past its deadline, and deals with each that is. Returns those that were
+// dealt with. It fails with the kind `BrokenPipe` once the reader of the reports has gone.
 fn await_all(
     system: &System<'_>,
     how: Orphans<'_>,
@@ -205,7 +206,7 @@ fn await_all(
     Ok(dealt)
 }
 
-// Waits for what is left of the actions that run at a state, and ends it or leaves it: what is left.
+// Waits for the processes of the interrupted actions of a state, ends or leaves them, and returns those that were left.
 fn await_left(
     system: &System<'_>,
     how: Orphans<'_>,
@@ -230,9 +231,10 @@ fn await_left(
     Ok(if how.leave { dealt } else { Vec::new(alloc) })
 }
 
-/// Waits for what is left of the actions that run at a state, whose executor is gone: each up to its own timeout, and all of them
-/// up to a limit. What is left then is ended with all that descends from it, or lives on, and is named on standard error. So is
-/// why it could not be looked for. What lives on is given, with its run; `None` once nobody can read what would be reported.
+/// Waits for the processes of the interrupted actions of a state, whose executor has ended: for each action up to its timeout, and
+/// for all up to a limit. Processes that are left then are named on standard error, and ended with all their descendants or left
+/// alone. An error of the search is reported there, too. Returns the processes that were left alone, each with its run; `None` once
+/// the reader of the reports has gone.
 pub fn await_orphans(
     system: &System<'_>,
     how: Orphans<'_>,
@@ -244,7 +246,7 @@ pub fn await_orphans(
         Err(error) if error.kind() == ErrorKind::BrokenPipe => None,
         Err(error) => {
             let _ = system.eprintln(format_args!(
-                "ocfexec: what is left of interrupted actions cannot be looked for in /proc: {error}"
+                "ocfexec: cannot search /proc for processes of interrupted actions: {error}"
             ));
             Some(Vec::new(system.host().alloc()))
         }

@@ -1,11 +1,11 @@
--- Why a program that is asked for the journal of a directory ends as it does.
+-- The ends of a program that is asked for the journal of a directory.
 use Rattle.std.proofs.Common.{inl, inr, ap, ⊎_elim, ◌⊎◌, Result, Err, subst, sym, ◌≡◌}
 use Rattle.exec_output.specs.Faults.{IsRunEnd}
 use Rattle.exec_output.specs.declared.fault.Fault.{Fault}
 use Rattle.exec_output.specs.declared.fault.Fault.TheVariants as fault
 use Rattle.journal_folder.specs.Ends.{IsFolderEnd}
 
--- a journal in files that was opened, one that was not, and a directory that has none
+-- the ends with a journal that was opened, with one that was not, and with a directory that holds none
 pub opened_ends : {T : Type 0} (r : Result T Fault) → IsRunEnd r → IsFolderEnd r
 opened_ends r ends = inl ends
 

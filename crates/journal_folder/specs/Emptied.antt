@@ -11,5 +11,6 @@ abbrev pub emptied_beside : Choice → Image → Option Part
 emptied_beside (Current part h) c = if (length (bytes_of (other part) c) == 0) && nat_le 2 h.epoch then Some (other part) else None
 emptied_beside _ c = None
 
+-- the part of an image that was emptied
 abbrev pub emptied_part : Image → Option Part
 emptied_part c = emptied_beside (choice c) c

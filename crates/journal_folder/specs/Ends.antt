@@ -1,4 +1,4 @@
--- How a program ends that is asked for the journal of a directory.
+-- The ends of a program that is asked for the journal of a directory.
 use Rattle.std.specs.Prelude.{◌≡◌, ◌⊎◌, IfErr, Result, Err}
 use Rattle.exec_output.specs.Faults.{IsRunEnd}
 use Rattle.exec_output.specs.declared.fault.Fault.{Fault}
@@ -8,10 +8,10 @@ use Rattle.exec_output.specs.declared.fault.Fault.TheVariants as fault
 abbrev pub IsNotOpened : {T : Type 0} → Result T Fault → Type 0
 IsNotOpened ended = IfErr ended (λ f. f ≡ fault.Memory ⊎ f ≡ fault.NotOpened)
 
--- why the files of a journal are not looked at
+-- why the files of a journal are not printed
 abbrev pub IsNotFound : {T : Type 0} → Result T Fault → Type 0
 IsNotFound ended = IfErr ended (λ f. f ≡ fault.Memory ⊎ (f ≡ fault.NotOpened ⊎ f ≡ fault.NoJournal))
 
--- how a run or a show of a journal in files may end: as on any disk, or since the files are not opened, or hold no journal
+-- how a session or a show of a journal in files may end: as on any disk, or because the files cannot be opened or hold no journal
 abbrev pub IsFolderEnd : {T : Type 0} → Result T Fault → Type 0
 IsFolderEnd ended = IsRunEnd ended ⊎ (ended ≡ Err fault.NotOpened ⊎ ended ≡ Err fault.NoJournal)

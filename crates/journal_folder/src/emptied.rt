@@ -8,8 +8,8 @@ use file_disk::OpenFault;
 use ocf_types::Part;
 use two_parts::{Choice, choose};
 
-// The part of a pair that was emptied: the one beside a current part of epoch 2 or more. Such a part was laid beside one that
-// held a journal, and no call makes a part shorter, so no crash leaves that.
+// The part of a pair that was emptied: an empty one beside a current part of epoch 2 or more. A part of such an epoch is written
+// while the other holds a journal, and no call makes a part shorter, so no crash leaves an empty one.
 fn emptied<D: Disk>(disk: &mut D) -> Result<Option<Part>, DiskFault>
     ensures value { (D.view disk.new).honest
         → IfOk result (λ part. part ≡ emptied_part (D.view disk.old).reads) }
@@ -27,8 +27,8 @@ fn emptied<D: Disk>(disk: &mut D) -> Result<Option<Part>, DiskFault>
     }
 }
 
-/// The disk of a journal, which is refused as `Emptied` where one of its parts was. A fault of the device is found once more by
-/// the opening.
+/// The disk of a journal, refused as `Emptied` if one of its parts was emptied. A fault of the device is not reported here: the
+/// opening meets it again.
 pub fn not_emptied<D: Disk + Drop>(opened: Result<D, OpenFault>) -> Result<D, OpenFault> {
     let mut disk = opened?;
     match emptied(&mut disk) {

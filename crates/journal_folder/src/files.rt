@@ -1,4 +1,4 @@
-//! The files of a journal: how they are opened, and what is said on standard error of their faults.
+//! The files of a journal: how they are opened, and how their faults are reported on standard error.
 ghost use Rattle.std.specs.Prelude.{◌≡◌};
 ghost use Rattle.journal_folder.specs.Ends.{IsNotOpened};
 
@@ -11,21 +11,21 @@ use std::io::ErrorKind;
 use std::thread::sleep;
 use std::time::Duration;
 
-// What can be done where root refuses a journal for its owner or mode.
+// Advice for root, which refuses a journal for its owner or mode.
 const OWNER_ADVICE: &str =
     "Anyone who can write the journal decides what root starts. Make root its only writer, or give --any-owner.";
 
-// What can be done where the files of a journal are not opened for another cause that is often met; its name comes first.
+// Advice for the other frequent causes for which the files of a journal are not opened; each names its cause first.
 const MISSING_ADVICE: &str =
     "Missing directory: make it, for its owner alone, or name another by --journal.";
 
 const PERMISSION_ADVICE: &str =
-    "No permission: the journal is its owner's alone; look at it as that user, or as root.";
+    "No permission: only its owner can open the journal; run this as that user, or as root.";
 
 const IN_USE_ADVICE: &str =
-    "In use: one executor at a time holds a journal; show, status, log and metrics look at it meanwhile.";
+    "In use: only one executor at a time can hold a journal; show, status, log and metrics can read it meanwhile.";
 
-// What can be done about a fault that the system reported so.
+// Advice for an error of the system.
 fn advice_of_kind(kind: ErrorKind) -> Option<&'static str> {
     match kind {
         ErrorKind::NotFound => Some(MISSING_ADVICE),
@@ -34,7 +34,7 @@ fn advice_of_kind(kind: ErrorKind) -> Option<&'static str> {
     }
 }
 
-// What can be done where the files of a journal are not opened.
+// Advice for a journal whose files are not opened.
 fn advice_of(why: &OpenFault) -> Option<&'static str> {
     match why {
         distrust if distrust.is_distrust() => Some(OWNER_ADVICE),
@@ -53,8 +53,8 @@ fn owners_of(options: Options) -> Owners {
     }
 }
 
-/// The files of this directory. An agent that was being started when its executor was killed holds the locks up to its own
-/// first instruction: so a lock is waited for, for a fifth of a second.
+/// Opens the files of this directory. An agent that was being spawned when its executor was killed holds the locks until its
+/// program begins, so it waits for a lock up to a fifth of a second.
 pub fn open_files(
     rt: &HostRuntime,
     options: Options,
@@ -70,7 +70,7 @@ pub fn open_files(
     FileDisk::open(rt, rt.alloc(), folder, owners)
 }
 
-/// The disk of a journal in this directory. Why there is none is said here.
+/// The disk of a journal in this directory. If it was not opened, the cause is reported here.
 pub fn found<D: Drop>(
     system: &System<'_>,
     folder: &str,
@@ -91,7 +91,7 @@ pub fn found<D: Drop>(
     }
 }
 
-/// Says that the journal's device failed, and what it answered.
+/// Reports that the journal's device failed, and its error.
 pub fn tell_device(system: &System<'_>, options: Options, error: Option<FileError>) {
     match (options.journal, error) {
         (JournalPlace::Folder(folder), Some(met)) => {
@@ -101,7 +101,7 @@ pub fn tell_device(system: &System<'_>, options: Options, error: Option<FileErro
     }
 }
 
-/// How it ended on this disk. A fault of the device is said here, since the disk knows more of it than the fault says.
+/// Returns `ended` unchanged. A fault of the device is reported here, since the disk knows the error behind it.
 pub fn told<D: TellsError>(
     system: &System<'_>,
     options: Options,

@@ -1,4 +1,4 @@
-//! The journal of a directory, as far as no agent runs: how its files are opened or refused, and how it is shown.
+//! The journal of a directory, without its agents: how its files are opened or refused, and how it is printed.
 #![tactic(auto)]
 
 mod emptied;

@@ -1,4 +1,4 @@
-//! How a journal is looked at for a status.
+//! The moment and the options of a status.
 use exec_lines::moment_now;
 use exec_options::{JournalPlace, Options};
 use exec_orphans::{read_holder, uptime};
@@ -6,14 +6,14 @@ use exec_output::Look;
 use ocf_types::Moment;
 use std::path::Path;
 
-// The moment now by the clock of the executor that opened the journal in this directory last, where that was in this boot.
+// The moment now by the clock of the executor that last opened the journal in this directory; `None` if that was before the last boot.
 fn executor_moment(rt: &HostRuntime, folder: &str) -> Option<Moment> {
     let holder = read_holder(rt, folder)?;
     Some(Moment::cut(holder.moment_at(uptime(rt)?)))
 }
 
-/// The moment from which ages are counted. The moments of a journal are those of its executor's clock, which no step of the
-/// system's clock changes: so it is that clock's moment where it can be known, and else the system's.
+/// The moment at which ages are taken. The moments of a journal are readings of its executor's clock, which does not follow
+/// changes of the system's clock. So this is that clock's reading if it can be known, and else the system's.
 pub fn moment_of(rt: &HostRuntime, journal: JournalPlace) -> Moment {
     let known = match journal {
         JournalPlace::Folder(folder) => executor_moment(rt, folder),
@@ -25,7 +25,7 @@ pub fn moment_of(rt: &HostRuntime, journal: JournalPlace) -> Moment {
     }
 }
 
-/// How a status is looked at: now, and in colour on a terminal alone.
+/// The options of a status: of this moment, and in colour only on a terminal.
 pub fn look_of<'a>(rt: &HostRuntime, options: Options<'a>) -> Look<'a> {
     Look {
         moment: moment_of(rt, options.journal),

@@ -1,4 +1,4 @@
-//! What a journal holds, as it is printed as metrics.
+//! Prints what a journal holds as metrics.
 ghost use Rattle.exec_output.specs.Faults.{IsRunEnd};
 
 use crate::look::moment_of;
@@ -9,7 +9,7 @@ use exec_output::Fault;
 use process_ends::System;
 use std::io::Write;
 
-/// Writes what the journal on this disk holds as metrics, of this moment.
+/// Writes what the journal on this disk holds as metrics of this moment.
 pub fn metrics_to<D: Disk + Drop, W: Write>(
     system: &System<'_>,
     options: Options,

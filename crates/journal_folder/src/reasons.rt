@@ -1,4 +1,4 @@
-//! The reasons for failures that agents have written to their logs.
+//! Reasons of failures, as agents wrote them to their logs.
 use exec_output::Reason;
 use exit_reasons::{Tail, last_reason};
 use ocf_types::RscId;
@@ -20,7 +20,7 @@ pub struct FoundReason {
 }
 
 impl FoundReason {
-    // It as a look has it.
+    // The reason as a status takes it.
     fn as_reason(&self) -> Reason<'_> {
         Reason {
             id: &self.id,
@@ -29,7 +29,7 @@ impl FoundReason {
     }
 }
 
-/// The reasons as a look has them.
+/// The reasons as a status takes them.
 pub fn as_reasons<'a>(
     alloc: Global,
     found: &'a [FoundReason],
@@ -41,7 +41,7 @@ pub fn as_reasons<'a>(
     Ok(reasons)
 }
 
-// The last reason in the file of this path. There is none where no file is there; it is an error where something else is.
+// The last reason in the file at this path. It fails if there is no file, or something that is not a plain file.
 fn reason_at(rt: &HostRuntime, path: &str) -> io::Result<Option<Vec<u8>>> {
     if !fs::symlink_metadata(rt, path)?.is_file() {
         return Err(io::Error::new(ErrorKind::InvalidInput, "not a plain file"));
@@ -59,7 +59,7 @@ fn reason_at(rt: &HostRuntime, path: &str) -> io::Result<Option<Vec<u8>>> {
     Ok(last_reason(rt.alloc(), &tail)?)
 }
 
-// The last reason in the log of a resource. A resource whose agent never wrote has no log.
+// The last reason in the log of a resource; `None` also where there is no log, as of an agent that never wrote.
 fn reason_of(rt: &HostRuntime, directory: &str, id: &RscId) -> io::Result<Option<FoundReason>> {
     let name = from_utf8(id.as_bytes()).unwrap_or_default();
     let path = format!(in rt.alloc(); "{directory}/{name}.log")?;
@@ -74,7 +74,7 @@ fn reason_of(rt: &HostRuntime, directory: &str, id: &RscId) -> io::Result<Option
     }
 }
 
-// Says that the log of a resource cannot be read.
+// Reports that the log of a resource cannot be read.
 fn tell(system: &System<'_>, directory: &str, id: &RscId, error: &io::Error) {
     let name = from_utf8(id.as_bytes()).unwrap_or_default();
     let _ = system.eprintln(format_args!(
@@ -82,8 +82,8 @@ fn tell(system: &System<'_>, directory: &str, id: &RscId, error: &io::Error) {
     ));
 }
 
-/// The last reasons in the logs of these resources, as far as these can be read. The first one that cannot is named on standard
-/// error.
+/// The last reasons in the logs of these resources, as far as the logs can be read. The first log that cannot is reported on
+/// standard error.
 pub fn reasons_in(
     system: &System<'_>,
     directory: &str,

@@ -1,4 +1,4 @@
-//! What is shown of a journal.
+//! Prints a journal.
 ghost use Rattle.std.specs.Prelude.{◌≡◌};
 ghost use Rattle.exec_output.specs.Faults.{IsRunEnd};
 ghost use Rattle.journal_folder.specs.Ends.{IsFolderEnd, IsNotFound};
@@ -17,10 +17,10 @@ use ocf_types::Part;
 use process_ends::System;
 use std::io::{self, Write};
 
-// How often the files of a journal that reads as damaged are read, before that is reported.
+// How often the files are read before a journal is reported as damaged.
 const LOOKS: usize = 4;
 
-// Writes what the journal on this disk holds, as lines of JSON, as a table, as its records or as metrics, of all resources or of one.
+// Writes what the journal on this disk holds, as the subcommand asks: lines of JSON, a table, records or metrics.
 fn show_to<D: Disk + Drop, W: Write>(
     system: &System<'_>,
     options: Options,
@@ -42,8 +42,8 @@ fn show_to<D: Disk + Drop, W: Write>(
     }
 }
 
-// How a look ends whose output may be a closed pipe: well, since whoever asked has read enough. Where the status is to tell
-// whether a resource has failed, that is not known.
+// The end of the program. A closed pipe at its output is no error, since the reader has read enough, unless the exit code is to
+// show whether a resource has failed: that is then not known.
 fn enough(options: Options, unwritten: &FirstError, ended: Result<(), Fault>) -> Result<(), Fault>
     ensures { IsRunEnd ended → IsRunEnd result }
 {
@@ -53,7 +53,7 @@ fn enough(options: Options, unwritten: &FirstError, ended: Result<(), Fault>) ->
     }
 }
 
-/// Shows the journal on this disk.
+/// Prints the journal on this disk.
 pub fn show_on<D: Disk + TellsError + Drop>(
     system: &System<'_>,
     options: Options,
@@ -70,13 +70,13 @@ pub fn show_on<D: Disk + TellsError + Drop>(
     told(system, options, &disk, ended)
 }
 
-// Whether neither part has a byte. A fault of the device is found once more by the opening.
+// Whether both parts are empty. A fault of the device is not reported here: the opening meets it again.
 fn is_none<D: Disk>(disk: &mut D) -> bool {
     matches!((disk.len(Part::A), disk.len(Part::B)), (Ok(0), Ok(0)))
 }
 
-// The parts in this directory as they are now. There is no status and no record of a journal that was never made. What is asked
-// for of a damaged journal is asked for of one with an emptied part, too.
+// The parts in this directory as they are now. A journal that was never made is refused, except by `show`. One with an emptied part
+// is refused, unless the options ask for the records before the damage.
 fn parts_in(system: &System<'_>, options: Options, folder: &str) -> Result<RamDisk, Fault>
     ensures { IsNotFound result }
 {
@@ -95,7 +95,7 @@ fn parts_in(system: &System<'_>, options: Options, folder: &str) -> Result<RamDi
     Ok(disk)
 }
 
-// Shows the journal in this directory as its files are now.
+// Prints the journal in this directory as its files are now.
 #[tactic(auto, using(crate::proofs::EndLemmas::opened_ends, crate::proofs::EndLemmas::not_found_ends))]
 fn show_once(system: &System<'_>, options: Options, folder: &str) -> Result<(), Fault>
     ensures { IsFolderEnd result }
@@ -104,8 +104,8 @@ fn show_once(system: &System<'_>, options: Options, folder: &str) -> Result<(), 
     show_on(system, options, disk)
 }
 
-/// Shows the journal in this directory, which another program may be writing. Damage is reported where it is found each time
-/// that the files are read.
+/// Prints the journal in this directory, which another program may be writing. Damage is reported only if each of four reads of
+/// the files finds it.
 pub fn show_files(system: &System<'_>, options: Options, folder: &str) -> Result<(), Fault>
     ensures { IsFolderEnd result }
 {

@@ -1,4 +1,4 @@
-//! How the resources of a journal are, as a status prints it.
+//! Prints the status of the resources of a journal.
 ghost use Rattle.exec_output.specs.Faults.{IsRunEnd};
 
 use crate::look::look_of;
@@ -9,8 +9,8 @@ use exec_output::{Fault, Look, failed, status, status_json};
 use process_ends::System;
 use std::io::Write;
 
-// The reasons that the logs in the directory of the options give for the failures of the resources that are asked for.
-// There are none where the journal is not read: the status says why.
+// The reasons in the logs for the failures of the resources that are asked for, if the options name a directory of logs. There
+// are none if the journal cannot be read; the status then reports why.
 fn reasons_for<D: Disk + Drop>(
     system: &System<'_>,
     options: Options,
@@ -31,8 +31,8 @@ fn reasons_for<D: Disk + Drop>(
     }
 }
 
-/// Writes how the resources are whose journal is on this disk, as a table or as lines of JSON. Where a directory of logs is named, a
-/// last failure has the last reason in the log of its resource.
+/// Writes the status of the resources of the journal on this disk, as a table or as lines of JSON. If the options name a directory
+/// of logs, the last failure of a resource has the last reason in its log.
 pub fn status_to<D: Disk + Drop, W: Write>(
     system: &System<'_>,
     options: Options,

@@ -10,7 +10,7 @@ abbrev pub agent_word : Agent → List ℕ
 agent_word Dummy = codes "Dummy"
 agent_word Stateful = codes "Stateful"
 
--- which actions an agent has beside its metadata: those of roles are the promotable one's
+-- the actions of an agent, apart from its metadata: only the promotable one has those that change a role
 abbrev pub has_action : Agent → Action → Bool
 has_action Dummy Promote = false
 has_action Dummy Demote = false

@@ -1,4 +1,4 @@
--- What the last argument and the environment ask for, or with which code they are refused.
+-- The call that the last argument and the environment ask for, or the exit code of their refusal.
 use Rattle.std.specs.Prelude.{◌≡◌, ◌≢◌, ◌⊎◌, ℕ, List, [], Option, Some, None, Result, Ok, Err, IsTrue, codes}
 use Rattle.ocf_types.specs.Actions.{action_word}
 use Rattle.ocf_types.specs.declared.action.Action.{Action}
@@ -9,6 +9,7 @@ use Rattle.ocf_agents.specs.declared.call.Call.{Call}
 use Rattle.ocf_agents.specs.declared.call.Call.TheVariants.{Metadata, Act}
 use Rattle.ocf_agents.specs.Agents.{agent_word, has_action}
 
+-- an argument or a variable, if it is given
 abbrev pub Text : Type 0
 Text = Option (List ℕ)
 
@@ -20,7 +21,7 @@ metadata_word = codes "meta-data"
 abbrev pub Types : Text → Agent → Type 0
 Types type agent = type ≡ Some (agent_word agent)
 
--- the word is that of an action that this agent has beside its metadata
+-- the word names an action of this agent, apart from its metadata
 abbrev pub Asks : Text → Agent → Action → Type 0
 Asks word agent action = (word ≡ Some (action_word action)) × IsTrue (has_action agent action)
 
@@ -34,7 +35,7 @@ IsCall word type state (Metadata agent) = Types type agent × (word ≡ Some met
 IsCall word type state (Act agent action path) =
     Types type agent × Asks word agent action × (state ≡ Some path.now) × (path.now ≢ [])
 
--- why there is none, the first that holds: no argument; no agent of this type; no action of the agent; no state file
+-- the first error: no argument; no agent of this type; no such action of the agent; no state file
 abbrev pub IsRefusal : Text → Text → Text → Code → Type 0
 IsRefusal word type state code.Args = word ≡ None
 IsRefusal word type state code.Installed = (word ≢ None) × ((agent : Agent) → ¬ (Types type agent))
@@ -45,7 +46,7 @@ IsRefusal word type state code.Configured =
     (agent : Agent) × (action : Action) × Types type agent × Asks word agent action × IsBlank state
 IsRefusal word type state _ = ⊥
 
--- what is read of them
+-- the result of reading them
 abbrev pub IsRead : Text → Text → Text → Result Call Code → Type 0
 IsRead word type state (Ok call) = IsCall word type state call
 IsRead word type state (Err refusal) = IsRefusal word type state refusal

@@ -1,4 +1,4 @@
--- What an agent's action comes to, by what it finds in its state file.
+-- The result of an action, by what it finds in the state file.
 use Rattle.std.specs.Prelude.{◌≡◌, ◌≢◌, ℕ, List, codes}
 use Rattle.ocf_types.specs.declared.action.Action.{Action}
 use Rattle.ocf_types.specs.declared.action.Action.TheVariants.{Start, Stop, Monitor, Promote, Demote}
@@ -13,7 +13,7 @@ use Rattle.ocf_agents.specs.declared.table.Held.TheVariants.{Absent, Named, Othe
 use Rattle.ocf_agents.specs.declared.table.Deed.{Deed}
 use Rattle.ocf_agents.specs.declared.table.Deed.TheVariants.{Leave, Make, MakeIn, Write, Remove}
 
--- the word of a role
+-- the name of a role
 abbrev pub role_word : Role → List ℕ
 role_word Unpromoted = codes "unpromoted"
 role_word Promoted = codes "promoted"
@@ -35,7 +35,7 @@ code_for Stateful Monitor (Named Promoted) = code.RunningPromoted
 code_for Stateful Monitor Other = code.Generic
 code_for agent action held = code.Success
 
--- what is done with the state file
+-- the deed of an action on the state file
 abbrev pub deed_for : Agent → Action → Held → Deed
 deed_for Dummy Start Absent = Make
 deed_for Stateful Start Absent = MakeIn Unpromoted

@@ -1,4 +1,4 @@
-//! The agents, and the actions that each of them has.
+//! The agents and their actions.
 ghost use Rattle.std.specs.Prelude.{◌≡◌, ◌≢◌, IfSome, IfNone};
 ghost use Rattle.ocf_agents.specs.declared.agent.Agent.{Agent};
 ghost use Rattle.ocf_agents.specs.Agents.{agent_word, has_action};
@@ -8,14 +8,14 @@ use ocf_types::Action;
 /// An agent that keeps a state file. OCF Resource Agent API 1.1, resource type.
 #[derive(Clone, Copy, PartialEq, Eq)]
 pub enum Agent {
-    /// It runs where its state file is there.
+    /// Its resource runs exactly when the state file exists.
     Dummy,
-    /// It runs where its state file is there, which names its role.
+    /// Its resource runs exactly when the state file exists; the file holds its role.
     Stateful,
 }
 
 impl Agent {
-    /// The agent of this type, of which there are two: `Dummy` and `Stateful`.
+    /// The agent of this type, which is `Dummy` or `Stateful`.
     pub fn of(word: &str) -> Option<Agent>
         ensures found { IfSome result (λ agent. word.now ≡ agent_word agent) }
         ensures none { IfNone result ((agent : Agent) → word.now ≢ agent_word agent) }
@@ -29,7 +29,7 @@ impl Agent {
         }
     }
 
-    /// Whether the agent has this action beside its metadata. Those of roles are a promotable agent's alone.
+    /// Whether the agent has this action, apart from its metadata. Only a promotable agent has those that change a role.
     pub fn has(self, action: Action) -> bool
         ensures { result ≡ has_action self action }
     {
@@ -39,7 +39,7 @@ impl Agent {
         }
     }
 
-    /// What the agent prints for `meta-data`, without the newline. OCF Resource Agent API 1.1, meta-data.
+    /// The output of the agent for `meta-data`, without the newline. OCF Resource Agent API 1.1, meta-data.
     pub fn metadata(self) -> &'static str {
         match self {
             Agent::Dummy => "<resource-agent name=\"Dummy\"/>",

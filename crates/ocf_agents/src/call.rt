@@ -1,4 +1,4 @@
-//! What the arguments and the environment ask an agent for.
+//! The call of an agent, by its arguments and its environment.
 ghost use Rattle.std.specs.Prelude.{option_map, IfSome, IfNone};
 ghost use Rattle.ocf_types.specs.declared.action.Action.{Action};
 ghost use Rattle.ocf_agents.specs.declared.agent.Agent.{Agent};
@@ -8,12 +8,12 @@ use crate::agent::Agent;
 use ocf_codes::Code;
 use ocf_types::Action;
 
-/// What an agent is asked for.
+/// The call of an agent.
 #[derive(Clone, Copy, PartialEq, Eq)]
 pub enum Call<'a> {
-    /// What it is. OCF Resource Agent API 1.1, meta-data.
+    /// For its metadata. OCF Resource Agent API 1.1, meta-data.
     Metadata(Agent),
-    /// An action on the state file of this name.
+    /// For an action on the state file of this name.
     Act(Agent, Action, &'a str),
 }
 
@@ -38,10 +38,9 @@ fn asked_action(word: &str, agent: Agent) -> Option<Action>
     }
 }
 
-/// What the last argument, the agent's type and the name of its state file ask for, or the exit code of the first of these
-/// that holds: OCF_ERR_ARGS with no argument, OCF_ERR_INSTALLED with no agent of this type, OCF_ERR_UNIMPLEMENTED with no
-/// such action of the agent, and, but for the metadata, OCF_ERR_CONFIGURED where no state file is named.
-/// OCF Resource Agent API 1.1, exit codes.
+/// The call that the last argument, the agent's type and the name of its state file ask for, or the exit code of the first error:
+/// OCF_ERR_ARGS without an argument, OCF_ERR_INSTALLED without an agent of this type, OCF_ERR_UNIMPLEMENTED if the agent has no such
+/// action, and OCF_ERR_CONFIGURED if an action is asked for and no state file is named. OCF Resource Agent API 1.1, exit codes.
 pub fn read_call<'a>(
     word: Option<&str>,
     kind: Option<&str>,

@@ -1,4 +1,4 @@
-//! Laws of the table, each the contract of a function that does nothing.
+//! Lemmas about the table, each the contract of a function that does nothing.
 ghost use Rattle.std.specs.Prelude.{◌≡◌, ◌≢◌, false};
 ghost use Rattle.ocf_agents.specs.Agents.{has_action};
 ghost use Rattle.ocf_agents.specs.Table.{code_for, deed_for, held_by};
@@ -8,8 +8,8 @@ use crate::table::{Held, Role};
 use ocf_codes::Code;
 use ocf_types::Action;
 
-/// What a monitor says after another action: a start of what did not run leaves it running and unpromoted, the action stop
-/// leaves it not running, and a promotion or a demotion of what runs leaves it in that role.
+/// The result of a monitor after another action: a resource that did not run is running and unpromoted after a start, it is not
+/// running after a stop, and a running one has the new role after a promotion or a demotion.
 pub fn monitor_follows(agent: Agent, held: Held)
     ensures start { code_for agent Action.Monitor (held_by agent Action.Start Held.Absent)
         ≡ Code.Success }
@@ -23,7 +23,7 @@ pub fn monitor_follows(agent: Agent, held: Held)
         ≡ Code.Success }
 {}
 
-/// A start and a stop may come again: they succeed, and the second changes nothing.
+/// A start and a stop are idempotent: both succeed, and a second one changes nothing.
 pub fn may_come_again(agent: Agent, held: Held)
     ensures started { code_for agent Action.Start held ≡ Code.Success }
     ensures stopped { code_for agent Action.Stop held ≡ Code.Success }
@@ -33,7 +33,7 @@ pub fn may_come_again(agent: Agent, held: Held)
         ≡ held_by agent Action.Stop held }
 {}
 
-/// A monitor, a validation and a reload change nothing, and neither does what the agent lacks.
+/// A monitor, a validation and a reload change nothing, and nor does an action that the agent lacks.
 pub fn changes_nothing(agent: Agent, action: Action, held: Held)
     ensures monitor { held_by agent Action.Monitor held ≡ held }
     ensures validate_all { held_by agent Action.ValidateAll held ≡ held }
@@ -42,7 +42,7 @@ pub fn changes_nothing(agent: Agent, action: Action, held: Held)
         → (code_for agent action held ≡ Code.Unimplemented) × (held_by agent action held ≡ held) }
 {}
 
-/// But for a monitor of `Stateful`, code and deed are the same whatever a file holds that is there.
+/// Code and deed do not depend on the content of a file that exists, except for a monitor of `Stateful`.
 pub fn role_is_moot(agent: Agent, action: Action, role: Role)
     ensures { ¬ ((agent ≡ Agent.Stateful) × (action ≡ Action.Monitor))
         → (code_for agent action (Held.Named role) ≡ code_for agent action Held.Other)

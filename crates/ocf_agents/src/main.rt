@@ -1,5 +1,5 @@
 //! The OCF resource agents `Dummy` and `Stateful`, each of which keeps a state file and nothing else. One program is both:
-//! `OCF_RESOURCE_TYPE` says which agent is called, and the last argument what it is to do.
+//! `OCF_RESOURCE_TYPE` names the agent, and the last argument its action.
 #![tactic(auto)]
 
 ghost use Rattle.std.specs.Prelude.{◌≡◌, ℕ};
@@ -19,7 +19,7 @@ fn main(rt: HostRuntime) -> ExitCode {
     ExitCode::from(number_of(run::run(&rt)))
 }
 
-// The exit status that is read as this code. OCF Resource Agent API 1.1, exit codes.
+// The exit status of a code. OCF Resource Agent API 1.1, exit codes.
 fn number_of(code: Code) -> u8
     ensures { (n : ℕ) → code ≡ code_read n → result ≡ n }
 {

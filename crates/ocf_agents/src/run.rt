@@ -13,15 +13,14 @@ use std::env::{self, VarError};
 use std::io::{self, ErrorKind};
 use std::rt::{Env, Files};
 
-/// Does what the last argument and the environment ask for, and gives its exit code. A call of the system that fails is
-/// OCF_ERR_GENERIC.
+/// Does what the last argument and the environment ask for, and returns the exit code: OCF_ERR_GENERIC if a system call fails.
 pub fn run<R: Env + Files + Print + AllocGlobal>(rt: &R) -> Code {
     match answer(rt) {
         Ok(code) | Err(code) => code,
     }
 }
 
-// The exit code, or that of arguments which ask for nothing.
+// The exit code, as an error if the arguments ask for no call.
 fn answer<R: Env + Files + Print + AllocGlobal>(rt: &R) -> Result<Code, Code> {
     let word = last_word(rt)?;
     let kind = variable(rt, "OCF_RESOURCE_TYPE")?;
@@ -37,7 +36,7 @@ fn answer<R: Env + Files + Print + AllocGlobal>(rt: &R) -> Result<Code, Code> {
     })
 }
 
-// The last argument after the program's name. Arguments that are not UTF-8 are OCF_ERR_ARGS.
+// The last argument after the program's name: OCF_ERR_ARGS if the arguments are not UTF-8.
 fn last_word<R: Env + AllocGlobal>(rt: &R) -> Result<Option<String>, Code> {
     match env::args(rt) {
         Ok(words) => Ok(words.skip(1).last()),
@@ -46,7 +45,7 @@ fn last_word<R: Env + AllocGlobal>(rt: &R) -> Result<Option<String>, Code> {
     }
 }
 
-// A variable of the environment. One that is not UTF-8 names no agent and no file.
+// A variable of the environment: `None` also if it is not UTF-8, since it then names no agent and no file.
 fn variable<R: Env + AllocGlobal>(rt: &R, name: &str) -> Result<Option<String>, Code> {
     match env::var(rt, name) {
         Ok(text) => Ok(Some(text)),
@@ -62,8 +61,8 @@ fn code_of(code: Code, done: io::Result<()>) -> Code {
     }
 }
 
-/// Runs an action on a state file, and gives its exit code: that of what it found, or OCF_ERR_GENERIC where a file call
-/// failed.
+/// Runs an action on a state file, and returns its exit code: that for the content of the file, or OCF_ERR_GENERIC if a call on the
+/// file failed.
 pub fn act<R: Files + AllocGlobal>(rt: &R, agent: Agent, action: Action, path: &str) -> Code
     ensures { (result ≡ Code.Generic) ⊎ ((held : Held) × (result ≡ code_for agent action held)) }
 {

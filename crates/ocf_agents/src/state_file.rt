@@ -1,11 +1,11 @@
-//! The state file: the calls that look at it and change it.
+//! The calls that read and change the state file.
 use crate::table::{Deed, Held};
 use std::fs::{self, OpenOptions};
 use std::io::{self, ErrorKind, Write};
 use std::rt::Files;
 
-/// What is at this path. Its content is read only where a role is asked for. Anything there that is no file is a fault, so
-/// that no agent waits for a pipe.
+/// What the state file at this path holds. Its content is read only if the role is asked for. Anything but a plain file is an error,
+/// so that no agent waits for a pipe.
 pub fn look<R: Files + Alloc>(rt: &R, path: &str, asks_role: bool) -> io::Result<Held> {
     let found = match fs::metadata(rt, path) {
         Ok(found) => found,
@@ -21,8 +21,8 @@ pub fn look<R: Files + Alloc>(rt: &R, path: &str, asks_role: bool) -> io::Result
     Ok(Held::of(fs::read(rt, path)?.as_slice()))
 }
 
-/// Does this to the state file. A file that is to be made and is there by now is a fault; one that is to be removed and is
-/// not there is none.
+/// Does this to the state file. It is an error if a file that is to be made exists by now, but not if one that is to be removed is
+/// gone.
 pub fn carry_out(rt: &impl Files, path: &str, deed: Deed) -> io::Result<()> {
     match deed {
         Deed::Leave => Ok(()),

@@ -1,4 +1,4 @@
-//! What an agent's action comes to, by what it finds in its state file.
+//! The result of an action, by what it finds in the state file.
 ghost use Rattle.std.specs.Prelude.{◌≡◌, ◌↔◌, IsTrue};
 ghost use Rattle.ocf_agents.specs.Table.{HoldsAs, code_for, deed_for, role_word};
 
@@ -14,7 +14,7 @@ pub enum Role {
 }
 
 impl Role {
-    /// The word for the role, which is all that the state file holds.
+    /// The name of the role, which is the whole content of the state file.
     pub fn word(self) -> &'static str
         ensures { result.now ≡ role_word self }
     {
@@ -28,11 +28,11 @@ impl Role {
 /// What the state file holds.
 #[derive(Clone, Copy, PartialEq, Eq)]
 pub enum Held {
-    /// It is not there.
+    /// It does not exist.
     Absent,
-    /// The word of a role.
+    /// The name of a role.
     Named(Role),
-    /// Anything else, or what was not looked at.
+    /// Anything else, or content that was not read.
     Other,
 }
 
@@ -53,17 +53,17 @@ impl Held {
 #[derive(Clone, Copy, PartialEq, Eq)]
 pub enum Deed {
     Leave,
-    /// Makes it, empty.
+    /// Makes an empty file.
     Make,
-    /// Makes it, with the word of a role.
+    /// Makes it with the name of a role.
     MakeIn(Role),
-    /// Writes the word of a role in place of what it holds.
+    /// Replaces its content by the name of a role.
     Write(Role),
-    /// Removes it where it is there.
+    /// Removes it, if it exists.
     Remove,
 }
 
-/// The exit code of an action that finds this, where no file call fails. OCF Resource Agent API 1.1, exit codes.
+/// The exit code of an action that finds this, if no call on the file fails. OCF Resource Agent API 1.1, exit codes.
 pub fn code_for(agent: Agent, action: Action, held: Held) -> Code
     ensures { result ≡ code_for agent action held }
 {

@@ -1,4 +1,4 @@
--- What is not said of a system holds of each of its answers.
+-- The empty statement holds of each answer of a system.
 use Rattle.std.proofs.Common.{Result, Ok, Err, IfOk, IfErr, OnErr}
 use Rattle.std.specs.Prelude.{⊤}
 

@@ -1,17 +1,16 @@
-//! Standard error, for the lines of results.
+//! Standard error, to which the lines of results are written.
 use child_keeper::System;
 use std::io::{self, Eprint, Write};
 use std::str;
 
-/// Standard error as a writer of lines, on which nothing waits: what is written there at once is a line, and one that cannot be
-/// written is counted as left out.
+/// Standard error as a writer that never blocks. Each call writes a line; one that cannot be written at once is counted as left out.
 #[derive(Drop)]
 pub struct Errors<'a> {
     system: &'a System<'a>,
 }
 
 impl<'a> Errors<'a> {
-    /// That of the program.
+    /// The standard error of the program.
     pub fn new(system: &'a System<'a>) -> Errors<'a> {
         Errors { system }
     }

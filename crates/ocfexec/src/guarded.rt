@@ -1,10 +1,10 @@
-//! Output that counts as read only while the journal is where it was opened.
+//! Output that counts as read only while the journal's paths lead to the files that were opened.
 use exec_lines::Output;
 use file_disk::JournalPaths;
 use std::io::{self, Write};
 
-/// The output of a run over a journal. Once a path of the journal leads to another file, or to none, nobody counts as reading the
-/// output: so a run that makes no device call, as one that serves while nothing happens, ends within a second.
+/// The output of a session over a journal. If a path of the journal leads to another file, or to none, the output counts as read by
+/// nobody: so a session that makes no device call, as `serve` while nothing happens, ends within a second.
 #[derive(Drop)]
 pub struct Guarded<W> {
     rt: HostRuntime,
@@ -13,7 +13,7 @@ pub struct Guarded<W> {
 }
 
 impl<W> Guarded<W> {
-    /// The output of a run, which watches the paths of a journal, if there are any.
+    /// The output of a session, and the journal paths to be checked, if any.
     pub fn new(rt: HostRuntime, paths: Option<JournalPaths>, output: W) -> Guarded<W> {
         Guarded { rt, output, paths }
     }

@@ -1,5 +1,5 @@
-//! The system's answers to what the program asks. Nothing is decided here: each method makes the calls of the system that it is named
-//! for, and what its clause says of them is trusted.
+//! The system calls of the program. Nothing is decided here: each method makes the calls that it is named for, and its clause about
+//! them is trusted.
 ghost use Rattle.std.specs.Prelude.{⊤};
 
 use crate::errors::Errors;
@@ -40,7 +40,7 @@ pub struct SystemHost<'a> {
 }
 
 impl<'a> SystemHost<'a> {
-    /// Over standard streams that met no error yet.
+    /// The system, with standard streams that met no error yet.
     pub fn new(
         system: &'a System<'a>,
         unread: &'a FirstError,
@@ -54,7 +54,7 @@ impl<'a> SystemHost<'a> {
     }
 }
 
-// The paths of the journal in this directory, as they are now; none where they are not found.
+// The paths of the journal in this directory as they are now: `None` where they are not found.
 fn paths_of(rt: &HostRuntime, served: Option<&str>) -> Option<JournalPaths> {
     JournalPaths::find(rt, rt.alloc(), served?).ok()
 }
@@ -78,7 +78,7 @@ impl<'a> Host for SystemHost<'a> {
 
     type Watch = Option<JournalPaths>;
 
-    // what the system does is not said: it is trusted that each method asks for just that
+    // nothing is stated about the system's actions: that each method asks for exactly those of its name is trusted
     ghost asked = { λ host. record {
       files = λ folder any disk. ⊤;
       no_files = λ folder any fault. ⊤;
@@ -100,7 +100,7 @@ impl<'a> Host for SystemHost<'a> {
       printed = λ text. ⊤;
     } };
 
-    // whatever the program is proved to ask for, it may ask for
+    // the program may make every request that it is proved to make
     ghost may = { λ host request. ⊤ };
 
     fn alloc(&self) -> Global {

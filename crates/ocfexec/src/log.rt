@@ -1,4 +1,4 @@
-//! Where agents write.
+//! The destination of agents' output, by the options.
 ghost use Rattle.std.specs.Prelude.{◌≡◌, ◌||◌, true, IfErr, is_some};
 
 use child_keeper::{Log, LogDirectory, System};
@@ -9,10 +9,10 @@ use std::fs::{self, OpenOptions};
 use std::io::{self, ErrorKind};
 use std::os::unix::fs::{FileTypeExt, OpenOptionsExt};
 
-// What is said of a named pipe.
+// The error for a named pipe.
 const NO_FILE: &str = "a named pipe, whose reader may go; give a file, or - for standard error";
 
-// Whether a named pipe has this name. An opening of one waits for a reader. POSIX, open.
+// Whether this is the name of a named pipe, whose opening would wait for a reader. POSIX, open.
 fn is_named_pipe(rt: &HostRuntime, name: &str) -> bool {
     match fs::metadata(rt, name) {
         Ok(found) => found.file_type().is_fifo(),
@@ -20,13 +20,14 @@ fn is_named_pipe(rt: &HostRuntime, name: &str) -> bool {
     }
 }
 
-// The logs of this directory: each is opened where an action of its resource begins, and so it is no fault if that fails.
+// The logs of this directory. Each is opened when an action of its resource begins, so a directory that cannot be used is no fault
+// here.
 fn logs_in(rt: &HostRuntime, name: &str) -> io::Result<Log> {
     let path = String::from_str(rt.alloc(), name)?;
     Ok(Log::to_directory(rt.alloc(), LogDirectory::new(*rt, path)))
 }
 
-// The log of this name: a file that is appended to, and made where nothing is there, or the standard error.
+// The log of this name: a file, which is appended to and created if it does not exist, or standard error for `-`.
 fn opened(rt: &HostRuntime, name: &str) -> io::Result<Log> {
     if name == "-" {
         return Log::to_errors(rt.alloc(), &rt.stderr());
@@ -39,7 +40,8 @@ fn opened(rt: &HostRuntime, name: &str) -> io::Result<Log> {
     Log::to_file(rt.alloc(), &options.open(rt, name)?)
 }
 
-/// Where agents write: in the logs of a directory, if one is named, else in one log. Why a file was not opened is reported here.
+/// The log of agents' output: a file for each resource in the directory `logs`, if that is given, else the one log `log`, if any. If a
+/// file cannot be opened, the cause is reported here.
 pub fn log_of(system: &System<'_>, log: Option<&str>, logs: Option<&str>) -> Result<Log, Fault>
     ensures { IfErr result
         (λ f. (f ≡ Fault.Log)

@@ -1,4 +1,4 @@
-//! A local executor of OCF resource agents: reads commands, a JSON object a line, and answers each.
+//! A local executor of OCF resource agents: reads commands, one JSON object a line, and replies to each.
 #![tactic(auto)]
 
 ghost use Rattle.std.specs.Prelude.{◌≡◌};
@@ -30,7 +30,7 @@ fn main(rt: HostRuntime) -> ExitCode {
     exit_code(ended)
 }
 
-// Does what the arguments of the command line ask for; the exit status that it ends with.
+// Does what the arguments of the command line ask for, and returns the exit status.
 fn start(system: &System<'_>) -> Result<u8, Fault> {
     let words = words_of(system.host())?;
     let named = named_journal(system.host())?;
@@ -46,10 +46,10 @@ fn start(system: &System<'_>) -> Result<u8, Fault> {
     )
 }
 
-// Says on standard error what ended the program.
+// Reports the fault that ended the program on standard error.
 fn tell(system: &System<'_>, fault: Fault) {
     match fault {
-        // it was reported where it happened, and what is wrong by the status itself
+        // reported where it happened; `NotWell` by the status that was printed
         Fault::Usage
         | Fault::Log
         | Fault::NotOpened

@@ -33,8 +33,8 @@ impl Asked {
     }
 }
 
-/// The metadata of a site's agents, each of which is asked for it. It cannot be dropped, but is given up: so no agent is left that was
-/// asked.
+/// The metadata of a site's agents, which are asked one at a time. It cannot be dropped, only given up, so no agent that was asked is
+/// left running.
 pub struct SiteMetadata<'a> {
     system: &'a System<'a>,
     site: Site,
@@ -58,7 +58,7 @@ impl<'a> SiteMetadata<'a> {
         }
     }
 
-    // This agent, which is asked already or from now on; another one that is asked is ended.
+    // This agent, which is asked already or from now on. If another one is being asked, it is ended.
     fn take(
         &self,
         alloc: Global,
@@ -73,12 +73,12 @@ impl<'a> SiteMetadata<'a> {
         MetaChild::start(self.system, alloc, &self.site, provider, agent, limit)
     }
 
-    // Goes on to ask an agent. No other one is asked.
+    // Keeps an agent that has not answered. If another one is being asked, it is ended.
     fn keep(&self, asked: Asked) {
         end(self.system, self.asked.replace(Some(asked)));
     }
 
-    /// Ends the agent that is asked, if there is one, with all that descends from it.
+    /// Ends the agent that is being asked, if there is one, with all its descendants.
     pub fn give_up(self) {
         let SiteMetadata {
             system,

@@ -8,7 +8,7 @@ use ocf_types::RscId;
 use std::alloc::Global;
 use std::io::Eprint;
 
-// What the options name that is to be run once, or what is wrong with them.
+// The action that the options name, or what is wrong with them.
 fn call_of(alloc: Global, options: &OnceOptions<'_>) -> Result<OnceCall, &'static str> {
     let Some((provider, agent)) = read_agent(options.agent) else {
         return Err("give an agent as PROVIDER:TYPE, as heartbeat:Dummy");
@@ -35,13 +35,13 @@ fn call_of(alloc: Global, options: &OnceOptions<'_>) -> Result<OnceCall, &'stati
     })
 }
 
-// Says why nothing was run.
+// Reports why nothing was run.
 fn not_run(system: &System<'_>, why: &str) -> u8 {
     let _ = system.eprintln(format_args!("ocfexec: {why}"));
     OnceEnd::NotStarted.status()
 }
 
-/// Runs an action once; the exit status that says how it ended.
+/// Runs an action once, and returns the exit status that reports its end.
 pub fn once(system: &System<'_>, options: &OnceOptions<'_>) -> u8 {
     let rt = system.host();
     let alloc = rt.alloc();

@@ -1,9 +1,9 @@
-//! The arguments of the command line, and what the environment names.
+//! The arguments of the command line, and the journal that the environment names.
 use exec_output::Fault;
 use std::env::{self, VarError};
 use std::io::ErrorKind;
 
-// The variable that names the directory of the journal where a look is given none.
+// The variable that names the directory of the journal for subcommands that only read it and are given none.
 const JOURNAL: &str = "OCFEXEC_JOURNAL";
 
 // TRUSTED: they are the arguments of the command line.
@@ -17,7 +17,7 @@ pub fn words_of(rt: &HostRuntime) -> Result<Vec<String>, Fault> {
 }
 
 // TRUSTED: it is what the environment says.
-/// The directory that the environment names for the journal; an empty text names none.
+/// The directory that the environment names for the journal: `None` also for an empty text.
 pub fn named_journal(rt: &HostRuntime) -> Result<Option<String>, Fault> {
     match env::var(rt, JOURNAL) {
         Ok(folder) if folder.is_empty() => Ok(None),

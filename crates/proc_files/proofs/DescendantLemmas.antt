@@ -1,4 +1,4 @@
--- Descendants, found by the children of one process after another.
+-- The search for descendants, which takes the children of one process after another.
 use Rattle.std.proofs.Common.{◌≡◌, ◌⊎◌, inl, inr, ⊎_elim, ℕ, ◌+◌, ◌-◌, ◌<◌, ◌≤◌, ◌==◌, Bool, true, false, cond, not, List, [], ◌∷◌, ◌++◌, length, take, get_or, Contains, refl, sym, ap, subst, ◌∙◌, arith, append-nil, append_assoc, length-append}
 use Rattle.std.specs.List.{filter}
 use Rattle.std.proofs.lemmas.Bool.{cases_eq, eqb-true, eq-eqb, ne_eqb}
@@ -15,7 +15,7 @@ module _ {X : Type 0} where
   same_alone : (y x : X) → Contains (y ∷ []) x → y ≡ x
   same_alone y x has = ⊎_elim (λ none. absurd (nothing_in x none)) (λ same. same) (Contains-push_cases [] y x has)
 
-  -- a filter keeps what is in the list and passes the test
+  -- a filter keeps the elements that pass the test
   module _ (test : X → Bool) where
     kept_is_of : (xs : List X) (x : X) → Contains (filter test xs) x → Contains xs x
     kept_is_of xs x = All-contains (Contains xs) (filter test xs) x (All-filter test (Contains xs) xs (All-contains_itself xs))
@@ -34,7 +34,7 @@ module _ {X : Type 0} where
         by true kept = Contains-append_right (y ∷ []) (filter test ys) x kept
         by false kept = kept
 
--- the rest are the children of a process and the others
+-- the children of a process and the others are together the rest
 child_is_of : (pid : ℕ) (rest : List Process) (p : Process) → Contains (children_of pid rest) p
     → Contains rest p × (p.parent ≡ pid)
 child_is_of pid rest p has =
@@ -59,7 +59,7 @@ length-both pid found rest = omega (
   length-filter_both (λ p. p.parent == pid) (λ p. not (p.parent == pid)) (λ p. refl) rest,
 )
 
--- a step comes nearer to the end of what is found, whatever it finds
+-- a step lessens what is left to search, however many processes it finds
 pub is_nearer : (at pid : ℕ) (found rest more left : List Process) → at < length found → more ≡ found ++ children_of pid rest
     → left ≡ without_children_of pid rest → length left + (length more - (at + 1)) < length rest + (length found - at)
 is_nearer at pid found rest more left within is_more is_left =
@@ -71,7 +71,7 @@ module _ (table roots : List Process) where
   has_roots found p (then_child before q parent listed is among order) has =
       Contains-append_left before (q ∷ []) p (has_roots before p order has)
 
-  -- what is listed from the top down descends from the roots
+  -- the processes of a top-down list descend from the roots
   pub all_descend : (found : List Process) (p : Process) → IsTopDown table roots found → Contains found p → Descends table roots p
   all_descend found p only_roots has = root p has
   all_descend found p (then_child before q parent listed is among order) has = ⊎_elim
@@ -90,7 +90,7 @@ module _ (table roots : List Process) where
       (then_children (found ++ p ∷ []) ps parent (Contains-append_left found (p ∷ []) parent among)
       (λ q has. each q (Contains-append_right (p ∷ []) ps q has)) (then_child found p parent first.0 first.1 among order))
 
-  -- the search has come to `at`: what is found before it has all its children in what is found
+  -- the search has come to `at`: all children of the processes before it are found
   pub record IsSearchedTo (at : ℕ) (found rest : List Process) : Type 0 where
     pub order : IsTopDown table roots found
     pub of_table : (p : Process) → Contains rest p → Contains table p
@@ -133,7 +133,7 @@ module _ (table roots : List Process) where
         few = length-both here.pid found rest ∙ s.few;
       }
 
-  -- at its end it has found all that descend from the roots
+  -- at its end the search has found all descendants of the roots
   pub all_found : (at : ℕ) (found rest : List Process) → length found ≤ at → IsSearchedTo at found rest
       → (p : Process) → Descends table roots p → Contains found p
   all_found at found rest end s p (root _ has) = has_roots found p s.order has

@@ -1,4 +1,4 @@
--- Examples: an agent and what it started, a service of an earlier start, and a number that was given again.
+-- Examples: an agent and its descendants, a service of an earlier start, and a process number that was used again.
 use Rattle.std.proofs.Common.{◌≡◌, ℕ, ◌≤◌, ◌<◌, ⊎_elim, inl, inr, false, List, [], ◌∷◌, ◌++◌, Contains, refl, subst, sym, arith}
 use Rattle.std.specs.Prelude.{codes}
 use Rattle.std.specs.List.{All}
@@ -62,7 +62,7 @@ found_parent p (child _ parent listed is descends) = omega (arith, is, found_num
 service_does_not : ¬ (Found service)
 service_does_not found = omega (arith, found_parent service found)
 
--- of an action of the instance `db`, whose agent this is
+-- the mark of an action of the instance `db`, whose agent this is
 pub record OfAgent (action : ActionMark) : Type 0 where
   pub instance : action.instance.now ≡ codes "db"
   pub since : action.since ≡ 7000
@@ -91,14 +91,14 @@ not_after p action of early = ⊎_elim (λ later. omega (arith, of.since, early,
 service_is_none : (action : ActionMark) (own of_parent : List ℕ) → OfAgent action → ¬ (IsJob service own of_parent action)
 service_is_none action own of_parent of is_job = not_after service action of (omega arith) is_job.may.since
 
--- what a service of an earlier start left in the agent's own tick has a smaller number, and what the agent left a greater one
+-- a process that a service of an earlier start left in the agent's own tick has a smaller number, and one that the agent left a greater one
 same_tick_before : (action : ActionMark) → OfAgent action → ¬ (StartsAfter action (process 99 1 7000))
 same_tick_before action of = ⊎_elim (λ later. omega (arith, of.since, later)) (λ next. omega (arith, of.agent, next.1))
 
 same_tick_after : (action : ActionMark) → OfAgent action → StartsAfter action (process 101 1 7000)
 same_tick_after action of = inr (of.since, omega (arith, of.agent))
 
--- a daemon, which has a session of its own, and what a process that names the instance has forked
+-- no jobs: a daemon, which has a session of its own, and a process whose parent names the instance
 one_session : (session : ℕ) → Contains (40 ∷ []) session → session ≡ 40
 one_session session = All-contains (λ n. n ≡ 40) (40 ∷ []) session (All-from_recursion (λ n. n ≡ 40) (40 ∷ []) (refl, tt))
 
@@ -110,6 +110,6 @@ daemon_is_none action own of_parent of is_job =
 forked_is_none : (action : ActionMark) (own : List ℕ) → OfAgent action → ¬ (IsJob job own environ action)
 forked_is_none action own of is_job = is_job.adopted (subst (HasInstance environ) (sym of.instance) names_db)
 
--- the number of the agent, given again
+-- a later process with the agent's number is another process
 number_again : ¬ (IsSame agent (process 100 40 9000))
 number_again same = omega (arith, same.start)

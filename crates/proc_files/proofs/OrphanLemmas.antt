@@ -1,4 +1,4 @@
--- Command lines by their last arguments, and environments.
+-- The last arguments of command lines, and environments.
 use Rattle.std.proofs.Common.{◌≡◌, ◌≢◌, ◌∙◌, ℕ, List, [], ◌∷◌, ◌++◌, ap, sym, append_assoc}
 use Rattle.std.specs.Prelude.{codes}
 use Rattle.std.proofs.lemmas.List.{append_cancel_left, append_cancel_right}
@@ -6,12 +6,12 @@ use Rattle.proc_files.specs.Orphans.{BeginsWithInstance, Calls}
 use Rattle.proc_files.specs.Pieces.{IsPieces, joined}
 use Rattle.proc_files.proofs.PieceLemmas.{joined_append}
 
--- the text of arguments, by its last two
+-- the text of arguments, split before and between the last two
 split_words : (before : List (List ℕ)) (file action : List ℕ)
     → joined 0 (before ++ file ∷ action ∷ []) ≡ ((((joined 0 before ++ file) ++ 0 ∷ []) ++ action) ++ 0 ∷ [])
 split_words before file action = joined_append 0 before (file ∷ action ∷ []) ∙ sym (simp append_assoc)
 
--- what comes before the last two arguments is pieces
+-- if the text before the last two arguments is pieces, the command line calls the action
 pub calls : (cmdline front file action : List ℕ) → cmdline ≡ (((front ++ file) ++ 0 ∷ []) ++ action) ++ 0 ∷ [] → IsPieces 0 front
     → Calls cmdline file action
 calls cmdline front file action is (words, same) =
@@ -32,7 +32,7 @@ pub none_calls : (cmdline file action : List ℕ) → ((front : List ℕ) → cm
     → Calls cmdline file action → ⊥
 none_calls cmdline file action none (words, same) = none (joined 0 words) (same ∙ split_words words file action)
 
--- no prefix of what comes before the last argument is one of the whole
+-- if the text before the last argument does not end with the agent's file, no call is in the whole text
 pub no_call : (cmdline rest file action : List ℕ) → cmdline ≡ (rest ++ action) ++ 0 ∷ []
     → ((front : List ℕ) → rest ≢ (front ++ file) ++ 0 ∷ [])
     → (front : List ℕ) → cmdline ≢ (((front ++ file) ++ 0 ∷ []) ++ action) ++ 0 ∷ []
@@ -40,7 +40,7 @@ no_call cmdline rest file action is none front same =
     none front (append_cancel_right rest ((front ++ file) ++ 0 ∷ []) action
     (append_cancel_right (rest ++ action) (((front ++ file) ++ 0 ∷ []) ++ action) (0 ∷ []) (sym is ∙ same)))
 
--- a text that does not begin with the key, the id, or the NUL after it
+-- a text does not name the instance if the key, the id or the NUL after it is not there
 pub no_key : (key text instance : List ℕ) → ((rest : List ℕ) → text ≢ key ++ rest) → (rest : List ℕ) → text ≢ (key ++ instance) ++ 0 ∷ rest
 no_key key text instance none rest same = none (instance ++ 0 ∷ rest) (same ∙ append_assoc key instance (0 ∷ rest))
 

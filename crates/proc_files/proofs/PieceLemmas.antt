@@ -1,4 +1,4 @@
--- Texts that are pieces with a byte after each.
+-- Texts that consist of pieces, each followed by the same byte.
 use Rattle.std.proofs.Common.{◌≡◌, ◌≢◌, ◌⊎◌, ◌∙◌, inl, inr, ℕ, ◌<◌, List, [], ◌∷◌, ◌++◌, length, take, drop}
 use Rattle.std.proofs.Common.{refl, ap, sym, append_assoc, subst, arith}
 use Rattle.std.specs.Prelude.{Option, Some, None, MatchOption, IfSome, IfNone, Bool, true, ◌==◌, ◌↔◌, IsTrue}
@@ -7,7 +7,7 @@ use Rattle.std.proofs.lemmas.List.{take-append-drop, length-append}
 use Rattle.std.proofs.Math.Seq.{take-append_seam, drop-append_seam}
 use Rattle.proc_files.specs.Pieces.{Behind, IsPieces, joined}
 
--- pieces are nothing, or the last of them ends with the byte
+-- the text of pieces is empty, or ends with the byte
 pieces_end : (end : ℕ) (pieces : List (List ℕ)) → (joined end pieces ≡ []) ⊎ ((front : List ℕ) × (joined end pieces ≡ front ++ end ∷ []))
 pieces_end end [] = inl refl
 pieces_end end (p ∷ ps) = elim (pieces_end end ps) [
@@ -24,19 +24,19 @@ no_piece end text none (pieces, is) = elim (pieces_end end pieces) [
   | inr h ↦ absurd (none h.0 (is ∙ h.1))
 ]
 
--- pieces, and pieces after them
+-- the text of pieces followed by other pieces
 pub joined_append : (end : ℕ) (ps qs : List (List ℕ)) → joined end (ps ++ qs) ≡ joined end ps ++ joined end qs
 joined_append end [] qs = refl
 joined_append end (p ∷ ps) qs =
     ap (λ l. p ++ end ∷ l) (joined_append end ps qs) ∙ sym (append_assoc p (end ∷ joined end ps) (joined end qs))
 
--- what is at an offset, where pieces end
+-- a rest that has P is found at an offset at which pieces end
 pub behind_at : (end : ℕ) (P : List ℕ → Type 0) (text : List ℕ) (at : ℕ) → IsPieces end (take at text) → P (drop at text)
     → Behind end P text
 behind_at end P text at (pieces, is) has =
     (pieces, drop at text, sym (take-append-drop at text) ∙ ap (λ l. l ++ drop at text) is, has)
 
--- what is at no offset, and is not nothing, is nowhere
+-- if no rest at an offset has P, and the empty text does not, no rest has it
 pub behind_none : (end : ℕ) (P : List ℕ → Type 0) (text : List ℕ) → (P [] → ⊥)
     → ((at : ℕ) → at < length text → IsPieces end (take at text) → P (drop at text) → ⊥) → Behind end P text → ⊥
 behind_none end P text full none (pieces, rest, is, has) = by rest is has
@@ -50,7 +50,7 @@ behind_none end P text full none (pieces, rest, is, has) = by rest is has
         (pieces, ap (take at) same ∙ take-append_seam (joined end pieces) (x ∷ xs))
         (subst P (sym (ap (drop at) same ∙ drop-append_seam (joined end pieces) (x ∷ xs))) h)
 
--- what a test that gives a part says of each of its answers
+-- a fact about each answer of a test that returns a part
 pub if_some : {X : Type 0} (A : Type 0) (P : X → Type 0) (r : Option X) → MatchOption r A P → IfSome r P
 if_some A P None h = tt
 if_some A P (Some x) h = h
@@ -59,11 +59,11 @@ pub if_none : {X : Type 0} (A : Type 0) (P : X → Type 0) (r : Option X) → Ma
 if_none A P None h = h
 if_none A P (Some x) h = tt
 
--- the length of what has an element is not nothing
+-- a list with an element has a length other than 0
 no_length : {X : Type 0} (x : X) (xs : List X) → true ≡ (length (x ∷ xs) == 0) → ⊥
 no_length x xs e = false≢true (sym (e ∙ ne_eqb (length (x ∷ xs)) 0 (λ z. omega (arith, z))))
 
--- a text that does not end with the byte is pieces where it is empty
+-- a text that does not end with the byte is pieces exactly when it is empty
 pub is_empty_pieces : (end : ℕ) (text : List ℕ) (r : Bool) → r ≡ (length text == 0) → ((front : List ℕ) → text ≢ front ++ end ∷ [])
     → IsTrue r ↔ IsPieces end text
 is_empty_pieces end [] r is none = (λ _. ([], refl), λ _. is)

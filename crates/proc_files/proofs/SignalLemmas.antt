@@ -1,4 +1,4 @@
--- Lines that give a mask.
+-- Lines with a mask of signals.
 use Rattle.std.proofs.Common.{◌≡◌, ◌∙◌, ℕ, zero, suc, ◌<◌, ◌≤◌, ◌^◌, List, [], ◌∷◌, ◌++◌, take, ap, sym, subst, arith}
 use Rattle.std.specs.Prelude.{codes}
 use Rattle.std.specs.Char.{digit_value}
@@ -25,7 +25,7 @@ same_mask text m n a b =
     let value = a.digits ++ 10 ∷ a.rest in
     sym a.value ∙ ap (digits_value 16) (sym (line_digits text value m a.is a) ∙ line_digits text value n a.is b) ∙ b.value
 
--- where the digits are no number that fits there is no mask
+-- if the digits are not a number that fits, there is no mask
 pub no_mask : (text value front : List ℕ) → text ≡ codes "SigIgn:\t" ++ value → front ≡ take 16 value
     → (IsNumeral 16 front → 2 ^ 64 ≤ digits_value 16 front) → (mask : ℕ) → IsMaskLine text mask → ⊥
 no_mask text value front is cut big mask line =

@@ -1,4 +1,4 @@
--- Texts of a name and fields.
+-- Texts with a name and fields.
 use Rattle.std.proofs.Common.{◌≡◌, ◌∙◌, ℕ, zero, suc, ◌+◌, ◌<◌, ◌≤◌, List, [], ◌∷◌, ◌++◌, length}
 use Rattle.std.proofs.Common.{refl, ap, sym, subst, append_assoc, arith}
 use Rattle.std.specs.Prelude.{◌↔◌, All, Bool, Contains, IsTrue, codes, false, true}
@@ -18,7 +18,7 @@ pub lacks_not : (b : ℕ) (xs ys : List ℕ) → Lacks b (xs ++ b ∷ ys) → �
 lacks_not b [] ys h = All-head (λ x. x ≡ b → ⊥) b ys h refl
 lacks_not b (x ∷ xs) ys h = lacks_not b xs ys (All-tail (λ x. x ≡ b → ⊥) x (xs ++ b ∷ ys) h)
 
--- the first of a byte cuts a text in one way
+-- there is one way to cut a text at the first occurrence of a byte
 pub same_first : (b : ℕ) (xs ys rs ss : List ℕ) → xs ++ b ∷ rs ≡ ys ++ b ∷ ss → Lacks b xs → Lacks b ys → (xs ≡ ys) × (rs ≡ ss)
 same_first b [] [] rs ss e g h = (refl, cc)
 same_first b [] (y ∷ ys) rs ss e g h = absurd (All-head (λ x. x ≡ b → ⊥) y ys h (cc))
@@ -27,14 +27,14 @@ same_first b (x ∷ xs) (y ∷ ys) rs ss e g h =
     let more = same_first b xs ys rs ss (cc) (All-tail (λ x. x ≡ b → ⊥) x xs g) (All-tail (λ x. x ≡ b → ⊥) y ys h) in
     (cc, more.1)
 
--- and so does the last
+-- there is one way to cut a text at the last occurrence of a byte
 pub same_last : (b : ℕ) (xs ys rs ss : List ℕ) → xs ++ b ∷ rs ≡ ys ++ b ∷ ss → Lacks b rs → Lacks b ss → (xs ≡ ys) × (rs ≡ ss)
 same_last b [] [] rs ss e g h = (refl, cc)
 same_last b [] (y ∷ ys) rs ss e g h = let more : rs ≡ ys ++ b ∷ ss = cc in absurd (lacks_not b ys ss (subst (Lacks b) more g))
 same_last b (x ∷ xs) [] rs ss e g h = let more : ss ≡ xs ++ b ∷ rs = cc in absurd (lacks_not b xs rs (subst (Lacks b) more h))
 same_last b (x ∷ xs) (y ∷ ys) rs ss e g h = let more = same_last b xs ys rs ss (cc) g h in (cc, more.1)
 
--- a text with a name, by what comes after its number
+-- a text with a name, cut after its number
 pub by_number : (text number fields : List ℕ) (h : HasName text number fields)
     → text ≡ number ++ space ∷ 40 ∷ (h.name ++ close ∷ space ∷ fields)
 by_number text number fields h = h.is ∙ simp append_assoc
@@ -55,7 +55,7 @@ pub no_space : (text number fields : List ℕ) → Lacks space text → HasName 
 no_space text number fields none h =
     lacks_not space number (40 ∷ (h.name ++ close ∷ space ∷ fields)) (subst (Lacks space) (by_number text number fields h) none)
 
--- what comes after the first space begins with a parenthesis and the name
+-- the text after the first space begins with a parenthesis and the name
 pub after_number : (text n rest number fields : List ℕ) → text ≡ n ++ space ∷ rest → Lacks space n
     → (h : HasName text number fields) → rest ≡ 40 ∷ (h.name ++ close ∷ space ∷ fields)
 after_number text n rest number fields is first h =
@@ -66,7 +66,7 @@ after_number text n rest number fields is first h =
 fields_lack : (fields : List ℕ) → Lacks close fields → Lacks close (space ∷ fields)
 fields_lack fields h = All-cons (λ x. x ≡ close → ⊥) space fields (λ e. omega (arith, e)) h
 
--- a text has one number and one text of fields at most
+-- a text has at most one number and one text of fields
 pub same_name : (text m n fields more : List ℕ) → HasName text m fields → HasName text n more → (m ≡ n) × (fields ≡ more)
 same_name text m n fields more a b =
     let first = same_first space m n (40 ∷ (a.name ++ close ∷ space ∷ fields)) (40 ∷ (b.name ++ close ∷ space ∷ more))
@@ -76,19 +76,19 @@ same_name text m n fields more a b =
     (fields_lack fields a.last) (fields_lack more b.last) in
     (first.0, (let e = last.1 in cc))
 
--- what comes after the last parenthesis is a space and the fields
+-- the text after the last parenthesis is a space and the fields
 pub after_name : (name inner rest fields before : List ℕ) → inner ≡ before ++ close ∷ rest → Lacks close rest
     → inner ≡ name ++ close ∷ space ∷ fields → Lacks close fields → rest ≡ space ∷ fields
 after_name name inner rest fields before is last same lacks =
     (same_last close before name rest (space ∷ fields) (sym is ∙ same) last (fields_lack fields lacks)).1
 
--- fields, and one more
+-- fields followed by one more field
 pub push_field : (before : List (List ℕ)) (field rest : List ℕ)
     → joined space before ++ (field ++ space ∷ rest) ≡ joined space (before ++ field ∷ []) ++ rest
 push_field before field rest =
     sym (ap (λ l. l ++ rest) (joined_append space before (field ∷ [])) ∙ simp append_assoc)
 
--- texts that are the same begin with the same field
+-- equal texts begin with the same field
 first_field : (p q : List ℕ) (ps qs : List (List ℕ)) (rs ss : List ℕ) → joined space (p ∷ ps) ++ rs ≡ joined space (q ∷ qs) ++ ss
     → All (Lacks space) (p ∷ ps) → All (Lacks space) (q ∷ qs) → (p ≡ q) × (joined space ps ++ rs ≡ joined space qs ++ ss)
 first_field p q ps qs rs ss e g h =
@@ -96,7 +96,7 @@ first_field p q ps qs rs ss e g h =
     (sym (append_assoc p (space ∷ joined space ps) rs) ∙ e ∙ append_assoc q (space ∷ joined space qs) ss)
     (All-head (Lacks space) p ps g) (All-head (Lacks space) q qs h)
 
--- texts that are the same have the same fields, as many as are taken of both
+-- equal texts have the same fields, if as many are taken from both
 pub same_fields : (ps qs : List (List ℕ)) (rs ss : List ℕ) → length ps ≡ length qs → joined space ps ++ rs ≡ joined space qs ++ ss
     → All (Lacks space) ps → All (Lacks space) qs → (ps ≡ qs) × (rs ≡ ss)
 same_fields [] [] rs ss count e g h = (refl, e)
@@ -108,7 +108,7 @@ same_fields (p ∷ ps) (q ∷ qs) rs ss count e g h =
     (All-tail (Lacks space) p ps g) (All-tail (Lacks space) q qs h) in
     (cc, more.1)
 
--- what comes after some fields, and has no space, has no field
+-- a rest without a space after some fields has no further field
 pub no_more : (ps qs : List (List ℕ)) (rs ss : List ℕ) → length ps < length qs → joined space ps ++ rs ≡ joined space qs ++ ss
     → All (Lacks space) ps → All (Lacks space) qs → Lacks space rs → ⊥
 no_more [] [] rs ss count e g h none = omega (arith, count)
@@ -119,7 +119,7 @@ no_more (p ∷ ps) (q ∷ qs) rs ss count e g h none =
     let first = first_field p q ps qs rs ss e g h in
     no_more ps qs rs ss (omega (arith, count)) first.1 (All-tail (Lacks space) p ps g) (All-tail (Lacks space) q qs h) none
 
--- field n and all after it are this part of the text
+-- field n and all later fields are this rest of the text
 pub record StartsHere (text : List ℕ) (n : ℕ) (rest : List ℕ) : Type 0 where
   pub before : List (List ℕ)
   pub is : text ≡ joined space before ++ rest
@@ -154,25 +154,25 @@ no_field text rest field m n h within none f =
     no_more h.before (f.before ++ field ∷ []) rest f.rest (omega (arith, h.count, f.count, length_push f.before field))
     (sym h.is ∙ f.is) h.whole f.whole none
 
--- a text has one field n at most
+-- a text has at most one field n
 pub same_field : (text x y : List ℕ) (n : ℕ) → IsField text n x → IsField text n y → x ≡ y
 same_field text x y n a b =
     let same = same_fields (a.before ++ x ∷ []) (b.before ++ y ∷ []) a.rest b.rest
     (omega (arith, a.count, b.count, length_push a.before x, length_push b.before y)) (sym a.is ∙ b.is) a.whole b.whole in
     (same_from_push a.before b.before x y same.0).1
 
--- where a field writes no number, none is found there
+-- a field that is no number gives none
 pub no_number : (bits : ℕ) (text field : List ℕ) (n : ℕ) → IsField text n field → ((number : ℕ) → Writes bits field number → ⊥)
     → (number : ℕ) → HasNumber bits text n number → ⊥
 no_number bits text field n is none number (other, found, writes) =
     none number (subst (λ f. Writes bits f number) (same_field text other field n found is) writes)
 
--- a field writes one number at most
+-- a field is at most one number
 same_number : (bits : ℕ) (text : List ℕ) (n x y : ℕ) → HasNumber bits text n x → HasNumber bits text n y → x ≡ y
 same_number bits text n x y (f, found, a) (g, more, b) =
     sym a.value ∙ ap (digits_value 10) (same_field text f g n found more) ∙ b.value
 
--- where a field is no state, none is found there
+-- a field that is no state gives none
 pub no_state : (text field digits : List ℕ) (threads : ℕ) → IsField text 3 field → IsField text 20 digits → Writes 32 digits threads
     → ((ended : Bool) → IsState field threads ended → ⊥) → (ended : Bool) → HasState text ended → ⊥
 no_state text field digits threads is found writes none ended h =
@@ -212,7 +212,7 @@ abbrev process : ℕ → ℕ → ℕ → ℕ → Bool → Process
 process pid parent session start has_ended =
     record { pid = pid; parent = parent; session = session; start = start; has_ended = has_ended }
 
--- a text describes one process at most
+-- a text describes at most one process
 pub same_process : (text : List ℕ) (p q : Process) → IsStat text p → IsStat text q → p ≡ q
 same_process text p q (number, fields, named, a) is =
     let b = moved text number fields q named is in

@@ -8,12 +8,12 @@ use Rattle.proc_files.specs.declared.process.Process.{Process}
 abbrev pub StartsAfter : ActionMark → Process → Type 0
 StartsAfter action p = (action.since < p.start) ⊎ ((action.since ≡ p.start) × (action.agent < p.pid))
 
--- it did, in a session of the executor
+-- it started after the agent, in a session of the executor
 pub record MayHave (action : ActionMark) (p : Process) : Type 0 where
   pub since : StartsAfter action p
   pub session : Contains action.sessions.now p.session
 
--- a process with this environment, and a parent with that one, is a background job of the action, left by its parent
+-- a process with this environment, whose parent has that one, is a background job of the action, left by its parent
 pub record IsJob (p : Process) (environ parent_environ : List ℕ) (action : ActionMark) : Type 0 where
   pub named : HasInstance environ action.instance.now
   pub may : MayHave action p

@@ -1,9 +1,9 @@
--- What is left of an action whose executor was killed, by the files of a process: proc(5), cmdline and environ, where a NUL
--- follows each text.
+-- The agent process of an action whose executor was killed, by its files: proc(5), cmdline and environ, where a NUL follows each
+-- text.
 use Rattle.std.specs.Prelude.{◌≡◌, ℕ, List, [], ◌∷◌, ◌++◌, codes}
 use Rattle.proc_files.specs.Pieces.{Behind, joined}
 
--- the last arguments of a command line are the agent's file and, after it, the action
+-- the last two arguments of a command line are the agent's file and the action
 abbrev pub Calls : List ℕ → List ℕ → List ℕ → Type 0
 Calls cmdline agent_file action = (before : List (List ℕ)) × (cmdline ≡ joined 0 (before ++ agent_file ∷ action ∷ []))
 

@@ -13,7 +13,7 @@ pub record IsMaskLine (text : List ℕ) (mask : ℕ) : Type 0 where
   pub value : digits_value 16 digits ≡ mask
   pub fits : mask < 2 ^ 64
 
--- a mask has the bit of a signal: the first of 64 has the lowest
+-- a mask has the bit of a signal, from 1 to 64; signal 1 has the lowest bit
 abbrev pub HasBit : ℕ → ℕ → Type 0
 HasBit mask signal = (1 ≤ signal) × (signal ≤ 64) × (mask / 2 ^ (signal - 1) % 2 ≡ 1)
 

@@ -24,7 +24,7 @@ pub record HasName (text number fields : List ℕ) : Type 0 where
   pub first : Lacks space number
   pub last : Lacks close fields
 
--- field n of a text that begins with field 3 and has a space after each
+-- field n of a text that begins with field 3, where each field is followed by a space
 pub record IsField (text : List ℕ) (n : ℕ) (field : List ℕ) : Type 0 where
   pub before : List (List ℕ)
   pub rest : List ℕ
@@ -32,18 +32,18 @@ pub record IsField (text : List ℕ) (n : ℕ) (field : List ℕ) : Type 0 where
   pub whole : All (Lacks space) (before ++ field ∷ [])
   pub count : 3 + length before ≡ n
 
--- decimal digits write a number that fits these bits
+-- these are the decimal digits of a number that fits in this many bits
 pub record Writes (bits : ℕ) (digits : List ℕ) (number : ℕ) : Type 0 where
   pub numeral : IsNumeral 10 digits
   pub value : digits_value 10 digits ≡ number
   pub fits : number < 2 ^ bits
 
--- field n of such a text is this number
+-- field n of such a text is a number
 abbrev pub HasNumber : ℕ → List ℕ → ℕ → ℕ → Type 0
 HasNumber bits text n number = (field : List ℕ) × IsField text n field × Writes bits field number
 
--- a state is one letter, and that of the first thread, which has ended where it is Z, a zombie, or X or x, dead; the process has
--- ended where it also has no other thread
+-- a state is one letter, that of the first thread, which has ended if it is Z (a zombie), X or x (dead). The process has ended if its
+-- first thread has and there is no other thread
 pub record IsState (state : List ℕ) (threads : ℕ) (has_ended : Bool) : Type 0 where
   pub letter : ℕ
   pub is : state ≡ letter ∷ []

@@ -1,4 +1,4 @@
-//! What descends from processes.
+//! The descendants of processes.
 ghost use Rattle.std.specs.Prelude.{◌≡◌, ◌↔◌, ◌≤◌, ◌+◌, ◌++◌, Contains, IfOk, OnOk, length, vec_len};
 ghost use Rattle.proc_files.specs.Descendants.{Descends, IsTopDown, children_of, without_children_of};
 ghost use Rattle.proc_files.specs.declared.process.Process.{Process};
@@ -6,7 +6,7 @@ ghost use Rattle.proc_files.specs.declared.process.Process.{Process};
 use crate::process::Process;
 use std::alloc::{AllocError, Allocator};
 
-// Moves the children of the process with this number from the rest to the end of what was found.
+// Moves the children of the process with this number from `rest` to the end of `found`.
 fn move_children<A: Allocator>(
     rest: &mut Vec<Process, A>,
     found: &mut Vec<Process, A>,
@@ -21,9 +21,8 @@ fn move_children<A: Allocator>(
     Ok(())
 }
 
-/// The roots and all processes of the table that descend from them: first the roots, then each process after its parent. The
-/// table is one reading of `/proc`, with the roots in it; a root whose parent is listed, too, is listed a second time.
-/// proc(5), stat.
+/// The roots and all their descendants in the table: first the roots, then each process after its parent. The table is one
+/// reading of `/proc`, with the roots in it. A root whose parent is found too is listed a second time. proc(5), stat.
 ///
 /// It fails only where memory is refused.
 pub fn with_descendants<A: Allocator + Copy>(

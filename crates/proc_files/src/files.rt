@@ -1,4 +1,4 @@
-//! What the system says of its processes, in the files of `/proc`.
+//! The processes of the system, read from the files of `/proc`.
 ghost use Rattle.std.specs.Prelude.{◌≡◌, ◌≤◌, length};
 
 use crate::process::Process;
@@ -13,11 +13,11 @@ const STAT_LIMIT: usize = 4_096;
 /// A file that `/proc` has for each process. Linux, proc(5).
 #[derive(Clone, Copy)]
 pub enum PidFile {
-    /// The arguments that it was started with, each with a NUL after it.
+    /// The arguments that it was started with, each followed by a NUL.
     CommandLine,
-    /// The environment that it was started with, each variable with a NUL after it.
+    /// The environment that it was started with, each variable followed by a NUL.
     Environment,
-    /// The name of its command, with a newline after it.
+    /// The name of its command, followed by a newline.
     Name,
 }
 
@@ -31,25 +31,25 @@ impl PidFile {
     }
 }
 
-/// What the system says of its processes. Linux, proc(5).
+/// The processes of a system and their files. Linux, proc(5).
 pub trait ProcFiles {
     /// This process.
     fn own(&self) -> io::Result<Process>;
 
-    /// The process of this number, if there is one. It fails only where memory is refused.
+    /// The process with this number, if there is one. It fails only where memory is refused.
     fn process_of(&self, pid: u32) -> io::Result<Option<Process>>;
 
     /// All processes that can be seen. It fails where none is listed.
     fn processes<A: Allocator + Copy>(&self, alloc: A) -> io::Result<Vec<Process, A>>;
 
-    /// Reads the first bytes of a file of a process, as many as there is room for, and gives how many they are: none where the
-    /// file cannot be read.
+    /// Reads the first bytes of a file of a process into the buffer, as many as fit, and returns their number: 0 where the file
+    /// cannot be read.
     fn read_of(&self, pid: u32, file: PidFile, room: &mut [u8]) -> usize
         ensures room { length room.new ≡ length room.old }
         ensures within { result ≤ length room.old };
 }
 
-// The process that this file of the name `stat` describes. A process that has ended meanwhile has none.
+// The process that this `stat` file describes: `None` if the process has ended meanwhile.
 fn process_in(rt: &HostRuntime, path: &str) -> Option<Process> {
     let mut text = [0u8; STAT_LIMIT];
     match read_head(rt, path, &mut text) {

@@ -5,15 +5,15 @@ ghost use Rattle.proc_files.specs.Jobs.{IsJob, MayHave};
 use crate::orphan::has_instance;
 use crate::process::Process;
 
-/// What marks the processes that an action started, as far as they have changed none of it.
+/// The marks by which the processes that an action started are recognized, if they have not changed these marks.
 #[derive(Clone, Copy)]
 pub struct ActionMark<'a> {
     /// The value of `OCF_RESOURCE_INSTANCE` in their environment. OCF Resource Agent API 1.1.
     pub instance: &'a [u8],
-    /// When its agent was started, in clock ticks after the system's boot.
+    /// When its agent was spawned, in clock ticks after the system's boot.
     pub since: u64,
-    /// The number of its agent, 0 where that is not known: numbers are given in ascending order, so of the processes that were
-    /// started in the same tick those with a greater number came later.
+    /// The number of its agent's process, 0 where that is not known. Numbers are given in ascending order, so of the processes
+    /// that started in the same tick those with a greater number came later.
     pub agent: u32,
     /// The sessions of the executor. POSIX, getsid.
     pub sessions: &'a [u32],
@@ -45,15 +45,15 @@ impl<'a> ActionMark<'a> {
     }
 }
 
-/// Whether a process is a background job of an action whose parent has ended: its environment names the instance, it started
-/// after the action's agent, it is in a session of the executor, and the environment of its parent does not name
-/// the instance, so that its parent is the process that reaps orphans.
+/// Whether a process is a background job of an action, left by its parent: its environment names the instance, it started after
+/// the action's agent, it is in a session of the executor, and the environment of its parent does not name the instance, so
+/// that its parent is the process that reaps orphans.
 ///
-/// A daemon is none, since it has made a session of its own, and neither is what a service of an earlier start has forked,
-/// since that service is its parent. An agent that the executor started is one, too.
+/// A daemon is not one, since it has a session of its own. Nor is a process that the service of an earlier start has forked,
+/// since that service is its parent. A later agent of the instance that the executor spawned is one, too.
 ///
-/// The environments are the bytes of `/proc/PID/environ`, with a NUL after each variable. That of the process may be cut at
-/// any byte, that of its parent has to be whole.
+/// The environments are the bytes of `/proc/PID/environ`, each variable followed by a NUL. That of the process may be cut at any
+/// byte; that of its parent has to be whole.
 pub fn is_job(
     process: &Process,
     environ: &[u8],

@@ -1,4 +1,4 @@
-//! What the system says of processes in the files of `/proc`. Linux, proc(5).
+//! The processes of the system, as the files of `/proc` describe them, and which of them belong to an action. Linux, proc(5).
 #![tactic(auto)]
 
 mod descendants;

@@ -1,13 +1,13 @@
-//! What is left of an action whose executor was killed.
+//! The agent process of an action whose executor was killed.
 ghost use Rattle.std.specs.Prelude.{◌≡◌, ◌≢◌, ◌↔◌, ◌++◌, ◌∷◌, [], ℕ, List, IfNone, IfSome, IsTrue, codes};
 ghost use Rattle.proc_files.specs.Orphans.{BeginsWithInstance, Calls, HasInstance, IsOrphan};
 
 use crate::pieces::{after, before, is_pieces};
 
-// What comes before the instance's id in an agent's environment. OCF Resource Agent API 1.1, OCF_RESOURCE_INSTANCE.
+// The text before the instance's id in an agent's environment. OCF Resource Agent API 1.1, OCF_RESOURCE_INSTANCE.
 const INSTANCE: &[u8] = b"OCF_RESOURCE_INSTANCE=";
 
-// What comes before a last argument and the NUL after it.
+// The arguments before the last one, if the last one is this argument; each is followed by a NUL.
 fn before_word<'a>(words: &'a [u8], word: &[u8]) -> Option<&'a [u8]>
     ensures front { IfSome result (λ front. words.now ≡ front.now ++ word.now ++ 0 ∷ []) }
     ensures none { IfNone result ((front : List ℕ) → words.now ≢ front ++ word.now ++ 0 ∷ []) }
@@ -15,7 +15,7 @@ fn before_word<'a>(words: &'a [u8], word: &[u8]) -> Option<&'a [u8]>
     before(before(words, b"\0")?, word)
 }
 
-// What comes before the agent's file as the last argument but one and the action as the last.
+// The arguments before the last two, if these are the agent's file and the action.
 #[tactic(auto, using(crate::proofs::OrphanLemmas::no_call))]
 fn before_call<'a>(cmdline: &'a [u8], agent_file: &[u8], action: &[u8]) -> Option<&'a [u8]>
     ensures front { IfSome result (λ front.
@@ -26,7 +26,7 @@ fn before_call<'a>(cmdline: &'a [u8], agent_file: &[u8], action: &[u8]) -> Optio
     before_word(before_word(cmdline, action)?, agent_file)
 }
 
-/// Whether a command line ends with the agent's file and, after it, the action: the bytes of `/proc/PID/cmdline`.
+/// Whether the last two arguments of a command line, the bytes of `/proc/PID/cmdline`, are the agent's file and the action.
 pub fn calls(cmdline: &[u8], agent_file: &[u8], action: &[u8]) -> bool
     ensures { IsTrue result ↔ Calls cmdline.now agent_file.now action.now }
 {
@@ -36,7 +36,7 @@ pub fn calls(cmdline: &[u8], agent_file: &[u8], action: &[u8]) -> bool
     }
 }
 
-// What follows the variable that names this instance, where a text begins with it.
+// The rest of a text after the variable that names this instance, if the text begins with that.
 fn after_instance<'a>(text: &'a [u8], instance: &[u8]) -> Option<&'a [u8]>
     ensures rest { IfSome result
         (λ rest. text.now ≡ codes "OCF_RESOURCE_INSTANCE=" ++ instance.now ++ 0 ∷ rest.now) }
@@ -69,11 +69,11 @@ pub(crate) fn has_instance(environ: &[u8], instance: &[u8]) -> bool
     false
 }
 
-/// Whether a process with this command line and this environment is an action of an agent: the agent's file is in the line
-/// with the action right after it as the last argument, and the environment names the instance.
+/// Whether a process with this command line and this environment is an action of an agent: its last two arguments are the
+/// agent's file and the action, and its environment names the instance.
 ///
-/// Both are the bytes of `/proc/PID/cmdline` and `/proc/PID/environ`, with a NUL after each text; an environment may be cut
-/// at any byte. OCF Resource Agent API 1.1, actions.
+/// They are the bytes of `/proc/PID/cmdline` and `/proc/PID/environ`, each text followed by a NUL. The environment may be cut at
+/// any byte. OCF Resource Agent API 1.1, actions.
 pub fn is_orphan(
     cmdline: &[u8],
     environ: &[u8],

@@ -1,4 +1,4 @@
-//! Processes, as the system describes them.
+//! Processes and their identity.
 ghost use Rattle.std.specs.Prelude.{◌↔◌, IsTrue};
 ghost use Rattle.proc_files.specs.Processes.{Has, IsSame};
 
@@ -7,20 +7,20 @@ ghost use Rattle.proc_files.specs.Processes.{Has, IsSame};
 pub struct Process {
     /// Its number.
     pub pid: u32,
-    /// The number of its parent: where that has ended, of the process that reaps it.
+    /// The number of its parent or, if that has ended, of the process that reaps orphans.
     pub parent: u32,
     /// The number of its session. POSIX, getsid.
     pub session: u32,
     /// When it started, in clock ticks after the system's boot (field 22).
     pub start: u64,
-    /// Whether it has ended and waits to be reaped (state Z) or is dead (X, x), with all of its threads: the state is that of
-    /// the first, which may end before the others.
+    /// Whether it has ended with all its threads: it waits to be reaped (state Z) or is dead (X, x), and no other thread is left. The
+    /// state is that of the first thread, which may end before the others.
     pub has_ended: bool,
 }
 
 impl Process {
-    /// Whether this is the other process: it has the same number and the same start. The number alone does not say so, since
-    /// it is given again once a process was reaped.
+    /// Whether this is the other process: it has the same number and the same start. The number alone is not enough, since it is
+    /// used again after a process was reaped.
     pub fn is(&self, other: &Process) -> bool
         ensures { IsTrue result ↔ IsSame self.now other.now }
     {

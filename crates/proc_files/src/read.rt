@@ -6,7 +6,7 @@ use std::fs::{self, File};
 use std::io::{self, Read};
 use std::rt::Files;
 
-/// Reads the first bytes of a file, as many as there is room for; how many they are.
+/// Reads the first bytes of a file into the buffer, as many as fit, and returns their number.
 pub fn read_head<R: Files>(files: &R, path: &str, room: &mut [u8]) -> io::Result<usize>
     ensures room { length room.new ≡ length room.old }
     ensures within { IfOk result (λ n. n ≤ length room.old) }

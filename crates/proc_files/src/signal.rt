@@ -6,13 +6,13 @@ ghost use Rattle.proc_files.specs.Signals.{BeginsWithBit, HasBit, IsIgnored, IsM
 use crate::pieces::{after, is_pieces};
 use std::str;
 
-// What comes before the mask of ignored signals.
+// The text before the mask of ignored signals.
 const IGNORED: &[u8] = b"SigIgn:\t";
 
-// How many digits a mask has: one for four of 64 signals.
+// How many digits a mask has: one for each four of 64 signals.
 const DIGITS: usize = 16;
 
-// The number that hexadecimal digits write.
+// The number with these hexadecimal digits.
 fn number_of(digits: &[u8]) -> Option<u64>
     ensures some { IfSome result
         (λ number. IsNumeral 16 digits.now × (digits_value 16 digits.now ≡ number)) }
@@ -27,7 +27,7 @@ fn number_of(digits: &[u8]) -> Option<u64>
     }
 }
 
-// The mask that a text begins with as a line of its own, if it does.
+// The mask in the first line of a text, if that line is SigIgn.
 fn mask_of(text: &[u8]) -> Option<u64>
     ensures some { IfSome result (λ mask. IsMaskLine text.now mask) }
     ensures none { IfNone result ((mask : ℕ) → IsMaskLine text.now mask → ⊥) }
@@ -41,14 +41,14 @@ fn mask_of(text: &[u8]) -> Option<u64>
     number_of(digits)
 }
 
-// Whether a mask has the bit of a signal; the first has the lowest.
+// Whether a mask has the bit of a signal; signal 1 has the lowest bit.
 fn has_bit(mask: u64, signal: u8) -> bool
     ensures { IsTrue result ↔ HasBit mask signal }
 {
     (1..=64).contains(&signal) && (mask >> (signal - 1)) % 2 == 1
 }
 
-// Whether a text begins with a line that gives a mask with the bit of a signal.
+// Whether the first line of a text is SigIgn, with a mask that has the bit of a signal.
 fn begins_with_bit(text: &[u8], signal: u8) -> bool
     ensures { IsTrue result ↔ BeginsWithBit signal text.now }
 {
@@ -58,8 +58,8 @@ fn begins_with_bit(text: &[u8], signal: u8) -> bool
     }
 }
 
-/// Whether a process ignores a signal, from 1 to 64: its bit is set in the mask of the line SigIgn of this text, the bytes
-/// of `/proc/PID/status`.
+/// Whether a process ignores a signal, from 1 to 64: its bit is set in the mask of the line SigIgn in `status`, the bytes of
+/// `/proc/PID/status`.
 pub fn is_ignored(status: &[u8], signal: u8) -> bool
     ensures { IsTrue result ↔ IsIgnored status.now signal }
 {

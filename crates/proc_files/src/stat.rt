@@ -1,4 +1,4 @@
-//! The process that a text of `/proc/PID/stat` describes.
+//! Reads the text of `/proc/PID/stat`.
 ghost use Rattle.std.specs.Prelude.{◌≡◌, ◌++◌, ◌∷◌, ◌≤◌, ℕ, Bool, List, IfNone, IfSome};
 ghost use Rattle.proc_files.specs.Stats.{HasName, HasNumber, IsField, IsProcess, IsStat, IsState, Lacks, Writes};
 ghost use Rattle.proc_files.specs.declared.process.Process.{Process};
@@ -7,7 +7,7 @@ use crate::pieces::after;
 use crate::process::Process;
 use std::str;
 
-// What comes before the first of a byte in a text, and what comes after it.
+// The parts of a text before and after the first occurrence of a byte.
 fn split_first(text: &[u8], byte: u8) -> Option<(&[u8], &[u8])>
     ensures is { IfSome result (λ parts. text.now ≡ parts.0.now ++ byte ∷ parts.1.now) }
     ensures first { IfSome result (λ parts. Lacks byte parts.0.now) }
@@ -17,7 +17,7 @@ fn split_first(text: &[u8], byte: u8) -> Option<(&[u8], &[u8])>
     Some((&text[..at], &text[at + 1..]))
 }
 
-// What comes before the last of a byte in a text, and what comes after it.
+// The parts of a text before and after the last occurrence of a byte.
 fn split_last(text: &[u8], byte: u8) -> Option<(&[u8], &[u8])>
     ensures is { IfSome result (λ parts. text.now ≡ parts.0.now ++ byte ∷ parts.1.now) }
     ensures last { IfSome result (λ parts. Lacks byte parts.1.now) }
@@ -27,7 +27,7 @@ fn split_last(text: &[u8], byte: u8) -> Option<(&[u8], &[u8])>
     Some((&text[..at], &text[at + 1..]))
 }
 
-// What comes before the name of a process in its text, its number, and what comes after it, its fields from the third on.
+// The parts of a text before and after the name of the process: its number, and its fields from the third on.
 fn around_name(text: &[u8]) -> Option<(&[u8], &[u8])>
     ensures some { IfSome result (λ parts. HasName text.now parts.0.now parts.1.now) }
     ensures none { IfNone result
@@ -38,7 +38,7 @@ fn around_name(text: &[u8]) -> Option<(&[u8], &[u8])>
     Some((number, after(rest, b" ")?))
 }
 
-// Field n of a text that begins with field 3 and has a space after each.
+// Field n of a text that begins with field 3, where each field is followed by a space.
 fn field(text: &[u8], n: usize) -> Option<&[u8]>
     requires { 3 ≤ n }
     ensures some { IfSome result (λ field. IsField text.now n field.now) }
@@ -52,7 +52,7 @@ fn field(text: &[u8], n: usize) -> Option<&[u8]>
     Some(field)
 }
 
-// The number that decimal digits write, with no sign.
+// The number with these decimal digits, without a sign.
 fn number_of(digits: &[u8]) -> Option<u64>
     ensures some { IfSome result (λ number. Writes 64 digits.now number) }
     ensures none { IfNone result ((number : ℕ) → Writes 64 digits.now number → ⊥) }
@@ -66,7 +66,7 @@ fn number_of(digits: &[u8]) -> Option<u64>
     }
 }
 
-// The same of 32 bits.
+// The same in 32 bits.
 fn id_of(digits: &[u8]) -> Option<u32>
     ensures some { IfSome result (λ number. Writes 32 digits.now number) }
     ensures none { IfNone result ((number : ℕ) → Writes 32 digits.now number → ⊥) }
@@ -104,7 +104,7 @@ fn process_of(number: &[u8], fields: &[u8]) -> Option<Process>
     })
 }
 
-/// The process that the text of `/proc/PID/stat` describes. `None` exactly when the text has not that form.
+/// The process that the text of `/proc/PID/stat` describes. `None` exactly when the text does not have that form.
 ///
 /// The name may have any bytes, also spaces and parentheses. The text may be cut after field 22, with its space.
 pub fn read_stat(text: &[u8]) -> Option<Process>

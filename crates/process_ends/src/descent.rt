@@ -1,9 +1,9 @@
-//! A child of this process, among the processes of the system.
+//! The search for a child of this process.
 use crate::search::Sought;
 use proc_files::{ProcFiles, Process};
 use std::alloc::{AllocError, Allocator};
 
-/// A child of this process, under its number.
+/// A search for the child of this process that has this number.
 #[derive(Drop)]
 pub struct ChildSought<'a, R> {
     pub rt: &'a R,

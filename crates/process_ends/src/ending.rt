@@ -1,4 +1,4 @@
-//! The end of processes with all that they started.
+//! Ends processes with all that they started.
 use crate::descent::ChildSought;
 use crate::patience::{Pauses, outlives};
 use crate::search::{Sought, found_now};
@@ -10,11 +10,11 @@ use std::io::{self, Eprint};
 use std::process::{Child, OpenProcess, Processes};
 use std::rt::Clock;
 
-// How often the processes are looked through at most. In each round what was not found before is stopped, so that it cannot
-// start others unseen; two rounds are enough where nothing is started meanwhile.
+// How many rounds there are at most. Each scans the processes and suspends (SIGSTOP) those that were not found before, so that they
+// cannot start others unseen. Two rounds are enough if nothing is started meanwhile.
 const ROUNDS: usize = 8;
 
-// Stops these processes, but for those that are stopped already. Whether there were any.
+// Suspends these processes, except those that are suspended already, and returns whether there were any.
 fn stop_more<R: Processes + Clock, A: Allocator + Copy>(
     rt: &R,
     alloc: A,
@@ -27,13 +27,13 @@ fn stop_more<R: Processes + Clock, A: Allocator + Copy>(
             more.push(*process).map_err(AllocError::from)?;
         }
     }
-    // what could not be stopped is to be killed all the same
+    // what could not be suspended is to be killed all the same
     stopped.extend_from_slice(more.as_slice())?;
     send_signal(rt, alloc, Signal::Stop, more.as_slice())?;
     Ok(!more.is_empty())
 }
 
-// Stops what is sought with all that descends from it, and gathers it, as far as it comes.
+// Suspends the sought processes and all their descendants, and adds them to `stopped`: on an error those found so far.
 fn stop_all<R: Processes + Clock + ProcFiles, S: Sought, A: Allocator + Copy>(
     rt: &R,
     alloc: A,
@@ -49,7 +49,7 @@ fn stop_all<R: Processes + Clock + ProcFiles, S: Sought, A: Allocator + Copy>(
     Ok(())
 }
 
-/// Whether a process is there still, under its number and with its start, and has not ended.
+/// Whether a process still exists, with the same number and start, and has not ended. `true` where `/proc` cannot be read.
 pub fn still_lives<R: ProcFiles>(rt: &R, process: &Process) -> bool {
     match rt.process_of(process.pid) {
         Ok(Some(now)) => now.is(process) && !now.has_ended,
@@ -58,8 +58,8 @@ pub fn still_lives<R: ProcFiles>(rt: &R, process: &Process) -> bool {
     }
 }
 
-/// What is sought, with all that descends from it, stopped: as much of it as can be found. Where that is not all it is said on
-/// standard error why.
+/// Suspends the sought processes and all their descendants, as far as they can be found, and returns them. An error that ended
+/// the search is reported on standard error.
 pub fn stopped<R: Processes + Clock + Eprint + ProcFiles, S: Sought, A: Allocator + Copy>(
     rt: &R,
     alloc: A,
@@ -69,12 +69,12 @@ pub fn stopped<R: Processes + Clock + Eprint + ProcFiles, S: Sought, A: Allocato
     if let Err(error) = stop_all(rt, alloc, sought, &mut stopped) {
         tell_unstopped(rt, &error);
     }
-    // a number may have been given again
+    // a process number may have been reused
     stopped.retain(|process| still_lives(rt, process));
     stopped
 }
 
-// Waits for killed processes, and lets go of each that has ended.
+// Waits for killed processes, up to a tenth of a second, and removes each that has ended.
 fn await_gone<R: Clock + ProcFiles, A: Allocator>(rt: &R, processes: &mut Vec<Process, A>) {
     let mut pauses = Pauses::after_kill();
     processes.retain(|process| still_lives(rt, process));
@@ -83,8 +83,8 @@ fn await_gone<R: Clock + ProcFiles, A: Allocator>(rt: &R, processes: &mut Vec<Pr
     }
 }
 
-/// Ends a child of this process with all that descends from it, and waits for it, two tenths of a second at most. Whether the
-/// child lives on; what else does is named on standard error.
+/// Ends a child of this process with all its descendants, waits for that two tenths of a second at most, and returns whether the
+/// child lives on. Others that do are named on standard error.
 pub fn end_child<R: Processes + Clock + Eprint + ProcFiles, P: OpenProcess, A: Allocator + Copy>(
     rt: &R,
     alloc: A,
@@ -101,8 +101,8 @@ pub fn end_child<R: Processes + Clock + Eprint + ProcFiles, P: OpenProcess, A: A
     outlives
 }
 
-/// Ends processes that no agent of this executor is, with all that they started, and waits for it, a tenth of a second at most.
-/// What lives on is named on standard error.
+/// Ends processes that are not children of this executor, with all that they started, and waits for that a tenth of a second at
+/// most. Processes that live on are named on standard error.
 pub fn end_processes<R: Processes + Clock + Eprint + ProcFiles, S: Sought, A: Allocator + Copy>(
     rt: &R,
     alloc: A,

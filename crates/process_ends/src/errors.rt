@@ -1,4 +1,4 @@
-//! Standard error, on which nothing waits.
+//! Standard error that never blocks.
 use crate::line::BoundedLine;
 use libc::net::{POLLOUT, poll};
 use libc::types::pollfd;
@@ -7,16 +7,16 @@ use std::fmt::Display;
 use std::io::{self, Eprint, ErrorKind, Print, Stderr, Write};
 use std::os::fd::AsRawFd;
 
-/// Standard error, on which nothing waits: a line is written where that can be done at once, and is left out else. The next line
-/// that is written says before it how many were left out. A line is cut at 4,096 bytes.
+/// Standard error that never blocks: a line that cannot be written at once is left out, and before the next line that is written
+/// comes the number of those left out. A line is cut at 4,096 bytes.
 #[derive(Drop)]
 pub struct ErrorLines {
     stderr: Stderr,
-    // How many lines were left out since one was written.
+    // How many lines were left out since the last one that was written.
     left_out: Cell<u64>,
 }
 
-// Whether a descriptor can be written now. POSIX, poll.
+// Whether a write to a descriptor would not block now. POSIX, poll.
 fn is_writable(descriptor: i32) -> bool {
     let mut asked = [pollfd {
         fd: descriptor,
@@ -27,7 +27,7 @@ fn is_writable(descriptor: i32) -> bool {
 }
 
 impl ErrorLines {
-    /// None was left out yet.
+    /// Standard error of which no line was left out yet.
     pub fn new(stderr: Stderr) -> ErrorLines {
         ErrorLines {
             stderr,
@@ -39,11 +39,11 @@ impl ErrorLines {
     fn spelled<D: Display + Drop>(&self, value: D) -> BoundedLine {
         let mut line = BoundedLine::new();
         let count = self.left_out.get();
-        // what does not fit is cut, which is no fault
+        // what does not fit is cut; that is no error
         if count > 0 {
             let _ = writeln!(
                 line,
-                "ocfexec: lines that could not be written here before this one: {count}"
+                "ocfexec: messages dropped before this one, since standard error could not be written: {count}"
             );
         }
         let _ = write!(line, "{value}");

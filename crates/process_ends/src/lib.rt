@@ -1,5 +1,5 @@
-//! The end of processes with all that they started: how they are found, stopped, killed and waited for; and the standard error on
-//! which it is said what lives on.
+//! Ends processes with all that they started: how they are found, suspended, killed and waited for; and standard error, where
+//! those that live on are named.
 #![tactic(auto)]
 
 mod descent;

@@ -1,9 +1,9 @@
-// A line that is written in one call.
+//! A line that is written in one call.
 ghost use Rattle.std.specs.Prelude.{◌≡◌, ◌-◌, ◌≤◌, Some, length, slice_get};
 
 use std::io::{self, Write};
 
-// How many bytes it has at most, with its newline: where a pipe can be written at all, a write of this many does not block.
+// How many bytes a line has at most, with its newline. If a pipe is ready for a write, one of this many bytes does not block.
 // Linux, pipe(7), PIPE_BUF.
 const LIMIT: usize = 4_096;
 
@@ -24,7 +24,7 @@ impl BoundedLine {
         }
     }
 
-    /// Ends it with a newline, which is its last byte where it has no room for one more.
+    /// Ends it with a newline, which replaces the last byte of a full line.
     pub fn end(&mut self)
         ensures ended { slice_get self.new.bytes (self.new.length - 1) ≡ Some 10 }
     {
@@ -33,7 +33,7 @@ impl BoundedLine {
         self.length = last + 1;
     }
 
-    /// What it has so far.
+    /// The text so far.
     pub fn as_bytes(&self) -> &[u8]
         ensures short { length result.now ≤ 4096 }
     {

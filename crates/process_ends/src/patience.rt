@@ -1,4 +1,4 @@
-// How long an agent is waited for.
+//! Pauses and deadlines of waits.
 ghost use Rattle.std.specs.Prelude.{◌≡◌, ◌≤◌, ◌+◌, ◌-◌, ◌*◌, ◌<◌, IsTrue, IfNone, IfSome, None};
 ghost use Rattle.std.specs.Process.{child_status};
 
@@ -7,7 +7,7 @@ use std::rt::Clock;
 use std::thread::sleep;
 use std::time::{Duration, Instant};
 
-// How long all pauses of a wait for a killed child are together, in microseconds.
+// How long all pauses after a kill are together, in microseconds.
 const PATIENCE: u64 = 100_000;
 
 // The first pause, and the longest, in microseconds.
@@ -15,8 +15,7 @@ const SHORTEST: u64 = 20;
 
 const LONGEST: u64 = 5_000;
 
-/// The pauses between the questions whether a child has ended: each twice as long as the one before it, up to five
-/// milliseconds.
+/// The pauses between polls of a process: each is twice as long as the one before it, up to five milliseconds.
 #[derive(Drop)]
 pub struct Pauses {
     pub left: u64,
@@ -26,7 +25,7 @@ pub struct Pauses {
 }
 
 impl Pauses {
-    /// Pauses of this many microseconds altogether.
+    /// Pauses of this many microseconds together.
     fn of(micros: u64) -> Pauses
         ensures left { result.left ≡ micros }
     {
@@ -36,14 +35,14 @@ impl Pauses {
         }
     }
 
-    /// Those after a kill: a tenth of a second together.
+    /// The pauses after a kill: a tenth of a second together.
     pub fn after_kill() -> Pauses
         ensures left { result.left ≡ 100000 }
     {
         Pauses::of(PATIENCE)
     }
 
-    /// Those of this many milliseconds together.
+    /// Pauses of this many milliseconds together.
     pub fn within(millis: u32) -> Pauses
         ensures left { result.left ≡ millis * 1000 }
     {
@@ -65,7 +64,7 @@ impl Pauses {
         Some(pause)
     }
 
-    /// Makes the next pause; whether there was one left.
+    /// Sleeps for the next pause, and returns whether there was one left.
     pub fn pause(&mut self, clock: &impl Clock) -> bool
         ensures made { IsTrue result → self.new.left < self.old.left }
     {
@@ -79,14 +78,14 @@ impl Pauses {
     }
 }
 
-/// Whether a child still runs, as far as the system says.
+/// Whether a child still runs; `false` also where the system answers with an error.
 pub fn still_runs<P: OpenProcess>(child: &mut Child<P>) -> bool
     ensures asked { IsTrue result → child_status child.new ≡ None }
 {
     matches!(child.try_wait(), Ok(None))
 }
 
-/// Asks a child whether it has ended, again after each pause, until it has or none is left. Whether it still runs.
+/// Polls a child, again after each pause, until it has ended or no pause is left. Returns whether it still runs.
 pub fn outlives<P: OpenProcess>(
     clock: &impl Clock,
     child: &mut Child<P>,
@@ -105,7 +104,7 @@ pub fn outlives<P: OpenProcess>(
 /// A span of the monotonic clock.
 #[derive(Clone, Copy)]
 pub struct Deadline {
-    // When it began, where the clock showed it.
+    // When it began; `None` where the clock failed.
     began: Option<Instant>,
     millis: u32,
 }
@@ -119,7 +118,7 @@ impl Deadline {
         }
     }
 
-    /// How many milliseconds of it are left: 0 once it is past, and where the clock fails.
+    /// How many milliseconds of it are left: 0 after its end, and where the clock fails.
     pub fn left(&self, clock: &impl Clock) -> u32 {
         match self.began.map(|began| began.elapsed(clock)) {
             Some(Ok(took)) => left_of(self.millis, took.as_millis()),
@@ -128,7 +127,7 @@ impl Deadline {
     }
 }
 
-// What is left of a span once so much of it has passed.
+// What is left of a span after `took` milliseconds.
 fn left_of(millis: u32, took: u128) -> u32
     ensures { result ≡ millis - took }
 {

@@ -1,4 +1,4 @@
-//! What is to end, among the processes of the system.
+//! The search for the processes that are to be ended.
 use proc_files::{ActionMark, PidFile, ProcFiles, Process, has, is_job, with_descendants};
 use std::alloc::{AllocError, Allocator};
 use std::io;
@@ -6,9 +6,9 @@ use std::io;
 // How many bytes are read of an environment: an agent's has at most 64 parameters of at most 1,024 bytes, and some more.
 const ENVIRON_LIMIT: usize = 131_072;
 
-/// Which processes are looked for, whatever descends from them.
+/// Selects processes from a table. Their descendants are found without it.
 pub trait Sought {
-    /// Those among the processes of the system. The memory for them is the allocator's.
+    /// The sought processes in a table of processes. It fails only where memory is refused.
     fn among<A: Allocator + Copy>(
         &mut self,
         alloc: A,
@@ -16,7 +16,7 @@ pub trait Sought {
     ) -> Result<Vec<Process, A>, AllocError>;
 }
 
-// What is sought in a table, and what was found before.
+// The sought processes in a table, and those that were found before and are still in it.
 fn roots<S: Sought, A: Allocator + Copy>(
     alloc: A,
     sought: &mut S,
@@ -32,7 +32,7 @@ fn roots<S: Sought, A: Allocator + Copy>(
     Ok(roots)
 }
 
-/// A process and those that it descends from, as the table has them. It fails only where memory is refused.
+/// A process and its ancestors in the table. It fails only where memory is refused.
 pub fn with_ancestors<A: Allocator + Copy>(
     alloc: A,
     table: &[Process],
@@ -50,8 +50,8 @@ pub fn with_ancestors<A: Allocator + Copy>(
     Ok(line)
 }
 
-/// What is sought and what was found before, as far as `/proc` shows it now, with all that descends from it; without this
-/// process, and without those that it descends from.
+/// The sought processes and those that were found before, as far as `/proc` shows them now, with all their descendants. This
+/// process and its ancestors are never among them.
 pub fn found_now<R: ProcFiles, S: Sought, A: Allocator + Copy>(
     rt: &R,
     alloc: A,
@@ -65,7 +65,7 @@ pub fn found_now<R: ProcFiles, S: Sought, A: Allocator + Copy>(
     Ok(with_descendants(alloc, table.as_slice(), roots.as_slice())?)
 }
 
-/// Room for what is read of a process and of its parent.
+/// Buffers for the environments of a process and of its parent.
 #[derive(Drop)]
 pub struct Environments<A: Allocator> {
     own: Vec<u8, A>,
@@ -81,8 +81,8 @@ impl<A: Allocator + Copy> Environments<A> {
         })
     }
 
-    /// Whether a process is a background job of one of these actions. Its environment is read only where its session and its
-    /// start leave that open.
+    /// Whether a process is a background job of one of these actions. Its environment is read only if its session and its start do
+    /// not rule that out.
     pub fn is_job_of_any<R: ProcFiles>(
         &mut self,
         rt: &R,

@@ -1,4 +1,4 @@
-//! Signals to processes, by the shell.
+//! Sends signals to processes, by the shell.
 use crate::patience::{Pauses, outlives};
 use proc_files::Process;
 use std::alloc::{AllocError, Allocator};
@@ -9,12 +9,12 @@ use std::rt::Clock;
 // How long the shell may take, in milliseconds.
 const LIMIT: u32 = 1_000;
 
-/// A signal that ends a process, or has it wait before that. POSIX, signal.h.
+/// A signal that suspends or ends a process. POSIX, signal.h.
 #[derive(Clone, Copy)]
 pub enum Signal {
-    /// It goes on no more, and starts nothing: SIGSTOP.
+    /// SIGSTOP: the process is suspended, and starts nothing.
     Stop,
-    /// It ends: SIGKILL.
+    /// SIGKILL: the process ends.
     Kill,
 }
 
@@ -27,7 +27,7 @@ impl Signal {
     }
 }
 
-// The shell with what it is to run. POSIX, sh and kill.
+// The shell with a script that sends a signal to its arguments, of which there is none yet. POSIX, sh and kill.
 fn shell<A: Allocator + Copy>(alloc: A, signal: Signal) -> Result<Command<A>, AllocError> {
     let mut command = Command::new(alloc, "/bin/sh")?;
     command.env_clear();
@@ -56,8 +56,8 @@ fn kill_command<A: Allocator + Copy>(
     Ok(command)
 }
 
-/// Sends a signal to these processes, by one `kill` of the shell. It fails where the shell cannot be started, or does not end in
-/// a second; that a process has ended meanwhile, or is another user's, is no failure.
+/// Sends a signal to these processes, by one `kill` of the shell. It fails if the shell cannot be spawned or does not end in a
+/// second. A process that has ended meanwhile, or that is another user's, is no failure.
 pub fn send_signal<R: Processes + Clock, A: Allocator + Copy>(
     rt: &R,
     alloc: A,

@@ -1,4 +1,4 @@
-//! The system as an executor uses it.
+//! The system calls that an executor uses.
 use crate::errors::ErrorLines;
 use proc_files::{PidFile, ProcFiles, Process};
 use std::alloc::Allocator;
@@ -8,8 +8,7 @@ use std::process::{Child, Command, Processes, Stdio, SystemProcess};
 use std::rt::Clock;
 use std::time::Duration;
 
-/// The system as an executor uses it: its processes, its clocks, what `/proc` says, and its standard error, on which nothing
-/// waits.
+/// The system as an executor uses it: its processes, its clocks, the files of `/proc`, and a standard error that never blocks.
 #[derive(Drop)]
 pub struct System<'a> {
     rt: &'a HostRuntime,

@@ -1,4 +1,4 @@
-// What is said on standard error of processes that were to end.
+//! Reports on standard error about processes that were to be ended.
 use proc_files::{PidFile, ProcFiles, Process};
 use std::fmt::Display;
 use std::io::{self, Eprint};
@@ -8,7 +8,7 @@ use std::str;
 // How many bytes of a command's name are read.
 const NAME_LIMIT: usize = 256;
 
-// The name of a process's command: none where it cannot be read.
+// The name of a process's command, empty where it cannot be read.
 fn name_of<'a, R: ProcFiles>(rt: &R, pid: u32, room: &'a mut [u8]) -> &'a str {
     let length = rt.read_of(pid, PidFile::Name, room);
     str::from_utf8(&room[..length])
@@ -16,7 +16,7 @@ fn name_of<'a, R: ProcFiles>(rt: &R, pid: u32, room: &'a mut [u8]) -> &'a str {
         .trim_end()
 }
 
-/// Names a child that was killed and lives on, by its number, its command and whose it is.
+/// Reports a child that was killed and lives on, by its number, its command and what it belongs to.
 pub fn tell_alive<R: Eprint + ProcFiles, P: OpenProcess, W: Display + Drop>(
     rt: &R,
     child: &Child<P>,
@@ -26,30 +26,30 @@ pub fn tell_alive<R: Eprint + ProcFiles, P: OpenProcess, W: Display + Drop>(
     let mut room = [0u8; NAME_LIMIT];
     let name = name_of(rt, pid, &mut room);
     let _ = rt.eprintln(format_args!(
-        "ocfexec: pid {pid} ({name}) of {whose} was killed and still lives"
+        "ocfexec: pid {pid} ({name}) of {whose} is still alive after SIGKILL"
     ));
 }
 
-// Names a process that was killed and lives on, by its number and its command.
+// Reports a process that was killed and lives on, by its number and its command.
 fn tell_left<R: Eprint + ProcFiles>(rt: &R, process: &Process) {
     let pid = process.pid;
     let mut room = [0u8; NAME_LIMIT];
     let name = name_of(rt, pid, &mut room);
     let _ = rt.eprintln(format_args!(
-        "ocfexec: pid {pid} ({name}), which an action started, was killed and still lives"
+        "ocfexec: pid {pid} ({name}), started by an action, is still alive after SIGKILL"
     ));
 }
 
-/// Names processes that were killed and live on.
+/// Reports processes that were killed and live on.
 pub fn tell_all<R: Eprint + ProcFiles>(rt: &R, processes: &[Process]) {
     for process in processes {
         tell_left(rt, process);
     }
 }
 
-/// Says why not all that is to end was found and stopped.
+/// Reports why some of the processes that are to be ended were not found or not suspended.
 pub fn tell_unstopped<R: Eprint>(rt: &R, error: &io::Error) {
     let _ = rt.eprintln(format_args!(
-        "ocfexec: what a killed action started cannot all be found in /proc and stopped: {error}"
+        "ocfexec: cannot find and stop all processes that a killed action started: {error}"
     ));
 }

@@ -11,7 +11,7 @@ of_start answer = tt
 abbrev entry_of : ℕ → ℕ → Result Unit StartFault → Entry
 entry_of run at answer = record { run = run; at = at; answer = start_answer answer }
 
--- one start's entry
+-- the entry of one start asks for that start alone
 only_asked : (run at r t : ℕ) (answer : Result Unit StartFault) → Asked (entry_of run at answer ∷ []) r t → (r ≡ run) × (t ≡ at)
 only_asked run at r t answer (told, is, (zero, within, e)) = (sym (ap (λ (x : Entry). x.run) e), sym (ap (λ (x : Entry). x.at) e))
 only_asked run at r t answer (told, is, (suc k, within, e)) = absurd (omega (arith, within))

@@ -5,7 +5,7 @@ use Rattle.child_model.specs.declared.answer.Poll.{Poll}
 use Rattle.child_model.specs.declared.answer.Poll.TheVariants as poll
 use Rattle.child_model.proofs.laws.who_lives.Goals as goal
 
--- after an answer that the child does not run
+-- after an answer other than that it still runs
 ended : (run r : ℕ) (live : List ℕ) (answer : Poll) → (answer ≡ poll.Running → ⊥) → Contains (without_run run live) r
     ↔ (Contains live r × ((answer ≡ poll.Running) ⊎ (r ≢ run)))
 ended run r live answer not_running = (

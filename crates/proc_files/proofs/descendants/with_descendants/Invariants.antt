@@ -1,4 +1,4 @@
--- A step comes one further, and may move some of the rest to the end of what is found.
+-- A step advances by one process, and may move some of the rest to the end of those found.
 use Rattle.std.proofs.Common.{◌+◌, ◌-◌, length}
 use Rattle.proc_files.proofs.DescendantLemmas.{IsSearchedTo}
 use Rattle.proc_files.proofs.descendants.with_descendants.Given as goal

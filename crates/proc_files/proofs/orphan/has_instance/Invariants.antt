@@ -1,4 +1,4 @@
--- The variable is at no offset so far.
+-- The variable is at none of the offsets so far.
 use Rattle.std.proofs.Common.{ℕ, ◌<◌, take, drop}
 use Rattle.proc_files.specs.Orphans.{BeginsWithInstance}
 use Rattle.proc_files.specs.Pieces.{IsPieces}

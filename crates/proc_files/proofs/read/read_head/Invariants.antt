@@ -1,4 +1,4 @@
--- No more was read than there is room for, and the room stays.
+-- No more bytes were read than the buffer has, and its length does not change.
 use Rattle.std.proofs.Common.{◌≡◌, ◌≤◌, ◌-◌, length}
 use Rattle.proc_files.proofs.read.read_head.Given as goal
 

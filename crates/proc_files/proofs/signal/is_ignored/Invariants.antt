@@ -1,4 +1,4 @@
--- The line is at no offset so far.
+-- The line is at none of the offsets so far.
 use Rattle.std.proofs.Common.{ℕ, ◌<◌, take, drop}
 use Rattle.proc_files.specs.Pieces.{IsPieces}
 use Rattle.proc_files.specs.Signals.{BeginsWithBit}

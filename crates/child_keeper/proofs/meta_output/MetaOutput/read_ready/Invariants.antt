@@ -1,4 +1,4 @@
--- Where all that was read is kept, it is that of what was read so far.
+-- If all that was read is kept, it is what was kept before with what was read so far.
 use Rattle.child_keeper.specs.MetaOutputs.{KeepsAll}
 use Rattle.child_keeper.proofs.meta_output.MetaOutput.read_ready.Given as goal
 
