@@ -79,7 +79,9 @@ def loose(value, but):
 
 def own_runs(notices):
     """Notices with the runs of each resource counted from 1, in their order."""
-    runs = {name: sorted(value["run"] for value in notices if value["id"] == name and "run" in value) for name in {value["id"] for value in notices}}
+    runs = collections.defaultdict(list)
+    for value in sorted((value for value in notices if "run" in value), key=lambda value: value["run"]):
+        runs[value["id"]].append(value["run"])
     return [{**value, "run": 1 + runs[value["id"]].index(value["run"])} if "run" in value else value for value in notices]
 
 
