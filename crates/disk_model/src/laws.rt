@@ -1,4 +1,4 @@
-//! What holds of each disk of this crate, at every moment.
+//! Lemmas: whether the disks of this crate are honest.
 ghost use Rattle.disk_model.specs.MemDisk.{view_of};
 ghost use Rattle.disk_model.specs.WildDisk.{wild_view};
 

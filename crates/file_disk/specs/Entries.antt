@@ -1,4 +1,4 @@
--- What a directory has under the names of both parts.
+-- The entries of a directory under the names of both parts.
 use Rattle.std.specs.Prelude.{ℕ, Bool, List, Result, Ok, Err, if◌then◌else◌}
 use Rattle.std.specs.Str.{bytes_eq}
 use Rattle.ocf_types.specs.declared.part.Part.TheVariants.{A, B}
@@ -9,7 +9,7 @@ use Rattle.file_disk.specs.declared.entry.Entry.TheVariants.{Missing, Filled}
 use Rattle.file_disk.specs.declared.fault.OpenFault.{OpenFault}
 use Rattle.file_disk.specs.declared.fault.OpenFault.TheVariants.{Gone, NoJournal}
 
--- the part that is gone: missing beside one that is filled
+-- the part that is gone: missing while the other one is not empty
 abbrev pub loss_of : Entry → Entry → Result (Unit {0}) OpenFault
 loss_of Missing Filled = Err (Gone A)
 loss_of Filled Missing = Err (Gone B)
@@ -19,7 +19,7 @@ loss_of _ _ = Ok tt
 abbrev pub holds_journal : List ℕ → Bool
 holds_journal text = bytes_eq (bytes_at 1 4 text) magic
 
--- a loss as it is reported where the file that is there begins so: no part is gone beside a file that holds no journal
+-- the fault to report, by the bytes of the remaining file: `NoJournal` for a `Gone` if that file holds no journal
 abbrev pub told_loss : List ℕ → OpenFault → OpenFault
 told_loss text (Gone part) = if holds_journal text then Gone part else NoJournal (other part)
 told_loss text fault = fault

@@ -4,7 +4,7 @@ use Rattle.ocf_types.specs.declared.part.Part.{Part}
 use Rattle.file_disk.specs.declared.fault.OpenFault.{OpenFault}
 use Rattle.file_disk.specs.declared.fault.OpenFault.TheVariants.{Folder, File, NotPlain, FolderDistrusted, Distrusted, Locked, InUse, Gone, NoJournal, Emptied, Changing, Memory}
 
--- the fault is reported of the file of this part, or is want of memory
+-- the fault is of the file of this part, or memory was refused
 abbrev pub IsOfPart : Part → OpenFault → Type 0
 IsOfPart part (Folder error) = ⊥
 IsOfPart part (File p error) = p ≡ part

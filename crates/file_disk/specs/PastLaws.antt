@@ -1,4 +1,4 @@
--- The laws of a disk of files, whatever its calls were.
+-- Lemmas about a disk of files, after any calls.
 use Rattle.std.specs.Coded.{Coded-set, coded_list, coded_ℕ, ×_prop, Unit-prop}
 use Rattle.std.specs.Prelude.{ℕ, ◌<◌, ◌≤◌, List, [], ◌∷◌, length, take, drop}
 use Rattle.std.proofs.Common.{inl, inr, arith, refl}
@@ -21,7 +21,7 @@ left_step (Synced part) bytes old d h = (h, refl)
 left_step Failed bytes old d h = h
 left_step Refused bytes old d h = h
 
--- what reads is among what a crash may leave
+-- the bytes that read are an image that a crash may leave
 reads_left : (first : Image) (past : List Event) → now_of first past (reads_of first past)
 reads_left first [] = refl
 reads_left first (e ∷ older) = left_step e.call e.bytes (now_of first older) (reads_of first older) (reads_left first older)
@@ -31,19 +31,20 @@ counts : (first : Image) (past : List Event) (t : ℕ) (c : Image) → now_of fi
 counts first [] t c now = now
 counts first (e ∷ older) t c now = inl now
 
--- since the moment after all calls there is just now
+-- since the moment after all calls there is only now
 only : (first : Image) (past : List Event) (t : ℕ) (c : Image) → clock_of past ≤ t → since_of first past t c → now_of first past c
 only first [] t c le left = left
 only first (e ∷ older) t c le (inl now) = now
 only first (e ∷ older) t c le (inr was) = let before : t < clock_of (e ∷ older) = was.0 in absurd (omega (arith, le, before))
 
--- what a crash from some moment on may have left, a crash from an earlier one on may have left
+-- an image of a crash from some moment on is one of a crash from an earlier moment on
 since_earlier : (first : Image) (past : List Event) (t u : ℕ) (c : Image) → u ≤ t → since_of first past t c → since_of first past u c
 since_earlier first [] t u c le left = left
 since_earlier first (e ∷ older) t u c le (inl now) = inl now
 since_earlier first (e ∷ older) t u c le (inr was) =
     inr (let before : t < clock_of (e ∷ older) = was.0 in omega (arith, le, before), since_earlier first older t u c le was.1)
 
+-- the disk is lawful
 pub past_lawful : (first : Image) (past : List Event) → Lawful (past_view first past)
 past_lawful first past = record {
   reads_now = reads_left first past;
@@ -66,11 +67,12 @@ failures_step (Synced part) n le = (omega arith, le)
 failures_step Failed n le = (omega (arith, le), omega arith)
 failures_step Refused n le = (omega (arith, le), omega arith)
 
+-- the same of the failed calls
 pub failures_bound : (past : List Event) → failures_of past ≤ LAST
 failures_bound [] = omega arith
 failures_bound (e ∷ older) = (failures_step e.call (failures_of older) (failures_bound older)).1
 
--- one call more passes, and time elapses: below the last count always, at it where no call is made
+-- the counts and honesty after one more call
 pub passes : (first : Image) (past : List Event) (e : Event) → Passed (past_view first past) (past_view first (e ∷ past))
 passes first past e = record {
   clock = omega (arith, clock_bound past);
@@ -90,11 +92,13 @@ elapses_by first past e at_end = record {
   ];
 }
 
+-- the clock goes on at a call below the last count
 pub elapses : (first : Image) (past : List Event) (e : Event) → clock_of past < LAST
     → Elapses (past_view first past) (past_view first (e ∷ past))
 elapses first past e unspent =
     elapses_by first past e (λ t c le ge left. let after : clock_of (e ∷ past) ≤ t = ge in absurd (omega (arith, le, after, unspent)))
 
+-- and at a call that was not made
 pub elapses_refused : (first : Image) (past : List Event) (bytes : List ℕ)
     → Elapses (past_view first past) (past_view first (record { call = Refused; bytes = bytes } ∷ past))
 elapses_refused first past bytes =
@@ -102,7 +106,7 @@ elapses_refused first past bytes =
     let after : clock_of (record { call = Refused; bytes = bytes } ∷ past) ≤ t = ge in
     only first past t c (omega (arith, after, clock_bound past)) left)
 
--- there is one proof at most that a disk is honest
+-- there is at most one proof that an answer is right
 agrees_prop : (w : Call) (bytes : List ℕ) (d : Image) → IsProp (agrees w bytes d)
 agrees_prop (Measured part n) bytes d = Coded-set coded_ℕ n (length (bytes_of part d))
 agrees_prop (Read part at) bytes d = Coded-set (coded_list coded_ℕ) bytes (take (length bytes) (drop at (bytes_of part d)))
@@ -112,6 +116,7 @@ agrees_prop (Synced part) bytes d = Unit-prop
 agrees_prop Failed bytes d = Unit-prop
 agrees_prop Refused bytes d = Unit-prop
 
+-- and at most one that a disk is honest
 pub honest_prop : (first : Image) (past : List Event) → IsProp (honest_of first past)
 honest_prop first [] = Unit-prop
 honest_prop first (e ∷ older) = ×_prop (honest_prop first older) (agrees_prop e.call e.bytes (reads_of first older))

@@ -1,4 +1,4 @@
--- What contracts see of a disk in memory.
+-- The view of a disk in memory.
 use Rattle.std.specs.Prelude.{◌≡◌, ◌⊎◌, ℕ, ◌<◌, ◌≤◌}
 use Rattle.disk_model.specs.Image.{Image}
 use Rattle.disk_model.specs.Runs.{AllSynced}
@@ -7,11 +7,11 @@ use Rattle.file_disk.specs.Log.{log_view}
 use Rattle.file_disk.specs.declared.ram.RamDisk.{RamDisk}
 
 module _ {M : Type 0} where
-  -- the disk at this moment, by the record of its calls
+  -- the view of the disk at this moment, by the record of its calls
   abbrev pub view_of : RamDisk M → View
   view_of d = log_view d.log
 
-  -- no call is made any more: one failed, or the count of calls is at its last value
+  -- no further call is made: one failed, or the count of calls is at its last value
   abbrev pub IsStopped : RamDisk M → Type 0
   IsStopped d = (0 < (view_of d).failures) ⊎ (LAST ≤ (view_of d).clock)
 

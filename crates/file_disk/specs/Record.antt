@@ -1,4 +1,4 @@
--- What contracts see of a record of calls.
+-- The view of a record of calls.
 use Rattle.std.specs.Prelude.{◌≡◌, ℕ, List, [], ◌∷◌}
 use Rattle.disk_model.specs.View.{View}
 use Rattle.file_disk.specs.Past.{past_view}
@@ -10,11 +10,11 @@ use Rattle.file_disk.specs.declared.record.Record.{Record}
 abbrev pub Begins : List ℕ → List ℕ → Record → Type 0
 Begins a b r = (r.first ≡ record { a = a; b = b }) × (r.events ≡ [])
 
--- the record goes on by this call
+-- the record has one more call: this one
 abbrev pub Noted : Call → List ℕ → Record → Record → Type 0
 Noted call bytes old new = (new.first ≡ old.first) × (new.events ≡ record { call = call; bytes = bytes } ∷ old.events)
 
--- the disk that the record describes
+-- the view of the disk that the record describes
 abbrev pub view_by : Record → View
 view_by r = past_view r.first r.events
 

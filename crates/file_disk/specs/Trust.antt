@@ -1,4 +1,4 @@
--- Which owners and modes of a journal's directory and files an executor accepts.
+-- The owners and modes of a journal's directory and files that an executor accepts.
 use Rattle.std.specs.Prelude.{◌≡◌, ◌≢◌, ⊤, ℕ, bit_and}
 use Rattle.file_disk.specs.declared.trust.Distrust.{Distrust}
 use Rattle.file_disk.specs.declared.trust.Distrust.TheVariants.{Owner, Writers}

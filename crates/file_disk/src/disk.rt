@@ -19,7 +19,7 @@ use std::fs::File;
 use std::os::unix::fs::FileExt;
 use std::rt::Files;
 
-// Opens both files, whose owners and modes have to be accepted, and makes those that are missing.
+// Opens both files, if their owners and modes are accepted, and makes those that are missing.
 fn open_files<R: Files<File = File>, A: Allocator + Copy>(
     rt: &R,
     alloc: A,
@@ -40,15 +40,16 @@ fn open_files<R: Files<File = File>, A: Allocator + Copy>(
 
 /// The files `part-a` and `part-b` of one directory, into which only this value writes.
 ///
-/// It is honest as long as each length and all bytes that the files answered are those that they held when they were
-/// opened, changed by the writes since. A read, a write and a sync are one call of the system each, gone on with where it
-/// is cut short or interrupted. A sync fails, too, where the path of its file leads to another file by now, or to none; a length
-/// looks so at both files: openings and tidies ask for lengths. After the first call that failed none is made any more, and each is
-/// answered a fault: a system may answer the next sync after one that failed as a success, with nothing on the device.
+/// It is honest as long as each length and all bytes that the files returned are those that they held when they were
+/// opened, changed by the writes since. A read, a write and a sync are one system call each, which is repeated for the rest
+/// where it was cut short or interrupted. A sync fails, too, if the path of its file now leads to another file or to none; a
+/// length checks this of both files, as openings and tidies ask for lengths. After the first call that failed no system call
+/// is made, and each call fails: a system may return success from the next sync after one that failed, with nothing on the
+/// device.
 #[derive(Drop)]
 pub struct FileDisk<R: Files<File = File> + Copy, A: Allocator + Copy = Global> {
     rt: R,
-    // locked as long as it is open
+    // the directory, locked as long as it is open
     _folder: File,
     a: PartFile<A>,
     b: PartFile<A>,
@@ -60,13 +61,13 @@ impl<R: Files<File = File> + Copy, A: Allocator + Copy> FileDisk<R, A> {
     ghost use Rattle.file_disk.specs.FileDisk.{IsFresh, Notes, first_part};
     ghost use Rattle.file_disk.specs.Record.{IsFault};
 
-    /// Opens both files of a directory, and makes those that are missing, for their owner alone. It is refused as `Gone`
-    /// where one is missing while the other holds a journal, as `NoJournal` where the other holds something else; nothing
-    /// is made then. The directory and both files are locked for as long as this value lives, so that a second opening is
-    /// answered `InUse`. All are synced, and then both files are read whole. An owner or a mode that is not accepted is
-    /// refused: that of the directory before anything is made or locked.
+    /// Opens both files of a directory, and makes those that are missing, for their owner alone. It fails with `Gone` if one
+    /// is missing while the other holds a journal, and with `NoJournal` if the other holds something else; nothing is made
+    /// then. The directory and both files are locked for as long as this value lives, so that a second opening fails with
+    /// `InUse`. All are synced, and then both files are read whole. An owner or a mode that is not accepted is refused: that
+    /// of the directory before anything is made or locked.
     ///
-    /// The path is that of a directory, by way of links or not. A failed opening may leave empty files.
+    /// The path may lead to the directory by way of links. A failed opening may leave empty files.
     pub fn open(rt: &R, alloc: A, dir: &str, owners: Owners) -> Result<FileDisk<R, A>, OpenFault>
         ensures fresh { IfOk result IsFresh }
         ensures no_name { dir.now ≡ [] → IsErr result }
@@ -98,7 +99,7 @@ impl<R: Files<File = File> + Copy, A: Allocator + Copy> FileDisk<R, A> {
         &self.part_file(part).file
     }
 
-    // The length of a part. Both files have to be those of their paths still.
+    // The length of a part. It fails unless both files are still those of their paths.
     fn measure(&self, part: Part) -> Result<u64, FileError>
         ensures { IfOk result (λ n. n ≤ PART_LIMIT) }
     {
@@ -116,7 +117,7 @@ impl<R: Files<File = File> + Copy, A: Allocator + Copy> FileDisk<R, A> {
         }
     }
 
-    // Syncs the file of a part, which has to be that of its path still.
+    // Syncs the file of a part. It fails unless the file is still that of its path.
     fn sync_file(&self, part: Part) -> Result<(), FileError>
         ensures { IfErr result (λ error. error.part ≡ part) }
     {
@@ -126,7 +127,7 @@ impl<R: Files<File = File> + Copy, A: Allocator + Copy> FileDisk<R, A> {
         }
     }
 
-    // A call of the system failed.
+    // Notes a system call that failed.
     fn fail(&mut self, call: &Call, bytes: &[u8], error: FileError) -> DiskFault
         requires { IsFault call.now }
         ensures noted { Notes call.now bytes.now self.old self.new }
@@ -155,7 +156,7 @@ impl<R: Files<File = File> + Copy, A: Allocator + Copy> Disk for FileDisk<R, A> 
 
     ghost lawful = { λ d _. past_lawful d.log.calls.first d.log.calls.events };
 
-    /// It stays honest where the length is right.
+    /// The disk stays honest if the length is right.
     fn len(&mut self, part: Part) -> Result<u64, DiskFault>
         ensures limit { IfOk result (λ n. n ≤ PART_LIMIT) }
         ensures length { (view_of self.new).honest
@@ -184,7 +185,7 @@ impl<R: Files<File = File> + Copy, A: Allocator + Copy> Disk for FileDisk<R, A> 
         }
     }
 
-    /// It stays honest where the bytes are right.
+    /// The disk stays honest if the bytes are right.
     fn read_at(&mut self, part: Part, at: u64, buf: &mut [u8]) -> Result<(), DiskFault>
         requires range { at + length buf.old ≤ PART_LIMIT }
         ensures read { (view_of self.new).honest
@@ -215,7 +216,7 @@ impl<R: Files<File = File> + Copy, A: Allocator + Copy> Disk for FileDisk<R, A> 
         }
     }
 
-    /// What reads changes only where the write succeeds. It stays honest.
+    /// The bytes that read change only if the write succeeds. The disk stays honest.
     fn write_at(&mut self, part: Part, at: u64, bytes: &[u8]) -> Result<(), DiskFault>
         requires range { at + length bytes.now ≤ PART_LIMIT }
         ensures written { OnOk result
@@ -243,7 +244,7 @@ impl<R: Files<File = File> + Copy, A: Allocator + Copy> Disk for FileDisk<R, A> 
         }
     }
 
-    /// It stays honest.
+    /// The disk stays honest.
     fn sync(&mut self, part: Part) -> Result<(), DiskFault>
         ensures durable { OnOk result (Synced part (view_of self.new)) }
         ensures unwritten { Unwritten (view_of self.old) (view_of self.new) }

@@ -1,4 +1,4 @@
-// What a directory has under the names of both parts.
+//! The entries of a directory under the names of both parts.
 ghost use Rattle.std.specs.Prelude.{◌≡◌, IfErr};
 ghost use Rattle.file_disk.specs.Entries.{holds_journal, loss_of, told_loss};
 ghost use Rattle.file_disk.specs.Faults.{IsOfPart};
@@ -12,7 +12,7 @@ use std::io::ErrorKind;
 use std::rt::Files;
 use two_parts::MAGIC;
 
-/// What has the name of a part's file.
+/// An entry under the name of a part's file.
 #[derive(Clone, Copy, PartialEq, Eq)]
 pub enum Entry {
     Missing,
@@ -31,7 +31,7 @@ impl Entry {
     }
 }
 
-/// What has the name of a part's file in the directory. A directory, a link or a device is a fault.
+/// Finds the entry under the name of a part's file. A directory, a link or a device is a fault.
 pub fn entry_of<R: Files, A: Allocator>(
     rt: &R,
     alloc: A,
@@ -49,8 +49,8 @@ pub fn entry_of<R: Files, A: Allocator>(
     }
 }
 
-/// Refuses a pair of which one is missing beside one that is filled. Both files are made before either is written, so no
-/// crash leaves that.
+/// Refuses a pair of which one file is missing while the other is not empty. Both files are made before either is written, so
+/// no crash leaves that.
 pub fn refuse_loss(a: Entry, b: Entry) -> Result<(), OpenFault>
     ensures { result ≡ loss_of a b }
 {
@@ -68,7 +68,7 @@ fn holds_journal(bytes: &[u8]) -> bool
     bytes.len() >= 5 && bytes[1..5] == MAGIC[..]
 }
 
-/// A loss as it is reported where the file that is there has these bytes: no part is gone beside a file that holds no journal.
+/// The fault to report, if the remaining file has these bytes: `NoJournal` for a `Gone` if that file holds no journal.
 pub fn told_loss(loss: OpenFault, bytes: &[u8]) -> OpenFault
     ensures { result ≡ told_loss bytes.now loss }
 {

@@ -1,4 +1,4 @@
-//! What the device answered.
+//! An error of the device, with the part's file.
 use crate::fault::{Located, OpenFault};
 use ocf_types::Part;
 use std::io;
@@ -11,14 +11,14 @@ pub struct FileError {
 }
 
 impl FileError {
-    /// The error with its path, in the directory that is the journal's.
+    /// The error with its path, in the journal's directory.
     pub fn located(self, dir: &str) -> Located<'_> {
         OpenFault::File(self.part, self.error).located(dir)
     }
 }
 
-/// A disk that may say what its device answered to the call that failed.
+/// A disk that may report the error of its first failed call.
 pub trait TellsError {
-    /// The first error that was met. `None` where no call of the system failed, or the disk makes none.
+    /// The first error of a system call: `None` if none failed, or if the disk makes none.
     fn first_error(&self) -> Option<FileError>;
 }

@@ -11,7 +11,7 @@ use std::fmt::{self, Display, Formatter};
 use std::io;
 use thiserror::Error;
 
-/// Why the files of a journal were not opened. What is displayed is the reason alone: `located` says where as well.
+/// Why the files of a journal were not opened. Only the reason is displayed: `located` adds the path.
 #[derive(Clone, Copy, Debug, Error)]
 pub enum OpenFault {
     /// The directory has no name, is not there, is no directory, or can't be read or synced.
@@ -29,10 +29,10 @@ pub enum OpenFault {
     /// The executor runs as root, and another user may write the part's file.
     #[error("{1}")]
     Distrusted(Part, Distrust),
-    /// The part's file is open as a journal's already.
+    /// The part's file is already open as a journal's.
     #[error("in use by another executor")]
     Locked(Part),
-    /// The directory is open as a journal's already.
+    /// The directory is already open as a journal's.
     #[error("in use by another executor")]
     InUse,
     /// The part's file is gone, while the other one holds a journal: no crash leaves that.
@@ -44,7 +44,7 @@ pub enum OpenFault {
     /// The part's file is empty, while the other one holds a journal that was tidied: no crash leaves that.
     #[error("empty, while {} holds a journal that was tidied", other_name(*.0))]
     Emptied(Part),
-    /// The journal was tidied each time that it was read.
+    /// The journal was tidied during each reading.
     #[error("changes faster than it can be read")]
     Changing,
     /// An allocation was refused.
@@ -73,7 +73,7 @@ fn other_name(part: Part) -> &'static str {
     file_name(other_part(part))
 }
 
-/// What a call of the system on the part's file gave.
+/// The result of a system call on the part's file, with its error as a fault of the part.
 pub(crate) fn of_part<T>(part: Part, found: io::Result<T>) -> Result<T, OpenFault>
     ensures value { IfOk result (λ x. found ≡ Ok x) }
     ensures fault { IfErr result (IsOfPart part) }
@@ -105,7 +105,7 @@ impl OpenFault {
         }
     }
 
-    // The name of the file that it speaks of.
+    // The name of the file that the fault concerns.
     fn name(&self) -> Option<&'static str> {
         match self {
             OpenFault::File(part, _)
@@ -131,7 +131,7 @@ impl OpenFault {
         )
     }
 
-    /// The fault with the path that it speaks of, in the directory that was to be opened.
+    /// The fault with its path, in the directory that was to be opened.
     pub fn located(self, dir: &str) -> Located<'_>
         ensures folder { result.dir.now ≡ dir.now }
         ensures fault { result.fault ≡ self }

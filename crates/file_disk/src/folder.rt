@@ -1,4 +1,4 @@
-// The directory of a journal.
+//! The directory of a journal.
 ghost use Rattle.std.specs.Prelude.{◌≡◌, [], IsErr};
 
 use crate::fault::OpenFault;
@@ -9,7 +9,7 @@ use std::fs::{self, File, TryLockError};
 use std::io::{self, ErrorKind};
 use std::rt::Files;
 
-// The path of a directory. The dot after it refuses what is no directory.
+// The path of a directory, with a dot after it: it leads nowhere unless it is a directory.
 fn folder_path<A: Allocator>(alloc: A, dir: &str) -> Result<String<A>, OpenFault>
     ensures { dir.now ≡ [] → IsErr result }
 {
@@ -20,7 +20,7 @@ fn folder_path<A: Allocator>(alloc: A, dir: &str) -> Result<String<A>, OpenFault
     Ok(format!(in alloc; "{dir}/.")?)
 }
 
-/// Refuses a directory that is not there.
+/// Fails unless the directory exists.
 pub fn find_folder<R: Files, A: Allocator>(rt: &R, alloc: A, dir: &str) -> Result<(), OpenFault>
     ensures { dir.now ≡ [] → IsErr result }
 {

@@ -1,4 +1,4 @@
-//! Where the files of a journal are, to see whether they are still there.
+//! The paths of a journal's files, to check whether the files are still there.
 use crate::error::FileError;
 use crate::fault::file_name;
 use crate::known_path::KnownPath;
@@ -34,7 +34,7 @@ impl<A: Allocator + Copy> JournalPaths<A> {
         Ok(JournalPaths { a, b })
     }
 
-    /// It is an error if a path leads to another file by now, or to none.
+    /// Fails if a path now leads to another file, or to none.
     pub fn check<R: Files>(&self, rt: &R) -> Result<(), FileError> {
         self.a.check(rt).map_err(|error| FileError {
             part: Part::A,

@@ -5,8 +5,8 @@ use std::io::{self, ErrorKind};
 use std::os::unix::fs::MetadataExt;
 use std::rt::Files;
 
-/// A path, with the file that it led to once: its device and its number there. POSIX, stat: `st_dev` and `st_ino`. No other file
-/// has these while that one is open.
+/// A path, with the file that it led to at first: its device and its number there. POSIX, stat: `st_dev` and `st_ino`. No
+/// other file has these while that one is open.
 #[derive(Drop)]
 pub struct KnownPath<A: Allocator = Global> {
     path: String<A>,
@@ -15,7 +15,7 @@ pub struct KnownPath<A: Allocator = Global> {
 }
 
 impl<A: Allocator> KnownPath<A> {
-    /// A path that leads to the file of this metadata.
+    /// A path that leads to the file with this metadata.
     pub fn new(path: String<A>, file: &Metadata) -> KnownPath<A> {
         KnownPath {
             path,
@@ -24,7 +24,7 @@ impl<A: Allocator> KnownPath<A> {
         }
     }
 
-    /// It is an error if the path leads to another file by now, or to none.
+    /// Fails if the path now leads to another file, or to none.
     pub fn check<R: Files>(&self, rt: &R) -> io::Result<()> {
         let found = fs::symlink_metadata(rt, self.path.as_str())?;
         if (found.dev(), found.ino()) == (self.device, self.number) {

@@ -1,10 +1,10 @@
 //! The journal's disk: two files of one directory, or two parts in memory, with a record of the calls that only contracts see.
 //!
-//! What contracts say of a disk of files, they say of its record: of what was found at the opening, and of each call with
+//! The contracts of a disk of files speak of its record: of the bytes that were found at the opening, and of each call with
 //! its answer. No proof ties the record to the system. It has to be trusted that each method of `FileDisk` makes the call
-//! that it notes, of that part's file, and no other; that a device keeps what a sync answered, and holds at an opening one
-//! of the pairs that a crash may leave; and that nobody else writes the files. Of `RamDisk` nothing has to be trusted: its
-//! bytes are proved to be what its record reads.
+//! that it notes, on that part's file, and no other; that a device keeps the bytes of a sync that succeeded, and holds at an
+//! opening one of the pairs that a crash may leave; and that nobody else writes the files. Of `RamDisk` nothing has to be
+//! trusted: its bytes are proved to be those that its record determines.
 #![tactic(auto)]
 
 mod call;

@@ -1,4 +1,4 @@
-// The counts of the device calls, and for contracts the record of them.
+//! The counts of the device calls, and for contracts the record of them.
 ghost use Rattle.std.specs.Prelude.{◌≡◌};
 ghost use Rattle.file_disk.specs.Past.{clock_of, failures_of};
 
@@ -6,7 +6,7 @@ use crate::call::Call;
 use crate::record::Record;
 use disk_model::DiskFault;
 
-/// How many device calls there were and how many failed, and for contracts which.
+/// The number of device calls and of those that failed, and for contracts the record of them.
 #[derive(Drop)]
 pub struct Log {
     clock: u64,
@@ -45,7 +45,7 @@ impl Log {
         self.failures
     }
 
-    /// Whether another call is made: none failed so far, and one more can be counted.
+    /// Whether another call is made: no call failed so far, and one more can be counted.
     pub fn goes_on(&self) -> bool
         ensures { IsTrue result ↔ ((log_view self.now).clock < LAST)
             × ((log_view self.now).failures ≡ 0) }
@@ -53,7 +53,7 @@ impl Log {
         self.clock < u64::MAX && self.failures == 0
     }
 
-    /// A call more, which succeeded.
+    /// Notes and counts a call that succeeded.
     #[tactic(auto, using(crate::specs::RecordLaws::clock_noted, crate::specs::RecordLaws::failures_done))]
     pub fn pass(&mut self, call: &Call, bytes: &[u8])
         requires unspent { (log_view self.old).clock < LAST }
@@ -64,7 +64,7 @@ impl Log {
         self.clock += 1;
     }
 
-    /// A call more, which failed.
+    /// Notes and counts a call that failed.
     #[tactic(auto, using(crate::specs::RecordLaws::clock_noted, crate::specs::RecordLaws::failures_fault))]
     pub fn fail(&mut self, call: &Call, bytes: &[u8]) -> DiskFault
         requires { IsFault call.now }

@@ -1,4 +1,4 @@
-//! What a journal's files hold, for reading alone, whoever may be writing them.
+//! A consistent snapshot of a journal's files, read while another process may be writing them.
 ghost use Rattle.std.specs.Prelude.{◌≡◌, ◌≤◌, [], IfErr, IfOk, IfSome, IsErr, length};
 ghost use Rattle.file_disk.specs.Faults.{IsOfPart};
 ghost use Rattle.file_disk.specs.RamDisk.{IsFresh, view_of};
@@ -15,23 +15,23 @@ use std::io::{self, ErrorKind};
 use std::os::unix::fs::FileExt;
 use std::rt::Files;
 
-// How often the files are read at most, where a tidy comes between.
+// The greatest number of readings, each of which a tidy may spoil.
 const TRIES: usize = 100;
 
-// How many bytes are read at once.
+// The number of bytes that are read at once.
 const PIECE: usize = 65_536;
 
-// How many bytes are compared: as many as begin a part.
+// The number of bytes that are compared: the first gate and the head.
 const HEAD: usize = HEAD_LEN as usize;
 
-// What was read of a part's file, from its first byte on up to its end.
+// A part's file, and the bytes that were read of it, from the first to the last.
 #[derive(Drop)]
 struct Sight<A: Allocator = Global> {
     file: Option<File>,
     bytes: Vec<u8, A>,
 }
 
-// Fills the buffer from this offset of the file on, and answers how far, which is less only at the file's end.
+// Fills the buffer from this offset of the file on, and returns the number of bytes, which is less only at the file's end.
 fn fill(file: &File, at: u64, buf: &mut [u8]) -> io::Result<usize>
     ensures { IfOk result (λ count. count ≤ length buf.new) }
 {
@@ -50,8 +50,8 @@ fn fill(file: &File, at: u64, buf: &mut [u8]) -> io::Result<usize>
     Ok(filled)
 }
 
-// The bytes of a file, piece by piece up to its end, or to a part's. A record is whole before its gate is opened, and so is
-// the file after it. So it is read from front to back: after a gate that reads as open comes a body that reads whole.
+// Reads a file piece by piece, up to its end or the limit of a part. A record is whole in the file before its gate is opened.
+// So the file is read in ascending order: after a gate that was read open comes a body that is read whole.
 fn read_whole<A: Allocator>(alloc: A, file: &File) -> io::Result<Vec<u8, A>> {
     let mut bytes = Vec::new(alloc);
     let mut piece = [0; PIECE];
@@ -66,7 +66,7 @@ fn read_whole<A: Allocator>(alloc: A, file: &File) -> io::Result<Vec<u8, A>> {
 }
 
 impl<A: Allocator + Copy> Sight<A> {
-    // Reads a part's file, where there is one.
+    // Reads a part's file, if there is one.
     fn of<R: Files<File = File>>(
         rt: &R,
         alloc: A,
@@ -88,7 +88,7 @@ impl<A: Allocator + Copy> Sight<A> {
         })
     }
 
-    // Whether the file begins as it did when it was read: then no tidy has renewed the part meanwhile.
+    // Whether the file still begins as it was read: then no tidy has renewed the part meanwhile.
     fn stands(&self) -> io::Result<bool> {
         let Some(file) = &self.file else {
             return Ok(true);
@@ -106,7 +106,7 @@ impl<A: Allocator + Copy> Sight<A> {
     }
 }
 
-/// A loss in this directory as it is reported, which depends on whether the file that is there holds a journal.
+/// The fault to report for a loss in this directory: it depends on whether the remaining file holds a journal.
 pub(crate) fn examined<R: Files<File = File>, A: Allocator + Copy>(
     rt: &R,
     alloc: A,
@@ -122,7 +122,7 @@ pub(crate) fn examined<R: Files<File = File>, A: Allocator + Copy>(
     }
 }
 
-// Refuses a pair of which one is gone, by what was read of both.
+// Refuses a pair of which one file is gone, by the bytes that were read of both.
 fn refuse_lost<A: Allocator + Copy>(a: &Sight<A>, b: &Sight<A>) -> Result<(), OpenFault> {
     let there = if a.bytes.is_empty() { b } else { a };
     match refuse_loss(a.entry(), b.entry()) {
@@ -131,7 +131,7 @@ fn refuse_lost<A: Allocator + Copy>(a: &Sight<A>, b: &Sight<A>) -> Result<(), Op
     }
 }
 
-// Both parts as a crash might have left them, or `None` where a tidy came between.
+// A consistent snapshot of both parts, as a crash could have left them, or `None` if a tidy ran meanwhile.
 fn look<R: Files<File = File>, A: Allocator + Copy>(
     rt: &R,
     alloc: A,
@@ -151,9 +151,9 @@ fn look<R: Files<File = File>, A: Allocator + Copy>(
     Ok(Some(RamDisk::from_parts(a.bytes, b.bytes)))
 }
 
-/// Both parts of a directory's files as a disk in memory, whoever may be writing the files. They are opened for reading
-/// alone: nothing is made, written or locked. A missing file is an empty part; it is refused as `Gone` beside one that is
-/// not empty (or as `NoJournal`, where that is none), and where tidies come between again and again as `Changing`.
+/// Reads both files of a directory as a disk in memory, while another process may be writing them. They are opened only for
+/// reading: nothing is made, written or locked. A missing file is an empty part; beside one that is not empty it is refused as
+/// `Gone` (or as `NoJournal`, if that one holds no journal). If a tidy runs during each reading, it fails with `Changing`.
 pub fn read_parts<R: Files<File = File>, A: Allocator + Copy>(
     rt: &R,
     alloc: A,

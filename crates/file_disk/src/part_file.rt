@@ -1,4 +1,4 @@
-// A part's file, with the name under which it was opened.
+//! A part's file, with the name under which it was opened.
 ghost use Rattle.std.specs.Prelude.{◌≡◌, ◌≤◌, IfErr, IfOk, length};
 ghost use Rattle.file_disk.specs.Faults.{IsOfPart};
 
@@ -23,7 +23,7 @@ pub struct PartFile<A: Allocator = Global> {
     path: KnownPath<A>,
 }
 
-// The file of this path, which is made where nothing is there; `None` where a directory, a link or a device is.
+// Opens the file of this path, or makes it if there is none; `None` for a directory, a link or a device.
 fn open_file<R: Files<File = File>>(rt: &R, path: &str) -> io::Result<Option<File>> {
     let mut options = OpenOptions::new();
     options.read(true).write(true).mode(OWNER_ONLY);
@@ -38,7 +38,7 @@ fn open_file<R: Files<File = File>>(rt: &R, path: &str) -> io::Result<Option<Fil
     Ok(Some(options.create_new(false).open(rt, path)?))
 }
 
-/// The file under a descriptor of its own: what is meant for a standard stream that was closed must not land in it.
+/// The file under a descriptor above the standard streams': if one of these was closed, its output must not go to the file.
 pub fn above_streams(file: File) -> io::Result<File> {
     if file.as_raw_fd() <= libc::STDERR_FILENO {
         file.try_clone()
@@ -47,8 +47,8 @@ pub fn above_streams(file: File) -> io::Result<File> {
     }
 }
 
-// Advises the system to read the file again from the device: after a sync that failed in an earlier process, it may still
-// have in memory what the device does not hold.
+// Advises the system to read the file again from the device: after a sync that failed in an earlier process, its cache may
+// still hold bytes that the device does not hold.
 fn forget_cached(file: &File) -> io::Result<()> {
     match libc::posix_fadvise(file.as_raw_fd(), 0, 0, libc::POSIX_FADV_DONTNEED) {
         0 => Ok(()),
@@ -57,7 +57,7 @@ fn forget_cached(file: &File) -> io::Result<()> {
 }
 
 impl<A: Allocator + Copy> PartFile<A> {
-    /// Opens the file of a part, makes it where nothing is there, and locks it for as long as it is open.
+    /// Opens the file of a part, or makes it if there is none, and locks it for as long as it is open.
     pub fn open<R: Files<File = File>>(
         rt: &R,
         alloc: A,
@@ -90,7 +90,7 @@ impl<A: Allocator + Copy> PartFile<A> {
         }
     }
 
-    /// What the device holds of the file, after a sync. Bytes past the limit of a part are no part of it.
+    /// Syncs the file, and reads it whole from the device. Bytes past the limit of a part are no part of it.
     pub fn contents(&self, alloc: A) -> io::Result<Vec<u8, A>>
         ensures { IfOk result (λ bytes. length bytes.items ≤ PART_LIMIT) }
     {
@@ -102,7 +102,7 @@ impl<A: Allocator + Copy> PartFile<A> {
         Ok(bytes)
     }
 
-    /// How long the file is, as far as a part goes. It is an error where its path leads to another file by now, or to none.
+    /// The length of the file, up to the limit of a part. It fails if the path now leads to another file, or to none.
     pub fn size<R: Files>(&self, rt: &R) -> io::Result<u64>
         ensures { IfOk result (λ n. n ≤ PART_LIMIT) }
     {
@@ -110,8 +110,8 @@ impl<A: Allocator + Copy> PartFile<A> {
         Ok(self.file.metadata()?.len().min(PART_LIMIT))
     }
 
-    /// Syncs the bytes of the file. It is an error, too, where its path leads to another file by now, or to none: what is
-    /// recorded then would not be found again.
+    /// Syncs the bytes of the file. It fails, too, if the path now leads to another file, or to none: the next opening would
+    /// not find these bytes.
     pub fn sync<R: Files>(&self, rt: &R) -> io::Result<()> {
         self.file.sync_data()?;
         self.path.check(rt)

@@ -13,11 +13,11 @@ use disk_model::{Disk, DiskFault, Parts};
 use ocf_types::{PART_LIMIT, Part};
 use std::alloc::{Allocator, Global};
 
-/// A disk of two parts in memory, which are gone with this value. It holds their bytes and nothing else, so that its
-/// memory grows with the parts alone, however many calls there are.
+/// A disk of two parts in memory, which end with this value. It holds only their bytes, so that its memory does not grow with
+/// the number of calls.
 ///
-/// It is honest throughout. A call fails only where memory is refused to a write, which then changes nothing, at the
-/// last value of the count of calls, and after a call that failed.
+/// It is always honest. A call fails only if memory is refused to a write, which then changes nothing, at the last value of
+/// the count of calls, and after a call that failed.
 #[derive(Drop)]
 pub struct RamDisk<A: Allocator + Copy = Global> {
     parts: Parts<A>,
@@ -106,7 +106,7 @@ impl<A: Allocator + Copy> Disk for RamDisk<A> {
         Ok(())
     }
 
-    /// What reads changes only where the write succeeds.
+    /// The bytes that read change only if the write succeeds.
     fn write_at(&mut self, part: Part, at: u64, bytes: &[u8]) -> Result<(), DiskFault>
         requires range { at + length bytes.now ≤ PART_LIMIT }
         requires begins { at ≤ length (bytes_of part (view_of self.old).reads) }

@@ -1,4 +1,4 @@
-// A record of device calls that only contracts read: it takes no memory.
+//! A record of device calls that only contracts read: it takes no memory.
 ghost use Rattle.std.specs.Prelude.{List};
 ghost use Rattle.std.specs.Borrow.{ftrue};
 ghost use Rattle.disk_model.specs.Image.{Image};
@@ -7,9 +7,9 @@ ghost use Rattle.file_disk.specs.Past.{Event};
 use crate::call::Call;
 use std::marker::{Model, PhantomData};
 
-/// What was found in both parts, and each call since, the newest first.
+/// The bytes that were found in both parts, and each call since, the newest first.
 ///
-/// Nothing of it is kept when the program runs. So `new` and `note` have no body to speak of, and are proved by hand.
+/// The program holds nothing of it. So `new` and `note` have no body to speak of, and are proved by hand.
 #[derive(Drop)]
 pub struct Record {
     nothing: PhantomData<Call>,
@@ -33,7 +33,7 @@ impl Record {
         }
     }
 
-    /// One call more, with the bytes that were read or given.
+    /// Adds one call, with the bytes that were read or written.
     pub fn note(&mut self, _call: &Call, _bytes: &[u8])
         ensures { Noted _call.now _bytes.now self.old self.new }
     {}

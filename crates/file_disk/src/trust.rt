@@ -1,4 +1,4 @@
-//! Which owners and modes of a journal's directory and files an executor accepts.
+//! The owners and modes of a journal's directory and files that an executor accepts.
 ghost use Rattle.std.specs.Prelude.{IfNone, IfSome};
 ghost use Rattle.file_disk.specs.Trust.{Accepts, IsReason};
 
@@ -13,7 +13,7 @@ const ROOT: u32 = 0;
 // The bits of a mode that let its group and others write a file: S_IWGRP and S_IWOTH. POSIX, sys/stat.h.
 const OTHER_WRITERS: u32 = 0o022;
 
-/// Why root's executor refuses a directory or a file for its journal: anyone who can write it decides what root starts.
+/// Why root's executor refuses a directory or a file for its journal: anyone who can write it decides which programs root runs.
 #[derive(Clone, Copy, Debug, PartialEq, Eq, Error)]
 pub enum Distrust {
     /// It belongs to this user, who is not root.
@@ -24,7 +24,7 @@ pub enum Distrust {
     Writers,
 }
 
-/// Which owners and modes an opening accepts.
+/// The owners and modes that an opening accepts.
 #[derive(Clone, Copy, Debug, PartialEq, Eq)]
 pub enum Owners {
     /// Any.

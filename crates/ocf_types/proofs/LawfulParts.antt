@@ -20,7 +20,7 @@ use Rattle.ocf_types.specs.Lawful.{IsLawfulOpIn, IsLawfulRecurIn, IsLawfulRegist
 use Rattle.ocf_types.specs.Kinds.{Registration}
 use Rattle.ocf_types.specs.Spelling.{spelled_params}
 use Rattle.ocf_types.specs.State.{Registry, registered}
-use Rattle.ocf_types.specs.Layouts.{kept_in, failed_in, CanEnd, KnowsWithdrawal}
+use Rattle.ocf_types.specs.Layouts.{kept_in, failed_in, CanEnd, KnowsWithdrawal, current}
 use Rattle.ocf_types.specs.Expected.{has_failed}
 use Rattle.ocf_types.specs.Actions.{action_of, expect_of}
 use Rattle.ocf_types.specs.declared.layout.Layout.TheVariants.{First, Second}
@@ -59,7 +59,7 @@ module _ (n k clock n' k' clock' : ℕ) (calls : n ≤ n') (runs : k ≤ k') (mo
   -- the last failure stays lawful later
   pub failed_weaken : (o : Option Ended) → IsLawfulFailed n k clock o → IsLawfulFailed n' k' clock' o
   failed_weaken None h = tt
-  failed_weaken (Some x) h = ((ended_weaken Second (x ∷ []) (h.0, tt)).0, h.1)
+  failed_weaken (Some x) h = ((ended_weaken current (x ∷ []) (h.0, tt)).0, h.1)
 
   -- a running action stays lawful later
   pub running_weaken : (layout : Layout) (o : Option Running) → IsLawfulRunningIn layout n k clock o → IsLawfulRunningIn layout n' k' clock' o

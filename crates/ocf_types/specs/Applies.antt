@@ -7,11 +7,11 @@ use Rattle.ocf_types.specs.Resource.{Resource, is_busy, of_call, of_interval, qu
 use Rattle.ocf_types.specs.State.{State, resource_at}
 use Rattle.ocf_types.specs.Boot.{any_busy}
 use Rattle.ocf_types.specs.declared.layout.Layout.{Layout}
-use Rattle.ocf_types.specs.declared.layout.Layout.TheVariants.{Second}
 use Rattle.ocf_types.specs.declared.operation.Op.{Op}
 use Rattle.ocf_types.specs.declared.operation.Recur.{Recur}
 use Rattle.ocf_types.specs.declared.event.Step.TheVariants as step
 use Rattle.ocf_types.specs.declared.event.Change.TheVariants as change
+use Rattle.ocf_types.specs.Layouts.{current}
 
 -- the number is the next one, and is not spent
 abbrev pub IsNext : ℕ → ℕ → Type 0
@@ -50,4 +50,4 @@ pub record AppliesIn (layout : Layout) (s : State) (e : Event) : Type 0 where
 
 -- an event applies in a state, in the layout that is written
 abbrev pub Applies : State → Event → Type 0
-Applies s e = AppliesIn Second s e
+Applies s e = AppliesIn current s e

@@ -7,10 +7,9 @@ use Rattle.ocf_types.specs.Numbers.{IsMoment, IsDrawn, IsMillis}
 use Rattle.ocf_types.specs.Params.{AreParams}
 use Rattle.ocf_types.specs.Kinds.{Registration, Step, Change, Event, Command}
 use Rattle.ocf_types.specs.Actions.{expect_of}
-use Rattle.ocf_types.specs.Layouts.{CanExpect, KnowsWithdrawal}
+use Rattle.ocf_types.specs.Layouts.{CanExpect, KnowsWithdrawal, current}
 use Rattle.ocf_types.specs.Spelling.{spelled_event_in}
 use Rattle.ocf_types.specs.declared.layout.Layout.{Layout}
-use Rattle.ocf_types.specs.declared.layout.Layout.TheVariants.{Second}
 use Rattle.ocf_types.specs.declared.operation.Op.{Op}
 use Rattle.ocf_types.specs.declared.operation.Recur.{Recur}
 use Rattle.ocf_types.specs.declared.outcome.RunEnd.{RunEnd}
@@ -35,14 +34,14 @@ abbrev pub IsLawfulOpIn : Layout → Op → Type 0
 IsLawfulOpIn layout o = IsDrawn o.call × IsMillis o.timeout × CanExpect layout (expect_of o.task)
 
 abbrev pub IsLawfulOp : Op → Type 0
-IsLawfulOp o = IsLawfulOpIn Second o
+IsLawfulOp o = IsLawfulOpIn current o
 
 -- a recurring monitor has a call id, an interval, a timeout, and an expectation that the layout can encode
 abbrev pub IsLawfulRecurIn : Layout → Recur → Type 0
 IsLawfulRecurIn layout m = IsDrawn m.call × IsMillis m.interval × IsMillis m.timeout × CanExpect layout m.check.expect
 
 abbrev pub IsLawfulRecur : Recur → Type 0
-IsLawfulRecur m = IsLawfulRecurIn Second m
+IsLawfulRecur m = IsLawfulRecurIn current m
 
 -- an exit code is a byte
 abbrev pub IsRunEnd : RunEnd → Type 0
@@ -61,7 +60,7 @@ IsLawfulStepIn layout (step.Result run end) = IsDrawn run × IsRunEnd end
 IsLawfulStepIn layout (step.Withdraw call) = IsDrawn call × KnowsWithdrawal layout
 
 abbrev pub IsLawfulStep : Step → Type 0
-IsLawfulStep s = IsLawfulStepIn Second s
+IsLawfulStep s = IsLawfulStepIn current s
 
 -- a change has lawful names, numbers and parameters, and the layout can encode it
 abbrev pub IsLawfulChangeIn : Layout → Change → Type 0
@@ -71,7 +70,7 @@ IsLawfulChangeIn layout (change.Step id s) = IsId id × IsLawfulStepIn layout s
 IsLawfulChangeIn layout change.Boot = ⊤
 
 abbrev pub IsLawfulChange : Change → Type 0
-IsLawfulChange c = IsLawfulChangeIn Second c
+IsLawfulChange c = IsLawfulChangeIn current c
 
 -- an event has a lawful moment and a lawful change
 pub record IsLawfulEventIn (layout : Layout) (e : Event) : Type 0 where
@@ -79,7 +78,7 @@ pub record IsLawfulEventIn (layout : Layout) (e : Event) : Type 0 where
   pub change : IsLawfulChangeIn layout e.change
 
 abbrev pub IsLawfulEvent : Event → Type 0
-IsLawfulEvent e = IsLawfulEventIn Second e
+IsLawfulEvent e = IsLawfulEventIn current e
 
 -- an event has an encoding in a layout if it is lawful in it and has at most 16,384 bytes
 pub record HasSpellingIn (layout : Layout) (e : Event) : Type 0 where
@@ -87,7 +86,7 @@ pub record HasSpellingIn (layout : Layout) (e : Event) : Type 0 where
   pub short : length (spelled_event_in layout e) ≤ event_limit
 
 abbrev pub HasSpelling : Event → Type 0
-HasSpelling e = HasSpellingIn Second e
+HasSpelling e = HasSpellingIn current e
 
 -- the bytes begin with the encoding of this event in a layout
 pub record BeginsIn (layout : Layout) (bytes : List ℕ) (e : Event) : Type 0 where
@@ -96,7 +95,7 @@ pub record BeginsIn (layout : Layout) (bytes : List ℕ) (e : Event) : Type 0 wh
   pub whole : bytes ≡ spelled_event_in layout e ++ rest
 
 abbrev pub Begins : List ℕ → Event → Type 0
-Begins bytes e = BeginsIn Second bytes e
+Begins bytes e = BeginsIn current bytes e
 
 -- a command has lawful names, numbers and parameters
 abbrev pub IsLawfulCommand : Command → Type 0

@@ -11,11 +11,10 @@ use Rattle.ocf_types.specs.Actions.{action_of, expect_of}
 use Rattle.ocf_types.specs.Spelling.{spelled_params}
 use Rattle.ocf_types.specs.StateSpelling.{spelled_state_in}
 use Rattle.ocf_types.specs.Lawful.{IsLawfulOpIn, IsLawfulRecurIn, IsRunEnd}
-use Rattle.ocf_types.specs.Layouts.{kept_in, CanExpect, CanEnd, failed_in}
+use Rattle.ocf_types.specs.Layouts.{kept_in, CanExpect, CanEnd, failed_in, current}
 use Rattle.ocf_types.specs.Resource.{Resource}
 use Rattle.ocf_types.specs.State.{State}
 use Rattle.ocf_types.specs.declared.layout.Layout.{Layout}
-use Rattle.ocf_types.specs.declared.layout.Layout.TheVariants.{Second}
 use Rattle.ocf_types.specs.declared.action.Action.{Action}
 use Rattle.ocf_types.specs.declared.action.Action.TheVariants.{Monitor}
 use Rattle.ocf_types.specs.declared.operation.Running.{Running}
@@ -40,7 +39,7 @@ IsLawfulRunningIn layout next_call next_run clock (Some x) =
     × IsIntervalOf x.interval (action_of x.task) × (x.since ≤ clock) × CanExpect layout (expect_of x.task)
 
 abbrev pub IsLawfulRunning : ℕ → ℕ → ℕ → Option Running → Type 0
-IsLawfulRunning next_call next_run clock x = IsLawfulRunningIn Second next_call next_run clock x
+IsLawfulRunning next_call next_run clock x = IsLawfulRunningIn current next_call next_run clock x
 
 -- an outcome whose exit code, if it has one, is a byte
 abbrev pub IsOutcome : Outcome → Type 0
@@ -67,7 +66,7 @@ pub record IsLawfulEndedIn (layout : Layout) (next_call next_run clock : ℕ) (e
   pub known : CanEnd layout e.outcome
 
 abbrev pub IsLawfulEnded : ℕ → ℕ → ℕ → Ended → Type 0
-IsLawfulEnded next_call next_run clock e = IsLawfulEndedIn Second next_call next_run clock e
+IsLawfulEnded next_call next_run clock e = IsLawfulEndedIn current next_call next_run clock e
 
 -- the outcome is the end of a run
 abbrev pub IsEndOfRun : Outcome → Type 0
@@ -99,7 +98,7 @@ pub record IsLawfulResourceIn (layout : Layout) (next_call next_run clock : ℕ)
   pub known : failed_in layout r.history.failed ≡ r.history.failed
 
 abbrev pub IsLawfulResource : ℕ → ℕ → ℕ → Resource → Type 0
-IsLawfulResource next_call next_run clock r = IsLawfulResourceIn Second next_call next_run clock r
+IsLawfulResource next_call next_run clock r = IsLawfulResourceIn current next_call next_run clock r
 
 -- a lawful state in a layout: the conditions of its encoding
 pub record IsLawfulStateIn (layout : Layout) (s : State) : Type 0 where
@@ -112,7 +111,7 @@ pub record IsLawfulStateIn (layout : Layout) (s : State) : Type 0 where
   pub resources : AllByRecursion (λ e. IsLawfulResourceIn layout s.next_call s.next_run s.clock e.1) s.resources
 
 abbrev pub IsLawfulState : State → Type 0
-IsLawfulState s = IsLawfulStateIn Second s
+IsLawfulState s = IsLawfulStateIn current s
 
 -- the bytes are the encoding of a lawful state in a layout
 pub record SpellsIn (layout : Layout) (bytes : List ℕ) (s : State) : Type 0 where

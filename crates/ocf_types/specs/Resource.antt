@@ -3,13 +3,12 @@
 use Rattle.std.specs.Prelude.{ℕ, ◌-◌, ◌==◌, Bool, ◌||◌, List, [], ◌∷◌, ◌++◌, map, length, drop, find, filter, not, nat_lt, Option, Some}
 use Rattle.std.specs.Prelude.{None, option_map, option_and_then, option_to_list, is_some, if◌then◌else◌}
 use Rattle.std.specs.Option.{option_or}
-use Rattle.ocf_types.specs.Layouts.{kept_in, failed_in}
+use Rattle.ocf_types.specs.Layouts.{kept_in, failed_in, current}
 use Rattle.ocf_types.specs.Expected.{has_failed}
 use Rattle.ocf_types.specs.Params.{ParamList}
 use Rattle.ocf_types.specs.Actions.{action_of, expect_of}
 use Rattle.ocf_types.specs.declared.action.Task.TheVariants.{Monitor}
 use Rattle.ocf_types.specs.declared.layout.Layout.{Layout}
-use Rattle.ocf_types.specs.declared.layout.Layout.TheVariants.{Second}
 use Rattle.ocf_types.specs.declared.operation.Op.{Op}
 use Rattle.ocf_types.specs.declared.operation.Recur.{Recur}
 use Rattle.ocf_types.specs.declared.operation.Running.{Running}
@@ -34,14 +33,14 @@ pub record Resource : Type 0 where
 
 -- the number of results that are kept
 abbrev pub kept : ℕ
-kept = kept_in Second
+kept = kept_in current
 
 -- the last results, as many as a layout keeps
 abbrev pub last_in : Layout → List Ended → List Ended
 last_in layout results = drop (length results - kept_in layout) results
 
 abbrev pub last_ended : List Ended → List Ended
-last_ended results = last_in Second results
+last_ended results = last_in current results
 
 -- the run of a queued action, begun at a moment
 abbrev pub run_of_op : ℕ → ℕ → Op → Running
@@ -103,7 +102,7 @@ ended_in layout outcome at h = record h {
 }
 
 abbrev pub ended : Outcome → ℕ → History → History
-ended outcome at h = ended_in Second outcome at h
+ended outcome at h = ended_in current outcome at h
 
 -- the history after a boot: the queued actions are dropped, in order, and then the running one is interrupted; these are no failures
 abbrev pub booted_in : Layout → ℕ → History → History
@@ -114,7 +113,7 @@ booted_in layout at h = record h {
 }
 
 abbrev pub booted : ℕ → History → History
-booted at h = booted_in Second at h
+booted at h = booted_in current at h
 
 -- the queued action of a call
 abbrev pub queued_of : ℕ → List Op → Option Op
@@ -132,7 +131,7 @@ withdrawn_in layout call at h = record h {
 }
 
 abbrev pub withdrawn : ℕ → ℕ → History → History
-withdrawn call at h = withdrawn_in Second call at h
+withdrawn call at h = withdrawn_in current call at h
 
 -- the history without results
 abbrev pub forgotten : History → History

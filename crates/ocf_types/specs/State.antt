@@ -7,11 +7,12 @@ use Rattle.ocf_types.specs.Kinds.{Registration, Step, Change, Event}
 use Rattle.ocf_types.specs.Resource.{History, Resource, no_history, accepted, begun, ended_in, booted_in, forgotten, history_in, of_call, withdrawn_in}
 use Rattle.ocf_types.specs.Resource.{without_interval}
 use Rattle.ocf_types.specs.declared.layout.Layout.{Layout}
-use Rattle.ocf_types.specs.declared.layout.Layout.TheVariants.{First, Second}
+use Rattle.ocf_types.specs.declared.layout.Layout.TheVariants.{First}
 use Rattle.ocf_types.specs.declared.operation.Recur.{Recur}
 use Rattle.ocf_types.specs.declared.outcome.Outcome.TheVariants.{Run}
 use Rattle.ocf_types.specs.declared.event.Step.TheVariants as step
 use Rattle.ocf_types.specs.declared.event.Change.TheVariants as change
+use Rattle.ocf_types.specs.Layouts.{current}
 
 -- the resources with their ids, in order of registration
 abbrev pub Registry : Type 0
@@ -64,7 +65,7 @@ stepped_in layout at (step.Result run end) r = on_history (ended_in layout (Run 
 stepped_in layout at (step.Withdraw call) r = on_history (withdrawn_in layout call at) r
 
 abbrev pub stepped : ℕ → Step → Resource → Resource
-stepped at what r = stepped_in Second at what r
+stepped at what r = stepped_in current at what r
 
 -- the id and the resource of a registration, with its history and its recurring monitors
 abbrev pub resource_of : Registration → History → List Recur → List ℕ × Resource
@@ -83,7 +84,7 @@ changed_in layout at (change.Step id s) rs = at_id id (stepped_in layout at s) r
 changed_in layout at change.Boot rs = map (λ e. (e.0, on_history (booted_in layout at) e.1)) rs
 
 abbrev pub changed : ℕ → Change → Registry → Registry
-changed at c rs = changed_in Second at c rs
+changed at c rs = changed_in current at c rs
 
 -- the number of call ids that a change draws, and that of run numbers
 abbrev pub calls_drawn : Change → ℕ
@@ -106,7 +107,7 @@ after_in layout s e = record {
 
 -- the state after an event
 abbrev pub after : State → Event → State
-after s e = after_in Second s e
+after s e = after_in current s e
 
 -- the state after a list of events, in a layout
 abbrev pub after_all_in : Layout → State → List Event → State
