@@ -1,4 +1,4 @@
--- What resources pick: there is always one answer, and what two lists of resources pick is what both together do.
+-- The picks of resources: there are always some, and those of two lists of resources are those of both together.
 use Rattle.std.proofs.Common.{◌≡◌, ◌⊎◌, inl, inr, ℕ, zero, suc, ◌+◌, ◌<◌, ◌≤◌, false, List, [], ◌∷◌, ◌++◌, length, take, drop, slice_get, slice_index_or, Option, Some, None, All, Contains, option_map, refl, sym, ap, subst, ◌∙◌, arith}
 use Rattle.std.specs.List.{AllByRecursion, IsDistinct}
 use Rattle.std.specs.Map.{keys_of, lookup}
@@ -36,7 +36,7 @@ own_found (e ∷ es) h = (
     behind [] a g = tt
     behind (x ∷ xs) a g = (rw (other_way e.0 x.0 a.0) g.0, behind xs a.1 g.1)
 
--- the resource at a place is that of its id
+-- the resource at an index is that of its id
 pub found_at : (s : State) (place : ℕ) → IsLawfulState s → place < length s.resources
     → resource_at s (id_at s place) ≡ Some (at_place s place)
 found_at s place h lt =
@@ -57,7 +57,7 @@ module _ {A : Type 0} where
   pub contains_first : (x : A) (xs : List A) → Contains (x ∷ xs) x
   contains_first x xs = (0, omega arith, refl)
 
--- one of two pairs is before the other
+-- of two pairs one is before the other
 before_or : (x y : ℕ × ℕ) → IsBefore x y ⊎ IsBefore y x
 before_or x y = by (cases_lt x.0 y.0) (cases_lt y.0 x.0) (cases_lt x.1 y.1)
   where
@@ -138,7 +138,7 @@ some_picks due at run (e ∷ es) =
     let rest = some_picks due at (run + length (begun_in at run e p.0)) es in
     (begun_in at run e p.0 ++ rest.0, (p.0, rest.0, p.1, rest.1, refl))
 
--- what two lists of resources pick, one after the other
+-- the picks of two lists of resources, one after the other
 pub picks_append : (due : Due) (at run : ℕ) (xs ys : Registry) (first bs : List Active) → ArePicks due at run xs first
     → ArePicks due at (run + length first) ys bs
     → ArePicks due at run (xs ++ ys) (first ++ bs)
@@ -152,18 +152,18 @@ picks_append due at run (x ∷ xs) ys first bs (call, rest, pick, more, is) k =
     let behind = picks_append due at (run + length own) xs ys rest bs more (subst (λ n. ArePicks due at n ys bs) from k) in
     (call, rest ++ bs, pick, behind, ap (λ (l : List Active). l ++ bs) is ∙ append_assoc own rest bs)
 
--- what a resource then begins is what runs in it
+-- the action that a resource begins runs in it
 begun_is : (at run : ℕ) (e : List ℕ × Resource) (call : Option ℕ) (chosen : Option Running) → chosen ≡ run_of_pick at run e.1 call
     → begun_in at run e call ≡ active_of e.0 chosen
 begun_is at run e None chosen is = ap (λ (x : Option Running). active_of e.0 x) (sym is)
 begun_is at run e (Some call) chosen is = ap (λ (x : Option Running). active_of e.0 x) (sym is)
 
--- what one resource picks
+-- the picks of one resource
 one_pick : (due : Due) (at run : ℕ) (e : List ℕ × Resource) (chosen : Option Running) → Chooses due at run e chosen
     → ArePicks due at run (e ∷ []) (active_of e.0 chosen)
 one_pick due at run e chosen (call, pick, is) = (call, [], pick, refl, sym (begun_is at run e call chosen is) ∙ sym (append-nil _))
 
--- what the resources up to a place pick, and that at the place
+-- the picks of the resources before an index, and of the one at the index
 pub picks_more : (due : Due) (at run next : ℕ) (rs : Registry) (place : ℕ) (bs : List Active) (chosen : Option Running) → place < length rs
     → ArePicks due at run (take place rs) bs → next ≡ run + length bs → Chooses due at next (slice_index_or rs place no_entry) chosen
     → ArePicks due at run (take (place + 1) rs) (bs ++ active_of (slice_index_or rs place no_entry).0 chosen)
@@ -172,7 +172,7 @@ picks_more due at run next rs place bs chosen lt before is now =
     let one = subst (λ n. ArePicks due at n (e ∷ []) (active_of e.0 chosen)) is (one_pick due at next e chosen now) in
     rw (take_more rs place no_entry lt) (picks_append due at run (take place rs) (e ∷ []) bs (active_of e.0 chosen) before one)
 
--- those up to a place that begin something, and all the others after it
+-- the picks of the resources before an index, and of all others after it
 pub picks_cut : (due : Due) (at run next : ℕ) (rs : Registry) (place : ℕ) (bs : List Active) (x : Running) → place < length rs
     → ArePicks due at run (take place rs) bs → next ≡ run + length bs → Chooses due at next (slice_index_or rs place no_entry) (Some x)
     → (later : List Active) × ArePicks due at run rs (bs ++ record { id = (slice_index_or rs place no_entry).0; running = x } ∷ later)

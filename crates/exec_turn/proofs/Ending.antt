@@ -1,4 +1,4 @@
--- What the result of one action does to what runs.
+-- The result of one action, and the running actions.
 use Rattle.std.proofs.Common.{◌≡◌, ℕ, Bool, true, false, cond, List, [], ◌∷◌, ◌++◌, map, Option, Some, None, refl, sym, ◌∙◌, ap, subst}
 use Rattle.std.specs.List.{AllByRecursion, IsDistinct, flat_map}
 use Rattle.std.specs.Map.{keys_of, lookup}
@@ -26,7 +26,7 @@ absent_kept id f [] absent = refl
 absent_kept id f (e ∷ es) absent =
     ap (λ (b : Bool). (e.0, cond b (f e.1) e.1) ∷ at_id id f es) absent.0 ∙ ap (λ (l : Registry). e ∷ l) (absent_kept id f es absent.1)
 
--- the entry of an id, with what comes before it and after it, and what a change of it makes of all
+-- the entry of an id between the others, and all entries after a change of it
 pub record Between (id : List ℕ) (f : Resource → Resource) (r : Resource) (rs : Registry) : Type 0 where
   pub before : Registry
   pub behind : Registry
@@ -78,13 +78,13 @@ other_kept id other f (e ∷ es) differ = by (bytes_eq other e.0) (bytes_eq id e
     by true false here same rest = rw (here, same) refl
     by false d here same rest = rw here rest
 
--- the resource of what runs
+-- the resource of a running action
 pub runs_there : (o : Option Resource) (x : Running) → option_and_then (λ r. r.history.running) o ≡ Some x
     → (r : Resource) × (o ≡ Some r) × (r.history.running ≡ Some x)
 runs_there None x is = absurd (let none : None ≡ Some x = is in cc)
 runs_there (Some r) x is = (r, refl, is)
 
--- one of these runs is gone
+-- the running actions without one
 pub record OneLess (old new : List ℕ) (run : ℕ) : Type 0 where
   pub before : List ℕ
   pub behind : List ℕ

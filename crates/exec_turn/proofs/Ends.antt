@@ -23,7 +23,7 @@ use Rattle.exec_turn.specs.Turn.{IsFinish, IsTurn, PickedAt, Told, TurnKind, Who
 use Rattle.exec_ledger.specs.Scenes.{Scene, behind, due_after_all, scene}
 use Rattle.exec_turn.specs.Turns.{BeginsRow, Finishes, PollsRow, StartsRow, Turns, TurnsAs, end_of}
 
--- nothing was done
+-- a turn that did nothing
 pub book_full : {D : Type 0} (kind : TurnKind) (look : D → View) (k : D) (x : Scene) (from : ChildrenView)
     → kind turn_end.BookFull x no_effects [] → Leaves look k k x.state x.state no_effects
     → TurnsAs kind look k k x x.state x.due from from [] turn_end.BookFull
@@ -41,7 +41,7 @@ book_full kind look k x from does leaves = record {
 
 module _ {D : Type 0} (look : D → View) (at : ℕ) (k0 k1 : D) (s0 s1 : State) (d0 d1 : Due) (p0 p1 : Place) (a0 a1 : Bool) (from c1 : ChildrenView)
     (n1 : List Notice) where
-  -- the row of results failed
+  -- the batch of results failed
   results_failed : (kind : TurnKind) (f : DiskFault) (p : PollsRow look k0 k1 (scene s0 d0 p0 at a0) (scene s1 d1 p1 at a1) from c1 n1 (Err f))
       → kind turn_end.Disk (scene s0 d0 p0 at a0) (record { entries = polls at p.answers; events = []; pending = results at p.answers }) n1
       → TurnsAs kind look k0 k1 (scene s0 d0 p0 at a0) s1 d1 from c1 n1 turn_end.Disk
@@ -57,7 +57,7 @@ module _ {D : Type 0} (look : D → View) (at : ℕ) (k0 k1 : D) (s0 s1 : State)
     cause = λ _. p.cause;
   }
 
-  -- the row of results was recorded, and nothing begins
+  -- the batch of results was recorded, and nothing begins
   results_alone : (u : Unit) → PollsRow look k0 k1 (scene s0 d0 p0 at a0) (scene s1 d1 p1 at a1) from c1 n1 (Ok u)
       → Finishes look k0 k1 (scene s0 d0 p0 at a0) s1 d1 from c1 n1 turn_end.Done
   results_alone u p = record {
@@ -81,7 +81,7 @@ module _ {D : Type 0} (look : D → View) (at : ℕ) (k0 k1 : D) (s0 s1 : State)
         → PickedAt end (behind (scene s0 d0 p0 at a0) (results at p.answers)) begun
     picks end picked = subst (λ (x : Scene). PickedAt end x begun) p.moves picked
 
-    -- the row of begins failed
+    -- the batch of begins failed
     begins_failed : (f : DiskFault) → BeginsRow look k1 k2 (scene s1 d1 p1 at a1) (scene s2 d2 p2 at a2) begun (Err f)
         → Turns look k0 k2 (scene s0 d0 p0 at a0) s2 d2 from c1 n1 turn_end.Disk
     begins_failed f b =
@@ -122,7 +122,7 @@ module _ {D : Type 0} (look : D → View) (at : ℕ) (k0 k1 : D) (s0 s1 : State)
       state2 : s2 ≡ after_all s1 (begins at begun)
       state2 = ap (λ (x : Scene). x.state) b.recorded.moves
 
-      -- what ended the picks is what is reported
+      -- the turn ends as the picks did
       picked : PickedAt end (scene s1 d1 p1 at a1) begun
       picked = subst (λ (e : TurnEnd). PickedAt e (scene s1 d1 p1 at a1) begun) (sym b.ended) b.picked
 
@@ -166,7 +166,7 @@ module _ {D : Type 0} (look : D → View) (at : ℕ) (k0 k1 : D) (s0 s1 : State)
           each_started = each;
         }
 
-      -- the row of refused starts failed
+      -- the batch of refused starts failed
       refusals_failed : (f : DiskFault) → StartsRow look k2 k3 (scene s2 d2 p2 at a2) (scene s3 d3 p3 at a3) begun c1 c2 n1 n3 (Err f)
           → Turns look k0 k3 (scene s0 d0 p0 at a0) s3 d3 from c2 n3 turn_end.Disk
       refusals_failed f x = let row = x.recorded in record {
@@ -207,7 +207,7 @@ module _ {D : Type 0} (look : D → View) (at : ℕ) (k0 k1 : D) (s0 s1 : State)
       not_disk turn_end.BookFull h is = absurd h.0.0
       not_disk turn_end.Disk h is = absurd h.0.0
 
-      -- all of it went well
+      -- all batches were recorded
       all_recorded : (z : Unit) → StartsRow look k2 k3 (scene s2 d2 p2 at a2) (scene s3 d3 p3 at a3) begun c1 c2 n1 n3 (Ok z)
           → Turns look k0 k3 (scene s0 d0 p0 at a0) s3 d3 from c2 n3 end
       all_recorded z x =
@@ -236,7 +236,7 @@ module _ {D : Type 0} (look : D → View) (at : ℕ) (k0 k1 : D) (s0 s1 : State)
             cause = λ is. absurd (not_disk end picked is);
           }
 
--- The same, by what the steps say.
+-- The same, from the contracts of the steps.
 pub no_results : {D : Type 0} {look : D → View} {at : ℕ} {k0 k1 : D} {s0 s1 : State} {d0 d1 : Due} {p0 p1 : Place} {a0 a1 : Bool} {from c1 : ChildrenView}
     {n1 : List Notice} {f : DiskFault} → PollsRow look k0 k1 (scene s0 d0 p0 at a0) (scene s1 d1 p1 at a1) from c1 n1 (Err f)
     → Turns look k0 k1 (scene s0 d0 p0 at a0) s1 d1 from c1 n1 turn_end.Disk
@@ -291,7 +291,7 @@ pub failed_end : {D : Type 0} {look : D → View} {old new : D} {x : Scene} {t :
 failed_end (Ok end) bad turns = let none : ⊥ = cc in absurd none
 failed_end (Err f) bad turns = turns
 
--- what ends picks is neither a full book nor a disk fault
+-- picks end neither with a full book nor with a disk fault
 pub picks_ended : {D : Type 0} {look : D → View} {k l : D} {x y : Scene} {begun : List Active} {end : TurnEnd}
     → BeginsRow look k l x y begun (Ok end) → (end ≡ turn_end.BookFull → ⊥) × (end ≡ turn_end.Disk → ⊥)
 picks_ended {x = x} {begun = begun} {end = end} b = (λ is. (so is).0.0, λ is. (so is).0.0)

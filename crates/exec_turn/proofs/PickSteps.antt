@@ -1,4 +1,4 @@
--- What is started with what has begun, and the row of begins so far.
+-- The starts of what has begun, and the batch of begins so far.
 use Rattle.std.proofs.Common.{◌≡◌, ◌⊎◌, inl, inr, ℕ, ◌+◌, ◌<◌, ◌≤◌, List, [], ◌∷◌, ◌++◌, length, take, Some, refl, sym, ap, subst, ◌∙◌, arith}
 use Rattle.std.specs.List.{AllByRecursion}
 use Rattle.std.proofs.lemmas.Bool.{cases_lt}
@@ -23,7 +23,7 @@ use Rattle.exec_turn.specs.Picks.{ArePicks, Cut, MayBegin, begin_of, begins}
 use Rattle.exec_turn.specs.declared.picks.StartOf.{StartOf}
 use Rattle.exec_turn.proofs.Choosing.{picks_cut}
 
--- what is called for these texts is called for the resource whose texts they are
+-- an invocation of these texts is one of the resource whose texts they are
 pub invoked : (site : SiteView) (id : List ℕ) (r : Resource) (running : Running) (call : Call) (own provider agent : List ℕ) (params : ParamList)
     → id ≡ own → provider ≡ r.provider → agent ≡ r.agent → params ≡ r.params
     → IsInvocation site (record { id = own; provider = provider; agent = agent; params = params }) running call
@@ -34,7 +34,7 @@ invoked site id r running call own provider agent params id_is provider_is agent
     λ k. record { id = sym id_is k; provider = provider_is k; agent = agent_is k; params = params_is k } in
     subst (λ (x : Registration). IsInvocation site x running call) same is
 
--- one more begin makes the row longer by its encoding
+-- one more begin makes the batch longer by its encoding
 pub row_longer : (es : List Event) (e : Event) → length (spelled_row (es ++ e ∷ [])) ≡ length (spelled_row es) + length (spelled_event e)
 row_longer [] e = let size = length-append (spelled_event e) [] in omega (arith, size)
 row_longer (x ∷ xs) e =
@@ -54,7 +54,7 @@ kept : (at : ℕ) (bs : List Active) (a : Active) → kept_free (begins at (bs +
 kept at [] a = kept_behind at a []
 kept at (b ∷ bs) a = kept_behind at b (bs ++ a ∷ [])
 
--- the encoding of the row with one more begin
+-- the encoding of the batch with one more begin
 pub spelled_more : (at len more : ℕ) (bs : List Active) (a : Active) (row : List Event) (e : Event) → row ≡ begins at bs → e ≡ begin_of at a
     → len ≡ length (spelled_row row) → more ≡ length (spelled_event e) → length (spelled_row (begins at (bs ++ a ∷ []))) ≡ len + more
 spelled_more at len more bs a row e row_is e_is len_is more_is =
@@ -66,7 +66,7 @@ spelled_more at len more bs a row e row_is e_is len_is more_is =
 pub longer : {A : Type 0} (bs : List A) (a : A) → length (bs ++ a ∷ []) ≡ length bs + 1
 longer bs a = length-append bs (a ∷ [])
 
--- where a longer row does not fit
+-- where a longer batch does not fit
 pub too_long : (s : State) (tail at run size : ℕ) (bs : List Active) (a : Active) → run ≡ s.next_run + length bs
     → run + 1 ≤ 9007199254740991
     → length (spelled_row (begins at (bs ++ a ∷ []))) ≡ size → 8388608 < tail + 5 + size + 1 + 32768
@@ -74,7 +74,7 @@ pub too_long : (s : State) (tail at run size : ℕ) (bs : List Active) (a : Acti
 too_long s tail at run size bs a run_is drawn size_is over =
     (omega (arith, run_is, drawn, longer bs a), omega (arith, kept at bs a, size_is, over))
 
--- where it does
+-- where a longer batch fits
 pub may_more : (s : State) (tail at run size : ℕ) (bs : List Active) (a : Active) → run ≡ s.next_run + length bs
     → run + 1 ≤ 9007199254740991
     → length (spelled_row (begins at (bs ++ a ∷ []))) ≡ size → tail + 5 + size + 1 + 32768 ≤ 8388608 → MayBegin s tail at (bs ++ a ∷ [])
@@ -86,7 +86,7 @@ may_more s tail at run size bs a run_is drawn size_is fit = record {
       absurd (omega (arith, kept at bs a, size_is, fit, over2));
 }
 
--- what is not at most another is above it
+-- a number that is not at most another is above it
 pub above : (n m : ℕ) → (n ≤ m → ⊥) → m < n
 above n m h = by (cases_lt m n)
   where
@@ -94,7 +94,7 @@ above n m h = by (cases_lt m n)
     by (inl lt) = lt
     by (inr le) = absurd (h le)
 
--- the picks are cut before what a place would begin
+-- the picks are cut before the one at an index
 pub cut_at : (s : State) (due : Due) (at next place : ℕ) (bs : List Active) (x : Running) (Why : List Active → Type 0)
     → place < length s.resources
     → ArePicks due at s.next_run (take place s.resources) bs → next ≡ s.next_run + length bs
@@ -108,7 +108,7 @@ cut_at s due at next place bs x Why lt before is now why =
       why = why;
     }
 
--- the row with one more begin
+-- the batch with one more begin
 pub row_more : (at : ℕ) (bs : List Active) (a : Active) (row longer_row : List Event) (e : Event) → longer_row ≡ row ++ e ∷ []
     → row ≡ begins at bs → e ≡ begin_of at a
     → longer_row ≡ begins at (bs ++ a ∷ [])

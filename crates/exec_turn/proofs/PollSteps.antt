@@ -1,4 +1,4 @@
--- One poll after another: the rows that they make, who lives on, and the room of the book.
+-- One poll after another: their batches, the live runs, and the book's capacity.
 use Rattle.std.proofs.Common.{◌≡◌, ⊎_elim, ℕ, zero, suc, ◌+◌, ◌*◌, ◌<◌, ◌≤◌, nat_eq, Bool, true, false, cond, if◌then◌else◌, not, List, [], ◌∷◌, ◌++◌, map, length, Option, Some, None, option_to_list, Result, Contains, slice_index_or, refl, sym, ◌∙◌, ap, subst, arith, append-nil, take, drop}
 use Rattle.std.specs.List.{AllByRecursion, IsDistinct, flat_map}
 use Rattle.std.proofs.lemmas.Cmp.{nat_eq_equiv}
@@ -26,7 +26,7 @@ use Rattle.exec_turn.proofs.Results.{distinct_second, each_second}
 abbrev pub whos : List Polled → List Active
 whos ps = map (λ p. p.who) ps
 
--- the live runs after a poll that ended so, or did not
+-- the live runs after a poll, by how the run ended, if it did
 abbrev pub live_after : Option RunEnd → ℕ → List ℕ → List ℕ
 live_after None run live = live
 live_after (Some end) run live = without_run run live
@@ -109,7 +109,7 @@ polls_more at xs ys v v1 v2 row more told later f g = record {
       ∙ sym (flat_map-append _ f.answers g.answers);
 }
 
--- who lives is found at the first place or after it
+-- a live run is at the first index or after it
 pub contains_one : (y r : ℕ) → Contains (y ∷ []) r → y ≡ r
 contains_one y r has = by has.0 has.1 has.2
   where
@@ -117,7 +117,7 @@ contains_one y r has = by has.0 has.1 has.2
     by zero within is = is
     by (suc k) within is = absurd (omega arith)
 
--- another run lives on where one is taken away
+-- another run lives on where one ends
 pub lives_without : (run r : ℕ) (live : List ℕ) → nat_eq run r ≡ false → Contains live r → Contains (without_run run live) r
 lives_without run r [] apart has = has
 lives_without run r (y ∷ ys) apart has = ⊎_elim
@@ -173,7 +173,7 @@ others_distinct all rest distinct =
     let both : runs_of (all ++ rest) ≡ runs_of all ++ runs_of rest = map-append _ all rest in
     distinct_second nat_eq nat_eq_equiv (runs_of all) (runs_of rest) (subst (IsDistinct nat_eq) both distinct)
 
--- each poll takes two places of the book at most
+-- each poll makes two entries at most
 pub room_after : (at : ℕ) (ps : List Polled) (v : ChildrenView) → v.room ≤ (after_polls at v ps).room + 2 * length ps
 room_after at [] v = omega arith
 room_after at (p ∷ ps) v =
@@ -182,7 +182,7 @@ room_after at (p ∷ ps) v =
     let rest : w.room ≤ (after_polls at w ps).room + 2 * length ps = room_after at ps w in
     omega (arith, first, rest)
 
--- what runs in the first places, with the next one, and what runs from a place on
+-- the running actions of the resources up to an index, and from an index on
 pub active_more : (s : State) (place : ℕ) → place < length s.resources
     → flat_map active_in (take (place + 1) s.resources) ≡ flat_map active_in (take place s.resources) ++ active_in (entry_at s place)
 active_more s place within =
@@ -194,7 +194,7 @@ pub active_rest : (s : State) (place : ℕ) → place < length s.resources
     → flat_map active_in (drop place s.resources) ≡ active_in (entry_at s place) ++ flat_map active_in (drop (place + 1) s.resources)
 active_rest s place within = ap (flat_map active_in) (drop_more s.resources place no_entry within)
 
--- the book's room after polls
+-- the book's capacity after polls
 pub room_behind : (at : ℕ) (all : List Active) (old new : ChildrenView) (row : List Event) (told : List Notice)
     → Polls at all old new row told → old.room ≤ new.room + 2 * length all
 room_behind at all old new row told h =

@@ -1,4 +1,4 @@
--- What polls enter into the book, and what their results do to a state.
+-- The entries of polls in the book, and the state after their results.
 use Rattle.std.proofs.Common.{◌≡◌, ⊎_elim, inl, ℕ, ◌+◌, ◌*◌, ◌≤◌, nat_eq, Bool, true, false, cond, if◌then◌else◌, not, List, [], ◌∷◌, ◌++◌, map, length, Option, Some, None, option_to_list, Result, Contains, IsSomeAnd, append_assoc, length-append, refl, sym, ◌∙◌, ap, subst, arith, append-nil}
 use Rattle.std.specs.List.{AllByRecursion, IsDistinct}
 use Rattle.std.specs.Map.{keys_of}
@@ -62,7 +62,7 @@ polled_last at x (poll.Exited code) kill v = refl
 polled_last at x (poll.Signaled signal) kill v = refl
 polled_last at x poll.Fault kill v = refl
 
--- the book gets their entries, nothing is started, and each takes two places of the book at most
+-- the book gets their entries, nothing is spawned, and each poll makes two entries at most
 pub polls_book : (at : ℕ) (v : ChildrenView) (ps : List Polled)
     → ((after_polls at v ps).book ≡ v.book ++ polls at ps) × ((after_polls at v ps).last_run ≡ v.last_run)
     × (v.room ≤ (after_polls at v ps).room + 2 * length ps)
@@ -141,7 +141,7 @@ polls_unasked at (p ∷ ps) =
     each_append IsUnasked (entries_of at p.who.running p.poll p.kill) (polls at ps) (entries_unasked at p.who.running p.poll p.kill)
     (polls_unasked at ps)
 
--- no poll asks for a start
+-- no poll is a start
 pub polls_ask_nothing : (at : ℕ) (ps : List Polled) (run clock : ℕ) → Asked (polls at ps) run clock → ⊥
 polls_ask_nothing at ps run clock h =
     asked_polls (polls at ps) run clock (All-from_recursion IsUnasked (polls at ps) (polls_unasked at ps)) h
@@ -157,7 +157,7 @@ ending_lawful at x (poll.Exited code) end is byte = let same : run_end.Done code
 ending_lawful at x (poll.Signaled signal) end is byte = let same : run_end.Signaled ≡ end = cc in subst IsRunEnd same tt
 ending_lawful at x poll.Fault end is byte = let same : run_end.Lost ≡ end = cc in subst IsRunEnd same tt
 
--- the results of one poll that ended so, or did not
+-- the results of one poll, by how the run ended, if it did
 abbrev results_of : ℕ → Active → Option RunEnd → List Event
 results_of at a end = map (result_of at a) (option_to_list end)
 
@@ -167,7 +167,7 @@ AreShort =
     (at run : ℕ) (id : List ℕ) (end : RunEnd) → IsId id
     → length (spelled_event (record { at = at; change = change.Step id (step.Result run end) })) ≤ longest_result
 
--- what is asked of each poll for its result to apply
+-- the conditions under which the result of a poll applies
 abbrev CanEnd : Polled → Type 0
 CanEnd p = IsActive p.who × IsPoll p.poll
 
@@ -191,7 +191,7 @@ result_applies short at s a end active end_is later moment runs = record {
     by None h = h
     by (Some r) h = runs_as r.history.running h
 
--- the results apply in their places, where all else that runs was polled before and runs on
+-- the results apply one after the other, where all other running actions were polled before and run on
 results_apply : AreShort → (at : ℕ) (s : State) (kept : List Active) (ps : List Polled) → active s ≡ kept ++ whos ps
     → IsDistinct bytes_eq (keys_of s.resources) → s.clock ≤ at → IsMoment at
     → AllByRecursion CanEnd ps → AllApply s (results at ps)
@@ -214,7 +214,7 @@ results_apply short at s kept (p ∷ ps) is distinct later moment can =
     by (Some end) ended same more =
         (result_applies short at s p.who end can.0.0 (ending_lawful at p.who.running p.poll end ended can.0.1) later moment runs, more end)
 
--- they are short, results, and no registrations
+-- they are short, are results, and register nothing
 results_fit : AreShort → (at : ℕ) (ps : List Polled) → AllByRecursion CanEnd ps → length (spelled_row (results at ps)) ≤ 84 * length ps
 results_fit short at [] can = omega arith
 results_fit short at (p ∷ ps) can = by (ending at p.who.running p.poll) (results_fit short at ps can.1)
@@ -252,11 +252,11 @@ can_end : (ps : List Polled) → AllByRecursion IsActive (whos ps) → AllByRecu
 can_end [] active bytes = tt
 can_end (p ∷ ps) active bytes = ((active.0, bytes.0), can_end ps active.1 bytes.1)
 
--- no more run than there are resources
+-- no more actions run than there are resources
 pub few_active : (s : State) → length (active s) ≤ length s.resources
 few_active s = length-all_in s.resources
 
--- the row of results of all that runs in a lawful state may be recorded, wherever the tail is
+-- the batch of results of all running actions of a lawful state may be recorded, wherever the tail is
 pub results_may_record : AreShort → (at : ℕ) (s : State) (ps : List Polled) (tail : ℕ) → IsLawfulState s → s.clock ≤ at → IsMoment at
     → whos ps ≡ active s → AllByRecursion (λ p. IsPoll p.poll) ps
     → MayRecord s tail (results at ps)
@@ -271,7 +271,7 @@ results_may_record short at s ps tail lawful later moment each bytes =
       room = inl (results_are at ps);
     }
 
--- a run that lived is taken away
+-- live runs without one
 shorter_without : (run : ℕ) (live : List ℕ) → length (without_run run live) ≤ length live
 shorter_without run [] = omega arith
 shorter_without run (y ∷ ys) = by (nat_eq y run) (shorter_without run ys)
@@ -343,7 +343,7 @@ agents_live_behind at s kept (p ∷ ps) v distinct is agents_live =
         more end (subst (AgentsLive (after s (result_of at p.who end))) (sym live)
         (agents_live_after_result at s kept p.who (whos ps) end v.live distinct is agents_live))
 
--- after the row of results what still runs lives
+-- after the batch of results each running action has its agent process alive
 pub agents_live_after_polls : (at : ℕ) (s : State) (v : ChildrenView) (ps : List Polled) → IsLawfulState s → whos ps ≡ active s → AgentsLive s v.live
     → AgentsLive (after_all s (results at ps)) (after_polls at v ps).live
 agents_live_after_polls at s v ps lawful each agents_live = agents_live_behind at s [] ps v lawful.ids (sym each) agents_live

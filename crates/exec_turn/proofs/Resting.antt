@@ -1,4 +1,4 @@
--- Where nothing is to begin, nothing is picked.
+-- Where nothing has to begin, nothing is picked.
 use Rattle.std.proofs.Common.{◌≡◌, ℕ, ◌+◌, List, [], ◌∷◌, Some, None, MatchOption, Option, sym, subst, arith, refl}
 use Rattle.std.specs.List.{AllByRecursion}
 use Rattle.std.specs.Map.{lookup}
@@ -36,7 +36,7 @@ rest_picked s tail at lawful rest = (
   record { runs = omega (arith, lawful.next_run.1); room = λ lt. absurd (omega (arith, lt)) },
 )
 
--- and nothing is started
+-- and there are no starts
 pub rests_picked : (s : Store) (tail at : ℕ) (xs : List (StartOf Call)) → IsLawfulState s.state → Rests s at → xs ≡ []
     → Picked turn_end.Done s.state (dues s) tail at (all_starting xs)
 rests_picked s tail at xs lawful rest none =

@@ -1,4 +1,4 @@
--- What runs in a state, and what a result of it leaves.
+-- The running actions of a state, and those after a result.
 use Rattle.std.proofs.Common.{◌≡◌, ℕ, ◌≤◌, Bool, true, false, cond, not, List, [], ◌∷◌, ◌++◌, map, filter, length, Option, Some, None, IsSomeAnd, IsTrue, refl, sym, ◌∙◌, ap, subst, arith}
 use Rattle.std.specs.Cmp.{IsEquivalence}
 use Rattle.std.specs.List.{AllByRecursion, IsDistinct}
@@ -29,7 +29,7 @@ by_running : (P : List Active → Type 0) (id : List ℕ) (o : Option Running) (
 by_running P id None rest none some = none
 by_running P id (Some x) rest none some = some x refl
 
--- no more run than there are
+-- no more actions run than there are resources
 pub length-all_in : (rs : Registry) → length (all_in rs) ≤ length rs
 length-all_in [] = omega arith
 length-all_in (e ∷ rs) =
@@ -46,7 +46,7 @@ module _ {A : Type 0} (P : A → Type 0) where
   each_second [] ys h = h
   each_second (x ∷ xs) ys h = each_second xs ys h.1
 
-  -- a fact of all holds of the one between the others, and of the others
+  -- a fact of all holds of the one in the middle, and of the others
   pub each_middle : (xs : List A) (y : A) (ys : List A) → AllByRecursion P (xs ++ y ∷ ys) → P y
   each_middle xs y ys h = (each_second xs (y ∷ ys) h).0
 
@@ -54,7 +54,7 @@ module _ {A : Type 0} (P : A → Type 0) where
   each_other xs y ys h = each_append P xs ys (each_first xs (y ∷ ys) h) (each_second xs (y ∷ ys) h).1
 
 module _ {K : Type 0} (eq : K → K → Bool) (laws : IsEquivalence eq) where
-  -- the one between the others is none of them
+  -- the one in the middle is none of the others
   pub middle_apart : (xs : List K) (y : K) (ys : List K) → IsDistinct eq (xs ++ y ∷ ys) → AllByRecursion (λ k. eq y k ≡ false) (xs ++ ys)
   middle_apart [] y ys d = IsDistinct-head eq y ys d
   middle_apart (x ∷ xs) y ys d =
@@ -72,7 +72,7 @@ module _ {K : Type 0} (eq : K → K → Bool) (laws : IsEquivalence eq) where
   distinct_second [] ys d = d
   distinct_second (x ∷ xs) ys d = distinct_second xs ys (IsDistinct-tail eq x (xs ++ ys) d)
 
--- the ids of what runs are distinct, as those of the resources
+-- the ids of running actions are distinct, as those of the resources
 ids_apart : (id : List ℕ) (rs : Registry) → AllByRecursion (λ k. bytes_eq id k ≡ false) (keys_of rs)
     → AllByRecursion (λ k. bytes_eq id k ≡ false) (ids_of (all_in rs))
 ids_apart id [] h = tt
@@ -88,7 +88,7 @@ ids_distinct (e ∷ rs) d =
     by_running (λ l. IsDistinct bytes_eq (ids_of l)) e.0 e.1.history.running (all_in rs) rest
     (λ x is. IsDistinct-cons bytes_eq e.0 (ids_of (all_in rs)) apart rest)
 
--- what runs, but that of an id
+-- the running actions but that of an id
 abbrev without_id : List ℕ → List Active → List Active
 without_id id all = filter (λ a. not (bytes_eq id a.id)) all
 
@@ -112,7 +112,7 @@ module _ (at : ℕ) (id : List ℕ) (run : ℕ) (end : RunEnd) where
       by true is = sym (filtered true e.0 e.1.history.running is)
       by false is = sym (filtered false e.0 e.1.history.running is)
 
-  -- a result takes away what ran under its id
+  -- after a result the action of its id runs no more
   gone : (rs : Registry) → all_in (ended_in rs) ≡ without_id id (all_in rs)
   gone [] = refl
   gone (e ∷ rs) =
@@ -140,7 +140,7 @@ middle_gone (x ∷ xs) a rest d =
     middle_of [] h = h.0
     middle_of (y ∷ ys) h = middle_of ys h.1
 
--- after a result of what ran between others the others run
+-- after the result of the action in the middle the others run
 pub others_run : (at : ℕ) (s : State) (kept : List Active) (a : Active) (rest : List Active) (end : RunEnd)
     → IsDistinct bytes_eq (keys_of s.resources) → active s ≡ kept ++ a ∷ rest
     → active (after s (result_of at a end)) ≡ kept ++ rest
@@ -171,7 +171,7 @@ each_runs (e ∷ rs) distinct =
     by_running (AllByRecursion (RunsIn (e ∷ rs))) e.0 e.1.history.running (all_in rs) rest
     (λ x is. (rw (nat_list_eq_equiv.refl e.0) is, rest))
 
--- what runs in a lawful state has an id and a run
+-- a running action of a lawful state has an id and a run
 abbrev pub IsActive : Active → Type 0
 IsActive a = IsId a.id × IsDrawn a.running.run
 

@@ -36,7 +36,7 @@ use Rattle.exec_ledger.specs.Rows.{MayRecord}
 use Rattle.exec_turn.specs.Starts.{AllRun, Rising, RunsUnder, Started, Starts, after_starts, refusals, refused_end, starts}
 use Rattle.exec_turn.proofs.Ending.{OneLess, keys_kept, one_less, runs_on, runs_there, same_run}
 
--- a fact of each holds of the one at a place
+-- a fact of each holds of the one at an index
 pub each_at : {X : Type 0} (P : X → Type 0) (xs : List X) (i : ℕ) (x : X) → AllByRecursion P xs → i < length xs → x ≡ get_or xs i x → P x
 each_at P xs i x all lt is = subst P (sym is) (All-from_recursion P xs all i x lt)
 
@@ -63,12 +63,12 @@ starts_more at clock all a v w x row row2 told told2 answer so_far view row_is t
           ∙ sym (one_more (λ z. map (notice_of at z.what) (refused_end z.answer)) xs y);
     }
 
--- a start adds one live run at most
+-- a start adds at most one live run
 pub one_live : (run : ℕ) (live : List ℕ) (answer : Result Unit StartFault) → length (live_started answer run live) ≤ length live + 1
 one_live run live (Ok x) = omega (arith, length-append live (run ∷ []))
 one_live run live (Err fault) = omega arith
 
--- what is known of an action that runs: its resource has an id, and its run is drawn
+-- facts of a running action: its resource has an id, and its run is drawn
 abbrev IsNamed : Active → Type 0
 IsNamed a = IsId a.id × IsDrawn a.running.run
 
@@ -85,7 +85,7 @@ lookup_holds P id r (e ∷ es) all at = by (bytes_eq id e.0) refl (lookup_holds 
         subst (λ (k : List ℕ). P (k, r)) key (subst (λ (v : Resource). P (e.0, v)) value all.0)
     by false other rest = rest (rw other at at)
 
--- an action that runs in a lawful state
+-- they hold in a lawful state
 known : (s : State) (a : Active) → IsLawfulState s → RunsUnder s a.id a.running.call a.running.run
     → IsNamed a × (a.running.run < s.next_run)
 known s a lawful runs =
@@ -101,12 +101,12 @@ each_named : (s : State) (all : List Active) → IsLawfulState s → AllRun s al
 each_named s [] lawful run = tt
 each_named s (a ∷ rest) lawful run = ((known s a lawful run.0).0, each_named s rest lawful run.1)
 
--- what runs is below the next run number
+-- the runs of running actions are below the next run number
 pub runs_below : (s : State) (all : List Active) → IsLawfulState s → AllRun s all → AllByRecursion (λ a. a.running.run < s.next_run) all
 runs_below s [] lawful run = tt
 runs_below s (a ∷ rest) lawful run = ((known s a lawful run.0).1, runs_below s rest lawful run.1)
 
--- the later ones run on after the result of an earlier one
+-- later actions run on after the result of an earlier one
 run_on : (s : State) (at : ℕ) (a : Active) (end : RunEnd) (low : ℕ) (rest : List Active) → RunsUnder s a.id a.running.call a.running.run
     → a.running.run ≤ low → Rising low rest → AllRun s rest
     → AllRun (after s (result_of at a end)) rest
@@ -120,7 +120,7 @@ run_on s at a end low (b ∷ rest) runs le rising all =
       run_on s at a end b.running.run rest runs (omega (arith, le, rising.0)) rising.1 all.1,
     )
 
--- how long the result of a run is at most
+-- the greatest length of a result
 abbrev pub ResultsFit : Type 0
 ResultsFit =
     (at run : ℕ) (id : List ℕ) (end : RunEnd) → IsId id
@@ -191,7 +191,7 @@ refusals_results at (x ∷ xs) = by x.answer (refusals_results at xs)
     by (Ok y) rest = rest
     by (Err fault) rest = rest
 
--- the row of refused starts may be recorded
+-- the batch of refused starts may be recorded
 pub refusals_may_record : (s : State) (tail at last : ℕ) (xs : List Started) → ResultsFit → IsLawfulState s → s.clock ≤ at → IsMoment at
     → length xs ≤ resources_limit → AllRun s (map (λ x. x.what) xs)
     → Rising last (map (λ x. x.what) xs) → MayRecord s tail (refusals at xs)
@@ -204,7 +204,7 @@ refusals_may_record s tail at last xs fit lawful later moment few run rising =
       room = inl (refusals_results at xs);
     }
 
--- the book after these starts, its room, and the last run that was asked for
+-- the book after these starts, its capacity, and the last run whose start was asked
 pub starts_book : (clock : ℕ) (v : ChildrenView) (xs : List Started) → (after_starts clock v xs).book ≡ v.book ++ starts clock xs
 starts_book clock v [] = sym (append-nil v.book)
 starts_book clock v (x ∷ xs) =
@@ -230,7 +230,7 @@ pub starts_site : (clock : ℕ) (v : ChildrenView) (xs : List Started) → (afte
 starts_site clock v [] = refl
 starts_site clock v (x ∷ xs) = starts_site clock (after_start v x.what.running.run clock x.answer) xs
 
--- no run number is drawn by them
+-- they draw no run number
 pub refusals_draw_none : (s : State) (at : ℕ) (xs : List Started) → (after_all s (refusals at xs)).next_run ≡ s.next_run
 refusals_draw_none s at [] = refl
 refusals_draw_none s at (x ∷ xs) =
@@ -261,7 +261,7 @@ distinct_without (x ∷ xs) n ys distinct =
     let head = each_without (λ m. nat_eq x m ≡ false) xs n ys (IsDistinct-head nat_eq x (xs ++ n ∷ ys) distinct) in
     (IsDistinct-cons nat_eq x (xs ++ ys) head.1 rest.0, (differ_back x n head.0, rest.1))
 
--- what is among these and is not that one is among the others
+-- an element that is not that one is among the others
 still_among : (live : List ℕ) (n : ℕ) (more : List ℕ) (m : ℕ) → Contains (live ++ n ∷ more) m → nat_eq n m ≡ false
     → Contains (live ++ more) m
 still_among live n more m among differ = ⊎_elim
@@ -278,7 +278,7 @@ each_still : (live : List ℕ) (n : ℕ) (more xs : List ℕ) → AllByRecursion
 each_still live n more [] among differ = tt
 each_still live n more (x ∷ xs) among differ = (still_among live n more x among.0 differ.0, each_still live n more xs among.1 differ.1)
 
--- a start that was made: the run lives, and is no more to be started
+-- a start that succeeded: the run lives
 started_agents_live : (s : State) (live : List ℕ) (a : Active) (rest : List Active) → AgentsLiveBut s live (a ∷ rest)
     → AgentsLiveBut s (live ++ a.running.run ∷ []) rest
 started_agents_live s live a rest agents_live = record {
@@ -289,7 +289,7 @@ started_agents_live s live a rest agents_live = record {
   few = omega (arith, agents_live.few, length-append live (a.running.run ∷ []));
 }
 
--- one that was refused: the action runs no more, and is no more to be started
+-- one that was refused: the action runs no more
 refused_agents_live : (s t : State) (live : List ℕ) (a : Active) (rest : List Active)
     → OneLess (runs_of (active s)) (runs_of (active t)) a.running.run → AgentsLiveBut s live (a ∷ rest) → AgentsLiveBut t live rest
 refused_agents_live s t live a rest less agents_live =
@@ -318,7 +318,7 @@ all_agents_live s live agents_live = record {
   few = omega (arith, agents_live.few);
 }
 
--- after the starts and the results of the refused ones the agent of each action that runs lives
+-- after the starts and the results of the refused ones the agent process of each running action lives
 pub starts_tend : (s : State) (at clock last : ℕ) (v : ChildrenView) (xs : List Started) → IsDistinct bytes_eq (keys_of s.resources)
     → AllRun s (map (λ x. x.what) xs)
     → Rising last (map (λ x. x.what) xs) → AgentsLiveBut s v.live (map (λ x. x.what) xs)

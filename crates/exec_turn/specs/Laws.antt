@@ -1,4 +1,4 @@
--- Starts after their begins.
+-- Lemmas: starts after their begins.
 use Rattle.std.specs.Prelude.{◌≡◌, ℕ, List, [], ◌∷◌, ◌==◌, map}
 use Rattle.std.specs.List.{list_any}
 use Rattle.std.proofs.Common.{⊎_elim, refl, sym, ◌∙◌, ap, subst}
@@ -20,7 +20,7 @@ use Rattle.exec_ledger.specs.Pieces.{HasBegin, Leaves, Prefix, is_begin}
 use Rattle.exec_turn.specs.Starts.{Started, starts}
 use Rattle.exec_ledger.specs.Laws.{asked_in, asked_none, asked_one, settles}
 
--- each start that is asked is of something whose begin is in the row
+-- each start that was asked has its begin in the batch
 pub asked_starts : (at clock : ℕ) (xs : List Started) (run u : ℕ) → Asked (starts clock xs) run u
     → (u ≡ clock) × HasBegin run (begins at (map (λ x. x.what) xs))
 asked_starts at clock [] run u asked = absurd (asked_none run u asked)
@@ -36,7 +36,7 @@ asked_starts at clock (x ∷ xs) run u asked = ⊎_elim
     (later.0, or_right (x.what.running.run == run) (list_any (λ e. is_begin run e.change) (begins at (map (λ x. x.what) xs))) later.1))
     (asked_in (starts clock (x ∷ [])) (starts clock xs) run u asked)
 
--- The starts after their begins: none of what a crash leaves from then on lacks one.
+-- Starts may be added to a part that recorded their begins: what a crash leaves from then on has all begins.
 pub then_started : {D : Type 0} (look : D → View) (old new : D) (s t : State) (at clock : ℕ) (bs : List Active) (xs : List Started)
     → ((look new).honest → Lawful (look new)) → clock ≡ (look new).clock → map (λ x. x.what) xs ≡ bs
     → Leaves look old new s t (record { entries = []; events = begins at bs; pending = [] })

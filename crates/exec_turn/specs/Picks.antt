@@ -1,4 +1,4 @@
--- The second row of a turn: what each resource begins, and under which run.
+-- The second batch of a turn: the action that each resource begins, and its run number.
 use Rattle.std.specs.Prelude.{◌≡◌, ℕ, ◌+◌, ◌<◌, ◌≤◌, List, [], ◌∷◌, ◌++◌, map, length, Option, Some, None}
 use Rattle.ocf_types.specs.Due.{Due, IsPick}
 use Rattle.ocf_types.specs.Kinds.{Event}
@@ -12,13 +12,13 @@ use Rattle.ocf_types.specs.declared.reply.TurnEnd.TheVariants as turn_end
 use Rattle.exec_journal.specs.Rows.{IsTooLong}
 use Rattle.exec_ledger.specs.Actives.{Active, active_in}
 
--- what runs in a resource once it has begun this call, under this run
+-- the running action of a resource after it has begun this call under this run
 abbrev pub begun_in : ℕ → ℕ → List ℕ × Resource → Option ℕ → List Active
 begun_in at run e None = []
 begun_in at run e (Some call) = active_in (e.0, stepped at (step.Begin call run) e.1)
 
--- What these resources begin at a moment under these due moments, in order of registration: each the call that it picks,
--- if any, under the next run number.
+-- The actions that these resources begin at a moment under these due moments, in order of registration: each the call that it
+-- picks, if any, under the next run number.
 abbrev pub ArePicks : Due → ℕ → ℕ → Registry → List Active → Type 0
 ArePicks due at run [] begun = begun ≡ []
 ArePicks due at run (e ∷ es) begun = (call : Option ℕ) × (rest : List Active) × IsPick e.1 (due e.0) at call
@@ -28,24 +28,24 @@ ArePicks due at run (e ∷ es) begun = (call : Option ℕ) × (rest : List Activ
 abbrev pub begin_of : ℕ → Active → Event
 begin_of at a = record { at = at; change = change.Step a.id (step.Begin a.running.call a.running.run) }
 
--- the row of begins
+-- the batch of begins
 abbrev pub begins : ℕ → List Active → List Event
 begins at begun = map (begin_of at) begun
 
--- At this state, and with the journal's last gate at this offset, this many begins find a run number each and leave the
--- reserve free; none is always possible.
+-- In this state, and with the journal's last gate at this offset, there is a run number for each of these begins, and they leave
+-- the reserve free; an empty batch always does.
 pub record MayBegin (s : State) (tail at : ℕ) (begun : List Active) : Type 0 where
   pub runs : s.next_run + length begun ≤ num_max
   pub room : 0 < length begun → IsTooLong tail (begins at begun) → ⊥
 
--- The picks were cut before one of them, for a reason that holds of what would have been begun with it.
+-- The picks were cut before one of them, for a reason that holds of the batch with it.
 pub record Cut (s : State) (due : Due) (at : ℕ) (begun : List Active) (Why : List Active → Type 0) : Type 0 where
   pub next : Active
   pub later : List Active
   pub picks : ArePicks due at s.next_run s.resources (begun ++ next ∷ later)
   pub why : Why (begun ++ next ∷ [])
 
--- what is begun, by what ended the picks: the first of these that holds at a pick ends them before it
+-- the actions begun, by what ended the picks: the first of these reasons that holds at a pick ends them before it
 abbrev pub PickedAs : TurnEnd → State → Due → ℕ → ℕ → List Active → Type 0
 PickedAs turn_end.Done s due tail at begun = ArePicks due at s.next_run s.resources begun
 PickedAs turn_end.RunsSpent s due tail at begun = Cut s due at begun (λ more. num_max < s.next_run + length more)
@@ -56,5 +56,6 @@ PickedAs turn_end.Closed s due tail at begun = ⊥
 PickedAs turn_end.BookFull s due tail at begun = ⊥
 PickedAs turn_end.Disk s due tail at begun = ⊥
 
+-- the same, and the begins may be recorded
 abbrev pub Picked : TurnEnd → State → Due → ℕ → ℕ → List Active → Type 0
 Picked end s due tail at begun = PickedAs end s due tail at begun × MayBegin s tail at begun

@@ -1,5 +1,5 @@
--- The first row of a turn: every action that runs is polled, and each end makes a result. Pacemaker Explained, resource
--- operations, timeout.
+-- The first batch of a turn: every running action is polled, and each that has ended makes a result. Pacemaker Explained,
+-- resource operations, timeout.
 use Rattle.std.specs.Prelude.{◌≡◌, ℕ, ◌+◌, ◌<◌, nat_le, Bool, List, [], ◌∷◌, map, fold, Option, Some, None, option_to_list, Result, if◌then◌else◌, ⊤}
 use Rattle.std.specs.List.{flat_map, AllByRecursion}
 use Rattle.ocf_types.specs.Kinds.{Event}
@@ -16,7 +16,7 @@ use Rattle.child_model.specs.declared.answer.Poll.TheVariants as poll
 use Rattle.exec_ledger.specs.Actives.{Active}
 use Rattle.exec_turn.specs.Actives.{notice_of, result_of}
 
--- one poll: of which action, what it answered, and what the kill answered where there was one
+-- one poll: the action, the answer, and the answer of the kill where there was one
 pub record Polled : Type 0 where
   pub who : Active
   pub poll : Poll
@@ -26,10 +26,11 @@ pub record Polled : Type 0 where
 abbrev pub is_late : ℕ → Running → Bool
 is_late at x = nat_le (x.since + x.timeout) at
 
+-- an answer about a run, as an entry of the book
 abbrev pub said : ℕ → Answer → Entry
 said run answer = record { run = run; at = 0; answer = answer }
 
--- what the book gets: the poll, and the kill of an action that runs past its timeout
+-- the entries of a poll in the book: the poll, and the kill of an action that runs past its timeout
 abbrev pub entries_of : ℕ → Running → Poll → Result Unit KillFault → List Entry
 entries_of at x poll.Running kill =
     said x.run (poll_answer poll.Running) ∷ (if is_late at x then said x.run (kill_answer kill) ∷ [] else [])
@@ -37,7 +38,7 @@ entries_of at x (poll.Exited code) kill = said x.run (poll_answer (poll.Exited c
 entries_of at x (poll.Signaled signal) kill = said x.run (poll_answer (poll.Signaled signal)) ∷ []
 entries_of at x poll.Fault kill = said x.run (poll_answer poll.Fault) ∷ []
 
--- the children after them
+-- the children after a poll
 abbrev pub polled_on : ℕ → Running → Poll → Result Unit KillFault → ChildrenView → ChildrenView
 polled_on at x poll.Running kill v =
     if is_late at x then after_kill (after_poll v x.run poll.Running) x.run kill else after_poll v x.run poll.Running
@@ -45,7 +46,7 @@ polled_on at x (poll.Exited code) kill v = after_poll v x.run (poll.Exited code)
 polled_on at x (poll.Signaled signal) kill v = after_poll v x.run (poll.Signaled signal)
 polled_on at x poll.Fault kill v = after_poll v x.run poll.Fault
 
--- how the run ended, if it did: whatever the kill answered, what runs past its timeout has timed out
+-- how the run ended, if it did: an action past its timeout has timed out, whatever the kill answered
 abbrev pub ending : ℕ → Running → Poll → Option RunEnd
 ending at x poll.Running = if is_late at x then Some run_end.TimedOut else None
 ending at x (poll.Exited code) = Some (run_end.Done code)
@@ -62,7 +63,7 @@ polls at ps = flat_map (λ p. entries_of at p.who.running p.poll p.kill) ps
 abbrev pub after_polls : ℕ → ChildrenView → List Polled → ChildrenView
 after_polls at v ps = fold (λ w p. polled_on at p.who.running p.poll p.kill w) v ps
 
--- the row of results that they make, and its notices
+-- the batch of their results, and its notices
 abbrev pub results : ℕ → List Polled → List Event
 results at ps = flat_map (λ p. map (result_of at p.who) (ends_of at p)) ps
 
@@ -76,8 +77,8 @@ IsPoll poll.Running = ⊤
 IsPoll (poll.Signaled signal) = signal < 256
 IsPoll poll.Fault = ⊤
 
--- These actions were polled once each, in this order: from one view of the children to another, with this row of results
--- and these notices.
+-- These actions were polled once each, in this order: from one view of the children to another, with this batch of results and
+-- these notices.
 pub record Polls (at : ℕ) (all : List Active) (old new : ChildrenView) (row : List Event) (told : List Notice) : Type 0 where
   pub answers : List Polled
   pub each : map (λ p. p.who) answers ≡ all

@@ -1,4 +1,4 @@
--- The third row of a turn: what has begun is started, and each refused start makes a result.
+-- The third batch of a turn: the actions that have begun are spawned, and each refusal makes a result.
 use Rattle.std.specs.Prelude.{◌≡◌, ℕ, ◌<◌, List, [], ◌∷◌, map, fold, option_and_then, Result, Ok, Err, Some, ⊤}
 use Rattle.std.specs.List.{flat_map, AllByRecursion}
 use Rattle.ocf_types.specs.Kinds.{Event}
@@ -13,12 +13,12 @@ use Rattle.child_model.specs.declared.answer.Entry.{Entry}
 use Rattle.exec_ledger.specs.Actives.{Active}
 use Rattle.exec_turn.specs.Actives.{notice_of, result_of}
 
--- one start: of what, and what it answered
+-- one start: the action, and the answer
 pub record Started : Type 0 where
   pub what : Active
   pub answer : Result Unit StartFault
 
--- how a start that was refused ended
+-- how an action ended whose start was refused
 abbrev pub refused_end : Result Unit StartFault → List RunEnd
 refused_end (Ok x) = []
 refused_end (Err fault) = NotStarted fault ∷ []
@@ -30,15 +30,15 @@ starts clock xs = map (λ x. record { run = x.what.running.run; at = clock; answ
 abbrev pub after_starts : ℕ → ChildrenView → List Started → ChildrenView
 after_starts clock v xs = fold (λ w x. after_start w x.what.running.run clock x.answer) v xs
 
--- the row of results of those that were refused, and its notices
+-- the batch of results of those that were refused, and its notices
 abbrev pub refusals : ℕ → List Started → List Event
 refusals at xs = flat_map (λ x. map (result_of at x.what) (refused_end x.answer)) xs
 
 abbrev pub refusal_notices : ℕ → List Started → List Notice
 refusal_notices at xs = flat_map (λ x. map (notice_of at x.what) (refused_end x.answer)) xs
 
--- These were started once each, in this order: from one view of the children to another, with this row of results and
--- these notices.
+-- These were spawned or refused once each, in this order: from one view of the children to another, with this batch of results
+-- and these notices.
 pub record Starts (at clock : ℕ) (all : List Active) (old new : ChildrenView) (row : List Event) (told : List Notice) : Type 0 where
   pub answers : List Started
   pub each : map (λ x. x.what) answers ≡ all

@@ -1,4 +1,4 @@
--- A turn, and one that begins nothing: from what the children answered, what it did, and its notices.
+-- A turn, and one that begins nothing: its effects and notices as functions of what the children answered.
 use Rattle.std.specs.Prelude.{◌≡◌, ◌⊎◌, ℕ, List, [], ◌++◌, map, IsTrue}
 use Rattle.std.specs.List.{AllByRecursion}
 use Rattle.ocf_types.specs.declared.reply.TurnEnd.{TurnEnd}
@@ -11,21 +11,21 @@ use Rattle.exec_turn.specs.Picks.{Picked, begins}
 use Rattle.exec_turn.specs.Polls.{IsPoll, Polled, polls, result_notices, results}
 use Rattle.exec_turn.specs.Starts.{Started, refusal_notices, refusals, starts}
 
--- what a turn of a kind did, by its end: from what it found, what it did, and its notices
+-- a kind of turn: a relation of its end, the view before it, its effects and its notices
 abbrev pub TurnKind : Type 1
 TurnKind = TurnEnd → Scene → Effects → List Notice → Type 0
 
--- one answer to a poll of each action that runs, in order of registration
+-- one answer to a poll of each running action, in order of registration
 pub record EachPolled (x : Scene) (ps : List Polled) : Type 0 where
   pub each : map (λ p. p.who) ps ≡ active x.state
   pub bytes : AllByRecursion (λ p. IsPoll p.poll) ps
 
--- what is begun here, by what ended the picks; want of memory ends them only where the allocator refuses growths
+-- the actions begun from this view, by what ended the picks; want of memory ends them only where the allocator refuses growths
 abbrev pub PickedAt : TurnEnd → Scene → List Active → Type 0
 PickedAt end x bs = Picked end x.state x.due x.place.tail x.at bs × (end ≡ turn_end.Memory → IsTrue x.refuses)
 
--- What a turn was answered: a poll of each action that runs, what is begun after their results, and a start of each of
--- these, all in order of registration, when the journal's disk had had this many device calls.
+-- The answers in a turn: a poll of each running action, the actions begun after their results, and a start of each of these, all
+-- in order of registration, when the journal's disk had had this many device calls.
 pub record Told (end : TurnEnd) (x : Scene) : Type 0 where
   pub polled : List Polled
   pub begun : List Active
@@ -35,7 +35,7 @@ pub record Told (end : TurnEnd) (x : Scene) : Type 0 where
   pub picked : PickedAt end (behind x (results x.at polled)) begun
   pub each_started : map (λ a. a.what) started ≡ begun
 
--- a turn that was answered so, with nothing pending
+-- a turn with these answers that left nothing pending
 abbrev pub Whole : TurnEnd → Scene → Effects → List Notice → Type 0
 Whole end x did told = (t : Told end x)
     × (did ≡ record {
@@ -49,23 +49,23 @@ Whole end x did told = (t : Told end x)
 abbrev pub Nothing : Effects → List Notice → Type 0
 Nothing did told = (did ≡ no_effects) × (told ≡ [])
 
--- one that was polled and whose row of results was recorded: nothing began
+-- one whose batch of results was recorded, and which began nothing
 abbrev pub OnlyResults : Scene → Effects → List Notice → Type 0
 OnlyResults x did told = (ps : List Polled) × EachPolled x ps
     × (did ≡ record { entries = polls x.at ps; events = results x.at ps; pending = [] }) × (told ≡ result_notices x.at ps)
 
--- one whose row of results failed: it was polled, and no more
+-- one whose batch of results failed: it polled, and no more
 abbrev pub NoResults : Scene → Effects → List Notice → Type 0
 NoResults x did told = (ps : List Polled) × EachPolled x ps
     × (did ≡ record { entries = polls x.at ps; events = []; pending = results x.at ps }) × (told ≡ [])
 
--- one whose row of begins failed: nothing was started
+-- one whose batch of begins failed: nothing was spawned
 abbrev pub NoBegins : Scene → Effects → List Notice → Type 0
 NoBegins x did told = (ps : List Polled) × (end : TurnEnd) × (bs : List Active) × EachPolled x ps
     × PickedAt end (behind x (results x.at ps)) bs
     × (did ≡ record { entries = polls x.at ps; events = results x.at ps; pending = begins x.at bs }) × (told ≡ result_notices x.at ps)
 
--- one whose row of refused starts failed
+-- one whose batch of refused starts failed
 abbrev pub NoRefusals : Scene → Effects → List Notice → Type 0
 NoRefusals x did told = (end : TurnEnd) × (t : Told end x)
     × (did ≡ record {

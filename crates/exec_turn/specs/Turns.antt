@@ -1,4 +1,4 @@
--- What a turn's call does, and what its steps hand on.
+-- The contracts of a turn and of its three steps.
 use Rattle.std.specs.Prelude.{◌≡◌, ◌≢◌, ℕ, ◌*◌, ◌+◌, ◌<◌, ◌≤◌, List, [], ◌++◌, length, map, Result, Ok, Err, IfOk, OnErr, is_ok, if◌then◌else◌}
 use Rattle.std.specs.List.{AllByRecursion}
 use Rattle.ocf_types.specs.Due.{Due}
@@ -23,12 +23,12 @@ use Rattle.exec_ledger.specs.Scenes.{Moves, RecordsRow, Scene, due_after_all}
 use Rattle.exec_turn.specs.declared.buffers.TurnBuffers.{TurnBuffers}
 use Rattle.exec_turn.specs.declared.picks.StartOf.{StartOf}
 
--- the agents of all that runs live, and the next run is above all that were asked to start
+-- the agent processes of all running actions live, and the next run is above all whose start was asked
 pub record ChildrenMatch (s : State) (v : ChildrenView) : Type 0 where
   pub agents_live : AgentsLive s v.live
   pub rising : v.last_run < s.next_run
 
--- The first step: polls, and the row of their results.
+-- The first step: polls, and the batch of their results.
 pub record PollsRow {D : Type 0} (look : D → View) (k l : D) (x y : Scene) (from to : ChildrenView) (told : List Notice)
     (result : Result Unit DiskFault) : Type 0 where
   pub answers : List Polled
@@ -42,15 +42,15 @@ pub record PollsRow {D : Type 0} (look : D → View) (k l : D) (x y : Scene) (fr
   pub cause : OnErr result (Increased (look k).failures (look l).failures)
   pub told_is : told ≡ (if is_ok result then result_notices x.at answers else [])
 
--- The second: what is begun, by what ended the picks, and the row of begins.
+-- The second: the actions begun, by what ended the picks, and the batch of begins.
 pub record BeginsRow {D : Type 0} (look : D → View) (k l : D) (x y : Scene) (begun : List Active) (result : Result TurnEnd DiskFault) : Type 0 where
   pub end : TurnEnd
   pub ended : IfOk result (λ told. told ≡ end)
   pub picked : PickedAt end x begun
   pub recorded : RecordsRow look k l x y (begins x.at begun) result
 
--- What has begun may be started: each runs, carries the launch of its action, and its run is above all that were asked for;
--- the agents of all else that runs live.
+-- These may be started: each runs, has the launch of its action, and its run is above all whose start was asked; the agent
+-- processes of all other running actions live.
 pub record Startable (s : State) (v : ChildrenView) (begun : List (StartOf Call)) : Type 0 where
   pub run : AllRun s (all_starting begun)
   pub launches : AllLaunch v.site s begun
@@ -59,7 +59,7 @@ pub record Startable (s : State) (v : ChildrenView) (begun : List (StartOf Call)
   pub last : v.last_run < s.next_run
   pub agents_live : AgentsLiveBut s v.live (all_starting begun)
 
--- The third: starts, and the row of results of those that were refused.
+-- The third: starts, and the batch of results of those that were refused.
 pub record StartsRow {D : Type 0} (look : D → View) (k l : D) (x y : Scene) (begun : List Active) (from to : ChildrenView)
     (was told : List Notice) (result : Result Unit DiskFault) : Type 0 where
   pub answers : List Started
@@ -70,22 +70,22 @@ pub record StartsRow {D : Type 0} (look : D → View) (k l : D) (x y : Scene) (b
   pub recorded : RecordsRow look k l x y (refusals x.at answers) result
   pub told_is : told ≡ (if is_ok result then was ++ refusal_notices x.at answers else was)
 
--- how a turn ends whose rows were recorded, or met a disk fault
+-- the end of a turn whose batches were recorded, or one of which met a disk fault
 abbrev pub end_of : Result TurnEnd DiskFault → TurnEnd
 end_of (Ok end) = end
 end_of (Err fault) = turn_end.Disk
 
--- A turn of a kind, of an open executor: from what it finds to a state, due moments and children, with its notices.
+-- A turn of a kind, of an open executor: from the view before it to a state, due moments and children, with its notices.
 pub record TurnsAs {D : Type 0} (kind : TurnKind) (look : D → View) (old new : D) (x : Scene) (t : State) (due : Due) (from to : ChildrenView)
     (told : List Notice) (end : TurnEnd) : Type 0 where
   pub effects : Effects
   pub book : to.book ≡ from.book ++ effects.entries
-  -- these are all that its children were asked, whether or not the book was emptied in between
+  -- the log of all answers ever got the same entries, whether or not the book was emptied in between
   pub log : to.log ≡ from.log ++ effects.entries
   -- the site that its children insist on stays
   pub site : to.site ≡ from.site
   pub does : kind end x effects told
-  -- what it recorded, what a crash at any moment of it leaves, and that no agent was started without its synced begin
+  -- the events that it recorded, what a crash at any moment of it leaves, and that no agent was spawned without its synced begin
   pub crash : Leaves look old new x.state t effects
   pub due_is : due ≡ due_after_all x.state x.due effects.events
   -- nothing is pending but after a disk fault, which has a cause

@@ -1,4 +1,4 @@
-//! A turn that begins nothing, step by step.
+//! A turn that begins nothing.
 ghost use Rattle.std.specs.Prelude.{◌≡◌, ◌≢◌, ◌↔◌, ◌<◌, ◌*◌, true, false, length};
 ghost use Rattle.ocf_types.specs.Answer.{moment};
 ghost use Rattle.exec_ledger.specs.Held.{due_in};
@@ -28,12 +28,12 @@ pub fn runs_any<A: Grows>(state: &State<A>) -> bool
     false
 }
 
-/// A turn over an open ledger at a moment in milliseconds since 1970 that begins nothing: every action that runs is polled, in
-/// order of registration, and killed where it runs past its timeout. What is queued stays queued, and what is due stays due.
+/// A turn over an open ledger at a moment in milliseconds since 1970 that begins nothing: every running action is polled, in
+/// order of registration, and killed where it runs past its timeout. Queued actions stay queued, and due monitors stay due.
 ///
-/// What ends is recorded before it is reported. It ends with `BookFull`, having done nothing, where the children's book takes
-/// less than two entries a resource; with `Disk` where the journal's device failed, which closes the ledger; and else with
-/// `Done`. It takes no memory.
+/// A result is recorded before it is reported. The turn ends with `BookFull`, having done nothing, where the children's book
+/// takes less than two entries a resource; with `Disk` where the journal's device failed, which closes the ledger; and else with
+/// `Done`. It allocates nothing.
 pub fn finish_turn<D: Disk + Drop, C: Children, A: Grows>(
     ledger: &mut Ledger<D, A>,
     children: &mut C,

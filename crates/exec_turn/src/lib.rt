@@ -1,6 +1,6 @@
-//! A turn over a ledger and children, in rows: what runs is polled and its results are recorded, what is picked is begun
-//! and recorded, and what has begun is started. One that begins nothing is the first of these rows alone. No step has both a loop
-//! and a device call.
+//! A turn over a ledger and agent processes, in three batches: running actions are polled and their results recorded, the begins
+//! of the picked actions are recorded, and these are spawned and refusals recorded. A turn that begins nothing is the first batch
+//! alone. No step has both a loop and a device call.
 #![tactic(auto)]
 
 mod buffers;

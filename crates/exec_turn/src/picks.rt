@@ -1,4 +1,4 @@
-//! The picks of a turn.
+//! The second batch of a turn: the actions that it begins.
 ghost use Rattle.std.specs.Prelude.{◌≡◌, ◌<◌, ◌≤◌, IfOk, IsTrue, OnErr, length, vec_len};
 ghost use Rattle.std.specs.List.{AllByRecursion};
 ghost use Rattle.std.specs.Vec.{vec_capacity};
@@ -19,7 +19,7 @@ use ocf_types::laws::lengths;
 use ocf_types::{Change, Event, EventOf, Moment, RunId, Running, StateView, Step, TurnEnd};
 use std::alloc::{AllocError, Allocator, Global};
 
-/// What is started: the launch of an action that has begun, and the action. `I` is the type of the call.
+/// An action that has begun, and its launch. `I` is the type of the call.
 #[derive(Drop)]
 pub(crate) struct StartOf<I> {
     pub(crate) launch: LaunchOf<I>,
@@ -29,7 +29,7 @@ pub(crate) struct StartOf<I> {
 /// A start whose texts lie in memory of the allocator.
 pub(crate) type Start<A = Global> = StartOf<Invocation<A>>;
 
-// The begin of an action of the resource at a place.
+// The begin of an action of the resource at an index.
 fn begin_at<A: Grows>(state: &State<A>, place: usize, running: &Running, at: Moment) -> Event<A>
     requires place { place < length state.now.state.resources }
     ensures begin { result
@@ -48,7 +48,7 @@ fn begin_at<A: Grows>(state: &State<A>, place: usize, running: &Running, at: Mom
     }
 }
 
-// The start of an action of the resource at a place: the only error is want of memory.
+// The start of an action of the resource at an index: the only error is want of memory.
 fn start_of<A: Grows, S: Allocator>(
     alloc: A,
     site: &Site<S>,
@@ -75,9 +75,9 @@ fn start_of<A: Grows, S: Allocator>(
     Ok(StartOf { launch, running })
 }
 
-/// Picks what each resource has to begin, in order of registration: the row of their begins, and what is to be started
-/// then. It ends before the first pick that finds no run number, no room in the journal, or no memory for its launch. Where
-/// it is known that nothing is to begin, no resource is asked.
+/// Picks the action that each resource has to begin, in order of registration: the batch of their begins, and their starts.
+/// Stops at the first action for which run numbers, journal space or memory have run out. Where it is known that nothing has to
+/// begin, no resource is asked.
 pub(crate) fn pick_all<D: Disk + Drop, A: Grows, S: Allocator>(
     alloc: A,
     site: &Site<S>,

@@ -1,4 +1,4 @@
-//! The polls of a turn.
+//! The first batch of a turn: polls and results.
 ghost use Rattle.std.specs.Prelude.{◌≡◌, ◌<◌, ◌≤◌, ◌+◌, ◌*◌, ◌++◌, List, Contains, length, vec_len, Result};
 ghost use Rattle.std.specs.List.{AllByRecursion};
 ghost use Rattle.std.specs.Vec.{vec_capacity};
@@ -27,7 +27,7 @@ fn is_late(running: &Running, at: Moment) -> bool
     running.since.get() + u64::from(running.timeout.get()) <= at.get()
 }
 
-// Polls one action, kills it where it runs past its timeout, and says how it ended.
+// Polls one action, and kills it where it runs past its timeout: how it ended, if it did.
 fn ask<C: Children>(children: &mut C, running: &Running, at: Moment) -> Option<RunEnd>
     requires room { 2 ≤ (C.view children.old).room }
     requires lives { Contains (C.view children.old).live running.now.run }
@@ -49,8 +49,8 @@ fn ask<C: Children>(children: &mut C, running: &Running, at: Moment) -> Option<R
     }
 }
 
-// Polls what runs in the resource at a place: its result, where it has ended, goes to the end of the row, and its notice to
-// the end of the notices.
+// Polls the running action of the resource at an index: its result, if it has ended, is appended to the batch, and its notice
+// to the notices.
 fn poll_at<C: Children, A: Grows>(
     state: &State<A>,
     place: usize,
@@ -89,8 +89,8 @@ fn poll_at<C: Children, A: Grows>(
     notices.push_reserved(notice);
 }
 
-/// Polls every action that runs, in order of registration: the row of their results, and their notices. What was killed has
-/// ended when it returns.
+/// Polls every running action, in order of registration: the batch of their results, and their notices. Every killed process
+/// has ended when it returns.
 pub(crate) fn poll_all<C: Children, A: Grows>(
     state: &State<A>,
     children: &mut C,

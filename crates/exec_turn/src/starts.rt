@@ -1,4 +1,4 @@
-//! The starts of a turn.
+//! The third batch of a turn: starts of agent processes, and results of those that were refused.
 ghost use Rattle.std.specs.Prelude.{◌≡◌, ◌<◌, ◌≤◌, ◌+◌, ◌++◌, List, Result, length, map, vec_len};
 ghost use Rattle.std.specs.List.{AllByRecursion};
 ghost use Rattle.std.specs.Vec.{vec_capacity};
@@ -21,7 +21,7 @@ use growth::Grows;
 use ocf_types::{Change, Event, EventOf, Moment, Notice, Outcome, RunEnd, Step};
 use op_history::run_notice;
 
-// Starts one of them: where that is refused, its result is in the row, and its notice among the notices.
+// Spawns one of them: if that is refused, its result is appended to the batch, and its notice to the notices.
 fn start_one<D: Disk + Drop, C: Children, A: Grows>(
     state: &State<A>,
     journal: &Journal<D, A>,
@@ -61,7 +61,7 @@ fn start_one<D: Disk + Drop, C: Children, A: Grows>(
     notices.push_reserved(notice);
 }
 
-/// Starts each of these, in order, where the journal is settled at a state in which all of them run: the row of results of
+/// Spawns each of these, in order, where the journal is settled at a state in which all of them run: the batch of results of
 /// those that were refused, and their notices.
 pub(crate) fn start_all<D: Disk + Drop, C: Children, A: Grows>(
     state: &State<A>,

@@ -1,4 +1,4 @@
--- What remains, as a list of events: begins, ends and what boots report.
+-- The order in the events that remain: begins, ends and interruptions.
 pub mod Events
 pub mod Runs
 pub mod Told

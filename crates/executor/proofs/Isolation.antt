@@ -1,4 +1,4 @@
--- One resource by itself, in changes, turns and calls of many.
+-- The machine of one resource, in changes, turns and calls of many.
 pub mod Lists
 pub mod Changes
 pub mod Requests

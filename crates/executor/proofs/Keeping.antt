@@ -1,4 +1,4 @@
--- Commands leave what runs as it is.
+-- Commands begin and end nothing that runs.
 use Rattle.std.proofs.Common.{◌≡◌, ◌<◌, ◌≤◌, Bool, true, false, ◌||◌, List, [], ◌∷◌, ◌++◌, Some, None, Option, is_some, length, nat_eq, nat_lt, Contains, refl, sym, ◌∙◌, ap, subst, arith}
 use Rattle.std.specs.List.{AllByRecursion, IsDistinct, list_any}
 use Rattle.std.proofs.lemmas.Bool.{or_parts}
@@ -15,7 +15,7 @@ use Rattle.exec_turn.specs.Turns.{ChildrenMatch}
 use Rattle.executor.specs.Reports.{ReportView}
 use Rattle.executor.specs.Sights.{Tends, sight}
 
--- where what runs is as it was, its agents still live
+-- where the running actions are as they were, their agent processes still live
 pub kept_matched : (s t : State) (v : ChildrenView) → KeepsRuns s t → ChildrenMatch s v → ChildrenMatch t v
 kept_matched s t v keeps matched =
     let next = keeps.next in
@@ -29,18 +29,18 @@ kept_matched s t v keeps matched =
       rising = omega (arith, next, low);
     }
 
--- so what is beside a ledger is kept with it
+-- so the executor's part of the invariant is kept with the ledger's
 pub kept_tends : {D : Type 0} (h k : Held D) (v : ChildrenView) (w : SiteView) (n m : List Notice) (r : ReportView)
     → KeepsRuns h.state k.state → Tends (sight h v w n r) → Tends (sight k v w m r)
 kept_tends h k v w n m r keeps tends = record { matched = kept_matched h.state k.state v keeps tends.matched; admits = tends.admits }
 
--- what is not busy runs nothing
+-- a resource that is not busy runs nothing
 quiet_runs : (q : Bool) (o : Option Running) → (q || is_some o) ≡ false → o ≡ None
 quiet_runs q None is = refl
 quiet_runs true (Some x) is = absurd (let bad : true ≡ false = is in cc)
 quiet_runs false (Some x) is = absurd (let bad : true ≡ false = is in cc)
 
--- where nothing is queued or running no agent is wanted
+-- where nothing is queued or running no agent process is needed
 nothing_in : (rs : Registry) → list_any (λ e. is_busy e.1.history) rs ≡ false → all_in rs ≡ []
 nothing_in [] quiet = refl
 nothing_in (e ∷ rs) quiet =

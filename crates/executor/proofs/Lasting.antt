@@ -1,4 +1,4 @@
--- What an opening reported, and whether growths are refused, stays whatever is called.
+-- The report of an opening, and whether growths are refused, stay whatever is called.
 use Rattle.std.proofs.Common.{◌≡◌, ℕ, Bool, true, false, List, [], ◌∷◌, Result, Ok, Err, ap, ◌∙◌}
 use Rattle.ocf_types.specs.Answer.{event_of}
 use Rattle.ocf_types.specs.Kinds.{Event, Reply, Request}

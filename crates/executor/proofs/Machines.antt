@@ -1,4 +1,4 @@
--- The machine: what an executor does, one step after the other, without its disk and its children.
+-- The machine: the calls of an executor, one step after the other, without its disk and its children.
 pub mod Calls
 pub mod Lives
 pub mod Follows

@@ -26,7 +26,7 @@ use Rattle.executor.specs.Sights.{Sight, due_in, ledger_of}
 use Rattle.executor.specs.declared.session.InputOf.TheVariants as input
 use Rattle.executor.proofs.Lasting.{call_lasts}
 
--- replies of a row that failed
+-- replies to a batch that failed
 disk_keeps : (b : Bool) (rs : List Reply) → AllByRecursion (MemoryOnlyIf b) (disk_each rs)
 disk_keeps b [] = tt
 disk_keeps b (r ∷ rs) = ((λ bad. let no : ⊥ = cc in absurd no), disk_keeps b rs)
@@ -90,7 +90,7 @@ module _ {D : Type 0} (look : D → View) where
   memory_told Cleared x y d does lacks = absurd lacks
   memory_told Abandoned x y d does lacks = absurd lacks
 
-  -- so where none is refused no call reports want of memory
+  -- so where no growth is refused no call reports want of memory
   pub memory_there : (x y : Sight D) (es : List Exchange) (d : Effects) → Calls look x es y d → x.refuses ≡ false
       → AllByRecursion (λ e. LacksMemory e → ⊥) es
   memory_there x y [] d calls none = tt

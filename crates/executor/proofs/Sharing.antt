@@ -1,4 +1,4 @@
--- What a ledger did is what its executor does.
+-- Calls of a ledger are calls of its executor.
 use Rattle.std.proofs.Common.{◌≡◌, inl, inr, ℕ, Bool, true, false, true≢false, List, [], ◌∷◌, Option, Some, None, refl, sym, ap, ◌∙◌}
 use Rattle.std.specs.Option.{option_map_or}
 use Rattle.ocf_types.specs.Answer.{reply_to}
@@ -26,7 +26,7 @@ use Rattle.executor.specs.TidyCalls.{TidiesWhile}
 use Rattle.executor.proofs.Keeping.{kept_tends}
 
 module _ {D : Type 0} (look : D → View) (now : ℕ) where
-  -- what ended open began open
+  -- a ledger that ended open began open
   pub command_open : (b : Bool) (c : Command) (r : Reply) (h k : Held D) → TakesCommand look now c h k r → k.is_open ≡ true → h.is_open ≡ b
       → h.is_open ≡ true
   command_open true c r h k takes is was = was
@@ -63,7 +63,7 @@ question_kept s q r answers = given_kept (reply_to s q) r (by q) answers
     by (question.Info id) is = said_kept (resource_at s id) _ (λ x bad. cc) is
     by (question.History id) is = said_kept (resource_at s id) _ (λ x bad. cc) is
 
--- a tidy of a ledger is one of its executor, and keeps what is beside it
+-- a tidy of a ledger is one of its executor, and leaves what is beside it
 pub tidy_taken : {D : Type 0} (look : D → View) (b : Bool) (x : Sight D) (h : Held D) (end : TidyEnd)
     → While b (LedgerTidies look (ledger_of x) h end) ((end ≡ Closed) × (h ≡ ledger_of x)) → TidiesWhile b look x (with_ledger x h) end
 tidy_taken look true x h end tidies = (tidies, still_beside x h)

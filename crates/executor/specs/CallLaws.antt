@@ -16,7 +16,7 @@ use Rattle.executor.specs.Sights.{Beside, Sight, ledger_of, sight}
 use Rattle.executor.specs.TurnCalls.{TurnsWhile}
 use Rattle.executor.specs.declared.session.InputOf.TheVariants as input
 
--- an executor whose ledger holds the same, and all that is beside it, is the same
+-- executors are the same whose ledgers are, and all that is beside them
 pub same_sight : {D : Type 0} (x y : Sight D) → ledger_of y ≡ ledger_of x → Beside x y → y ≡ x
 same_sight x y same beside =
     λ i. sight (same i) (beside.children i) (beside.site i) (beside.told i) (beside.reported i)

@@ -1,4 +1,4 @@
--- What an executor does with a request.
+-- Requests to an executor.
 use Rattle.std.specs.Prelude.{◌≡◌, ℕ, Bool}
 use Rattle.ocf_types.specs.Answer.{event_of, reply_to}
 use Rattle.ocf_types.specs.Kinds.{Reply, Request}
@@ -12,8 +12,8 @@ use Rattle.exec_ledger.specs.Held.{While}
 use Rattle.exec_ledger.specs.Replies.{MemoryOnlyIf}
 use Rattle.executor.specs.Sights.{Beside, Sight, ledger_of}
 
--- what an open executor does with a request at this moment: a question is answered from its state, of want of memory only where
--- the allocator refuses growths
+-- what an open executor does with a request at this moment: it answers a question from its state, or for want of memory, which it
+-- meets only where the allocator refuses growths; it obeys a command
 abbrev pub ServesOpen : {D : Type 0} → (D → View) → ℕ → Request → Sight D → Sight D → Reply → Type 0
 ServesOpen look now (asked.Question question) old new reply =
     IsReplyOrMemory (reply_to old.state question) reply × (new ≡ old) × MemoryOnlyIf old.refuses reply

@@ -8,7 +8,7 @@ use Rattle.exec_ledger.specs.Pieces.{Effects, no_effects}
 use Rattle.executor.specs.Sights.{Sight}
 use Rattle.executor.specs.TurnCalls.{FinishesTurn}
 
--- what it does, while the executor is open or closed: a closed one does nothing
+-- what it does with these effects, while the executor is open or closed: a closed one does nothing
 abbrev pub FinishedWhile : Bool → {D : Type 0} → (D → View) → ℕ → Sight D → Sight D → TurnEnd → Effects → Type 0
 FinishedWhile is_open look now old new end did =
     While is_open ((takes : FinishesTurn look now old new end) × (did ≡ takes.turns.effects))

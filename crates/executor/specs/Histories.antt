@@ -1,4 +1,4 @@
--- What remains of an executor's life, as an administrator asks of it: runs, calls, results and boots in a list of events.
+-- The order in a list of events that a history left: runs, calls, results and boots.
 use Rattle.std.specs.Prelude.{◌≡◌, ◌⊎◌, ℕ, ◌≤◌, ◌==◌, ◌&&◌, Bool, true, false, not, List, [], ◌∷◌, ◌++◌, map, filter, nat_eq, if◌then◌else◌, ⊤}
 use Rattle.std.specs.List.{AllByRecursion, flat_map, list_any}
 use Rattle.std.specs.Option.{option_map_or}
@@ -45,7 +45,7 @@ EndsBetween es = (before between later : List Event) (first second : Event) (id 
     → es ≡ before ++ first ∷ (between ++ second ∷ later) → first.change ≡ change.Step id (step.Begin call run)
     → second.change ≡ change.Step id (step.Begin next_call next_run) → has_end id run between ≡ true
 
--- what boots report as interrupted, each of the state before it
+-- the interruptions that boots report, each of the state before it
 abbrev pub told_by : State → ℕ → Change → List Notice
 told_by s at change.Boot = interrupted s at
 told_by s at _ = []
@@ -58,50 +58,52 @@ interruptions s (e ∷ es) = told_by s e.at e.change ++ interruptions (after s e
 abbrev pub is_of : List ℕ → ℕ → Notice → Bool
 is_of id run n = bytes_eq id n.id && (n.result.run == run)
 
--- a run that has no end before a boot is reported as interrupted by that boot, and by no other
+-- a run without an end before a boot is reported as interrupted by that boot, and by no other
 abbrev pub InterruptedOnce : State → List Event → Type 0
 InterruptedOnce s es = (before between later : List Event) (begin boot : Event) (id : List ℕ) (call run : ℕ)
     → es ≡ before ++ begin ∷ (between ++ boot ∷ later) → begin.change ≡ change.Step id (step.Begin call run)
     → boot.change ≡ change.Boot → has_end id run between ≡ false
     → (x : Running) × (x.call ≡ call) × (x.run ≡ run) × (filter (is_of id run) (interruptions s es) ≡ interruption id boot.at x ∷ [])
 
--- the calls of a resource that an event begins, queues, or gives to a monitor
+-- the calls of a resource that an event begins
 abbrev pub call_begun : List ℕ → Change → List ℕ
 call_begun id (change.Step other (step.Begin call run)) = if bytes_eq id other then call ∷ [] else []
 call_begun id _ = []
 
+-- the calls of a resource that an event queues
 abbrev pub call_queued : List ℕ → Change → List ℕ
 call_queued id (change.Step other (step.Exec o)) = if bytes_eq id other then o.call ∷ [] else []
 call_queued id _ = []
 
+-- the calls of a resource that an event gives to a monitor
 abbrev pub call_monitored : List ℕ → Change → List ℕ
 call_monitored id (change.Step other (step.Recur m)) = if bytes_eq id other then m.call ∷ [] else []
 call_monitored id _ = []
 
--- those in its queue, and those of its monitors
+-- the calls in its queue, and those of its monitors
 abbrev pub queue_at : State → List ℕ → List ℕ
 queue_at s id = option_map_or (λ r. map (λ o. o.call) r.history.queue) (resource_at s id) []
 
 abbrev pub monitors_at : State → List ℕ → List ℕ
 monitors_at s id = option_map_or (λ r. map (λ m. m.call) r.recurring) (resource_at s id) []
 
--- those of its monitors, at the start or later
+-- the calls of its monitors, at the start or later
 abbrev pub monitored : State → List ℕ → List Event → List ℕ
 monitored s id es = monitors_at s id ++ flat_map (λ e. call_monitored id e.change) es
 
--- the first is the second with some left out
+-- the first list is the second with some elements left out
 abbrev pub IsWithin : {A : Type 0} → List A → List A → Type 0
 IsWithin [] ys = ⊤
 IsWithin (x ∷ xs) [] = ⊥
 IsWithin (x ∷ xs) (y ∷ ys) = ((x ≡ y) × IsWithin xs ys) ⊎ IsWithin (x ∷ xs) ys
 
--- the actions that a resource begins, its monitors' aside, are of those that were queued, in the order of their calls
+-- the actions that a resource begins, monitors aside, are among those that were queued, in the order of their calls
 abbrev pub BeginInOrder : State → List ℕ → List Event → Type 0
 BeginInOrder s id es =
     IsWithin (filter (λ call. not (list_any (nat_eq call) (monitored s id es))) (flat_map (λ e. call_begun id e.change) es))
     (queue_at s id ++ flat_map (λ e. call_queued id e.change) es)
 
--- All that is asked of what remains.
+-- All of it: events are in order.
 pub record IsInOrder (s : State) (es : List Event) : Type 0 where
   pub runs : RunsAscend s es
   pub ends : EndsBetween es

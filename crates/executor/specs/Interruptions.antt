@@ -1,4 +1,4 @@
--- What becomes of the actions that a crashed executor left, as an opening reports it.
+-- The notices of an opening, of the actions that a crashed executor left.
 use Rattle.std.specs.Prelude.{ℕ, List, map, option_to_list}
 use Rattle.std.specs.List.{flat_map}
 use Rattle.ocf_types.specs.Notices.{drop_notice, run_notice}
@@ -8,20 +8,21 @@ use Rattle.ocf_types.specs.declared.operation.Running.{Running}
 use Rattle.ocf_types.specs.declared.outcome.Outcome.TheVariants.{Interrupted}
 use Rattle.ocf_types.specs.declared.reply.Notice.{Notice}
 
--- a resource's action that ran is interrupted
+-- a resource's running action is interrupted
 abbrev pub interruption : List ℕ → ℕ → Running → Notice
 interruption id at x = run_notice id Interrupted at x
 
 abbrev pub interrupted_in : ℕ → List ℕ × Resource → List Notice
 interrupted_in at e = map (interruption e.0 at) (option_to_list e.1.history.running)
 
+-- a resource's queued actions are dropped
 abbrev pub dropped_in : ℕ → List ℕ × Resource → List Notice
 dropped_in at e = map (drop_notice e.0 at) e.1.history.queue
 
--- what ran, by registration
+-- all running actions, by registration
 abbrev pub interrupted : State → ℕ → List Notice
 interrupted s at = flat_map (interrupted_in at) s.resources
 
--- what was queued, by registration and then by call
+-- all queued actions, by registration and then by call
 abbrev pub dropped : State → ℕ → List Notice
 dropped s at = flat_map (dropped_in at) s.resources

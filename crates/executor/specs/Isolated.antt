@@ -1,5 +1,5 @@
--- One resource by itself: a machine that knows of no other. The numbers of its calls and runs are handed in, each above all
--- that it knows.
+-- A machine of one resource, which knows of no other. The numbers of its calls and runs are handed in, each above all that it
+-- knows.
 use Rattle.std.specs.Prelude.{◌≡◌, ◌⊎◌, ℕ, ◌+◌, ◌≤◌, Bool, false, List, [], ◌∷◌, ◌++◌, map, min, length, nat_lt, nat_le, is_some, is_none, Option, Some, None, option_map, option_and_then, option_to_list, Result, Ok, Err, if◌then◌else◌}
 use Rattle.std.specs.Option.{option_map_or}
 use Rattle.ocf_types.specs.Answer.{change_of, first_of, info_of}
@@ -33,14 +33,14 @@ use Rattle.executor.specs.Lives.{Exchange, Finished, Took}
 use Rattle.executor.specs.Sights.{Sight, due_in}
 use Rattle.executor.specs.declared.session.InputOf.TheVariants as input
 
--- the resource, if it is registered, when each of its monitors is due, by call, and numbers above all that were handed in
+-- the resource, if it is registered, the due moment of each of its monitors, by call, and numbers above all that were handed in
 pub record Isolated : Type 0 where
   pub resource : Option Resource
   pub due : ℕ → Option ℕ
   pub next_call : ℕ
   pub next_run : ℕ
 
--- it as it is in an executor
+-- this machine, as an executor has the resource
 abbrev pub isolated_of : {D : Type 0} → Sight D → List ℕ → Isolated
 isolated_of x id = record { resource = resource_at x.state id; due = due_in x id; next_call = x.state.next_call; next_run = x.state.next_run }
 
@@ -60,11 +60,11 @@ isolated_sets at _ was call = None
 abbrev pub has_monitor : Option Resource → ℕ → Bool
 has_monitor resource call = option_map_or (λ r. is_some (of_call call r.recurring)) resource false
 
--- the due moments after it: of the monitors that are there then, what it sets, else what was
+-- the due moments after a change: of each monitor that is there then, the one that the change sets, else the one before
 abbrev pub isolated_due : ℕ → Change → Option Resource → (ℕ → Option ℕ) → ℕ → Option ℕ
 isolated_due at c was due call = if has_monitor (isolated_changed at c was) call then or_else (isolated_sets at c was call) (due call) else None
 
--- above the numbers that it draws
+-- numbers above those that a change draws
 abbrev pub above_call : Change → ℕ → ℕ
 above_call (change.Step id (step.Exec o)) next = o.call + 1
 above_call (change.Step id (step.Recur m)) next = m.call + 1
@@ -112,7 +112,7 @@ isolated_tests resource (command.Withdraw id call) size =
 abbrev pub isolated_event : Option Resource → Event → Command → Result Event Refusal
 isolated_event resource e c = first_of (isolated_tests resource c (length (spelled_event e))) e
 
--- what a command is answered that is this event or this refusal, and what it records
+-- the reply to a command that is this event or this refusal, and the events that it records
 abbrev pub Follows : Result Event Refusal → Reply → List Event → Type 0
 Follows (Err refusal) answer events = (answer ≡ reply.Refused refusal) × (events ≡ [])
 Follows (Ok e) answer events = (answer ≡ acknowledged e.change) × (events ≡ e ∷ [])
@@ -123,20 +123,21 @@ pub record IsolatedCommand (at : ℕ) (x : Isolated) (c : Command) (answer : Rep
   pub above : x.next_call ≤ call
   pub follows : Follows (isolated_event x.resource (record { at = at; change = change_of call c }) c) answer events
 
--- what is said of it, or that it is not registered
+-- an answer about the resource, or the refusal where it is not registered
 abbrev pub said : Option Resource → (Resource → Reply) → Reply
 said resource say = option_map_or say resource (reply.Refused UnknownResource)
 
+-- the answer to a question
 abbrev pub isolated_answer : Option Resource → Question → Reply
 isolated_answer resource (question.Info id) = said resource (λ r. reply.Info (info_of id r))
 isolated_answer resource (question.History id) = said resource (λ r. reply.History r.history.ended)
 isolated_answer resource question.List = reply.List []
 
--- what runs
+-- the running action
 abbrev pub running_in : Isolated → Option Running
 running_in x = option_and_then (λ r. r.history.running) x.resource
 
--- its own poll, of what runs, if anything runs: the entries, and the result where it ended
+-- its own poll, of the running action, if there is one: the entries, and the result if it ended
 abbrev pub IsolatedPoll : List ℕ → ℕ → Option Running → List Entry → List Event → Type 0
 IsolatedPoll id at None entries events = (entries ≡ []) × (events ≡ [])
 IsolatedPoll id at (Some running) entries events = (poll : Poll) × (kill : Result Unit KillFault) × IsPoll poll
@@ -149,7 +150,7 @@ pub record IsolatedRest (at : ℕ) (x : Isolated) (entries : List Entry) (events
   pub no_entries : entries ≡ []
   pub no_events : events ≡ []
 
--- It begins what it picks, under a run that is handed in, and starts it; a start that is refused ends it.
+-- It begins the action that it picks, under a run that is handed in, and spawns it; a refused start ends the action.
 pub record IsolatedBegin (id : List ℕ) (at : ℕ) (x : Isolated) (entries : List Entry) (events : List Event) : Type 0 where
   pub resource : Resource
   pub is : x.resource ≡ Some resource
@@ -163,7 +164,7 @@ pub record IsolatedBegin (id : List ℕ) (at : ℕ) (x : Isolated) (entries : Li
   pub begins : events ≡ record { at = at; change = change.Step id (step.Begin call run) }
       ∷ map (λ end. record { at = at; change = change.Step id (step.Result run end) }) (refused_end answer)
 
--- A turn: its poll, and then what it begins.
+-- A turn: its poll, and then its begin, if there is one.
 pub record IsolatedTurn (id : List ℕ) (at : ℕ) (x : Isolated) (answer : Reply) (entries : List Entry) (events : List Event) : Type 0 where
   pub done : answer ≡ reply.Turn Done
   pub polled : List Entry

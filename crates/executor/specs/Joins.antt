@@ -1,4 +1,4 @@
--- Sessions as calls, and where the machine of one resource is after calls.
+-- Sessions as calls, and machines of one resource that agree.
 use Rattle.std.specs.Prelude.{◌≡◌, ℕ, ◌≤◌, true, List, [], ◌∷◌}
 use Rattle.ocf_types.specs.Kinds.{Reply}
 use Rattle.executor.specs.Lives.{Exchange, Took}
@@ -10,7 +10,7 @@ abbrev pub as_calls : List Input → List Reply → List Exchange
 as_calls (i ∷ is) (r ∷ rs) = Took i r ∷ as_calls is rs
 as_calls _ _ = []
 
--- A machine is where another is: with its resource, the due moments of its monitors, and numbers that are not above.
+-- A machine agrees with another: it has its resource, the due moments of its monitors, and numbers that are not above its.
 pub record StandsAt (x y : Isolated) : Type 0 where
   pub resource : x.resource ≡ y.resource
   pub due : (call : ℕ) → has_monitor y.resource call ≡ true → x.due call ≡ y.due call

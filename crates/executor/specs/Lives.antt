@@ -1,4 +1,4 @@
--- Whole lives: an executor is opened, called, and stopped at any moment, again and again.
+-- Histories of incarnations: an executor is opened, called, and crashes at any moment, again and again.
 use Rattle.std.specs.Prelude.{◌≡◌, ◌⊎◌, ◌≤◌, ℕ, ⊤, List, [], ◌∷◌, ◌++◌, Option, Some, None, option_to_list}
 use Rattle.ocf_types.specs.Answer.{moment}
 use Rattle.ocf_types.specs.Boot.{boot_event}
@@ -27,9 +27,9 @@ use Rattle.executor.specs.Sights.{Sight}
 use Rattle.executor.specs.TidyCalls.{TidiesWhile}
 use Rattle.executor.specs.TurnCalls.{abandoned, with_empty_book}
 
--- what an executor was asked and what it answered: an input with its reply, commands in a row at one moment with their
--- replies, a turn that begins nothing at a moment with its end, or a tidy with its end; or it was asked to empty its
--- children's book, or to give up its children
+-- a call of an executor with its answer: an input with its reply, a batch of commands at one moment with their replies, a turn that
+-- begins nothing at a moment with its end, or a tidy with its end; or the call that empties the children's book, or the one that
+-- gives up the children
 pub data Exchange : Type 0 where
   Took : Input → Reply → Exchange
   Row : ℕ → List Command → List Reply → Exchange
@@ -54,9 +54,9 @@ Calls {D} look old (e ∷ es) new effects =
     (mid : Sight D) × (first : Effects) × (later : Effects) × Does look e old mid first × Calls look mid es new later
     × (effects ≡ followed_by first later)
 
--- An executor's service: the disk that its opening was handed, and when; the executor as it was opened, as the calls that
--- returned left it, and as those under way would have left it; what they did; and the moment of the disk's clock at which
--- it was stopped or closed.
+-- An incarnation whose opening was done: the disk that its opening was handed, and when; the executor as it was opened, as the calls
+-- that returned left it, and as those under way would have left it; the effects of both; and the moment of the disk's clock at
+-- which it crashed or was closed.
 pub record Service (D : Type 0) : Type 0 where
   pub disk : D
   pub now : ℕ
@@ -79,18 +79,19 @@ pub record Serves {D : Type 0} (look : D → View) (x : Service D) : Type 0 wher
   pub goes_on : Calls look x.returned begun x.last x.under_way
   pub behind : (look x.returned.disk).clock ≤ x.stop
 
--- an incarnation: an opening that was refused for a fault, or in which the crash came, from one disk to another; or a service
+-- an incarnation: an opening that was refused for a fault, or in which the crash came, from one disk to another; or one whose opening
+-- was done
 pub data Sitting (D : Type 0) : Type 0 where
   InOpening : D → D → ℕ → Option OpenError → Sitting D
   InService : Service D → Sitting D
 
--- an opening that ended so may have recorded its boot: the crash came in it, or the device failed
+-- an opening that ended so may have recorded its boot: it crashed, or the device failed
 abbrev pub MayBoot : Option OpenError → Type 0
 MayBoot None = ⊤
 MayBoot (Some Disk) = ⊤
 MayBoot (Some _) = ⊥
 
--- An opening that was refused or stopped, at this moment: what it did to the disk, and no boot but where one may be.
+-- An opening at this moment that was refused or crashed: its effect on the disk, without a boot unless one may be recorded.
 pub record EndsOpening (old new : View) (now : ℕ) (end : Option OpenError) : Type 0 where
   pub did : OpensDisk old new now
   pub unbooted : (MayBoot end → ⊥) → CrashesTo old new (OpensLike old)
@@ -104,30 +105,30 @@ abbrev pub last_disk : {D : Type 0} → Sitting D → D
 last_disk (InOpening old new now end) = new
 last_disk (InService x) = x.last.disk
 
--- what was done in it
+-- the calls of an incarnation
 abbrev pub Sat : {D : Type 0} → (D → View) → Sitting D → Type 0
 Sat look (InOpening old new now end) = EndsOpening (look old) (look new) now end
 Sat look (InService x) = Serves look x
 
--- what its crash may have left
+-- the images that its crash may have left
 abbrev pub StopLeaves : {D : Type 0} → (D → View) → Sitting D → Image → Type 0
 StopLeaves look (InOpening old new now end) c = (look new).since (look old).clock c
 StopLeaves look (InService x) c = (look x.last.disk).since x.stop c
 
--- a life can begin on this pair: it is found as this state, and has room for its boot
+-- a history may begin on this pair: it is found as this state, and has capacity for its boot
 abbrev pub BeginsAs : State → Image → Type 0
 BeginsAs start c = FoundAs start c × Roomy c
 
--- What a life that begins with this state leaves, the last incarnation first.
+-- The images that a history may leave that begins with this state, the last incarnation first.
 abbrev pub LifeLeaves : {D : Type 0} → (D → View) → State → List (Sitting D) → Image → Type 0
 LifeLeaves look start [] c = BeginsAs start c
 LifeLeaves look start (x ∷ older) c = StopLeaves look x c
 
--- this disk holds nothing but what a life left
+-- each image of this disk is one that a history may leave
 abbrev pub GoesOnFrom : {D : Type 0} → (D → View) → State → List (Sitting D) → D → Type 0
 GoesOnFrom look start older disk = (c : Image) → (look disk).now c → LifeLeaves look start older c
 
--- A life, the last incarnation first: each begins with nothing but what the one before left, on a disk that is honest throughout.
+-- A history, the last incarnation first: each begins on a disk that the one before may have left, and its disk is honest throughout.
 abbrev pub IsLife : {D : Type 0} → (D → View) → State → List (Sitting D) → Type 0
 IsLife look start [] = ⊤
 IsLife look start (x ∷ older) =
@@ -137,8 +138,8 @@ IsLife look start (x ∷ older) =
 abbrev pub boots : State → ℕ → List Event
 boots s now = option_to_list (boot_event s (moment s now))
 
--- What remains of what a service did after its crash: a prefix of its events that holds all that the returned calls
--- recorded, and the begin of each start that was asked before the crash.
+-- The events of an incarnation that remain after its crash: a prefix of them that has all events that the returned calls recorded,
+-- and the begin of each start that was asked before the crash.
 pub record Stands {D : Type 0} (x : Service D) (p : List Event) : Type 0 where
   pub others : List Event
   pub front : p ++ others ≡ (followed_by x.done x.under_way).events ++ (followed_by x.done x.under_way).pending
@@ -146,8 +147,8 @@ pub record Stands {D : Type 0} (x : Service D) (p : List Event) : Type 0 where
   pub acknowledged : p ≡ x.done.events ++ later
   pub begins : (run clock : ℕ) → Asked (followed_by x.done x.under_way).entries run clock → clock ≤ x.stop → HasBegin run p
 
--- The events of a life that remain, from the state with which it began: of each incarnation its boot, which remains once
--- the opening was done and may remain where it crashed or its device failed, and that much of what its calls did.
+-- The events of a history that remain, from the state with which it began: of each incarnation its boot, which remains once the
+-- opening was done and may remain where it crashed or its device failed, and that prefix of the events of its calls.
 abbrev pub Lived : {D : Type 0} → State → List (Sitting D) → List Event → Type 0
 Lived start [] zs = zs ≡ []
 Lived {D} start (InOpening old new now end ∷ older) zs =
@@ -155,8 +156,8 @@ Lived {D} start (InOpening old new now end ∷ older) zs =
 Lived {D} start (InService x ∷ older) zs =
     (ys : List Event) × (p : List Event) × Lived start older ys × Stands x p × (zs ≡ ys ++ (boots (after_all start ys) x.now ++ p))
 
--- An opening after a life gives this state and this report: what remains of the life, after its boot; what ran in it is
--- reported as interrupted, what was queued as dropped.
+-- An opening after a history gives this state and this report: the state after the events that remain and the boot; the actions that
+-- ran there are reported as interrupted, those that were queued as dropped.
 pub record OpensBehind {D : Type 0} (start : State) (life : List (Sitting D)) (now : ℕ) (t : State) (was_running was_queued : List Notice) : Type 0 where
   pub stands : List Event
   pub lived : Lived start life stands

@@ -1,5 +1,5 @@
--- The machine of an executor, a labelled transition system: each call is a step, whose label says what was asked and answered, the
--- answers of agent processes in it, and the notices of a turn. It knows no disk and no journal. `Runs` says what crashes and openings do.
+-- The machine of an executor, a labelled transition system: each call is a step, whose label has the call with its answer, the answers
+-- of agent processes in it, and the notices of a turn. It knows no disk and no journal. `Runs` adds crashes and openings.
 use Rattle.std.specs.Prelude.{◌≡◌, ◌≢◌, ◌⊎◌, ◌↔◌, ◌*◌, ◌<◌, ℕ, Bool, true, false, List, [], ◌∷◌, length, Ok, Contains, IsTrue, ⊤}
 use Rattle.ocf_types.specs.Answer.{event_of, moment, reply_to}
 use Rattle.ocf_types.specs.Due.{Due}
@@ -35,9 +35,9 @@ pub record Machine : Type 0 where
   pub due : Due
   pub refuses : Bool
 
--- The label of a step: what was asked and answered; the starts, polls and kills of agent processes in it, each with its answer; the
--- notices of a turn; and what the machine does not keep itself: how many answers the book of agent processes took before the step, where
--- the journal's next record went then, and how many calls the device had failed before the step and after it.
+-- The label of a step: the call with its answer; the starts, polls and kills of agent processes in it, each with its answer; the
+-- notices of a turn; and what the machine does not keep itself: how many answers the book of agent processes took before the step, the
+-- position of the journal's next record then, and how many calls the device had failed before the step and after it.
 pub record Label : Type 0 where
   pub exchange : Exchange
   pub answers : List Entry
@@ -46,28 +46,29 @@ pub record Label : Type 0 where
   pub place : Place
   pub faults : ℕ × ℕ
 
--- What a machine leaves open is here, each with the condition under which a call may say so.
+-- The choices that the machine leaves open, each with the condition under which a call may make it.
 --
--- Memory. A question or a registration may be refused for want of it (`IsReplyOrMemory`, `Adds`), and a turn that says so begins fewer of
--- the actions that come next, the first of them (`PickedAt`): a call that tells of it, which it may only where the allocator refuses growths.
+-- Memory. A question or a registration may be refused for memory (`IsReplyOrMemory`, `Adds`), and a turn that ends for memory begins only
+-- the first of the actions that come next (`PickedAt`): a call that reports want of memory, only where the allocator refuses growths.
 abbrev pub LacksMemory : Exchange → Type 0
 LacksMemory (Took (input.Request now request) reply) = reply ≡ Refused Memory
 LacksMemory (Took (input.Turn now) reply) = reply ≡ Turn turn_end.Memory
 LacksMemory (Row now commands replies) = Contains replies (Refused Memory)
 LacksMemory _ = ⊥
 
+-- a call reports it only where the allocator refuses growths
 abbrev pub LacksOnlyIf : Exchange → Machine → Type 0
 LacksOnlyIf e m = LacksMemory e → IsTrue m.refuses
 
--- The journal's room. A command by itself may be refused for it only where its event does not fit.
+-- The journal's capacity. A command by itself may be refused for it only where its event does not fit.
 abbrev pub LacksRoom : Label → Event → Type 0
 LacksRoom l e = IsTooLong l.place.tail (e ∷ [])
 
--- The book's room. A turn does nothing exactly where the book takes fewer answers than this many for each resource.
+-- The book's capacity. A turn does nothing exactly where the book takes fewer answers than this many for each resource.
 abbrev pub LacksBook : Label → ℕ → Machine → Type 0
 LacksBook l each m = l.room < each * length m.state.resources
 
--- The device. Where it failed a call the machine may be closed, and these events are pending: recorded, or not.
+-- The device. Where it failed a call the machine may close, with these events pending: recorded, or not.
 abbrev pub Closes : List Event → Machine → Effects → Type 0
 Closes es n did = (n.is_open ≡ false) × (did ≡ row_effects false es)
 
@@ -77,10 +78,11 @@ HasFailed l = Increased l.faults.0 l.faults.1
 abbrev pub Fails : Label → List Event → Machine → Effects → Type 0
 Fails l es n did = HasFailed l × Closes es n did
 
--- the machine after events, which are recorded
+-- the machine after recorded events
 abbrev pub after_events : Machine → List Event → Machine
 after_events m es = record m { state = after_all m.state es; due = due_after_all m.state m.due es }
 
+-- it goes on by these events, which are recorded
 abbrev pub GoesOn : List Event → Machine → Machine → Effects → Type 0
 GoesOn es m n did = (n ≡ after_events m es) × (did ≡ row_effects true es)
 
@@ -89,18 +91,18 @@ abbrev pub TakesAll : Label → ℕ → List Command → List Reply → Machine 
 TakesAll l now cs rs m n did = (meant : List Reply) × (es : List Event) × Answered now m.state cs meant es
     × (((rs ≡ meant) × GoesOn es m n did) ⊎ ((es ≢ []) × (rs ≡ failed meant) × Fails l es n did))
 
--- one command, for whose event the journal may have no room
+-- one command, whose event the journal may have no capacity for
 abbrev pub TakesOne : Label → ℕ → Command → Reply → Machine → Machine → Effects → Type 0
 TakesOne l now c r m n did = TakesAll l now (c ∷ []) (r ∷ []) m n did
     ⊎ ((e : Event) × (event_of m.state now c ≡ Ok e) × (r ≡ Refused JournalFull) × LacksRoom l e × GoesOn [] m n did)
 
 -- A turn of a kind at a moment, for which the book has to take this many answers for each resource.
 pub record MovesTurn (kind : TurnKind) (each : ℕ) (end : TurnEnd) (at : ℕ) (l : Label) (m n : Machine) (did : Effects) : Type 0 where
-  -- what agent processes answered makes its events and its notices
+  -- the answers of agent processes make its events and its notices
   pub turns : kind end (scene m.state m.due l.place at m.refuses) did l.notices
   pub answers : l.answers ≡ did.entries
   pub goes_on : n ≡ record (after_events m did.events) { is_open = n.is_open }
-  -- nothing is done exactly when the book lacks room, and a fault of the disk closes the machine, and nothing else
+  -- nothing is done exactly when the book lacks capacity, and a disk fault alone closes the machine
   pub full : (end ≡ turn_end.BookFull) ↔ LacksBook l each m
   pub closes : (n.is_open ≡ false) ↔ (end ≡ turn_end.Disk)
   pub cause : end ≡ turn_end.Disk → HasFailed l
@@ -112,11 +114,11 @@ TidyEnds tidy.EpochSpent l m n did = (l.place.epoch ≡ last_epoch) × GoesOn []
 TidyEnds tidy.Disk l m n did = Fails l [] n did
 TidyEnds tidy.Closed l m n did = ⊥
 
--- a call that is no turn asks no agent process, and has no notice
+-- a call that is not a turn asks no agent process, and has no notice
 abbrev pub IsQuiet : Label → Type 0
 IsQuiet l = (l.answers ≡ []) × (l.notices ≡ [])
 
--- what a call does: of an open machine, and of a closed one
+-- a call of an open machine
 abbrev pub MovesOpen : Exchange → Label → Machine → Machine → Effects → Type 0
 MovesOpen (Took (input.Request now (asked.Question q)) reply) l m n did =
     IsQuiet l × IsReplyOrMemory (reply_to m.state q) reply × GoesOn [] m n did
@@ -129,6 +131,7 @@ MovesOpen (Tidied end) l m n did = IsQuiet l × TidyEnds end l m n did
 MovesOpen Cleared l m n did = IsQuiet l × GoesOn [] m n did
 MovesOpen Abandoned l m n did = IsQuiet l × Closes [] n did
 
+-- the answers of a closed one
 abbrev pub AnswersClosed : Exchange → Type 0
 AnswersClosed (Took i reply) = reply ≡ closed_reply i
 AnswersClosed (Row now commands replies) = ⊥
@@ -136,7 +139,7 @@ AnswersClosed (Finished now end) = end ≡ turn_end.Closed
 AnswersClosed (Tidied end) = end ≡ tidy.Closed
 AnswersClosed _ = ⊤
 
--- the same while it is open or closed
+-- a call of a machine, open or closed
 abbrev pub MovesWhile : Bool → Label → Machine → Machine → Effects → Type 0
 MovesWhile is_open l m n did =
     While is_open (MovesOpen l.exchange l m n did × LacksOnlyIf l.exchange m) (IsQuiet l × AnswersClosed l.exchange × Closes [] n did)

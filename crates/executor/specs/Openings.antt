@@ -1,4 +1,4 @@
--- What an opening makes of what it finds, and what it leaves.
+-- Openings: the state, the report, and the effect on the disk.
 use Rattle.std.specs.Prelude.{◌≡◌, ◌⊎◌, ℕ, ◌<◌, true, false, List, [], ◌≤◌}
 use Rattle.ocf_types.specs.Answer.{moment}
 use Rattle.ocf_types.specs.Boot.{any_busy}
@@ -24,8 +24,8 @@ use Rattle.executor.specs.Interruptions.{dropped, interrupted}
 use Rattle.exec_ledger.specs.Boots.{BootsFrom, LacksBoot, booted}
 use Rattle.executor.specs.Sights.{IsSound, Sight, due_in}
 
--- An opening at this moment of what is found on these parts: the state after its boot, all recurring monitors due at that
--- moment, and the notices of what ran and of what was queued.
+-- An opening at this moment of the state found on these parts: the state after its boot, all recurring monitors due at that moment,
+-- and the notices of the actions that ran and of those that were queued.
 pub record Starts (c : Image) (now : ℕ) (t : State) (due : Due) (was_running was_queued : List Notice) : Type 0 where
   pub state : State
   pub found : FoundAs state c
@@ -34,11 +34,11 @@ pub record Starts (c : Image) (now : ℕ) (t : State) (due : Due) (was_running w
   pub ran : was_running ≡ interrupted state (moment state now)
   pub queued : was_queued ≡ dropped state (moment state now)
 
--- a crash might have left the pair before the opening, or it is found as the parts read at its start, or as the boot of that
+-- a pair that a crash might have left before the opening, or one that is found as the parts read at its start, or as the boot of that
 abbrev pub StartsLike : View → ℕ → Image → Type 0
 StartsLike old now c = OpensLike old c ⊎ ((s : State) × FoundAs s old.reads × BootsFrom s now c)
 
--- on these parts something is queued or running, and after the last record is too little room for a boot
+-- on these parts something is queued or running, and a boot does not fit after the last record
 pub record LacksRoom (c : Image) : Type 0 where
   pub place : Place
   pub state : State
@@ -49,24 +49,24 @@ pub record LacksRoom (c : Image) : Type 0 where
 abbrev pub IsQuiet : Image → Type 0
 IsQuiet c = (IsToWrite c → ⊥) × ((s : State) → FoundAs s c → any_busy s ≡ false)
 
--- What an opening does to the disk, done or failed.
+-- The effect of an opening on the disk, done or failed.
 pub record OpensDisk (old new : View) (now : ℕ) : Type 0 where
-  -- at any moment a crash leaves what it might have left before, what is found as the parts read, or the boot of that
+  -- at any moment a crash leaves a pair that it might have left before, one that is found as the parts read, or the boot of that
   pub crash : CrashesTo old new (StartsLike old now)
-  -- where all that a crash might have left before has room for its boot, all that it leaves has
+  -- where each pair that a crash might have left before has capacity for its boot, each that it leaves has
   pub roomy : (old.honest → AllRoomy old) → CrashesTo old new Roomy
   -- nothing is written on a journal of the second layout in which nothing is queued or running, nor on a damaged pair
   pub unwritten : (old.honest → IsQuiet old.reads) → Unwritten old new
 
--- an executor over these children, once they were given up: none of them was started for a later state than its own
+-- an executor over these children, after they were given up: none of them was started for a later state than its own
 pub record IsOver {D : Type 0} (from : ChildrenView) (x : Sight D) : Type 0 where
   pub is_open : x.is_open ≡ true
   pub children : x.children ≡ given_up from
   pub told : x.told ≡ []
   pub rising : from.last_run < x.state.next_run
 
--- an opened journal at this state got no executor: its children are another journal's, or there is no memory for the room
--- of a turn
+-- an opened journal at this state got no executor: its children are another journal's, or there is no memory for the buffers of a
+-- turn
 pub record IsUnready (from to : ChildrenView) (s : State) (fault : OpenError) : Type 0 where
   pub either : (fault ≡ why.Foreign) ⊎ (fault ≡ why.Memory)
   pub foreign : fault ≡ why.Foreign → (to ≡ from) × (s.next_run ≤ from.last_run)
@@ -80,10 +80,10 @@ pub record Opened {D : Type 0} (look : D → View) (old : View) (from : Children
   pub starts : (look x.disk).honest → Starts old.reads now x.state (due_in x) was_running was_queued
   pub reported : x.reported ≡ record { interrupted = was_running; dropped = was_queued }
   pub did : OpensDisk old (look x.disk) now
-  -- the boot had room
+  -- the boot fitted
   pub fits : (look x.disk).honest → LacksRoom old.reads → ⊥
 
--- the children were started for another journal: the last run is not below the next one of what is found
+-- the children were started for another journal: the last run is not below the next one of the state that is found
 pub record IsForeign (c : Image) (from : ChildrenView) : Type 0 where
   pub state : State
   pub found : FoundAs state c
@@ -105,21 +105,21 @@ pub record NotOpened (old new : View) (from to : ChildrenView) (now : ℕ) (faul
   pub spared : new.honest → IsForeign old.reads from → to ≡ from
   -- they were given up where a boot did not fit
   pub full_given_up : fault ≡ why.Full → to ≡ given_up from
-  -- they are as they were, and no boot was recorded, or they were given up as those of the journal that is found
+  -- they are as they were and no boot was recorded, or they were given up as those of the journal that is found
   pub kept_unbooted :
       ((to ≡ from) × CrashesTo old new (OpensLike old)) ⊎ ((to ≡ given_up from) × (new.honest → IsOwn old.reads from))
-  -- damage is what was found, and a disk fault has a cause
+  -- damage is reported as it was found, and a disk fault has a cause
   pub damaged : new.honest → (d : Damage) → fault ≡ why.Damaged d → HasDamage old.reads d
   pub cause : fault ≡ why.Disk → Increased old.failures new.failures
-  -- full where a boot is needed and does not fit, and the children are this journal's: never where all that a crash might
-  -- have left before has room
+  -- full where a boot is needed and does not fit, and the children are this journal's: never where each pair that a crash might have
+  -- left before has capacity for its boot
   pub full : new.honest → fault ≡ why.Full → LacksRoom old.reads
   pub not_foreign : new.honest → fault ≡ why.Full → IsForeign old.reads from → ⊥
   pub never_full : (old.honest → AllRoomy old) → new.honest → fault ≡ why.Full → ⊥
   -- a boot may be recorded only where the device failed, and not before foreign children are refused
   pub unbooted : (fault ≡ why.Disk → ⊥) → CrashesTo old new (OpensLike old)
   pub foreign_unbooted : (new.honest → IsForeign old.reads from) → CrashesTo old new (OpensLike old)
-  -- else nothing is written except where a journal is made, or one of the first layout is migrated
+  -- otherwise nothing is written except where a journal is made, or one of the first layout is migrated
   pub unwritten : (fault ≡ why.Disk → ⊥) → (old.honest → IsToWrite old.reads → ⊥) → Unwritten old new
 
 -- why the journal was not opened, as the executor reports it

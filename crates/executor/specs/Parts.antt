@@ -1,4 +1,4 @@
--- Each resource's part of calls.
+-- The part of calls that concerns one resource.
 use Rattle.std.specs.Prelude.{◌≡◌, ℕ, ◌<◌, ◌≤◌, Bool, true, false, List, [], ◌∷◌, ◌++◌, filter, nat_eq, if◌then◌else◌, ⊤}
 use Rattle.std.specs.List.{AllByRecursion, IsDistinct, flat_map, list_any}
 use Rattle.std.specs.Option.{option_map_or}
@@ -20,7 +20,7 @@ use Rattle.executor.specs.Lives.{Exchange, Finished, Row, Took}
 use Rattle.executor.specs.Isolated.{cut}
 use Rattle.executor.specs.declared.session.InputOf.TheVariants as input
 
--- the id that a command, and a request, is about; a list is about no resource alone
+-- the id that a command is about
 abbrev pub commanded : Command → List ℕ
 commanded (command.Register r) = r.id
 commanded (command.Unregister id) = id
@@ -31,14 +31,15 @@ commanded (command.Cancel id interval) = id
 commanded (command.Forget id) = id
 commanded (command.Withdraw id call) = id
 
+-- a request is about this id; a list is about no resource alone
 abbrev pub is_about : List ℕ → Request → Bool
 is_about id (asked.Command c) = bytes_eq id (commanded c)
 is_about id (asked.Question question.List) = false
 is_about id (asked.Question (question.Info other)) = bytes_eq id other
 is_about id (asked.Question (question.History other)) = bytes_eq id other
 
--- a call concerns a resource: a request that is about it, and each turn of either kind. A tidy concerns none, and neither does what
--- becomes of the children's book, or that the executor gives its children up.
+-- a call concerns a resource: a request that is about it, and each turn of either kind. A tidy concerns none, and neither do the calls
+-- that empty the children's book or give up the children.
 abbrev pub concerns : List ℕ → Exchange → Bool
 concerns id (Took (input.Request now request) reply) = is_about id request
 concerns id (Took (input.Turn now) reply) = true
@@ -50,11 +51,12 @@ abbrev pub one_by_one : ℕ → List Command → List Reply → List Exchange
 one_by_one now (c ∷ cs) (r ∷ rs) = Took (input.Request now (asked.Command c)) r ∷ one_by_one now cs rs
 one_by_one now _ _ = []
 
+-- a batch as these calls, and any other call as it is
 abbrev pub unrolled : Exchange → List Exchange
 unrolled (Row now commands replies) = one_by_one now commands replies
 unrolled e = e ∷ []
 
--- a resource's part of a call, and of calls: of commands in a row those that concern it
+-- a resource's part of a call, and of calls: of a batch of commands those that concern it
 abbrev pub part_of : List ℕ → Exchange → List Exchange
 part_of id e = filter (concerns id) (unrolled e)
 
@@ -65,7 +67,7 @@ part id es = flat_map (part_of id) es
 abbrev pub events_of : List ℕ → List Event → List Event
 events_of id es = filter (λ e. option_map_or (bytes_eq id) (named e.change) false) es
 
--- its runs: of what runs, and of what these events begin
+-- its runs: of its running action, and of those that these events begin
 abbrev pub run_begun : List ℕ → Change → List ℕ
 run_begun id (change.Step other (step.Begin call run)) = if bytes_eq id other then run ∷ [] else []
 run_begun id _ = []
@@ -77,7 +79,7 @@ own_runs id s es = runs_of (filter (λ a. bytes_eq id a.id) (active s)) ++ flat_
 abbrev pub entries_of_runs : List ℕ → List Entry → List Entry
 entries_of_runs runs entries = filter (λ e. list_any (nat_eq e.run) runs) entries
 
--- the moment of a call, after this one: that which is handed in, where one is
+-- the moment of a call after this one: the one that is handed in, where one is
 abbrev pub moment_in : ℕ → Exchange → ℕ
 moment_in from (Took (input.Request now request) reply) = cut now
 moment_in from (Took (input.Turn now) reply) = cut now
@@ -85,12 +87,12 @@ moment_in from (Row now commands replies) = cut now
 moment_in from (Finished now end) = cut now
 moment_in from _ = from
 
--- moments that do not go back, from this one on
+-- moments do not go back, from this one on
 abbrev pub AreRising : ℕ → List Exchange → Type 0
 AreRising from [] = ⊤
 AreRising from (e ∷ es) = (from ≤ moment_in from e) × AreRising (moment_in from e) es
 
--- a reply for no want that resources share, of room, numbers, memory or the disk; a turn ended done
+-- a reply that reports no shortage that resources share, of capacity, numbers, memory or the disk; a turn ended done
 abbrev pub IsPlain : Reply → Type 0
 IsPlain (reply.Refused TooManyResources) = ⊥
 IsPlain (reply.Refused CallsSpent) = ⊥
@@ -107,7 +109,7 @@ IsAnswered (Took i reply) = IsPlain reply
 IsAnswered (Finished now end) = end ≡ Done
 IsAnswered _ = ⊤
 
--- in a state ids differ, and what runs differs in its runs, which are below the next one
+-- in a state ids differ, and running actions differ in their runs, which are below the next one
 pub record DistinctKeys (s : State) : Type 0 where
   pub ids : IsDistinct bytes_eq (keys_of s.resources)
   pub runs : IsDistinct nat_eq (runs_of (active s))

@@ -1,4 +1,4 @@
--- What is promised of a history of incarnations and of the events that it left.
+-- The promise: a history of incarnations, and the events that it left.
 use Rattle.std.specs.Prelude.{◌≡◌, ◌⊎◌, ℕ, List, [], ◌∷◌, ◌++◌, map, Ok, if◌then◌else◌, ⊤}
 use Rattle.std.specs.List.{flat_map}
 use Rattle.ocf_types.specs.Answer.{event_of}
@@ -19,12 +19,13 @@ use Rattle.executor.specs.Runs.{HasBegins, Opening, Seen, Serving}
 use Rattle.executor.specs.SeenLives.{reports}
 use Rattle.executor.specs.declared.session.InputOf.TheVariants as input
 
--- what an answer says is recorded: a command that was asked at a moment and got this acknowledgement, or the result of a notice
+-- a claim of an answer that something is recorded: a command that was asked at a moment and got this acknowledgement, or the result of a
+-- notice
 pub data Claim : Type 0 where
   Acknowledged : ℕ → Command → Reply → Claim
   Ended : Notice → Claim
 
--- of commands at one moment, each that was not refused
+-- the acknowledgements of commands at one moment, of those that were not refused
 abbrev pub acknowledgements : ℕ → List Command → List Reply → List Claim
 acknowledgements now (c ∷ cs) (r ∷ rs) =
     (if is_kept r then Acknowledged now c r ∷ [] else []) ++ acknowledgements now cs rs
@@ -35,7 +36,7 @@ acknowledged_in (Took (input.Request now (asked.Command c)) reply) = acknowledge
 acknowledged_in (Row now commands replies) = acknowledgements now commands replies
 acknowledged_in _ = []
 
--- the claims of a step, and of all calls that returned, the first one's first
+-- the claims of a step, and of all calls that returned, in their order
 abbrev pub claims_of : Label → List Claim
 claims_of l = acknowledged_in l.exchange ++ map Ended l.notices
 
@@ -50,12 +51,12 @@ pub record IsOfResult (n : Notice) (e : Event) : Type 0 where
   pub is : e ≡ record { at = n.result.at; change = change.Step n.id (step.Result n.result.run end) }
   pub ended : n.result.outcome ≡ Run end
 
--- a claim says that this event is recorded: the one that its own command is at this state, or its result
+-- the event of a claim: the event that its own command is in this state, or its result
 abbrev pub IsClaimed : State → Claim → Event → Type 0
 IsClaimed s (Acknowledged now c reply) e = (event_of s now c ≡ Ok e) × (reply ≡ acknowledged e.change)
 IsClaimed s (Ended notice) e = IsOfResult notice e
 
--- each claim is of one of these events, at the state that those before it lead to: each of another, in their order
+-- each claim has one of these events, in the state that those before it lead to: each another one, in their order
 abbrev pub AllRecorded : State → List Claim → List Event → Type 0
 AllRecorded s [] es = ⊤
 AllRecorded s (c ∷ cs) [] = ⊥
@@ -67,13 +68,13 @@ AllBegun [] zs = ⊤
 AllBegun (Opening now end ∷ older) zs = AllBegun older zs
 AllBegun (Serving x ∷ older) zs = AllBegun older zs × HasBegins x zs
 
--- What holds of the events that a behaviour of the machine from a state on has left.
+-- The promise, of the events that a behaviour of the machine from a state on has left.
 pub record IsKept (start : State) (xs : List Seen) (zs : List Event) : Type 0 where
-  -- each acknowledgement has the event of its own command, and each notice its result
+  -- each acknowledgement has the event of its own command, and each notice has its result
   pub recorded : AllRecorded start (claimed xs) zs
   -- each start of an agent has its begin
   pub begun : AllBegun xs zs
-  -- openings report as interrupted what boots do, each at most once and in their order
+  -- openings report as interrupted what boots interrupt, each at most once and in their order
   pub reported : IsWithin (reports xs) (interruptions start zs)
-  -- and all are in order
+  -- the events are in order
   pub order : IsInOrder start zs

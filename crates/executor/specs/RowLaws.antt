@@ -1,4 +1,4 @@
--- Commands that arrived together, as calls: lemmas for proofs here and in the crates above.
+-- Lemmas: commands that arrived together are calls, for proofs here and in the crates above.
 use Rattle.std.specs.Prelude.{◌≡◌, ℕ, Bool, true, false, List, [], ◌∷◌, ◌++◌, map}
 use Rattle.std.specs.List.{AllByRecursion, flat_map}
 use Rattle.std.proofs.Common.{true≢false, refl, sym, ap, subst, ◌∙◌}
@@ -26,7 +26,7 @@ with_ledger x h = sight h x.children x.site x.told x.reported
 pub still_beside : {D : Type 0} (x : Sight D) (h : Held D) → Beside x (with_ledger x h)
 still_beside x h = record { children = refl; site = refl; told = refl; reported = refl }
 
--- a share as an exchange
+-- a single command or a batch as a call
 abbrev exchange_of : ℕ → Share → Exchange
 exchange_of now (Single c r) = Took (input.Request now (asked.Command c)) r
 exchange_of now (SharedRow cs rs) = Row now cs rs

@@ -1,4 +1,4 @@
--- Commands that arrived together.
+-- Group commit: commands that arrived together.
 use Rattle.std.specs.Prelude.{◌≡◌, ℕ, List, [], ◌∷◌}
 use Rattle.std.specs.List.{AllByRecursion, flat_map}
 use Rattle.ocf_types.specs.Kinds.{Command, Reply}
@@ -10,12 +10,12 @@ use Rattle.exec_ledger.specs.Shares.{TakesCommands as LedgerTakesCommands}
 use Rattle.executor.specs.Sights.{Beside, Sight, ledger_of}
 use Rattle.executor.specs.declared.session.InputOf.TheVariants as input
 
--- An executor takes commands one after the other at this moment, none left out, each with one reply: those that are in a
--- row have one record.
+-- An executor takes commands one after the other at this moment, none left out, each with one reply: those of a batch have one
+-- record.
 abbrev pub TakesCommands : {D : Type 0} → (D → View) → ℕ → List Command → Sight D → Sight D → List Reply → Type 0
 TakesCommands look now commands old new given = LedgerTakesCommands look now commands (ledger_of old) (ledger_of new) given × Beside old new
 
--- the commands of an exchange, and what they were replied
+-- the commands of a call, and the replies to them
 abbrev pub commands_of : Exchange → List Command
 commands_of (Took (input.Request now (asked.Command c)) reply) = c ∷ []
 commands_of (Row now commands replies) = commands
@@ -26,13 +26,13 @@ replies_of (Took i reply) = reply ∷ []
 replies_of (Row now commands replies) = replies
 replies_of _ = []
 
--- it is a command, or a row of commands, at this moment
+-- the call is a command, or a batch of commands, at this moment
 abbrev pub IsAt : ℕ → Exchange → Type 0
 IsAt now (Took (input.Request at (asked.Command c)) reply) = at ≡ now
 IsAt now (Row at commands replies) = at ≡ now
 IsAt now _ = ⊥
 
--- The same as calls: a command by itself, or commands in a row, one after the other.
+-- The same as calls, one after the other: each a command by itself, or a batch.
 pub record CallsCommands {D : Type 0} (look : D → View) (now : ℕ) (commands : List Command) (old new : Sight D) (given : List Reply) : Type 0 where
   pub exchanges : List Exchange
   pub effects : Effects

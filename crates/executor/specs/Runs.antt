@@ -15,8 +15,8 @@ use Rattle.executor.specs.Machine.{Label, Machine, MovesAll}
 use Rattle.executor.specs.Interruptions.{dropped, interrupted}
 use Rattle.executor.specs.declared.opening.OpenError.{OpenError}
 
--- a service as it is seen: its moment, what its opening reported as interrupted and as dropped, the calls that returned, those under way
--- at the crash, how many device calls the disk had had then, and whether its allocator refuses growths
+-- the observations of an incarnation whose opening was done: its moment, the interruptions and drops that its opening reported, the calls
+-- that returned, those under way at the crash, how many device calls the disk had had then, and whether its allocator refuses growths
 pub record SeenService : Type 0 where
   pub now : ℕ
   pub ran : List Notice
@@ -26,22 +26,22 @@ pub record SeenService : Type 0 where
   pub stop : ℕ
   pub refuses : Bool
 
--- an incarnation as it is seen: an opening that was refused, or in which the crash came, at a moment; or a service
+-- the observations of an incarnation: an opening at a moment that was refused, or in which the crash came; or one that was done
 pub data Seen : Type 0 where
   Opening : ℕ → Option OpenError → Seen
   Serving : SeenService → Seen
 
--- the machine as it is opened on a state: what ran or was queued has ended, and all monitors are due
+-- the machine as it is opened on a state: after the boot, and all monitors are due
 abbrev pub opened_on : State → ℕ → Bool → Machine
 opened_on s now refuses =
     record { is_open = true; state = booted s now; due = due_at (booted s now) (moment s now); refuses = refuses }
 
--- so much of what calls left remains after a crash: all that was recorded when they returned, and a prefix of the rest
+-- the events of calls that remain after a crash: all that were recorded when a call returned, and a prefix of the others
 abbrev pub StandsOf : Effects → Effects → List Event → Type 0
 StandsOf returned under_way p = (later : List Event) × (others : List Event) × (p ≡ returned.events ++ later)
     × (p ++ others ≡ (followed_by returned under_way).events ++ (followed_by returned under_way).pending)
 
--- the answers of agent processes in a service
+-- the answers of agent processes in an incarnation
 abbrev pub answers_in : SeenService → List Entry
 answers_in x = flat_map (λ l. l.answers) (x.calls ++ x.begun)
 
@@ -49,7 +49,7 @@ answers_in x = flat_map (λ l. l.answers) (x.calls ++ x.begun)
 abbrev pub HasBegins : SeenService → List Event → Type 0
 HasBegins x es = (run clock : ℕ) → Asked (answers_in x) run clock → clock ≤ x.stop → HasBegin run es
 
--- What remains of a service after its boot: a prefix of what its calls left, with the begin of each start.
+-- The events of an incarnation that remain after its boot: a prefix of those of its calls, with the begin of each start.
 pub record Remains (x : SeenService) (s : State) (p : List Event) : Type 0 where
   pub ran : x.ran ≡ interrupted s (moment s x.now)
   pub queued : x.queued ≡ dropped s (moment s x.now)
@@ -62,12 +62,12 @@ pub record Remains (x : SeenService) (s : State) (p : List Event) : Type 0 where
   pub stands : StandsOf done under_way p
   pub begins : HasBegins x p
 
--- what remains of an incarnation
+-- the events that remain of an incarnation
 abbrev pub Sits : Seen → State → List Event → Type 0
 Sits (Opening now end) s zs = (zs ≡ []) ⊎ (MayBoot end × (zs ≡ boots s now))
 Sits (Serving x) s zs = (p : List Event) × Remains x s p × (zs ≡ boots s x.now ++ p)
 
--- a behaviour of the machine from a state on, the last incarnation first, and what remains of it
+-- a behaviour of the machine from a state on, the last incarnation first, and the events that remain of it
 abbrev pub Runs : State → List Seen → List Event → Type 0
 Runs start [] zs = zs ≡ []
 Runs start (x ∷ older) zs = (ys : List Event) × (more : List Event) × Runs start older ys × Sits x (after_all start ys) more × (zs ≡ ys ++ more)

@@ -1,4 +1,4 @@
--- What is seen of a history of incarnations.
+-- The observations of a history of incarnations.
 use Rattle.std.specs.Prelude.{Bool, true, List, [], ◌∷◌, ◌++◌}
 use Rattle.ocf_types.specs.State.{State}
 use Rattle.ocf_types.specs.declared.reply.Notice.{Notice}
@@ -10,7 +10,7 @@ use Rattle.exec_ledger.specs.Pieces.{Effects}
 use Rattle.executor.specs.Sights.{Sight}
 use Rattle.executor.specs.declared.session.InputOf.TheVariants as input
 
--- of the notices that an executor holds after a call, those of that call: of a turn, of an executor that was open
+-- the notices of a call, of those that an executor holds after it: of a turn, of an executor that was open
 abbrev pub notices_of : Bool → Exchange → List Notice → List Notice
 notices_of true (Took (input.Turn now) reply) told = told
 notices_of true (Finished now end) told = told
@@ -33,7 +33,7 @@ abbrev pub labels : {D : Type 0} → (look : D → View) → (old : Sight D) →
 labels look old [] new effects calls = []
 labels look old (e ∷ es) new effects (mid, first, later, does, rest, is) = label_in look old.is_open e old mid first ∷ labels look mid es new later rest
 
--- of each incarnation its labels, and of a service its report, the last incarnation first
+-- of each incarnation its labels and its report, the last incarnation first
 abbrev pub seen : {D : Type 0} → (look : D → View) → (start : State) → (life : List (Sitting D)) → IsLife look start life → List Seen
 seen look start [] is = []
 seen look start (InOpening old new now end ∷ older) is = Opening now end ∷ seen look start older is.0
@@ -47,7 +47,7 @@ seen look start (InService x ∷ older) is = Serving (record {
   refuses = x.opened.refuses;
 }) ∷ seen look start older is.0
 
--- what the openings of these incarnations reported as interrupted, the first one's first
+-- the interruptions that the openings of these incarnations reported, the first one's first
 abbrev pub reports : List Seen → List Notice
 reports [] = []
 reports (Opening now end ∷ older) = reports older

@@ -1,4 +1,4 @@
--- A session: an executor is handed inputs, one after the other.
+-- Sessions: an executor takes inputs, one after the other.
 use Rattle.std.specs.Prelude.{◌≡◌, ◌↔◌, ℕ, Bool, true, false, List, [], ◌∷◌, ◌++◌, Result, Ok, Err}
 use Rattle.ocf_types.specs.Answer.{event_of}
 use Rattle.ocf_types.specs.Kinds.{Event, Reply, Request}
@@ -22,10 +22,11 @@ use Rattle.executor.specs.TurnCalls.{TakesTurn}
 use Rattle.executor.specs.declared.session.InputOf.{InputOf}
 use Rattle.executor.specs.declared.session.InputOf.TheVariants as input
 
+-- an input
 abbrev pub Input : Type 0
 Input = InputOf ParamList
 
--- a command that is an event records it, or a disk fault leaves it pending
+-- the effects of a command: one that is an event records it, or a disk fault leaves it pending
 abbrev pub command_effects : Result Event Refusal → Reply → Effects
 command_effects (Err refusal) reply = no_effects
 command_effects (Ok e) reply = event_effects e reply
@@ -34,7 +35,7 @@ abbrev pub request_effects : State → ℕ → Request → Reply → Effects
 request_effects s now (asked.Question question) reply = no_effects
 request_effects s now (asked.Command command) reply = command_effects (event_of s now command) reply
 
--- an open executor takes a request: from one view of it to another
+-- an open executor takes a request: from one view of it to another, with these effects
 pub record TakesRequest {D : Type 0} (look : D → View) (now : ℕ) (request : Request) (old new : Sight D) (reply : Reply)
     (effects : Effects) : Type 0 where
   pub serves : ServesOpen look now request old new reply
@@ -48,11 +49,12 @@ pub record TakesATurn {D : Type 0} (look : D → View) (now : ℕ) (old new : Si
   pub replies : reply ≡ Turn end
   pub does : effects ≡ takes.turns.effects
 
+-- an open executor takes an input
 abbrev pub TakesOpen : {D : Type 0} → (D → View) → Input → Sight D → Sight D → Reply → Effects → Type 0
 TakesOpen look (input.Request now request) old new reply effects = TakesRequest look now request old new reply effects
 TakesOpen look (input.Turn now) old new reply effects = TakesATurn look now old new reply effects
 
--- what a closed executor replies
+-- the reply of a closed executor
 abbrev pub closed_reply : Input → Reply
 closed_reply (input.Request now request) = Refused Closed
 closed_reply (input.Turn now) = Turn turn_end.Closed
@@ -75,21 +77,21 @@ Session {D} look old (i ∷ is) (r ∷ rs) new effects =
 Session look old [] (r ∷ rs) new effects = ⊥
 Session look old (i ∷ is) [] new effects = ⊥
 
--- What an open executor leaves that has done this: from one view of it to another.
+-- Calls of an open executor with these effects: from one view of it to another.
 pub record Leads {D : Type 0} (look : D → View) (old new : Sight D) (effects : Effects) : Type 0 where
-  -- the state, what a crash at any moment leaves, and that no agent was started without its synced begin
+  -- the state, the crash condition, and that no agent was spawned without its synced begin
   pub crash : Leaves look old.disk new.disk old.state new.state effects
   pub book : new.children.book ≡ old.children.book ++ effects.entries
-  -- these are all that its children were asked
+  -- the log of all answers ever got the same entries
   pub log : new.children.log ≡ old.children.log ++ effects.entries
-  -- agents are started at the site at which they were, and what the opening reported stays
+  -- the site and the report of the opening stay
   pub site : new.site ≡ old.site
   pub reported : new.reported ≡ old.reported
   pub due : due_in new ≡ due_after_all old.state (due_in old) effects.events
   -- nothing is pending but after a disk fault, which closed the executor
   pub whole : new.is_open ≡ true → effects.pending ≡ []
 
--- Each input was taken, with these replies; and where the executor was open, what all of it leaves.
+-- Each input was taken, with these replies; and where the executor was open, the effects of all of them.
 pub record Sits {D : Type 0} (look : D → View) (inputs : List Input) (old new : Sight D) (replies : List Reply) : Type 0 where
   pub effects : Effects
   pub each : Session look old inputs replies new effects

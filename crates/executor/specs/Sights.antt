@@ -1,4 +1,4 @@
--- What contracts see of an executor.
+-- The view of an executor, and its invariant.
 use Rattle.std.specs.Prelude.{◌≡◌, Bool, List, true}
 use Rattle.ocf_types.specs.Due.{Due}
 use Rattle.ocf_types.specs.State.{State}
@@ -14,9 +14,9 @@ use Rattle.exec_turn.specs.Turns.{ChildrenMatch}
 use Rattle.exec_ledger.specs.Held.{Held}
 use Rattle.executor.specs.Reports.{ReportView}
 
--- whether it takes requests, its state, its recurring monitors with their due moments, the disk that it works on, where the
--- journal's next record goes, its children, the site at which it starts agents, the notices of the last turn, what its
--- opening reported, and whether its allocator refuses memory
+-- the view: whether it takes requests, its state, its recurring monitors with their due moments, its disk, the position of the
+-- journal's next record, its children, the site at which it spawns agents, the notices of the last turn, the report of its opening,
+-- and whether its allocator refuses memory
 pub record Sight (D : Type 0) : Type 0 where
   pub is_open : Bool
   pub state : State
@@ -29,6 +29,7 @@ pub record Sight (D : Type 0) : Type 0 where
   pub reported : ReportView
   pub refuses : Bool
 
+-- the view of a ledger and of what is beside it
 abbrev pub sight : {D : Type 0} → Held D → ChildrenView → SiteView → List Notice → ReportView → Sight D
 sight h children site told reported = record {
   is_open = h.is_open;
@@ -43,7 +44,7 @@ sight h children site told reported = record {
   refuses = h.refuses;
 }
 
--- what its ledger holds
+-- the view of its ledger
 abbrev pub ledger_of : {D : Type 0} → Sight D → Held D
 ledger_of x = record {
   is_open = x.is_open;
@@ -54,32 +55,34 @@ ledger_of x = record {
   refuses = x.refuses;
 }
 
--- all that is beside the ledger is as it was
+-- only the ledger changes: all that is beside it is as it was
 pub record Beside {D : Type 0} (old new : Sight D) : Type 0 where
   pub children : new.children ≡ old.children
   pub site : new.site ≡ old.site
   pub told : new.told ≡ old.told
   pub reported : new.reported ≡ old.reported
 
--- when each of its recurring monitors is due
+-- the due moments of its recurring monitors
 abbrev pub due_in : {D : Type 0} → Sight D → Due
 due_in x = due_of x.monitors
 
--- While it is open its journal is settled at its state, has room for the results of what runs and for a boot, the
--- agents of all that runs live, and its children admit its site.
+-- Its journal is settled at its state, its reserve holds the results of what runs and a boot, the agent processes of all running
+-- actions live, and its children admit its site.
 pub record Keeps {D : Type 0} (look : D → View) (x : Sight D) : Type 0 where
   pub journal : (look x.disk).honest → IsSettled x.place x.state (look x.disk)
   pub room : HasRoom x.place.tail x.state
   pub matched : ChildrenMatch x.state x.children
   pub admits : Admits x.children.site x.site
 
+-- the invariant: the same while it is open
 abbrev pub IsSound : {D : Type 0} → (D → View) → Sight D → Type 0
 IsSound look x = x.is_open ≡ true → Keeps look x
 
--- What an executor keeps beside its ledger while it is open.
+-- The part of the invariant that is not the ledger's.
 pub record Tends {D : Type 0} (x : Sight D) : Type 0 where
   pub matched : ChildrenMatch x.state x.children
   pub admits : Admits x.children.site x.site
 
+-- the same while it is open
 abbrev pub IsTended : {D : Type 0} → Sight D → Type 0
 IsTended x = x.is_open ≡ true → Tends x

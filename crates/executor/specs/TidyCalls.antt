@@ -1,4 +1,4 @@
--- What an executor does in a tidy.
+-- Tidies of an executor.
 use Rattle.std.specs.Prelude.{◌≡◌, Bool}
 use Rattle.ocf_types.specs.declared.reply.TidyEnd.{TidyEnd}
 use Rattle.ocf_types.specs.declared.reply.TidyEnd.TheVariants.{Closed}
@@ -7,7 +7,7 @@ use Rattle.exec_ledger.specs.Held.{While}
 use Rattle.exec_ledger.specs.Tidying.{Tidies as LedgerTidies}
 use Rattle.executor.specs.Sights.{Beside, Sight, ledger_of}
 
--- An open executor tidies its journal: from one view of it to another.
+-- what a tidy of an open executor does: from one view of it to another
 abbrev pub Tidies : {D : Type 0} → (D → View) → Sight D → Sight D → TidyEnd → Type 0
 Tidies look old new end = LedgerTidies look (ledger_of old) (ledger_of new) end × Beside old new
 

@@ -1,4 +1,4 @@
-//! The executor.
+//! `Executor`: its parts, its view and its invariant.
 use crate::report::Reported;
 use child_model::Children;
 use disk_model::Disk;
@@ -9,11 +9,11 @@ use ocf_env::Site;
 use std::alloc::Global;
 use std::marker::Model;
 
-/// A local executor of OCF resource agents over a journal and children. A disk fault closes it; it is opened again by its
-/// journal.
+/// A local executor of OCF resource agents over a journal and agent processes. A disk fault closes it; it is opened again from
+/// its journal.
 ///
-/// While it is open its journal is settled at its state, and has room for the results of what runs and for a boot: that is what
-/// its ledger keeps. Beside that the agents of all that runs live.
+/// While it is open its journal is settled at its state, and its reserve holds the results of what runs and a boot: that is the
+/// ledger's invariant. Its own adds that the agent processes of all running actions live.
 #[derive(Drop)]
 pub struct Executor<D: Disk + Drop, C: Children + Drop, A: Grows = Global> {
     pub(crate) ledger: Ledger<D, A>,

@@ -1,4 +1,4 @@
-//! Laws of sessions and of whole lives, each the contract of a function that does nothing.
+//! Laws of calls, sessions and histories of incarnations, each the contract of a function that does nothing.
 ghost use Rattle.std.specs.Prelude.{◌≡◌, ◌≢◌, ◌≤◌, ◌++◌, ℕ, List, Option, IsTrue, [], Some, false};
 ghost use Rattle.std.specs.List.{AllByRecursion};
 ghost use Rattle.ocf_types.specs.Kinds.{Command, Event, Reply};
@@ -35,11 +35,11 @@ use exec_journal::laws::{found_once, what_stands};
 use ocf_types::laws::{lawful_states, layouts};
 
 /// Each resource's part of any calls is a behaviour of the machine that has this resource alone, whatever the children answered
-/// and however the others' actions ran between its own: the commands and questions that are about it, each turn, the entries of
-/// its runs, and its events. Commands that arrived together are for it those that are about it, one by one; tidies are nothing.
-/// It begins with the resource's own history, monitors and due moments; call and run numbers are handed in. So it holds while
-/// none of its replies reports a shortage that resources share, each turn ends done, and moments do not go back; what the others
-/// are sent does not matter.
+/// and however the actions of others ran in between. Its part is: the commands and questions that are about it, each turn, the
+/// entries of its runs, and its events. Of commands that arrived together it has those that are about it, one by one; tidies
+/// are nothing to it. The machine begins with the resource's own history, monitors and due moments; call and run numbers are
+/// handed in. The law holds while none of its replies reports a shortage that resources share, each turn ends done, and moments
+/// do not go back; the replies to others do not matter.
 pub fn each_alone<D: Disk>()
     ensures alone { (x z : Sight D) (calls : List Exchange) (d : Effects) (id : List ℕ)
         → DistinctKeys x.state → Calls D.view x calls z d
@@ -47,13 +47,13 @@ pub fn each_alone<D: Disk>()
         → Alone id (isolated_of x id) (part id calls)
         (entries_of_runs (own_runs id x.state d.events) d.entries)
         (events_of id d.events) }
-    // it is then where the calls end
+    // the machine ends where the calls end
     ensures ends { (x z : Sight D) (calls : List Exchange) (d : Effects) (id : List ℕ)
         → Calls D.view x calls z d
         → AllByRecursion IsAnswered (part id calls) → AreRising x.state.clock calls
         → StandsAt (isolated_after_all (isolated_of x id) (events_of id d.events))
         (isolated_of z id) }
-    // of a session its calls are the inputs with their replies
+    // the same of a session, whose calls are its inputs with their replies
     ensures session { (x z : Sight D) (inputs : List Input) (replies : List Reply) (d : Effects)
         (id : List ℕ)
         → DistinctKeys x.state → Session D.view x inputs replies z d
@@ -62,7 +62,7 @@ pub fn each_alone<D: Disk>()
         → Alone id (isolated_of x id) (part id (as_calls inputs replies))
         (entries_of_runs (own_runs id x.state d.events) d.entries)
         (events_of id d.events) }
-    // and commands in a row are so whatever becomes of their record
+    // and of a batch of commands, even if its record failed
     ensures row { (now : ℕ) (x : Sight D) (commands : List Command) (replies : List Reply)
         (es : List Event) (id : List ℕ)
         → Answered now x.state commands replies es
@@ -72,7 +72,7 @@ pub fn each_alone<D: Disk>()
         (events_of id es) }
 {}
 
-/// A resource's part of some calls and its part of others, which begin where the first ones end, are one behaviour of the machine
+/// A resource's part of some calls, and its part of others that begin where the first ones end, are one behaviour of the machine
 /// that has this resource alone.
 pub fn parts_join()
     ensures { (id : List ℕ) (x y : Isolated) (is js : List Exchange) (es fs : List Entry) (vs us : List Event) → Alone id x is es vs
@@ -87,20 +87,21 @@ pub fn session_is_calls<D: Disk>()
         → Calls D.view x (as_calls inputs replies) z d }
 {}
 
-/// Commands that were taken together are calls, one after the other: each is a command by itself, or commands in a row.
+/// Commands that were taken together are calls, one after the other: each a command by itself, or a batch.
 pub fn commands_are_calls<D: Disk>()
     ensures { (now : ℕ) (commands : List Command) (given : List Reply) (x y : Sight D)
         → TakesCommands D.view now commands x y given
         → CallsCommands D.view now commands x y given }
 {}
 
-/// What its opening reported stays with an executor, whatever is called.
+/// An executor remembers the report of its opening, whatever is called.
 pub fn report_stays<D: Disk>()
     ensures { (x y : Sight D) (calls : List Exchange) (d : Effects) → Calls D.view x calls y d
         → y.reported ≡ x.reported }
 {}
 
-/// Want of memory is reported only where the executor's allocator refuses memory: with one that refuses none, no call reports it.
+/// Want of memory is reported only where the executor's allocator refuses memory: with an allocator that never refuses, no call
+/// reports it.
 pub fn memory_is_there<D: Disk>()
     ensures told { (x y : Sight D) (call : Exchange) (d : Effects) → Does D.view call x y d
         → LacksMemory call → IsTrue x.refuses }
@@ -108,18 +109,18 @@ pub fn memory_is_there<D: Disk>()
         → x.refuses ≡ false → AllByRecursion (λ call. LacksMemory call → ⊥) calls }
 {}
 
-/// A state is apart that is lawful and whose running actions each have an agent of their own: so is each state of an open
-/// executor.
+/// In a lawful state whose running actions each have an agent process of their own, as in each state of an open executor, ids
+/// differ and runs differ.
 pub fn distinct_keys()
     ensures apart { (s : State) (live : List ℕ) → IsLawfulState s → AgentsLive s live
         → DistinctKeys s }
 {}
 
 /// The promise. Take any history of incarnations, crashed at any moment, and any pair of files that its last crash may leave. Then
-/// there is one list of events: the pair is found as the state after it; what the history was seen to do is a behaviour of the
-/// machine, which knows no disk, and the list is what remains of that and of what its calls did; and it keeps what is promised.
-/// Each acknowledgement has the event of its own command in it, each notice its result, each start of an agent its begin; openings
-/// report as interrupted what boots do; and it is in order.
+/// there is one list of events with these properties. The pair is found as the state after them. The observations of the history
+/// are a behaviour of the machine, which knows no disk, and the list is what remains of that behaviour and of the calls. Each
+/// acknowledgement has the event of its own command in the list, each notice its result, and each start of an agent its begin.
+/// Openings report as interrupted what boots interrupt. The list is in order.
 pub fn promise<D: Disk>()
     ensures { (start : State) (life : List (Sitting D)) (is : IsLife D.view start life) (c : Image)
         → LifeLeaves D.view start life c
@@ -133,18 +134,18 @@ pub fn promise<D: Disk>()
     layouts();
 }
 
-/// After a whole life, of openings, calls and crashes at any moment, every pair that may be left is found as the state after
-/// what remains of each incarnation, one after the other: its boot, and a prefix of its events that holds all that a call had
-/// recorded when it returned, and the begin of each start that was asked before the crash. It has room for its boot. So an
-/// opening after a life gives the state after what remains, with what ran reported as interrupted, and never reports damage
-/// or a full journal.
+/// After any history of openings, calls and crashes at any moment, every pair that may be left is found as the state after what
+/// remains of each incarnation, one after the other: its boot, and a prefix of its events that has all events that a call had
+/// recorded when it returned, and the begin of each start that was asked before the crash. The pair has capacity for its boot.
+/// So an opening after a history gives the state after what remains, with what ran reported as interrupted, and never reports
+/// damage or a full journal.
 ///
-/// An opening that was refused is such an incarnation. Its boot may remain only where the device failed: want of memory,
-/// foreign children, a full journal and damage come before it. Where the journal alone was opened, for a look, that is an
-/// incarnation without a boot, however it ended.
+/// A refused opening is an incarnation, too. Its boot may remain only where the device failed: want of memory, foreign children,
+/// a full journal and damage come before the boot. Where only the journal was opened, for reading, that is an incarnation without
+/// a boot, however it ended.
 ///
-/// A life begins on any pair that is found as a state and has room for its boot: so does a fresh pair, with the empty state,
-/// and a journal of the first layout, with what it leads to.
+/// A history begins on any pair that is found as a state and has capacity for its boot: a fresh pair is such a pair, with the
+/// empty state, and so is a journal of the first layout, with the state that it leads to.
 pub fn whole_life<D: Disk>()
     ensures fresh { (c : Image) → IsFreshPair c → BeginsAs empty c }
     ensures first { (start : State) (c : Image) → FoundAs start c → IsFirstPart c

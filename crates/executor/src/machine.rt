@@ -7,13 +7,13 @@ ghost use Rattle.executor.specs.Histories.{Follow};
 ghost use Rattle.executor.specs.Promise.{IsKept};
 ghost use Rattle.executor.specs.Runs.{Runs, Seen};
 
-/// What remains of a behaviour of the machine from a lawful state applies, each change at the state that those before it lead to.
+/// The events that remain of a behaviour of the machine from a lawful state apply, each in the state that those before it lead to.
 pub fn runs_apply()
     ensures { (start : State) (xs : List Seen) (zs : List Event) → IsLawfulState start
         → Runs start xs zs → Follow start zs }
 {}
 
-/// Each behaviour of the machine from a lawful state keeps what is promised of the events that it left.
+/// The events that a behaviour of the machine from a lawful state left keep the promise.
 pub fn behaviours_keep()
     ensures { (start : State) (xs : List Seen) (zs : List Event) → IsLawfulState start
         → Runs start xs zs → IsKept start xs zs }

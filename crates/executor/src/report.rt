@@ -1,4 +1,4 @@
-//! What an opening reports of the actions that a crashed executor left.
+//! The report of an opening: the actions that a crashed executor left.
 ghost use Rattle.std.specs.Prelude.{◌≡◌, ◌++◌, ◌<◌, IfOk, IsTrue, OnErr, OnOk, length};
 ghost use Rattle.ocf_types.specs.Places.{entry_at};
 ghost use Rattle.executor.specs.Interruptions.{dropped, dropped_in, interrupted, interrupted_in};
@@ -10,15 +10,14 @@ use op_history::{drop_notice, run_notice};
 use past::Past;
 use std::alloc::{AllocError, Allocator, Global};
 
-/// The actions that a crashed executor left: those that ran, and those that were queued, each by registration and then by
-/// call.
+/// The actions that a crashed executor left: those that ran, and those that were queued, each by registration and then by call.
 #[derive(Drop)]
 pub struct Report<A: Allocator = Global> {
     pub interrupted: Vec<Notice, A>,
     pub dropped: Vec<Notice, A>,
 }
 
-/// What an opening reported, for contracts alone: no memory holds it.
+/// The report of an opening, for contracts alone: it takes no memory.
 #[derive(Drop)]
 pub(crate) struct Reported {
     pub interrupted: Past<Notice>,
@@ -36,7 +35,7 @@ fn noted(notices: &[Notice]) -> Past<Notice>
     past
 }
 
-// A notice of what runs in the resource at a place.
+// A notice of the running action of the resource at an index, if there is one.
 fn push_interrupted<A: Grows>(
     notices: &mut Vec<Notice, A>,
     state: &State<A>,
@@ -55,7 +54,7 @@ fn push_interrupted<A: Grows>(
     Ok(())
 }
 
-// Notices of what is queued in the resource at a place.
+// Notices of the queued actions of the resource at an index.
 #[tactic(auto, using(crate::proofs::Openings::Reporting::drop_more))]
 fn push_dropped<A: Grows>(
     notices: &mut Vec<Notice, A>,
@@ -77,7 +76,7 @@ fn push_dropped<A: Grows>(
 }
 
 impl<A: Grows> Report<A> {
-    /// What an opening at that moment says of the state that it found. The only error is want of memory.
+    /// The report of an opening at this moment that found this state. The only error is want of memory.
     #[tactic(auto, using(crate::proofs::Openings::Reporting::told_more))]
     pub(crate) fn of(alloc: A, state: &State<A>, at: Moment) -> Result<Report<A>, AllocError>
         ensures interrupted { IfOk result

@@ -1,4 +1,4 @@
-//! Sessions: many inputs at once.
+//! Sessions: many inputs in one call.
 ghost use Rattle.std.specs.Prelude.{◌≡◌, ◌++◌, IfErr, IsTrue, OnErr, OnOk, List};
 ghost use Rattle.ocf_types.specs.Kinds.{Reply};
 ghost use Rattle.exec_ledger.specs.Pieces.{Effects};
@@ -12,7 +12,7 @@ use growth::Grows;
 use ocf_types::{Params, Reply, ReplyOf, RequestOf};
 use std::alloc::Global;
 
-/// What an executor is handed, at a moment in milliseconds since 1970. `P` is the type of parameters.
+/// An input, at a moment in milliseconds since 1970. `P` is the type of parameters.
 #[derive(Drop)]
 pub enum InputOf<P> {
     /// A command or a question.
@@ -35,10 +35,10 @@ impl<D: Disk + Drop, C: Children + Drop, A: Grows> Executor<D, C, A> {
         }
     }
 
-    /// Takes inputs one after the other, and puts one reply to each after the replies that are there: that of a turn is how
-    /// it ended. The notices are those of the last turn.
+    /// Takes inputs one after the other, and appends one reply to each: that to a turn is how it ended. The notices are those of the
+    /// last turn.
     ///
-    /// Where an allocation for the replies is refused nothing is done, and the inputs are handed back.
+    /// Where there is no memory for the replies nothing is done, and the inputs are handed back.
     pub fn session(
         &mut self,
         inputs: Vec<Input<A>, A>,

@@ -1,4 +1,4 @@
-//! Turns, and what becomes of the children.
+//! Turns, and the agent processes.
 ghost use Rattle.std.specs.Prelude.{◌≡◌};
 ghost use Rattle.exec_turn.specs.Actives.{any_running};
 ghost use Rattle.executor.specs.TurnCalls.{FinishesWhile, TurnsWhile, abandoned, with_empty_book};
@@ -11,10 +11,11 @@ use growth::Grows;
 use ocf_types::{Notice, TurnEnd};
 
 impl<D: Disk + Drop, C: Children + Drop, A: Grows> Executor<D, C, A> {
-    /// A turn at a moment in milliseconds since 1970: polls what runs, begins what has to begin, and starts it.
+    /// A turn at a moment in milliseconds since 1970: polls running actions, records their results, and begins and spawns the
+    /// actions that have to begin.
     ///
-    /// What ends is recorded before it is reported, and what begins before it is started. A disk fault closes the executor.
-    /// A closed one does nothing.
+    /// A result is recorded before it is reported, and a begin before its action is spawned. A disk fault closes the executor. A
+    /// closed one does nothing.
     pub fn turn(&mut self, now: u64) -> TurnEnd
         ensures turns { TurnsWhile self.old.is_open D.view now self.old self.new result }
     {
@@ -33,10 +34,10 @@ impl<D: Disk + Drop, C: Children + Drop, A: Grows> Executor<D, C, A> {
         end
     }
 
-    /// A turn that begins nothing, at a moment in milliseconds since 1970: polls what runs, kills what runs past its timeout, and
-    /// records what ended. What is queued stays queued, and what is due stays due.
+    /// A turn that begins nothing, at a moment in milliseconds since 1970: polls running actions, kills those past their timeout,
+    /// and records their results. Queued actions stay queued, and due monitors stay due.
     ///
-    /// What ends is recorded before it is reported. A disk fault closes the executor. A closed one does nothing.
+    /// A result is recorded before it is reported. A disk fault closes the executor. A closed one does nothing.
     pub fn finish(&mut self, now: u64) -> TurnEnd
         ensures finishes { FinishesWhile self.old.is_open D.view now self.old self.new result }
     {
@@ -63,7 +64,7 @@ impl<D: Disk + Drop, C: Children + Drop, A: Grows> Executor<D, C, A> {
         self.rows.notices()
     }
 
-    /// The children's book: what each of them answered since it was emptied.
+    /// The children's book: all their answers since it was last emptied.
     pub fn book(&self) -> &[Entry]
         ensures value { result.now ≡ self.now.children.book }
     {
@@ -77,8 +78,8 @@ impl<D: Disk + Drop, C: Children + Drop, A: Grows> Executor<D, C, A> {
         self.children.clear_book();
     }
 
-    /// Kills and gives up every child. The executor is closed then: what runs is found as interrupted when the journal is
-    /// opened again.
+    /// Kills and gives up every agent process, and closes the executor: the running actions are reported as interrupted when the
+    /// journal is opened again.
     pub fn abandon(&mut self)
         ensures abandoned { self.new ≡ abandoned self.old }
     {

@@ -1,4 +1,4 @@
--- What events that apply do to one resource.
+-- Events that apply, and one resource.
 use Rattle.std.proofs.Common.{◌≡◌, ◌≢◌, ℕ, ◌+◌, ◌≤◌, ◌<◌, Bool, true, false, cond, not, List, [], ◌∷◌, ◌++◌, map, Option, Some, None, option_map, refl, sym, ap, subst, ◌∙◌, arith}
 use Rattle.std.specs.Prelude.{IsSomeAnd}
 use Rattle.std.specs.List.{AllByRecursion}
@@ -17,7 +17,7 @@ use Rattle.ocf_types.specs.declared.event.Change.TheVariants as change
 use Rattle.ocf_types.specs.declared.event.Step.TheVariants as step
 use Rattle.executor.specs.Histories.{Follow, RunsAscend, run_of, runs_begun}
 
--- what a change that applies does to the resource of an id
+-- the resource of an id before a change that applies and after it
 abbrev pub Turned : State → List ℕ → ℕ → Change → Option Resource → Option Resource → Type 0
 Turned s id at (change.Register r) was now = cond (bytes_eq id r.id) ((was ≡ None) × (now ≡ Some (registered r).1)) (now ≡ was)
 Turned s id at (change.Unregister other) was now =
@@ -110,7 +110,7 @@ module _ (s : State) (id : List ℕ) (at : ℕ) where
   turned_step other what false apart applies =
       other_stays at (change.Step other what) s.resources other id refl (differs id other apart)
 
-  -- what a change that applies does to the resource of an id
+  -- a change that applies changes it so
   pub turned : (c : Change) → ChangeApplies s c → Turned s id at c was (now c)
   turned (change.Register r) applies = turned_register r (bytes_eq id r.id) refl applies
   turned (change.Unregister other) applies = turned_unregister other (bytes_eq id other) refl applies

@@ -1,4 +1,4 @@
--- What is asked of a list of events, computed of lists that break it.
+-- The order of events, computed on lists that break it.
 use Rattle.std.proofs.Common.{◌≡◌, ℕ, true, false, List, [], ◌∷◌, filter, length, inl, inr, refl, arith}
 use Rattle.std.specs.Prelude.{codes}
 use Rattle.ocf_types.specs.Kinds.{Event}
@@ -42,6 +42,6 @@ overtaken (inl h) = let same = h.0 in omega (arith, same)
 overtaken (inr (inl h)) = h.1
 overtaken (inr (inr h)) = h
 
--- a crash while the first runs: the boot reports it, and what is asked and begun after the boot is reported by none
+-- a crash while the first runs: the boot reports it, and no boot reports an action that is begun after it
 told : length (filter (is_of r1 1) (interruptions empty (registered ∷ asked 1 ∷ begins 1 1 ∷ boot ∷ asked 2 ∷ begins 2 2 ∷ []))) ≡ 1
 told = refl

@@ -22,7 +22,7 @@ use Rattle.ocf_types.specs.declared.operation.Recur.{Recur}
 use Rattle.executor.specs.Histories.{BeginInOrder, Follow, IsWithin, call_begun, call_monitored, call_queued, monitored, monitors_at, queue_at}
 use Rattle.executor.proofs.History.Events.{Turned, turned}
 
--- one more that is left out, any number of them, and some of them
+-- one more element left out, any number of them, and some of them
 left_out : (xs ys : List ℕ) (y : ℕ) → IsWithin xs ys → IsWithin xs (y ∷ ys)
 left_out [] ys y h = tt
 left_out (x ∷ xs) ys y h = inr h
@@ -56,7 +56,7 @@ module _ (is_monitor : ℕ → Bool) (id : List ℕ) where
   abbrev others : List ℕ → List ℕ
   others calls = filter (λ call. not (is_monitor call)) calls
 
-  -- what a change does to the queue and the monitors, whatever begins later
+  -- the queue and the monitors after a change, whatever begins later
   pub record Keeps (c : Change) (was now : Option Resource) : Type 0 where
     pub monitors : AreMonitors (monitors_of now)
     pub order : (rest later : List ℕ) → IsWithin rest (queue_of now ++ later)

@@ -1,4 +1,4 @@
--- What runs in a resource, as events that apply change it: ends between begins, and what boots report.
+-- The running action of a resource, as events that apply change it: ends between begins, and interruptions.
 use Rattle.std.proofs.Common.{◌≡◌, ℕ, ◌==◌, ◌&&◌, ◌||◌, nat_lt, length, Bool, true, false, cond, List, [], ◌∷◌, ◌++◌, Option, Some, None, option_map, option_and_then, refl, sym, ap, subst, ◌∙◌}
 use Rattle.std.specs.Prelude.{IsSome, IsSomeAnd}
 use Rattle.std.specs.Map.{lookup}
@@ -18,14 +18,14 @@ use Rattle.ocf_types.specs.declared.operation.Running.{Running}
 use Rattle.executor.specs.Histories.{EndsBetween, Follow, ends_run, has_end}
 use Rattle.executor.proofs.History.Events.{Turned, turned}
 
--- what runs in a resource, if it is there
+-- the running action of a resource, if it is there
 abbrev pub runs_in : Option Resource → Option Running
 runs_in o = option_and_then (λ r. r.history.running) o
 
 abbrev pub running_at : State → List ℕ → Option Running
 running_at s id = runs_in (resource_at s id)
 
--- what a change does to what runs in the resource of an id
+-- a change, and the running action of the resource of an id
 abbrev pub Ran : State → List ℕ → Change → Option Running → Option Running → Type 0
 Ran s id (change.Step other (step.Begin call run)) was now =
     cond (bytes_eq id other)
@@ -46,7 +46,7 @@ rests h idle = by h.running refl
     by None is = refl
     by (Some x) is = absurd (both_ways (is_busy h) idle (rw is (or_true (nat_lt 0 (length h.queue)))))
 
--- what a begin makes run
+-- the running action after a begin
 begins_so : (q : List Op) (ms : List Recur) (call run at : ℕ) (h : History) → IsReady q ms call
     → (x : Running) × ((begun_from q (of_call call ms) run at h).running ≡ Some x) × (x.call ≡ call) × (x.run ≡ run)
 begins_so (o ∷ os) ms call run at h ready = (record { call = o.call; run = run; task = o.task; timeout = o.timeout; interval = 0; since = at }, refl, sym ready, refl)
@@ -100,7 +100,7 @@ module _ (s : State) (id : List ℕ) (at : ℕ) where
       none None = refl
       none (Some r) = refl
 
-  -- what an event that applies does to what runs
+  -- an event that applies, and the running action
   pub ran : (c : Change) → ChangeApplies s c → Ran s id c (running_at s id) (runs_in (lookup (bytes_eq id) (changed at c s.resources)))
   ran c applies = ran_so c (resource_at s id) (lookup (bytes_eq id) (changed at c s.resources)) (turned s id at c applies)
 
@@ -150,7 +150,7 @@ module _ (id : List ℕ) (run : ℕ) where
       (subst (λ (o : Option Running). Ran s id e.change o (running_at (after s e) id)) runs (ran s id e.at e.change follow.0)) is halves.0)
       is halves.1
 
--- what a begin that applies makes run
+-- the running action after a begin that applies
 pub begun_so : (s : State) (e : Event) (id : List ℕ) (call run : ℕ) → ChangeApplies s e.change → e.change ≡ change.Step id (step.Begin call run)
     → (running_at s id ≡ None)
     × (x : Running) × (running_at (after s e) id ≡ Some x) × (x.call ≡ call) × (x.run ≡ run) × (run ≡ s.next_run)

@@ -1,4 +1,4 @@
--- What boots report of a run: once, where it has no end before.
+-- A boot reports a run without an end as interrupted, once.
 use Rattle.std.proofs.Common.{◌≡◌, ◌≢◌, ℕ, ◌+◌, ◌≤◌, ◌<◌, Bool, true, false, cond, not, List, [], ◌∷◌, ◌++◌, map, filter, Option, Some, None, option_to_list, flat_map, refl, sym, ap, ap₂, subst, ◌∙◌, arith, append_assoc}
 use Rattle.std.specs.List.{AllByRecursion, IsDistinct}
 use Rattle.std.specs.Map.{keys_of, lookup}
@@ -47,7 +47,7 @@ IsBelow s id = (x : Running) → running_at s id ≡ Some x → x.run < s.next_r
 abbrev pub NotRuns : State → List ℕ → ℕ → Type 0
 NotRuns s id run = (x : Running) → running_at s id ≡ Some x → x.run ≢ run
 
--- what a state shows of a resource's run
+-- the interruptions of a resource's run in a state
 abbrev told_one : List ℕ → ℕ → ℕ → Option Running → List Notice
 told_one id run at o = filter (is_of id run) (map (interruption id at) (option_to_list o))
 
@@ -87,7 +87,7 @@ told_of_it id run at (e ∷ es) apart =
         ∙ rest
 
 module _ (id : List ℕ) (run : ℕ) where
-  -- a state in which the run does not run shows nothing of it, and one in which it does shows it once
+  -- none where the run does not run, and one where it does
   told_none : (at : ℕ) (o : Option Running) → ((x : Running) → o ≡ Some x → x.run ≢ run) → told_one id run at o ≡ []
   told_none at None h = refl
   told_none at (Some x) h = rw (same_id id, ne_eqb x.run run (h x refl)) refl
@@ -185,7 +185,7 @@ interruptions-append s (e ∷ es) fs =
     ap (λ (l : List Notice). told_by s e.at e.change ++ l) (interruptions-append (after s e) es fs)
     ∙ sym (append_assoc (told_by s e.at e.change) (interruptions (after s e) es) (interruptions (after_all (after s e) es) fs))
 
--- in a lawful state what runs is below the next run
+-- in a lawful state running actions have runs below the next one
 below_here : (s : State) (id : List ℕ) (rs : Registry)
     → AllByRecursion (λ e. IsLawfulResource s.next_call s.next_run s.clock e.1) rs
     → (x : Running) → runs_in (lookup (bytes_eq id) rs) ≡ Some x → x.run < s.next_run
@@ -207,7 +207,7 @@ told_boot s e is = ap (told_by s e.at) is
 quiet_boot : (s : State) (e : Event) (id : List ℕ) → ChangeApplies s e.change → e.change ≡ change.Boot → running_at (after s e) id ≡ None
 quiet_boot s e id applies is = subst (λ (c : Change). Ran s id c (running_at s id) (running_at (after s e) id)) is (ran s id e.at e.change applies)
 
--- a run that has no end before a boot is reported by it, and by no other
+-- a run without an end before a boot is reported by it, and by no other
 pub interrupted_once : (s : State) (es : List Event) → IsLawfulState s → Follow s es → InterruptedOnce s es
 interrupted_once s es lawful follow before between later begin boot id call run is begins boots none =
     let mine : List Notice → List Notice = filter (is_of id run) in

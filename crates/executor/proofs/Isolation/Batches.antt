@@ -1,4 +1,4 @@
--- Commands in a row at one moment, as the machine of one resource takes those that are about it.
+-- A batch of commands at one moment: the machine of one resource takes those that are about it.
 use Rattle.std.proofs.Common.{◌≡◌, ◌⊎◌, inl, inr, ℕ, ◌≤◌, Bool, true, false, true≢false, cond, Some, List, [], ◌∷◌, ◌++◌, Result, Ok, Err, refl, sym, ap, subst, ◌∙◌}
 use Rattle.std.specs.Option.{option_map_or}
 use Rattle.std.specs.List.{AllByRecursion}
@@ -37,7 +37,7 @@ abbrev pub IsStep : Bool → List ℕ → Isolated → Exchange → List Entry �
 IsStep true id y e entries events = IsolatedTakes id y e entries events
 IsStep false id y e entries events = (entries ≡ []) × (events ≡ [])
 
--- a call that concerns it is answered plainly, and so are the later ones
+-- a call that concerns it has a plain answer, and so have the later ones
 pub plain_first : (b : Bool) (e : Exchange) (rest : List Exchange) → AllByRecursion IsAnswered (cond b (e ∷ rest) rest)
     → (b ≡ true → IsAnswered e) × AllByRecursion IsAnswered rest
 plain_first true e rest h = (λ own. h.0, h.1)
@@ -84,7 +84,7 @@ keep_own mine id es keep = each_weaken (λ e. KeepsRunning e.change) (λ e. Begi
     by (change.Step other _) kept = tt
     by _ kept = tt
 
--- each reply is what was meant, or a refusal for the disk
+-- each reply is the one that was meant, or a refusal for the disk
 abbrev pub AreToldOf : List Reply → List Reply → Type 0
 AreToldOf [] [] = ⊤
 AreToldOf (r ∷ rs) (m ∷ ms) = ((r ≡ m) ⊎ (r ≡ Refused Disk)) × AreToldOf rs ms
@@ -98,7 +98,7 @@ told_so (m ∷ ms) = (inl refl, told_so ms)
 abbrev pub AllRefused : List Reply → Type 0
 AllRefused rs = AllByRecursion (λ r. is_kept r ≡ false) rs
 
--- of a row whose record failed each reply is a refusal
+-- each reply to a batch whose record failed is a refusal
 disk_told : (ms : List Reply) → AreToldOf (disk_each ms) ms × AllRefused (disk_each ms)
 disk_told [] = (tt, tt)
 disk_told (m ∷ ms) = let rest = disk_told ms in ((inr refl, rest.0), (refl, rest.1))
@@ -108,13 +108,13 @@ failed_told [] = (tt, tt)
 failed_told (Refused refusal ∷ ms) = let rest = failed_told ms in ((inl refl, rest.0), (refl, rest.1))
 failed_told (m ∷ ms) = let rest = disk_told ms in ((inr refl, rest.0), (refl, rest.1))
 
--- an acknowledgement is no refusal
+-- an acknowledgement is not a refusal
 kept_ack : (c : Change) → is_kept (acknowledged c) ≡ true
 kept_ack (change.Step id (step.Exec o)) = refl
 kept_ack (change.Step id (step.Recur m)) = refl
 kept_ack _ = refl
 
--- what a command did, by what it was answered
+-- the effects of a command, by its reply
 told_commands : (now : ℕ) (c : Command) (old new : Seen) (r m : Reply) (effects : Effects) → (r ≡ m) ⊎ (r ≡ Refused Disk)
     → Commands now c old new m effects → Commands now c old new r effects
 told_commands now c old new r m effects (inl same) did = subst (λ (q : Reply). Commands now c old new q effects) (sym same) did
@@ -133,7 +133,7 @@ refused_none (Ok e) r es refused follows =
     absurd (true≢false (sym (kept_ack e.change) ∙ ap is_kept (sym follows.0) ∙ refused))
 
 module _ (now : ℕ) (id : List ℕ) where
-  -- what the commands of a row did to the state, whatever became of its record
+  -- the state after the commands of a batch, even if its record failed
   pub row_does : (x : Seen) (cs : List Command) (ms : List Reply) (es : List Event) → x.state.clock ≤ cut now
       → Answered now x.state cs ms es → Does (cut now) x (seen_behind x es) es × AllKeep es
   row_does x [] [] es clock is = (
@@ -160,7 +160,7 @@ module _ (now : ℕ) (id : List ℕ) where
         each_append (λ e. KeepsRunning e.change) first later did.keep behind.1,
       )
 
-  -- the machine takes its commands of a row; where each reply is a refusal none of them had an event
+  -- the machine takes its commands of a batch; where each reply is a refusal none of them had an event
   pub row_alone : (y : Isolated) (x : Seen) (cs : List Command) (rs ms : List Reply) (es : List Event) → x.state.clock ≤ cut now
       → AllByRecursion IsAnswered (part_of id (Row now cs rs)) → Stands y x.state x.due id → Answered now x.state cs ms es → AreToldOf rs ms
       → Alone id y (part_of id (Row now cs rs)) [] (events_of id es) × (AllRefused rs → events_of id es ≡ [])

@@ -1,4 +1,4 @@
--- What the machine of one resource begins in a turn.
+-- The action that the machine of one resource begins in a turn.
 use Rattle.std.proofs.Common.{◌≡◌, ◌⊎◌, inl, inr, ℕ, ◌≤◌, true, List, [], ◌∷◌, ◌++◌, map, Option, Some, None, refl, sym, ap, subst, ◌∙◌, arith}
 use Rattle.std.proofs.lemmas.List.{append-nil}
 use Rattle.ocf_types.specs.Due.{Due, IsPick}
@@ -17,7 +17,7 @@ use Rattle.exec_turn.specs.Starts.{Started, refusals, refused_end, starts}
 use Rattle.executor.specs.Isolated.{Isolated, IsolatedBegin, IsolatedRest, has_monitor}
 use Rattle.executor.proofs.Isolation.Picks.{IsChosen, begun_one, pick_same}
 
--- it begins nothing where nothing of it is begun
+-- it begins nothing where no action of it is begun
 rests : (y : Isolated) (at clock : ℕ) (bs : List Active) (zs : List Started) → bs ≡ [] → map (λ x. x.what) zs ≡ bs
     → ((r : Resource) → y.resource ≡ Some r → IsPick r y.due at None)
     → IsolatedRest at y (starts clock zs) (begins at bs ++ refusals at zs)
@@ -31,7 +31,7 @@ begun_events id at call run ends =
     record { at = at; change = change.Step id (step.Begin call run) }
     ∷ map (λ end. record { at = at; change = change.Step id (step.Result run end) }) ends
 
--- it begins what is begun of it
+-- it begins the action of it that is begun
 begins_it : (y : Isolated) (id : List ℕ) (at clock n c : ℕ) (r : Resource) (bs : List Active) (zs : List Started) (x : Running)
     → y.resource ≡ Some r → y.next_run ≤ n
     → IsPick r y.due at (Some c) → bs ≡ record { id = id; running = x } ∷ [] → x.call ≡ c → x.run ≡ n → map (λ x. x.what) zs ≡ bs
@@ -64,7 +64,7 @@ begins_it y id at clock n c r bs (z ∷ []) x is le pick one call run each =
           ∙ ap (λ (k : ℕ). begun_events id at k x.run ends) call ∙ ap (λ (k : ℕ). begun_events id at c k ends) run;
     }
 
--- what is begun of it after the results, where it is there with these due moments
+-- the action of it that is begun after the results, where it is there with these due moments
 pub isolated_begins : (y : Isolated) (id : List ℕ) (at clock run : ℕ) (moments : Due) (o : Option Resource) (bs : List Active)
     (zs : List Started) → y.resource ≡ o
     → ((call : ℕ) → has_monitor o call ≡ true → y.due call ≡ moments id call) → y.next_run ≤ run → IsChosen moments at run id o bs

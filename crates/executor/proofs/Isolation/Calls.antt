@@ -49,7 +49,7 @@ module _ {D : Type 0} (look : D → View) (mine : ℕ → Bool) (id : List ℕ) 
   no_events : (effects : Effects) → effects ≡ no_effects → events_of id effects.events ≡ []
   no_events effects none = ap (λ (x : Effects). events_of id x.events) none
 
-  -- the machine is after a call where the executor is
+  -- the machine agrees with the executor after a call
   stands_behind : (at : ℕ) (y : Isolated) (old new : Sight D) (es : List Event) → Went mine id at old new es
       → Stands y old.state (due_in old) id → Stands (isolated_after_all y (events_of id es)) new.state (due_in new) id
   stands_behind at y old new es went stands =
@@ -163,7 +163,7 @@ module _ {D : Type 0} (look : D → View) (mine : ℕ → Bool) (id : List ℕ) 
           subst (λ (k : Effects). AreFresh x.state (first.events ++ k.events)) (sym (calls_closed look mid z es later is rest).nothing)
           (subst (AreFresh x.state) (sym (append-nil first.events)) new_first)
 
-  -- where the machine is after calls
+  -- the machine after calls
   calls_stand : (at : ℕ) (es : List Exchange) (y : Isolated) (x z : Sight D) (d : Effects) → x.state.clock ≤ at → AreRising at es
       → AllByRecursion IsAnswered (part id es) → Stands y x.state (due_in x) id → Calls look x es z d
       → Stands (isolated_after_all y (events_of id d.events)) z.state (due_in z) id
@@ -222,7 +222,7 @@ module _ {D : Type 0} (look : D → View) (x z : Sight D) where
       let own = runs_own id x.state d.events apart (calls_fresh look mine id x.state.clock es x z d clock rises plain calls) in
       alone look mine id x.state.clock es (isolated_of x id) x z d clock rises plain (here x id) apart.ids own.0 own.1 calls
 
-  -- and it is where the calls end
+  -- and it agrees with the executor after the calls
   pub alone_ends : (es : List Exchange) (d : Effects) (id : List ℕ) → Calls look x es z d
       → AllByRecursion IsAnswered (part id es) → AreRising x.state.clock es
       → StandsAt (isolated_after_all (isolated_of x id) (events_of id d.events)) (isolated_of z id)
@@ -230,7 +230,7 @@ module _ {D : Type 0} (look : D → View) (x z : Sight D) where
       let there = calls_stand look (λ run. false) id x.state.clock es (isolated_of x id) x z d (le_refl x.state.clock) rises plain (here x id) calls in
       record { resource = there.resource; due = there.due; calls = there.calls; runs = there.runs }
 
-  -- of a session
+  -- the law of a session
   pub session_alone : (inputs : List Input) (replies : List Reply) (d : Effects) (id : List ℕ) → DistinctKeys x.state
       → Session look x inputs replies z d → AllByRecursion IsAnswered (part id (as_calls inputs replies))
       → AreRising x.state.clock (as_calls inputs replies)
@@ -239,7 +239,7 @@ module _ {D : Type 0} (look : D → View) (x z : Sight D) where
   session_alone inputs replies d id apart session plain rises =
       each_alone (as_calls inputs replies) d id apart (session_is_calls look x z inputs replies d session) plain rises
 
--- the law of a row
+-- the law of a batch
 pub commands_alone : {D : Type 0} (now : ℕ) (x : Sight D) (commands : List Command) (replies : List Reply) (es : List Event) (id : List ℕ)
     → Answered now x.state commands replies es → AllByRecursion IsAnswered (part_of id (Row now commands replies)) → x.state.clock ≤ cut now
     → Alone id (isolated_of x id) (part_of id (Row now commands replies)) [] (events_of id es)

@@ -1,4 +1,4 @@
--- A resource and its due moments after an event: as its own machine has them, whatever the other resources are.
+-- A resource and its due moments after an event are those of its own machine, whatever the other resources are.
 use Rattle.std.proofs.Common.{◌≡◌, ◌≢◌, ℕ, ◌+◌, ◌≤◌, ◌==◌, Bool, true, false, cond, not, is_some, List, [], ◌∷◌, ◌++◌, filter, find, Option, Some, None, option_map, refl, sym, ap, subst, ◌∙◌, arith}
 use Rattle.std.specs.Prelude.{⊤}
 use Rattle.std.specs.Map.{lookup}
@@ -55,7 +55,7 @@ module _ {A : Type 0} where
       by true h k = absurd (cc)
       by false h k = k h
 
-  -- what is found among fewer is found among all
+  -- an element found among fewer is found among all
   find_fewer : (test pass : A → Bool) (xs : List A) → is_some (find test (filter pass xs)) ≡ true → is_some (find test xs) ≡ true
   find_fewer test pass [] h = h
   find_fewer test pass (x ∷ xs) h = by (pass x) (test x) refl h (find_fewer test pass xs)
@@ -66,7 +66,7 @@ module _ {A : Type 0} where
       by true false e h k = k (rw e at h)
       by false false e h k = k h
 
-  -- what is found with one more that does not pass is found before
+  -- an element found with one more that does not pass is found before
   find_before : (test : A → Bool) (xs : List A) (x : A) → test x ≡ false → is_some (find test (xs ++ x ∷ [])) ≡ true
       → is_some (find test xs) ≡ true
   find_before test [] x fails h = let none : is_some (cond (test x) (Some x) None) ≡ true = h in rw fails at none
@@ -132,8 +132,8 @@ monitor_before at (change.Step i what) None call h none = h
 monitor_before at (change.Step i what) (Some r) call h none = monitor_stepped at what r call h none
 monitor_before at change.Boot was call h none = h
 
--- The machine as it is for a resource in a state with these due moments: what it has of the resource, the moments of the
--- monitors that are there, and numbers that are not above the next ones.
+-- The machine of a resource in a state with these due moments: it has the resource, the moments of the monitors that are there, and
+-- numbers that are not above the next ones.
 pub record Stands (y : Isolated) (s : State) (moments : Due) (id : List ℕ) : Type 0 where
   pub resource : y.resource ≡ resource_at s id
   pub due : (call : ℕ) → has_monitor (resource_at s id) call ≡ true → y.due call ≡ moments id call

@@ -1,4 +1,4 @@
--- A resource's part of calls, computed: of two resources, in a batch, in questions and turns, and beside a tidy.
+-- A resource's part of calls, computed: of two resources, in a batch, in questions and turns, and with a tidy.
 use Rattle.std.proofs.Common.{◌≡◌, ℕ, ◌≤◌, List, [], ◌∷◌, refl, arith}
 use Rattle.std.specs.Prelude.{codes}
 use Rattle.ocf_types.specs.declared.command.CommandOf.TheVariants as command
@@ -15,7 +15,7 @@ use Rattle.executor.proofs.History.Examples.{r1}
 abbrev r2 : List ℕ
 r2 = codes "r2"
 
--- commands that forget, in a row at this moment
+-- a batch of commands that forget, at this moment
 abbrev both_forgotten : ℕ → Exchange
 both_forgotten now = Row now (command.Forget r1 ∷ command.Forget r2 ∷ []) (reply.Done ∷ reply.Done ∷ [])
 
@@ -26,7 +26,7 @@ taken : part r1 (both_forgotten 3 ∷ listed ∷ Tidied tidy.Done ∷ Finished 5
     ≡ Took (input.Request 3 (asked.Command (command.Forget r1))) reply.Done ∷ Finished 5 Done ∷ []
 taken = refl
 
--- moments that go back, and a turn that a closed executor did not make, are no premise of the law
+-- moments that go back, and a turn that a closed executor did not make, do not meet the law's premises
 back : AreRising 0 (Finished 5 Done ∷ Tidied tidy.Done ∷ both_forgotten 3 ∷ []) → ⊥
 back h = let less : 5 ≤ 3 = h.1.1.0 in omega (arith, less)
 

@@ -1,4 +1,4 @@
--- A turn that begins nothing, and ended done, as the machine of one resource makes it.
+-- A turn that begins nothing, and ended done: the machine of one resource makes its part.
 use Rattle.std.proofs.Common.{◌≡◌, ℕ, ◌≤◌, Bool, List, filter, le_refl, subst, sym}
 use Rattle.std.specs.List.{AllByRecursion}
 use Rattle.ocf_types.specs.Answer.{moment}
@@ -50,7 +50,7 @@ finish_done look now old new end takes clock is_done =
     }
 
 module _ {D : Type 0} (now : ℕ) (old new : Sight D) (effects : Effects) (finish : FinishDone now old new effects) where
-  -- it leaves what its events make of what it finds
+  -- the state after it is that after its events
   pub finish_does : old.state.clock ≤ cut now → Does (cut now) (seen old) (seen new) effects.events
   finish_does clock =
       let row : List Event = results (cut now) finish.polled in

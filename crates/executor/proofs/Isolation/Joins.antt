@@ -14,7 +14,7 @@ use Rattle.executor.specs.declared.session.InputOf.TheVariants as input
 use Rattle.executor.proofs.Isolation.Changes.{monitor_before, or_else_alike, single-append}
 use Rattle.executor.proofs.Isolation.Picks.{pick_same}
 
--- a machine that is where another is stays there
+-- a machine that agrees with another agrees with it after the same events
 above_call_kept : (c : Change) (m n : ℕ) → m ≤ n → above_call c m ≤ above_call c n
 above_call_kept (change.Step id (step.Exec o)) m n le = le_refl _
 above_call_kept (change.Step id (step.Recur r)) m n le = le_refl _
@@ -39,7 +39,7 @@ stands_on : (x y : Isolated) (es : List Event) → StandsAt x y → StandsAt (is
 stands_on x y [] s = s
 stands_on x y (e ∷ es) s = stands_on (isolated_after x e) (isolated_after y e) es (stands_one x y e s)
 
--- and takes what the other takes
+-- and takes the same calls
 pick_there : (x y : Isolated) (at : ℕ) (r : Resource) (pick : Option ℕ) → StandsAt x y → y.resource ≡ Some r → IsPick r y.due at pick → IsPick r x.due at pick
 pick_there x y at r pick s is picked = pick_same r y.due x.due at pick
     (λ call known. s.due call (subst (λ (o : Option Resource). has_monitor o call ≡ true) (sym is) known)) picked
@@ -108,7 +108,7 @@ alone_there id x y (i ∷ is) entries events s (es, fs, vs, us, entries_are, eve
   alone_there id (isolated_after_all x vs) (isolated_after_all y vs) is fs us (stands_on x y vs s) rest,
 )
 
--- a machine is where it is
+-- a machine agrees with itself
 pub stands_self : (x : Isolated) → StandsAt x x
 stands_self x = record { resource = refl; due = λ call there. refl; calls = le_refl x.next_call; runs = le_refl x.next_run }
 

@@ -1,4 +1,4 @@
--- What one owner has in a list, and in lists that are made of it.
+-- The elements of one owner in a list, and in lists that are made of it.
 use Rattle.std.proofs.Common.{◌≡◌, ℕ, Bool, true, false, cond, List, [], ◌∷◌, ◌++◌, map, filter, flat_map, nat_eq, refl, ap, ◌∙◌}
 use Rattle.std.specs.List.{AllByRecursion, IsDistinct, list_any}
 use Rattle.std.proofs.lemmas.Bool.{eq-eqb}
@@ -47,7 +47,7 @@ module _ {A : Type 0} where
   any_none test (x ∷ xs) h = rw (h.0, any_none test xs h.1) refl
 
 module _ {A B : Type 0} where
-  -- a fact of what is made of each
+  -- a fact of each result of a map
   pub each_map : (P : B → Type 0) (f : A → B) (xs : List A) → AllByRecursion (λ x. P (f x)) xs → AllByRecursion P (map f xs)
   each_map P f [] h = tt
   each_map P f (x ∷ xs) h = (h.0, each_map P f xs h.1)
@@ -56,7 +56,7 @@ module _ {A B : Type 0} where
   each_unmap P f [] h = tt
   each_unmap P f (x ∷ xs) h = (h.0, each_unmap P f xs h.1)
 
-  -- a fact of all that each makes
+  -- a fact of all results of a flat map
   pub each_into : (P : B → Type 0) (f : A → List B) (xs : List A) → AllByRecursion P (flat_map f xs)
       → AllByRecursion (λ x. AllByRecursion P (f x)) xs
   each_into P f [] h = tt
@@ -71,7 +71,7 @@ module _ {A B : Type 0} where
       → AllByRecursion P (flat_map f xs)
   each_flat_map P f h xs = each_out P f xs (each_of_all (λ x. AllByRecursion P (f x)) h xs)
 
-  -- of what is made of each, a filter keeps what is made of those whose thing passes
+  -- a filter of a map is a map of a filter
   pub filter-map : (test : B → Bool) (f : A → B) (xs : List A) → filter test (map f xs) ≡ map f (filter (λ x. test (f x)) xs)
   filter-map test f [] = refl
   filter-map test f (x ∷ xs) = by (test (f x)) (filter-map test f xs)

@@ -1,4 +1,4 @@
--- What a resource begins, and that of one id among what all begin.
+-- The action that a resource begins, and that of one id among all that begin.
 use Rattle.std.proofs.Common.{◌≡◌, ℕ, ◌+◌, ◌≤◌, ◌==◌, Bool, true, false, cond, filter, is_some, length, List, [], ◌∷◌, ◌++◌, Option, Some, None, option_map, refl, sym, ap, subst, ◌∙◌, le_refl, arith}
 use Rattle.std.specs.List.{AllByRecursion, IsDistinct, cons_option}
 use Rattle.std.specs.Map.{keys_of, lookup}
@@ -65,7 +65,7 @@ pick_same r due other at pick agree h =
     (λ m found. sym (agree m.call found)) r.recurring (calls_known r.recurring)) in
     subst (λ (l : List (ℕ × ℕ)). IsPickOf r.history.running r.history.queue l at pick) same h
 
--- with nothing queued what is picked is a monitor's call
+-- with nothing queued the pick is a monitor's call
 pub picks_ready : (r : Resource) (due : ℕ → Option ℕ) (at call : ℕ) → IsLeastDue (due_pairs r.recurring due) at (Some call)
     → is_some (of_call call r.recurring) ≡ true
 picks_ready r due at call p =
@@ -73,7 +73,7 @@ picks_ready r due at call p =
     (All-from_recursion (λ q. is_some (of_call q.1 r.recurring) ≡ true) (due_pairs r.recurring due)
     (pairs_known (λ c. is_some (of_call c r.recurring) ≡ true) r.recurring due (calls_known r.recurring))) p.1
 
--- what picks a call begins it, under its run
+-- a resource that picks a call begins it, under its run
 pub begun_one : (due : ℕ → Option ℕ) (at run : ℕ) (e : List ℕ × Resource) (call : ℕ) → IsPick e.1 due at (Some call)
     → (x : Running) × (begun_in at run e (Some call) ≡ record { id = e.0; running = x } ∷ []) × (x.call ≡ call) × (x.run ≡ run)
 begun_one due at run e call pick = by e.1.history.running e.1.history.queue (of_call call e.1.recurring) refl pick
@@ -93,7 +93,7 @@ begun_one due at run e call pick = by e.1.history.running e.1.history.queue (of_
         let none : is_some {T = Recur} None ≡ true = subst (λ (o : Option Recur). is_some o ≡ true) is found in
         absurd (cc)
 
--- what is begun is of the entry's id
+-- an action begun is of the entry's id
 begun_ids : (at run : ℕ) (e : List ℕ × Resource) (call : Option ℕ) (id : List ℕ)
     → AllByRecursion (λ a. bytes_eq id a.id ≡ bytes_eq id e.0) (begun_in at run e call)
 begun_ids at run e None id = tt
@@ -106,7 +106,7 @@ begun_ids at run e (Some call) id = by (begun_from e.1.history.queue (of_call ca
 abbrev pub own_of : List ℕ → List Active → List Active
 own_of id all = filter (λ a. bytes_eq id a.id) all
 
--- what is begun by entries none of which has the id is of others
+-- actions begun by entries none of which has the id are of others
 picks_absent : (moments : Due) (at run : ℕ) (rs : Registry) (begun : List Active) (id : List ℕ) → ArePicks moments at run rs begun
     → AllByRecursion (λ k. bytes_eq id k ≡ false) (keys_of rs)
     → own_of id begun ≡ []
@@ -118,7 +118,7 @@ picks_absent moments at run (e ∷ es) begun id (call, rest, pick, later, is) ab
     ap (own_of id) is ∙ filter-append (λ a. bytes_eq id a.id) first rest ∙ ap (λ (l : List Active). l ++ own_of id rest) none
     ∙ picks_absent moments at (run + length first) es rest id later absent.1
 
--- what a resource begins under a run not below this one, if it is there
+-- the action that a resource begins under a run not below this one, if the resource is there
 abbrev pub IsChosen : Due → ℕ → ℕ → List ℕ → Option Resource → List Active → Type 0
 IsChosen moments at run id None mine = mine ≡ []
 IsChosen moments at run id (Some r) mine =
@@ -129,7 +129,7 @@ chosen_from : (moments : Due) (at run n : ℕ) (id : List ℕ) (o : Option Resou
 chosen_from moments at run n id None mine le h = h
 chosen_from moments at run n id (Some r) mine le h = (h.0, h.1, omega (arith, h.2), h.3, h.4)
 
--- where ids differ, what is begun of an id is what its resource begins
+-- where ids differ, the action begun of an id is the one that its resource begins
 pub chosen : (moments : Due) (at run : ℕ) (rs : Registry) (begun : List Active) (id : List ℕ) → IsDistinct bytes_eq (keys_of rs)
     → ArePicks moments at run rs begun
     → IsChosen moments at run id (lookup (bytes_eq id) rs) (own_of id begun)

@@ -1,4 +1,4 @@
--- What the machine of one resource replies to a request that is about it.
+-- The replies of the machine of one resource to requests that are about it.
 use Rattle.std.proofs.Common.{◌≡◌, ◌⊎◌, ℕ, ◌≤◌, Bool, true, false, List, [], ◌∷◌, ◌++◌, length, Option, Result, Err, refl, sym, ap, subst, ◌∙◌, inl, inr, ⊎_elim}
 use Rattle.std.proofs.lemmas.Slice.Eq.{bytes_eq-Decides}
 use Rattle.ocf_types.specs.Answer.{asked_event, change_of, event_of, first_of, reply_to, tests}
@@ -18,11 +18,11 @@ use Rattle.executor.specs.Parts.{IsPlain, commanded, is_about}
 use Rattle.executor.specs.Isolated.{Follows, Isolated, IsolatedCommand, cut, isolated_answer, isolated_event, isolated_tests}
 use Rattle.executor.proofs.Isolation.Requests.{moment_is}
 
--- refused for a want that resources share
+-- refused for a shortage that resources share
 abbrev IsShared : Result Event Refusal → Type 0
 IsShared v = (why : Refusal) × (v ≡ Err why) × (IsPlain (reply.Refused why) → ⊥)
 
--- all call ids are used up, or the other tests decide
+-- all call ids are spent, or the other tests decide
 spent_last : (ts : List (Refusal × Bool)) (b : Bool) (e : Event)
     → (first_of (ts ++ (refusal.CallsSpent, b) ∷ []) e ≡ first_of ts e) ⊎ IsShared (first_of (ts ++ (refusal.CallsSpent, b) ∷ []) e)
 spent_last [] true e = inr (refusal.CallsSpent, refl, λ h. h)
@@ -45,7 +45,7 @@ many_between true b c e = inl refl
 many_between false true c e = inr (refusal.TooManyResources, refl, λ h. h)
 many_between false false c e = inl refl
 
--- the machine meets the same refusal, or none as well, but for a want that resources share
+-- the machine meets the same refusal, or none as well, except for a shortage that resources share
 first_alike : (s : State) (c : Command) (size : ℕ) (e : Event)
     → (first_of (tests s c size) e ≡ first_of (isolated_tests (resource_at s (commanded c)) c size) e)
     ⊎ IsShared (first_of (tests s c size) e)

@@ -1,4 +1,4 @@
--- What a request does, and what it is answered.
+-- The effects of a request, and its reply.
 use Rattle.std.proofs.Common.{◌≡◌, ◌⊎◌, inl, inr, ℕ, ◌≤◌, true, false, List, [], ◌∷◌, length, Some, Result, Ok, Err, le_of_eq, refl, sym, ap, subst, ◌∙◌}
 use Rattle.std.proofs.Math.Nat.{max-eq_right}
 use Rattle.std.specs.List.{AllByRecursion}
@@ -28,7 +28,7 @@ use Rattle.executor.specs.Sights.{Sight, due_in, ledger_of}
 use Rattle.executor.specs.Isolated.{Follows, cut}
 use Rattle.executor.proofs.Isolation.Changes.{AreFresh, IsFresh}
 
--- what a machine of one resource sees of an executor
+-- the parts of an executor that the machine of one resource depends on
 pub record Seen : Type 0 where
   pub state : State
   pub due : Due
@@ -40,7 +40,7 @@ seen x = record { state = x.state; due = due_in x }
 abbrev pub seen_behind : Seen → List Event → Seen
 seen_behind x es = record { state = after_all x.state es; due = due_after_all x.state x.due es }
 
--- what a call did: the state and the due moments after its events, which are new, and no later than this moment
+-- the effects of a call: the state and the due moments are those after its events, which are new, and no later than this moment
 pub record Does (at : ℕ) (old new : Seen) (es : List Event) : Type 0 where
   pub state : new.state ≡ after_all old.state es
   pub due : new.due ≡ due_after_all old.state old.due es
@@ -60,7 +60,7 @@ rested at old new clock same = record {
   clock = subst (λ (x : Seen). x.state.clock ≤ at) (sym same) clock;
 }
 
--- the event is acknowledged, or refused for a want that resources share
+-- the event is acknowledged, or refused for a shortage that resources share
 abbrev IsRefused : Reply → Type 0
 IsRefused reply = (why : Refusal) × (reply ≡ Refused why) × (IsPlain (Refused why) → ⊥)
 
@@ -122,7 +122,7 @@ one_clock s now c e is clock =
     let went = passed (tests s c (length (spelled_event (asked_event s now c)))) (asked_event s now c) e is in
     subst (λ (f : Event). f.at ≤ cut now) went.0 (le_of_eq (moment_is s now clock))
 
--- What a command does, and what it is answered where that is plain.
+-- The effects of a command, and its reply where that is plain.
 pub record Commands (now : ℕ) (c : Command) (old new : Seen) (reply : Reply) (effects : Effects) : Type 0 where
   pub no_entries : effects.entries ≡ []
   pub names : AllName (commanded c) effects.events
@@ -178,7 +178,7 @@ commands {D} look now c old new reply effects clock takes =
     }
     by (Ok e) is serves = by_reply e is serves (told_or_refused e reply serves.told)
 
--- the same of a command in a row
+-- the same of a command of a batch
 pub added : (now : ℕ) (c : Command) (old : Seen) (reply : Reply) (first : List Event) → old.state.clock ≤ cut now
     → Adds (event_of old.state now c) reply first → Commands now c old (seen_behind old first) reply (row_effects true first)
 added now c old reply first clock adds = by (event_of old.state now c) refl adds

@@ -1,4 +1,4 @@
--- What rows and entries of a turn keep of one resource.
+-- The events and entries of one resource in the batches of a turn.
 use Rattle.std.proofs.Common.{◌≡◌, ℕ, Bool, true, false, cond, List, [], ◌∷◌, map, filter, flat_map, Option, Some, None, option_and_then, option_to_list, Result, refl, sym, ap, subst, ◌∙◌, arith}
 use Rattle.std.specs.List.{AllByRecursion, IsDistinct}
 use Rattle.std.specs.Map.{keys_of, lookup}
@@ -56,7 +56,7 @@ module _ {A : Type 0} where
           ap (λ (l : List (List ℕ × A)). e ∷ l) none ∙ ap (λ (j : List ℕ). (j, e.1) ∷ []) (sym k)
       by false other go = go
 
--- what runs of an id, where ids differ
+-- the running action of an id, where ids differ
 pub own_active : (s : State) (id : List ℕ) → IsDistinct bytes_eq (keys_of s.resources)
     → filter (λ a. bytes_eq id a.id) (active s) ≡ active_of id (option_and_then (λ r. r.history.running) (resource_at s id))
 own_active s id distinct =
@@ -86,7 +86,7 @@ poll_runs mine at x (poll.Exited code) kill b h = (h, tt)
 poll_runs mine at x (poll.Signaled signal) kill b h = (h, tt)
 poll_runs mine at x poll.Fault kill b h = (h, tt)
 
--- the polls that an id has, and what they make
+-- the polls of an id, and their events and entries
 pub polls_kept : (mine : ℕ → Bool) (id : List ℕ) (at : ℕ) (ps : List Polled) → AreOwn mine id (map (λ p. p.who) ps)
     → filter (λ e. mine e.run) (polls at ps) ≡ polls at (filter (λ p. bytes_eq id p.who.id) ps)
 polls_kept mine id at ps h =
@@ -110,7 +110,7 @@ results_kept id at ps = filter-flat_map (names_it id) (λ p. bytes_eq id p.who.i
     (each_of_all (λ p. events_of id (map (result_of at p.who) (ends_of at p))
     ≡ cond (bytes_eq id p.who.id) (map (result_of at p.who) (ends_of at p)) []) (λ p. ends_kept id at p.who (ends_of at p)) ps)
 
--- the begins and the starts that an id has, and the refused ones
+-- the begins and the starts of an id, and the refused ones
 pub begins_kept : (id : List ℕ) (at : ℕ) (begun : List Active)
     → events_of id (begins at begun) ≡ begins at (filter (λ a. bytes_eq id a.id) begun)
 begins_kept id at begun = filter-map (names_it id) (begin_of at) begun
@@ -157,7 +157,7 @@ pub ends_draw : (at : ℕ) (es : List Event) → AllByRecursion (IsEnd at) es �
 ends_draw at [] h t = refl
 ends_draw at (e ∷ es) h t = let rest = ends_draw at es h.1 (after t e) in omega (arith, rest, h.0.draws)
 
--- its own poll, of what runs
+-- its own poll, of its running action
 pub isolated_poll : (id : List ℕ) (at : ℕ) (o : Option Running) (ps : List Polled) → AllByRecursion (λ p. IsPoll p.poll) ps
     → map (λ p. p.who) ps ≡ active_of id o
     → IsolatedPoll id at o (polls at ps) (results at ps)

@@ -1,4 +1,4 @@
--- Which runs are one resource's: those of its actions that run, and those that it begins.
+-- The runs of one resource: those of its running actions, and those that it begins.
 use Rattle.std.proofs.Common.{◌≡◌, ℕ, ◌+◌, ◌≤◌, ◌<◌, Bool, true, false, cond, not, List, [], ◌∷◌, ◌++◌, map, filter, flat_map, nat_eq, Option, Some, None, refl, ap, ap₂, subst, ◌∙◌, add-zero, arith}
 use Rattle.std.specs.Prelude.{⊤}
 use Rattle.std.specs.List.{AllByRecursion, IsDistinct, list_any}
@@ -133,7 +133,7 @@ begins_told mine id (e ∷ es) h = (
   begins_told mine id es (each_last (IsTold mine id) (marks_begun e.change) (all_begun es) h),
 )
 
--- of all runs, its runs are those of its actions and of what it begins
+-- of all runs, its runs are those of its running actions and of its begins
 pub runs_own : (id : List ℕ) (s : State) (es : List Event) → DistinctKeys s → AreFresh s es
     → AreOwn (is_mine id s es) id (active s) × AllBeginOwn (is_mine id s es) id es
 runs_own id s es apart fresh =
@@ -146,7 +146,7 @@ runs_own id s es apart fresh =
     let begun : AllByRecursion (IsTold mine id) (all_begun es) = each_last (IsTold mine id) (map mark_of (active s)) (all_begun es) all in
     (each_unmap (IsTold mine id) mark_of (active s) running, begins_told mine id es begun)
 
--- what runs of an entry
+-- the running action of an entry
 abbrev EntryOwn : (ℕ → Bool) → List ℕ → List ℕ × Resource → Type 0
 EntryOwn mine id e = AreOwn mine id (active_in e)
 
@@ -181,7 +181,7 @@ own_changed mine id at (change.Step other what) s fresh own h =
     by e false differs h = h
 own_changed mine id at change.Boot s fresh own h = absurd fresh
 
--- what runs stays known after new events
+-- running actions stay known after new events
 pub own_stays : (mine : ℕ → Bool) (id : List ℕ) (s : State) (es : List Event) → AreFresh s es → AllBeginOwn mine id es
     → AreOwn mine id (active s) → AreOwn mine id (active (after_all s es))
 own_stays mine id s [] fresh own h = h

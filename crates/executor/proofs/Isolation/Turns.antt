@@ -1,4 +1,4 @@
--- A turn that ended done, as the machine of one resource makes it.
+-- A turn that ended done: the machine of one resource makes its part.
 use Rattle.std.proofs.Common.{◌≡◌, ℕ, ◌≤◌, Bool, not, List, [], ◌∷◌, ◌++◌, map, filter, Option, option_and_then, refl, sym, ap, subst, ◌∙◌, arith, ap₂, append_assoc, le_refl}
 use Rattle.std.specs.List.{AllByRecursion, IsDistinct}
 use Rattle.std.specs.Prelude.{⊤}
@@ -78,7 +78,7 @@ BeginsOwn mine id _ = ⊤
 abbrev pub AllBeginOwn : (ℕ → Bool) → List ℕ → List Event → Type 0
 AllBeginOwn mine id es = AllByRecursion (λ e. BeginsOwn mine id e.change) es
 
--- of the polls of all that runs, one resource's are its own machine's, and so are their results
+-- of the polls of all running actions, one resource's are its own machine's, and so are their results
 pub own_polls : (mine : ℕ → Bool) (id : List ℕ) (at : ℕ) (y : Isolated) (s : State) (ps : List Polled) → map (λ p. p.who) ps ≡ active s
     → AllByRecursion (λ p. IsPoll p.poll) ps → AreApart s → AreOwn mine id (active s) → y.resource ≡ resource_at s id
     → IsolatedPoll id at (running_in y) (filter (λ e. mine e.run) (polls at ps)) (events_of id (results at ps))
@@ -128,7 +128,7 @@ module _ {D : Type 0} (now : ℕ) (old new : Sight D) (given : Reply) (effects :
   at : ℕ
   at = cut now
 
-  -- its state and due moments after the results, the events after these, and what it picks there
+  -- its state and due moments after the results, the events after these, and its picks there
   mid : State
   mid = after_all old.state (results at turn.t.polled)
 
@@ -159,7 +159,7 @@ module _ {D : Type 0} (now : ℕ) (old new : Sight D) (given : Reply) (effects :
       (each_map (λ e. e.at ≡ at) (begin_of at) turn.t.begun (each_of_all (λ (a : Active). at ≡ at) (λ a. refl) turn.t.begun))
       (ends_at at (refusals at turn.t.started) (refusals_end at turn.t.started)))
 
-  -- it leaves what its events make of what it finds
+  -- the state after it is that after its events
   pub turn_does : old.state.clock ≤ cut now → Does (cut now) (seen old) (seen new) effects.events
   unfolding at mid behind
   turn_does clock = record {

@@ -1,4 +1,4 @@
--- What a call did to the state and the due moments, as one resource sees it.
+-- The effects of a call on one resource: its state and due moments.
 use Rattle.std.proofs.Common.{◌≡◌, ℕ, ◌≤◌, Bool, true, false, true≢false, List, [], ◌∷◌, ◌++◌, refl, sym, ap, subst, ◌∙◌, le_refl}
 use Rattle.std.specs.List.{AllByRecursion}
 use Rattle.std.proofs.lemmas.List.{append-nil}
@@ -30,12 +30,12 @@ use Rattle.executor.proofs.Isolation.Finishes.{finish_does, finish_done}
 use Rattle.executor.proofs.Isolation.Requests.{AllKeep, Does, Seen, commands, rested, seen, seen_behind}
 use Rattle.executor.proofs.Isolation.Turns.{AllBeginOwn, turn_does, turn_done}
 
--- what a closed executor replies is not plain
+-- the replies of a closed executor are not plain
 pub closed_plain : (i : Input) (r : Reply) → r ≡ closed_reply i → IsPlain r → ⊥
 closed_plain (input.Request now request) r is plain = subst IsPlain is plain
 closed_plain (input.Turn now) r is plain = let bad : turn_end.Closed ≡ turn_end.Done = subst IsPlain is plain in cc
 
--- the first of new events, and events that are one's own after others
+-- a prefix of new events, and events that are one's own after others
 pub first_fresh : (s : State) (es fs : List Event) → AreFresh s (es ++ fs) → AreFresh s es
 first_fresh s [] fs h = tt
 first_fresh s (e ∷ es) fs h = (h.0, first_fresh (after s e) es fs h.1)
@@ -49,8 +49,8 @@ own_append mine id (e ∷ es) fs one two = (one.0, own_append mine id es fs one.
 pub here : {D : Type 0} (x : Sight D) (id : List ℕ) → Stands (isolated_of x id) x.state (due_in x) id
 here x id = record { resource = refl; due = λ call there. refl; calls = le_refl x.state.next_call; runs = le_refl x.state.next_run }
 
--- What a call did, as one resource sees it: the state and the due moments after its events, and after those of others that a disk
--- fault left pending as it closed the executor.
+-- The effects of a call on one resource: the state and the due moments are those after its events, and after events of others that a
+-- disk fault left pending as it closed the executor.
 pub record Went {D : Type 0} (mine : ℕ → Bool) (id : List ℕ) (at : ℕ) (old new : Sight D) (es : List Event) : Type 0 where
   pub more : List Event
   pub does : Does at (seen old) (seen new) (es ++ more)
@@ -59,7 +59,7 @@ pub record Went {D : Type 0} (mine : ℕ → Bool) (id : List ℕ) (at : ℕ) (o
   pub whole : new.is_open ≡ true → more ≡ []
 
 module _ {D : Type 0} (look : D → View) (mine : ℕ → Bool) (id : List ℕ) where
-  -- all of it is recorded, or nothing was done
+  -- all events are recorded, or there are none
   went_so : (at : ℕ) (old new : Sight D) (es : List Event) → Does at (seen old) (seen new) es → Went mine id at old new es
   went_so at old new es does = record {
     more = [];
@@ -103,7 +103,7 @@ module _ {D : Type 0} (look : D → View) (mine : ℕ → Bool) (id : List ℕ) 
       went_nowhere at old new d clock (ap seen_in tidies.same) none
   tidy_went false at end old new d clock none rests = went_nowhere at old new d clock (ap seen rests.1) none
 
-  -- commands in a row
+  -- a batch of commands
   row_went : (now : ℕ) (cs : List Command) (rs : List Reply) (old new : Sight D) (d : Effects) → old.state.clock ≤ cut now
       → AllByRecursion IsAnswered (part_of id (Row now cs rs)) → TakesRow look now cs old new rs d → Went mine id (cut now) old new d.events
   row_went now cs rs old new d clock plain row = by new.is_open refl row.takes.told (same_events row.does)

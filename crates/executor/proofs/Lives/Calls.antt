@@ -1,4 +1,4 @@
--- What calls leave, one after the other.
+-- The crash condition of calls, one after the other.
 use Rattle.std.proofs.Common.{◌≡◌, ℕ, Bool, true, false, List, [], ◌∷◌, refl, sym, ap, subst, ◌∙◌}
 use Rattle.std.proofs.lemmas.Bool.{false≢true}
 use Rattle.ocf_types.specs.Kinds.{Command, Event, Reply}
@@ -17,7 +17,7 @@ use Rattle.exec_ledger.specs.Held.{Held}
 use Rattle.executor.proofs.Sessions.Growing.{Onward, leads_open, leads_still, leads_turn, onward, onward_at, onward_joined}
 
 module _ {D : Type 0} (look : D → View) where
-  -- what a closed executor is asked leaves it closed, over the same disk, and does nothing
+  -- calls of a closed executor leave it closed, over the same disk, and do nothing
   pub record Closed (x y : Sight D) (d : Effects) : Type 0 where
     pub is_closed : y.is_open ≡ false
     pub disk : y.disk ≡ x.disk
@@ -59,7 +59,7 @@ module _ {D : Type 0} (look : D → View) where
         nothing = is ∙ (λ k. followed_by (one.nothing k) (others.nothing k));
       }
 
-  -- a row goes on like any call
+  -- a batch has the crash condition of any call
   row_going : (o : Bool) (x y : Sight D) (es : List Event) → y.is_open ≡ o
       → Leaves look x.disk y.disk x.state (after_all x.state (row_effects o es).events) (row_effects o es)
       → y.state ≡ after_all x.state es → Onward look x y (row_effects o es)
@@ -77,13 +77,13 @@ module _ {D : Type 0} (look : D → View) where
       subst (λ (e : Effects). Onward look x y e) (sym takes.does)
       (row_going y.is_open x y takes.takes.events refl row.crash (ap (λ (h : Held D). h.state) row.went.same))
 
-  -- so does a turn that begins nothing
+  -- so has a turn that begins nothing
   finish_onward : (x y : Sight D) (now : ℕ) (end : TurnEnd) (d : Effects) → FinishedWhile true look now x y end d → Onward look x y d
   finish_onward x y now end d (takes, does) =
       subst (λ (e : Effects). Onward look x y e) (sym does) (onward look x y _ (leads_turn look now x y end takes))
 
   module _ (lawful : (d : D) → (look d).honest → Lawful (look d)) where
-    -- one call more, of an open executor
+    -- one more call, of an open executor
     taken_more : (o : Bool) (w x y : Sight D) (e : Exchange) (a d : Effects) → x.is_open ≡ o → Does look e x y d → Onward look w x a
         → Onward look w y (followed_by a d)
     taken_more true w x y (Took i reply) a d is_open does so_far =
@@ -115,7 +115,7 @@ module _ {D : Type 0} (look : D → View) where
           whole = λ bad. absurd (false≢true (sym none.is_closed ∙ bad));
         })
 
-    -- any calls more
+    -- any more calls
     pub calls_more : (w x z : Sight D) (es : List Exchange) (a d : Effects) → Calls look x es z d → Onward look w x a
         → Onward look w z (followed_by a d)
     calls_more w x z [] a d calls so_far =

@@ -16,14 +16,14 @@ use Rattle.exec_journal.specs.Found.{FoundAs}
 use Rattle.exec_ledger.specs.Laws.{asked_in, asked_none, asked_one}
 use Rattle.exec_ledger.specs.Pieces.{HasBegin, is_begin}
 
--- it goes on from another
+-- one prefix extends another
 abbrev pub GoesOn : List Event → List Event → Type 0
 GoesOn p q = (more : List Event) × (q ≡ p ++ more)
 
 goes_on_self : (p : List Event) → GoesOn p p
 goes_on_self p = ([], sym (append-nil p))
 
--- of two prefixes the longer one goes on from the other
+-- of two prefixes the longer one extends the other
 shorter : (p q r t : List Event) → p ++ r ≡ q ++ t → length p ≤ length q → GoesOn p q
 shorter [] q r t same le = (q, refl)
 shorter (x ∷ p) [] r t same le = absurd (omega (arith, le))
@@ -61,7 +61,7 @@ pub record FrontOf (s : State) (all : List Event) (c : Image) (p : List Event) :
   pub found : FoundAs (after_all s p) c
 
 module _ (s : State) (all : List Event) (c : Image) (stop : ℕ) where
-  -- of two prefixes one goes on from both
+  -- of two prefixes one extends both
   longer : (p q : List Event) → FrontOf s all c p → FrontOf s all c q
       → (r : List Event) × FrontOf s all c r × GoesOn p r × GoesOn q r
   longer p q f g = ⊎_elim
@@ -77,7 +77,7 @@ module _ (s : State) (all : List Event) (c : Image) (stop : ℕ) where
   abbrev pub EachBegun : List Entry → Type 0
   EachBegun xs = (run clock : ℕ) → Asked xs run clock → clock ≤ stop → (q : List Event) × FrontOf s all c q × HasBegin run q
 
-  -- then one prefix has all of them, and goes on from any given one
+  -- then one prefix has all of them, and extends any given one
   pub all_begun : (xs : List Entry) → EachBegun xs → (p : List Event) → FrontOf s all c p
       → (r : List Event) × FrontOf s all c r × GoesOn p r × AllBegun xs r
   all_begun [] each p f = (p, f, goes_on_self p, λ run clock asked le. absurd (asked_none run clock asked))

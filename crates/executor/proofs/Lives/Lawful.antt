@@ -1,4 +1,4 @@
--- What a life begins with is lawful.
+-- A history begins with a lawful state.
 use Rattle.std.proofs.Common.{◌≡◌, List, [], ◌∷◌, flat_map, sym, subst}
 use Rattle.ocf_types.specs.Applies.{Applies, AppliesIn}
 use Rattle.ocf_types.specs.Kinds.{Event}
@@ -38,7 +38,7 @@ module _ (laws : LawfulLaws) where
   in_second First s lawful = laws.carried s lawful
   in_second Second s lawful = lawful
 
-  -- what is found is lawful
+  -- a state that is found is lawful
   pub found_lawful : (s : State) (c : Image) → FoundAs s c → IsLawfulState s
   found_lawful s c found = by (choice c) found
     where
@@ -52,7 +52,7 @@ module _ (laws : LawfulLaws) where
           (all_stay whole.layout front.first (flat_map (λ es. es) front.rows) front.lawful front.apply))
 
   module _ {D : Type 0} (look : D → View) (law : WhatStands) (lawful : (d : D) → (look d).honest → Lawful (look d)) (start : State) where
-    -- so is what a life begins with, where something is left of it
+    -- so is the first state of a history that may leave something
     pub start_lawful : (life : List (Sitting D)) → IsLife look start life → (c : Image) → LifeLeaves look start life c → IsLawfulState start
     start_lawful [] is c left = found_lawful start c left.0
     start_lawful (InOpening old new now end ∷ older) (is, from, ends, honest) c left =

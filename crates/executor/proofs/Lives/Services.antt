@@ -1,4 +1,4 @@
--- What a service leaves, crashed at any moment after the last return.
+-- The images that an incarnation may leave that crashed after its last call returned.
 use Rattle.std.proofs.Common.{◌≡◌, inl, inr, ◌≤◌, ℕ, Bool, true, false, List, [], ◌++◌, refl, sym, ap, subst, ◌∙◌, arith, append_assoc}
 use Rattle.std.proofs.lemmas.List.{append-nil}
 use Rattle.ocf_types.specs.Kinds.{Event}
@@ -27,12 +27,12 @@ module _ {D : Type 0} (look : D → View) (law : WhatStands) (lawful : (d : D) �
         onward look x.opened x.opened no_effects
         (leads_start look law x.opened (lawful x.opened.disk) (serves.opens.sound serves.opens.over.is_open))
 
-    -- what the calls leave that returned
+    -- the crash condition of the calls that returned
     returned_leads : Onward look x.opened x.returned x.done
     returned_leads =
         calls_more look lawful x.opened x.opened x.returned serves.calls no_effects x.done serves.returns opened_leads
 
-    -- what all of its calls leave
+    -- the crash condition of all of its calls
     pub whole_leads : Onward look x.opened x.last (followed_by x.done x.under_way)
     whole_leads =
         calls_more look lawful x.opened x.returned x.last serves.begun x.done x.under_way serves.goes_on returned_leads
@@ -44,7 +44,7 @@ module _ {D : Type 0} (look : D → View) (law : WhatStands) (lawful : (d : D) �
       abbrev Base : Type 0
       Base = (p : List Event) × FrontOf x.opened.state (all_of (followed_by x.done x.under_way)) c p × GoesOn x.done.events p
 
-      -- where the executor was open after the last return, the pair is found after some of what was under way
+      -- where the executor was open after the last return, the pair is found after some of the events under way
       base_open : x.returned.is_open ≡ true → Base
       base_open is_open =
           let going : Onward look x.returned x.last x.under_way =
@@ -69,8 +69,8 @@ module _ {D : Type 0} (look : D → View) (law : WhatStands) (lawful : (d : D) �
             (q, refl),
           )
 
-      -- where a disk fault had closed it, nothing was under way: the pair is found after all that was recorded, or after
-      -- what the fault left pending too
+      -- where a disk fault had closed it, nothing was under way: the pair is found after all recorded events, or also after
+      -- those that the fault left pending
       base_closed : x.returned.is_open ≡ false → Base
       base_closed closed =
           let none = calls_closed look x.returned x.last serves.begun x.under_way closed serves.goes_on in
@@ -132,7 +132,7 @@ module _ {D : Type 0} (look : D → View) (law : WhatStands) (lawful : (d : D) �
             begin_among run begun.first (begun.first ++ q) (q, refl) begun.begins,
           )
 
-      -- what remains of it
+      -- the events that remain of it
       pub service_stands : (p : List Event) × Stands x p × FoundAs (after_all x.opened.state p) c
       service_stands =
           let base = base_of x.returned.is_open refl in
@@ -150,7 +150,7 @@ module _ {D : Type 0} (look : D → View) (law : WhatStands) (lawful : (d : D) �
             all.1.found,
           )
 
-      -- and what is left has room for its boot
+      -- and the pair has capacity for its boot
       pub service_roomy : Roomy c
       service_roomy =
           let later = returned_leads.crash.crash.passed.clock in

@@ -1,4 +1,4 @@
--- Whole lives: what is found after them.
+-- Histories, and the pairs that they may leave.
 use Rattle.std.proofs.Common.{◌≡◌, inl, inr, ℕ, Bool, true, false, List, [], ◌∷◌, ◌++◌, Option, Some, None, refl, sym, ap, subst, ◌∙◌, append_assoc}
 use Rattle.std.specs.Prelude.{if◌then◌else◌, option_to_list}
 use Rattle.ocf_types.specs.Answer.{moment}
@@ -26,7 +26,7 @@ use Rattle.executor.proofs.Openings.Ends.{read_only}
 use Rattle.exec_ledger.specs.Laws.{WhatStands}
 use Rattle.executor.proofs.Lives.Services.{service_roomy, service_stands, whole_leads}
 
--- one thing is found on a pair of parts
+-- one state is found on a pair of parts
 pub record OneFinding : Type 0 where
   pub state : (c : Image) (s t : State) → FoundAs s c → FoundAs t c → s ≡ t
   pub either : (c : Image) (s : State) (d : Damage) → FoundAs s c → HasDamage c d → ⊥
@@ -42,7 +42,7 @@ boots_is s now = by (any_busy s)
     by true = refl
     by false = refl
 
--- a life begins on a fresh pair, and on one of the first layout
+-- a history begins on a fresh pair, and on one of the first layout
 module _ (law : WhatStands) where
   fresh_found : (c : Image) → IsFreshPair c → FoundAs empty c
   fresh_found c fresh = subst (λ (h : Choice). LeadsTo h c empty) (sym fresh) refl
@@ -68,7 +68,7 @@ module _ {D : Type 0} (look : D → View) (law : WhatStands) (once : OneFinding)
       after_all-append start ys (boots (after_all start ys) now) ∙ boots_is (after_all start ys) now
       ∙ ap (λ (t : State). booted t now) (sym same)
 
-  -- what is found after a life
+  -- the pair after a history
   abbrev Behind : List (Sitting D) → Image → Type 0
   Behind life c = (zs : List Event) × Lived start life zs × FoundAs (after_all start zs) c
 
@@ -113,7 +113,7 @@ module _ {D : Type 0} (look : D → View) (law : WhatStands) (once : OneFinding)
   in_opening old new now (Some why.Full) older from honest was ends c left =
       unbooted old new now (Some why.Full) older from was c ((ends.unbooted (λ none. none)).from_start honest c left)
 
-  -- every pair that a life may leave is found so, and has room for its boot
+  -- every pair that a history may leave is found so, and has capacity for its boot
   pub life_leaves : (life : List (Sitting D)) → IsLife look start life → (c : Image) → LifeLeaves look start life c → Behind life c × Roomy c
   life_leaves [] is c left = (([], refl, left.0), left.1)
   life_leaves (InOpening old new now end ∷ older) (is, from, ends, honest) c left =
@@ -141,7 +141,7 @@ module _ {D : Type 0} (look : D → View) (law : WhatStands) (once : OneFinding)
         service_roomy look law lawful x serves honest c left,
       )
 
-  -- so an opening after a life gives what remains of it, and reports what ran
+  -- so an opening after a history gives the state after the events that remain, and reports the actions that ran
   pub opened_behind : (life : List (Sitting D)) (old : D) (from : ChildrenView) (now : ℕ) (x : Sight D) (ran queued : List Notice)
       → IsLife look start life → GoesOnFrom look start life old → Opened look (look old) from now x ran queued → (look x.disk).honest
       → OpensBehind start life now x.state ran queued
@@ -158,7 +158,7 @@ module _ {D : Type 0} (look : D → View) (law : WhatStands) (once : OneFinding)
         queued = starts.queued ∙ ap (λ (s : State). dropped s (moment s now)) same;
       }
 
-  -- and it finds no damage, and room for its boot
+  -- and it finds no damage, and capacity for its boot
   pub opens_behind : (life : List (Sitting D)) (old new : D) (from to : ChildrenView) (now : ℕ) (fault : OpenError) → IsLife look start life
       → GoesOnFrom look start life old → NotOpened (look old) (look new) from to now fault → (look new).honest
       → (fault ≡ why.Full → ⊥) × ((d : Damage) → fault ≡ why.Damaged d → ⊥)

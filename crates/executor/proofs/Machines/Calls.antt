@@ -53,13 +53,13 @@ is_true : (o : Bool) → (o ≡ false → ⊥) → o ≡ true
 is_true true h = refl
 is_true false h = absurd (h refl)
 
--- what is acknowledged is no refusal, and is recorded
+-- an acknowledgement is not a refusal, and its event is recorded
 not_refused : (c : Change) (refusal : Refusal) → acknowledged c ≡ Refused refusal → ⊥
 not_refused (change.Step id (step.Exec o)) refusal is = cc
 not_refused (change.Step id (step.Recur m)) refusal is = cc
 not_refused _ refusal is = cc
 
--- what of it is recorded, pending, and answered where the disk fails
+-- the recorded and the pending event, and the reply, where the disk fails
 abbrev Acknowledged : Event → Change → Type 0
 Acknowledged e c = (recorded e (acknowledged c) ≡ e ∷ []) × (pending e (acknowledged c) ≡ [])
     × (failed (acknowledged c ∷ []) ≡ Refused Disk ∷ [])
@@ -69,7 +69,7 @@ is_acknowledged e (change.Step id (step.Exec o)) = (refl, refl, refl)
 is_acknowledged e (change.Step id (step.Recur m)) = (refl, refl, refl)
 is_acknowledged e _ = (refl, refl, refl)
 
--- one answer, and the events of one command
+-- one reply, and the events of one command
 answers : (s : State) (now : ℕ) (c : Command) (r : Reply) (es : List Event) (v : Result Event Refusal) → event_of s now c ≡ v → Adds v r es
     → Answered now s (c ∷ []) (r ∷ []) es
 answers s now c r es v is adds = (es, [], subst (λ (w : Result Event Refusal). Adds w r es) (sym is) adds, refl, sym (append-nil es))
@@ -83,7 +83,7 @@ module _ {D : Type 0} (look : D → View) where
   still : (x y : Sight D) (d : Effects) → y ≡ x → d ≡ no_effects → GoesOn [] (machine_of x) (machine_of y) d
   still x y d same none = (ap machine_of same, none)
 
-  -- a label with what its device did, and where the journal's next record went
+  -- a label with the device's failures, and the position of the journal's next record
   abbrev step_of : Sight D → Sight D → Label
   step_of x y = label_in look true Cleared x y no_effects
 
@@ -150,7 +150,7 @@ module _ {D : Type 0} (look : D → View) where
           inl (reply ∷ [], [], answers x.state now c reply [] (Err refusal) is (serves.0, refl), inl (refl, still x y no_effects (same_sight x y serves.1 takes.serves.1) refl))
       by (Ok e) is serves = records now c x y reply e is serves takes.serves.1 was takes.closes.0 takes.closes.1
 
-  -- commands in a row
+  -- a batch of commands
   row_so : (o : Bool) (now : ℕ) (cs : List Command) (rs : List Reply) (x y : Sight D) (d : Effects) (t : TakesRow look now cs x y rs d)
       → y.is_open ≡ o → TakesAll (step_of x y) now cs (row_replies o t.takes.meant) (machine_of x) (machine_of y) (row_effects o t.takes.events)
   row_so true now cs rs x y d t is = (

@@ -1,4 +1,4 @@
--- What a behaviour of the machine has left: each claim has an event of its own, and each start its begin.
+-- The events that a behaviour of the machine left: each claim has one of its own, and each start has its begin.
 use Rattle.std.proofs.Common.{◌≡◌, inl, inr, ℕ, Bool, true, false, List, [], ◌∷◌, ◌++◌, map, flat_map, Result, Ok, Err, refl, sym, ap, subst, ◌∙◌}
 use Rattle.std.specs.Prelude.{if◌then◌else◌}
 use Rattle.std.specs.List.{list_any}
@@ -109,7 +109,7 @@ one_taken l now c r m n did (inl takes) = takes_recorded l now (c ∷ []) (r ∷
 one_taken l now c r m n did (inr (e, is, full, may, goes)) =
     none_claimed m.state (acknowledgements now (c ∷ []) (r ∷ [])) did.events (ap (λ (t : Reply). acknowledgements now (c ∷ []) (t ∷ [])) full)
 
--- notices: each is of its result
+-- notices: each has its result
 ends_recorded : (s : State) (at : ℕ) (a : Active) (ends : List RunEnd) → AllRecorded s (map Ended (map (notice_of at a) ends)) (map (result_of at a) ends)
 ends_recorded s at a [] = tt
 ends_recorded s at a (end ∷ ends) =
@@ -131,7 +131,7 @@ begun_recorded : (s : State) (at : ℕ) (ps : List Polled) (bs : List Active)
     → AllRecorded s (map Ended (result_notices at ps)) (results at ps ++ begins at bs)
 begun_recorded s at ps bs = recorded_more s (map Ended (result_notices at ps)) (results at ps) (begins at bs) (results_recorded s at ps)
 
--- by what they are
+-- the claims of a call, by its kind
 moved : (s : State) (ns ms : List Notice) (es fs : List Event) → ns ≡ ms → es ≡ fs → AllRecorded s (map Ended ms) fs → AllRecorded s (map Ended ns) es
 moved s ns ms es fs same same2 h =
     subst (λ (l : List Notice). AllRecorded s (map Ended l) es) (sym same) (subst (AllRecorded s (map Ended ms)) (sym same2) h)
@@ -171,7 +171,7 @@ finish_recorded turn_end.BookFull x did told (is, ns) = moved x.state told [] di
 finish_recorded turn_end.Disk x did told (ps, _, is, ns) = moved x.state told [] did.events [] ns (same_events is) tt
 finish_recorded _ x did told none = absurd none
 
--- a step with no notice
+-- a step without a notice
 unnoticed : (s : State) (cs : List Claim) (ns : List Notice) (es : List Event) → ns ≡ [] → AllRecorded s cs es
     → AllRecorded s (cs ++ map Ended ns) es
 unnoticed s cs ns es none h =
@@ -231,7 +231,7 @@ all_claims (l ∷ ls) m n did (mid, first, later, moves, rest, is) =
     (both_recorded m.state (claims_of l) first.events (flat_map claims_of ls) later.events (step_recorded m.is_open l m mid first moves)
     (later_claims mid.is_open l ls m mid n first later refl moves rest (all_claims ls mid n later rest)))
 
--- those of a service, in what remains of it
+-- those of an incarnation, in the events that remain of it
 service_recorded : (x : SeenService) (s : State) (p : List Event) → Remains x s p
     → AllRecorded s (flat_map claims_of x.calls) (boots s x.now ++ p)
 service_recorded x s p r =
@@ -276,7 +276,7 @@ runs_begun start (Serving x ∷ older) zs (ys, more, before, (p, r, more_is), is
           (subst (HasBegin run) (sym more_is) (begin_after run (boots (after_all start ys) x.now) p (r.begins run clock asked le))),
     )
 
--- all that is promised
+-- the promise
 pub runs_kept : (start : State) (xs : List Seen) (zs : List Event) → IsLawfulState start → Runs start xs zs → IsKept start xs zs
 runs_kept start xs zs lawful runs = record {
   recorded = runs_recorded start xs zs runs;

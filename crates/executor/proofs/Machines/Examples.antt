@@ -57,16 +57,16 @@ no_polls at (p ∷ ps) is = absurd (by p.poll (none_before (entries_of at p.who.
     by (poll.Signaled signal) is = cc
     by poll.Fault is = cc
 
--- a turn at 10, by its end, its answers, the book's room and its notices
+-- a turn at 10, by its end, its answers, the book's capacity and its notices
 abbrev pub turned : TurnEnd → List Entry → ℕ → List Notice → Label
 turned end answers room notices =
     record { exchange = Took (input.Turn 10) (reply.Turn end); answers = answers; notices = notices; room = room; place = first_place; faults = (0, 0) }
 
--- an open machine with one action in its queue, of which nothing runs
+-- an open machine with one action in its queue, and none running
 abbrev waiting : Machine
 waiting = record { is_open = true; state = after_all empty (registered ∷ asked 1 ∷ []); due = λ id call. None; refuses = false }
 
--- what a turn that ends done was answered
+-- the answers in a turn that ends done
 done_so : (answers : List Entry) (room : ℕ) (notices : List Notice) (m n : Machine) (did : Effects)
     → MovesWhile true (turned turn_end.Done answers room notices) m n did
     → (x : Scene) × (x.state ≡ m.state) × (answers ≡ did.entries) × Whole turn_end.Done x did notices
@@ -88,7 +88,7 @@ unanswered room a more m n did moves =
     told ∙ (λ i. result_notices x.at (no_ps i) ++ refusal_notices x.at (no_xs i)) in
     cc
 
--- a start without its begin
+-- a start of an agent without its begin
 unbegun : (e : Entry) (room : ℕ) (notices : List Notice) (n : Machine) (did : Effects) → did.events ≡ []
     → MovesWhile true (turned turn_end.Done (e ∷ []) room notices) waiting n did → ⊥
 unbegun e room notices n did none moves =
@@ -111,12 +111,12 @@ full_with_room answers notices n did ((end, is, t), memory) =
     let same : end ≡ turn_end.BookFull = (let told : reply.Turn turn_end.BookFull ≡ reply.Turn end = is in cc) in
     let less : 3 < 3 = t.full.0 same in omega (arith, less)
 
--- want of memory of which no growth was refused
+-- want of memory without a refused growth
 memory_at_once : (answers : List Entry) (room : ℕ) (notices : List Notice) (n : Machine) (did : Effects)
     → MovesWhile true (turned turn_end.Memory answers room notices) waiting n did → ⊥
 memory_at_once answers room notices n did moves = let bad : false ≡ true = moves.1 refl in cc
 
--- a crash after which the begin of an agent that was started is lost
+-- a crash after which the begin of an agent that was spawned is lost
 abbrev started : SeenService
 started = record {
   now = 0;

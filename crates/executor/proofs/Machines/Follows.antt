@@ -1,4 +1,4 @@
--- What the machine's calls leave applies, each change after those before it.
+-- The events of the machine's calls apply, each after those before it.
 use Rattle.std.proofs.Common.{◌≡◌, ◌⊎◌, inl, inr, ℕ, ◌+◌, ◌≤◌, ◌<◌, Bool, true, false, List, [], ◌∷◌, ◌++◌, length, map, flat_map, Option, Some, None, Ok, option_map, is_none, is_some, leb, IsSome, IsSomeAnd, refl, sym, ap, subst, ◌∙◌, arith}
 use Rattle.std.specs.List.{AllByRecursion, IsDistinct}
 use Rattle.std.specs.Map.{keys_of, lookup}
@@ -42,7 +42,7 @@ module _ {A : Type 0} where
   there None h = absurd (cc)
   there (Some x) h = refl
 
-  -- a fact of what is there, from tests that do not hold of it
+  -- a fact of an element, from tests that do not hold of it
   from_test : (o : Option A) (test : A → Bool) (P : A → Type 0) → ((x : A) → test x ≡ false → P x) → is_none o ≡ false
       → option_map_or test o false ≡ false → IsSomeAnd o P
   from_test None test P f n h = absurd (cc)
@@ -87,7 +87,7 @@ command_applies s now c e low is =
     let p = passed (tests s c (length (spelled_event (asked_event s now c)))) (asked_event s now c) e is in
     subst (λ (x : Event). ChangeApplies s x.change) p.0 (asked_applies s now c low p.1)
 
--- so the next call is never above the greatest number
+-- so the next call number is never above the greatest
 drawn_one : (s : State) (c : Change) → ChangeApplies s c → s.next_call ≤ num_max → s.next_call + calls_drawn c ≤ num_max
 drawn_one s (change.Step id (step.Exec o)) applies low =
     let f = found (resource_at s id) (StepApplies s.next_call s.next_run (step.Exec o)) applies in
@@ -101,7 +101,7 @@ pub drawn : (s : State) (es : List Event) → Follow s es → s.next_call ≤ nu
 drawn s [] h low = low
 drawn s (e ∷ es) h low = drawn (after s e) es h.1 (drawn_one s e.change h.0 low)
 
--- ends of what runs
+-- ends of running actions
 abbrev pub RunsHere : State → Active → Type 0
 RunsHere s a = running_at s a.id ≡ Some a.running
 
@@ -119,7 +119,7 @@ end_applies s a end runs = by (resource_at s a.id) runs
     by None is = absurd (let bad : None ≡ Some a.running = is in cc)
     by (Some r) is = inside r.history.running is
 
--- what runs elsewhere stays
+-- running actions of other resources stay
 stays_apart : (s : State) (e : Event) (id other : List ℕ) → named e.change ≡ Some id → bytes_eq id other ≡ false
     → resource_at (after s e) other ≡ resource_at s other
 stays_apart s e id other names apart =
@@ -209,7 +209,7 @@ entries_found (e ∷ es) apart = (
       (entries_found es (IsDistinct-tail bytes_eq e.0 (keys_of es) apart)),
 )
 
--- what a resource picks may begin
+-- the pick of a resource may begin
 may_begin : (r : Resource) (due : ℕ → Option ℕ) (at call : ℕ) → IsPick r due at (Some call)
     → (r.history.running ≡ None) × IsReady r.history.queue r.recurring call
 may_begin r due at call pick = by r.history.running r.history.queue refl refl pick
@@ -228,7 +228,7 @@ begun_here id (Some y) x is =
     let all : a ∷ [] ≡ b ∷ [] = is in
     let same : a ≡ b = cc in ap (λ (c : Active). Some c.running) same
 
--- ids of what is begun are ids of the resources
+-- ids of actions begun are ids of the resources
 begun_key : (P : List ℕ → Type 0) (moments : Due) (at run : ℕ) (rs : Registry) (bs out : List Active)
     → ArePicks moments at run rs (bs ++ out) → AllByRecursion P (keys_of rs) → AllByRecursion (λ a. P a.id) (bs ++ out)
 begun_key P moments at run [] bs out h keys = subst (AllByRecursion (λ a. P a.id)) (sym h) tt
@@ -277,7 +277,7 @@ module _ (moments : Due) (at run : ℕ) (e : List ℕ × Resource) (call : ℕ) 
       (subst (λ (n : ℕ). (stepped at (step.Begin call n) e.1).history.running ≡ Some one.0) (sym one.3)
       (begun_here e.0 (stepped at (step.Begin call run) e.1).history.running one.0 one.1))
 
--- The begins of picks apply, and what is begun runs then.
+-- The begins of picks apply, and the actions run then.
 pub record BegunSo (s : State) (at : ℕ) (bs : List Active) : Type 0 where
   pub follow : Follow s (begins at bs)
   pub run : AllByRecursion (RunsHere (after_all s (begins at bs))) bs

@@ -1,4 +1,4 @@
--- Whole lives are runs of the machine.
+-- Histories are behaviours of the machine.
 use Rattle.std.proofs.Common.{◌≡◌, inl, inr, ℕ, List, [], ◌∷◌, ◌++◌, Option, Some, None, refl, sym, ap, ap₂, subst, ◌∙◌, append_assoc}
 use Rattle.std.proofs.lemmas.Grind.{flat_map-append}
 use Rattle.std.proofs.lemmas.List.{append-nil}
@@ -31,7 +31,7 @@ use Rattle.executor.proofs.Machines.Calls.{labels_answers, machine_of, moves_all
 
 module _ {D : Type 0} (look : D → View) (law : WhatStands) (once : OneFinding) (lawful : (d : D) → (look d).honest → Lawful (look d))
     (start : State) where
-  -- what is found after a run
+  -- the pair after a behaviour
   abbrev Behind : List (Sitting D) → List Seen → Image → Type 0
   Behind life xs c = (zs : List Event) × Runs start xs zs × Lived start life zs × FoundAs (after_all start zs) c
 
@@ -90,7 +90,7 @@ module _ {D : Type 0} (look : D → View) (law : WhatStands) (once : OneFinding)
   opened_so x s t state due = same_machine (machine_of x.opened) (opened_on t x.now x.opened.refuses) s.opens.over.is_open state
       (due ∙ ap (λ (u : State). due_at u (moment t x.now)) state) refl
 
-  -- what is seen of a service
+  -- the observations of an incarnation
   abbrev view_of : (x : Service D) → Serves look x → SeenService
   view_of x s = record {
     now = x.now;
@@ -109,7 +109,7 @@ module _ {D : Type 0} (look : D → View) (law : WhatStands) (once : OneFinding)
       ∙ ap₂ (λ (a b : List Entry). a ++ b) (labels_answers look s.calls x.opened x.returned x.done s.returns)
       (labels_answers look s.begun x.returned x.last x.under_way s.goes_on)
 
-  -- so much of it remains
+  -- the events that remain of it
   remains_so : (x : Service D) (s : Serves look x) (t : State) (p : List Event) → s.was_running ≡ interrupted t (moment t x.now)
       → s.was_queued ≡ dropped t (moment t x.now) → machine_of x.opened ≡ opened_on t x.now x.opened.refuses → Stands x p → Remains (view_of x s) t p
   remains_so x s t p ran queued machine stands = record {

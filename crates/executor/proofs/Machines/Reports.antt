@@ -1,4 +1,4 @@
--- What openings report as interrupted is what boots report.
+-- Openings report as interrupted what boots interrupt.
 use Rattle.std.proofs.Common.{◌≡◌, inl, inr, ℕ, Bool, true, false, List, [], ◌∷◌, ◌++◌, map, Option, Some, None, flat_map, option_to_list, refl, sym, ap, ap₂, subst}
 use Rattle.std.specs.Prelude.{if◌then◌else◌}
 use Rattle.std.specs.List.{list_any}
@@ -18,7 +18,7 @@ use Rattle.executor.specs.SeenLives.{reports}
 use Rattle.executor.proofs.History.Runs.{both_false, rests}
 use Rattle.executor.proofs.History.Told.{interruptions-append}
 
--- lists with some left out, one after the other
+-- lists with some elements left out, one after the other
 within_all : (xs : List Notice) → IsWithin xs xs
 within_all [] = tt
 within_all (x ∷ xs) = inl (refl, within_all xs)

@@ -1,4 +1,4 @@
--- What remains of a run of the machine applies.
+-- The events that remain of a behaviour of the machine apply.
 use Rattle.std.proofs.Common.{◌≡◌, inl, inr, ℕ, ◌+◌, ◌≤◌, Bool, true, false, List, [], ◌∷◌, ◌++◌, length, map, Option, Some, None, Result, Ok, Err, option_to_list, refl, sym, ap, subst, ◌∙◌, append_assoc}
 use Rattle.std.specs.Prelude.{if◌then◌else◌}
 use Rattle.std.specs.List.{AllByRecursion, IsDistinct}
@@ -46,7 +46,7 @@ use Rattle.executor.proofs.History.Told.{apart_all, interrupted_once}
 use Rattle.executor.proofs.Lives.Whole.{boots_is}
 use Rattle.executor.proofs.Machines.Follows.{AtMostOne, BegunSo, RunsHere, all_run, begins_follow, command_applies, drawn, ends_follow, entries_found, follow_both, ids_of}
 
--- ids differ, and the next call is not above the greatest number
+-- ids differ, and the next call number is not above the greatest
 pub record Fine (s : State) : Type 0 where
   pub apart : IsDistinct bytes_eq (keys_of s.resources)
   pub low : s.next_call ≤ num_max
@@ -73,7 +73,7 @@ answered_follow s now (c ∷ cs) (r ∷ rs) es low (first, later, adds, rest, al
     subst (Follow s) (sym all)
     (follow_both s first later one (answered_follow (after_all s first) now cs rs later (drawn s first one low) rest))
 
--- rows of a turn
+-- batches of a turn
 few_ends : (at : ℕ) (p : Polled) → AtMostOne (ends_of at p)
 few_ends at p = by (ending at p.who.running p.poll)
   where
@@ -95,7 +95,7 @@ results_follow at s ps each fine =
     (each_unmap (RunsHere s) (λ p. p.who) ps (subst (AllByRecursion (RunsHere s)) (sym each) all.0))
     (subst (IsDistinct bytes_eq) (ap ids_of (sym each) ∙ map-map (λ (a : Active). a.id) (λ (p : Polled). p.who) ps) all.1)
 
--- picks, and what they leave out
+-- picks, and a prefix of them
 picks_so : (end : TurnEnd) (x : Scene) (bs : List Active) → PickedAt end x bs
     → (out : List Active) × ArePicks x.due x.at x.state.next_run x.state.resources (bs ++ out) × (x.state.next_run + length bs ≤ num_max)
 picks_so turn_end.Done x bs p =
@@ -139,7 +139,7 @@ three_follow end x t fine =
     (follow_both (after_all x.state es) (begins x.at t.begun) (refusals x.at t.started) two.follow
     (refusals_follow x.at (after_all (after_all x.state es) (begins x.at t.begun)) t.begun t.started t.each_started two.run two.apart)))
 
--- What a turn leaves applies, and nothing is pending but after a disk fault.
+-- The events of a turn apply, and some are pending only after a disk fault.
 pub record TurnFollows (end : TurnEnd) (s : State) (events pending : List Event) : Type 0 where
   pub follow : Fine s → Follow s (events ++ pending)
   pub whole : (end ≡ turn_end.Disk → ⊥) → pending ≡ []
@@ -182,7 +182,7 @@ turn_follows turn_end.Disk x did told (inr (inr (end, t, is, told_is))) =
     some_pending x.state (results x.at t.polled ++ begins x.at t.begun) (refusals x.at t.started) did.events did.pending (same_events is)
     (same_pending is) (three_follow end x t)
 
--- one that begins nothing
+-- those of a turn that begins nothing
 finish_follows : (end : TurnEnd) (x : Scene) (did : Effects) (told : List Notice) → IsFinish end x did told
     → TurnFollows end x.state did.events did.pending
 finish_follows turn_end.Done x did told (ps, polled, is, told_is) =
@@ -195,7 +195,7 @@ finish_follows turn_end.Disk x did told (ps, polled, is, told_is) =
     (λ fine. results_follow x.at x.state ps polled.each fine)
 finish_follows _ x did told bad = absurd bad
 
--- What calls leave, from one machine to another: it applies, and it leads to an open machine.
+-- The events of calls, from one machine to another: they apply, and they lead to its state where it is open.
 pub record Went (m n : Machine) (did : Effects) : Type 0 where
   pub follow : m.is_open ≡ true → Fine m.state → Follow m.state (did.events ++ did.pending)
   pub onward : n.is_open ≡ true → (m.is_open ≡ true) × (n.state ≡ after_all m.state did.events) × (did.pending ≡ [])
@@ -227,7 +227,7 @@ takes_all l m n now cs rs did opened (meant, es, answered, inl (told, crash)) =
 takes_all l m n now cs rs did opened (meant, es, answered, inr (some, told, fails)) =
     went_wrong m n [] es did opened fails.1.0 fails.1.1 (λ fine. answered_follow m.state now cs meant es fine.low answered)
 
--- a turn of a kind, what it leaves of which applies
+-- a turn of a kind whose events apply
 turn_went : (kind : TurnKind) (each : ℕ) (end : TurnEnd) (at : ℕ) (l : Label) (m n : Machine) (did : Effects) → m.is_open ≡ true
     → MovesTurn kind each end at l m n did → TurnFollows end m.state did.events did.pending → Went m n did
 turn_went kind each end at l m n did opened t follows = record {
@@ -321,7 +321,7 @@ boots_follow s now = by (any_busy s) refl
     by true busy = (busy, tt)
     by false quiet = tt
 
--- so does what remains of an incarnation, and of a run
+-- so do the events that remain of an incarnation, and of a behaviour
 sits_follow : (x : Seen) (s : State) (zs : List Event) → Fine s → Sits x s zs → Follow s zs
 sits_follow (Opening now end) s zs fine (inl none) = subst (Follow s) (sym none) tt
 sits_follow (Opening now end) s zs fine (inr (may, is)) = subst (Follow s) (sym is) (boots_follow s now)
@@ -346,7 +346,7 @@ runs_follow start (x ∷ older) zs fine (ys, more, before, sits, is) =
 pub runs_apply : (start : State) (xs : List Seen) (zs : List Event) → IsLawfulState start → Runs start xs zs → Follow start zs
 runs_apply start xs zs lawful runs = runs_follow start xs zs (record { apart = lawful.ids; low = lawful.next_call.1 }) runs
 
--- and is in order
+-- and they are in order
 pub in_order : (start : State) (xs : List Seen) (zs : List Event) → IsLawfulState start → Runs start xs zs → IsInOrder start zs
 in_order start xs zs lawful runs =
     let follow = runs_apply start xs zs lawful runs in record {

@@ -1,5 +1,5 @@
--- A behaviour of the machine, from a state with one resource, at any place of a journal that has room for one begin: a start of it is asked,
--- a turn begins and starts it, the machine crashes in that turn, and the next opening reports the action as interrupted.
+-- A behaviour of the machine, from a state with one resource, at any position of a journal that has capacity for one begin: its start
+-- action is asked, a turn begins and spawns it, the machine crashes in that turn, and the next opening reports the action as interrupted.
 use Rattle.std.proofs.Common.{◌≡◌, inl, ℕ, ◌<◌, true, false, List, [], ◌∷◌, length, Some, Ok, refl, ap, subst, arith}
 use Rattle.ocf_types.specs.Kinds.{Event}
 use Rattle.ocf_types.specs.State.{State, after_all, empty}

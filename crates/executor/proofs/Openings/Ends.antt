@@ -132,7 +132,7 @@ unready_foreign old new p s from to now opens kids later = record {
   unwritten = λ _. opens.opens.unwritten;
 }
 
--- the children were not started for another journal than the one that was found
+-- the children were started for the journal that was found
 own_children : ((c : Image) (s t : State) → FoundAs s c → FoundAs t c → s ≡ t) → (c : Image) (s : State) (from : ChildrenView) → FoundAs s c
     → from.last_run < s.next_run → IsForeign c from → ⊥
 own_children once c s from found low foreign =
@@ -195,12 +195,12 @@ module _ {D : Type 0} (look : D → View) (law : WhatStands) (once : (c : Image)
               since = λ h. absurd (never h);
             }
 
-    -- where nothing was written, it is held where it was found
+    -- where nothing was written, the same is found
     stands_before : (look mid.disk).honest → (IsToWrite old.reads → ⊥) → StandsAt mid.place mid.state old.reads
     stands_before h unwritten =
         subst (λ (c : Image). StandsAt mid.place mid.state c) ((opens.opens.unwritten (λ _. unwritten)).same h) (opens.settled h).stands
 
-    -- and nothing was where a boot does not fit
+    -- and nothing was written where a boot does not fit
     lacks_unwritten : (look mid.disk).honest → LacksBoot mid.place.tail mid.state → IsToWrite old.reads → ⊥
     lacks_unwritten h lacks to_write =
         let room = opens.anew h to_write lacks.0 in
@@ -313,12 +313,12 @@ module _ {D : Type 0} (look : D → View) (law : WhatStands) (once : (c : Image)
         else_full slot.Disk not = absurd (not refl)
         else_full slot.Full not = refl
 
--- what holds of a fault that is handed on holds of the answer
+-- a fact of a fault that is handed on holds of the result
 pub if_err : {T E : Type 0} (r : Result T E) (f : E) (P : E → Type 0) → IsErrAnd r (λ e. e ≡ f) → P f → IfErr r P
 if_err (Ok x) f P none p = absurd none
 if_err (Err e) f P is p = subst P (sym is) p
 
--- of an opening that was refused for want of memory the journal's was, and no boot's
+-- where an opening was refused for memory the journal's opening was, and not the boot
 pub told_memory : (f : JournalFault) → told_fault f ≡ why.Memory → f ≡ journal.Memory
 told_memory journal.Disk is = absurd cc
 told_memory (journal.Damaged d) is = absurd cc

@@ -12,12 +12,12 @@ use Rattle.ocf_types.specs.Places.{entry_at, no_entry}
 use Rattle.ocf_types.specs.Resource.{Resource}
 use Rattle.ocf_types.specs.State.{State}
 
--- the entry at a place
+-- the entry at an index
 entry_there : (s : State) (i : ℕ) → i < length s.resources → entry_at s i ≡ get_or s.resources i (entry_at s i)
 entry_there s i lt =
     sym (get_or_from_slice_get s.resources i (entry_at s i) (entry_at s i) (slice_get-get_or s.resources i no_entry lt))
 
--- the notices of one more resource, whatever is reported of each
+-- the notices of one more resource
 pub told_more : (tells : List ℕ × Resource → List Notice) (s : State) (i : ℕ) (out new : List Notice) → i < length s.resources
     → out ≡ flat_map tells (take i s.resources) → new ≡ out ++ tells (entry_at s i)
     → new ≡ flat_map tells (take (i + 1) s.resources)
@@ -25,7 +25,7 @@ told_more tells s i out new lt so_far pushed =
     pushed ∙ ap (λ (t : List Notice). t ++ tells (entry_at s i)) so_far
     ∙ sym (flat_more tells s.resources i (entry_at s i) lt (entry_there s i lt))
 
--- the notice of one action more
+-- the notice of one more action
 pub drop_more : (id : List ℕ) (at i : ℕ) (queue : List Op) (o : Op) (old out new : List Notice) (n : Notice) → slice_get queue i ≡ Some o
     → n ≡ drop_notice id at o → out ≡ old ++ map (drop_notice id at) (take i queue) → new ≡ out ++ n ∷ []
     → new ≡ old ++ map (drop_notice id at) (take (i + 1) queue)

@@ -1,4 +1,4 @@
--- Sessions grow by one input at their end, and what their calls leave joins.
+-- Sessions grow by one input at their end, and the crash conditions of their calls join.
 use Rattle.std.proofs.Common.{◌≡◌, ◌↔◌, ℕ, Bool, true, false, true≢false, Result, Ok, Err, List, [], ◌∷◌, ◌++◌, refl, sym, ◌∙◌, ap, subst, append_assoc}
 use Rattle.std.proofs.lemmas.List.{append-nil}
 use Rattle.ocf_types.specs.Kinds.{Event, Reply, Request}
@@ -29,7 +29,7 @@ use Rattle.exec_turn.specs.Turn.{TurnKind}
 use Rattle.executor.specs.TurnCalls.{MakesTurn}
 use Rattle.executor.specs.declared.session.InputOf.TheVariants as input
 
--- one input more
+-- one more input
 pub session_more : {D : Type 0} (look : D → View) (x y z : Sight D) (is : List Input) (rs : List Reply) (i : Input) (r : Reply)
     (a b : Effects)
     → Session look x is rs y a → Takes look i y z r b → Session look x (is ++ i ∷ []) (rs ++ r ∷ []) z (followed_by a b)
@@ -54,7 +54,7 @@ session_more look x y z (j ∷ is) (q ∷ rs) i r a b (m, first, later, takes, r
       ∙ sym (followed_by_assoc first later b),
 )
 
--- where nothing was done, nothing is left but what was there
+-- without effects a crash leaves what it might have left before
 pub leads_start : {D : Type 0} (look : D → View) (law : WhatStands) (x : Sight D) → ((look x.disk).honest → Lawful (look x.disk))
     → Keeps look x → Leads look x x no_effects
 leads_start look law x lawful keeps = record {
@@ -67,8 +67,8 @@ leads_start look law x lawful keeps = record {
   whole = λ is_open. refl;
 }
 
--- What calls leave, whatever became of the children's book: from one view of an executor to another. What a disk fault closed may
--- have gone on to a state that is not recorded.
+-- The effects of calls, even where the children's book was emptied: from one view of an executor to another. An executor that a disk
+-- fault closed may have gone on to a state that is not recorded.
 pub record Onward {D : Type 0} (look : D → View) (old new : Sight D) (effects : Effects) : Type 0 where
   pub crash : Leaves look old.disk new.disk old.state (after_all old.state effects.events) effects
   pub state : new.is_open ≡ true → new.state ≡ after_all old.state effects.events
@@ -86,7 +86,7 @@ onward_at look x y d leaves whole = record {
 pub onward : {D : Type 0} (look : D → View) (x y : Sight D) (d : Effects) → Leads look x y d → Onward look x y d
 onward look x y d leads = onward_at look x y d leads.crash leads.whole
 
--- where calls left it open, nothing is left but what they left
+-- where calls left it open, its state is the recorded one
 pub leads_still : {D : Type 0} (look : D → View) (w x : Sight D) (a : Effects) → ((look x.disk).honest → Lawful (look x.disk))
     → x.is_open ≡ true → Onward look w x a → Leads look x x no_effects
 leads_still look w x a lawful is_open so_far = record {
@@ -128,7 +128,7 @@ leads_request look now (asked.Question question) x y reply still serves closes =
 leads_request look now (asked.Command command) x y reply still serves closes =
     leads_command look x y (event_of x.state now command) reply still serves.0 serves.1 closes
 
--- what a turn of any kind leaves
+-- the effects of a turn of any kind
 pub leads_turn : {D : Type 0} {kind : TurnKind} {most : ℕ} (look : D → View) (now : ℕ) (x y : Sight D) (end : TurnEnd)
     (takes : MakesTurn kind most look now x y end)
     → Leads look x y takes.turns.effects
@@ -142,7 +142,7 @@ leads_turn look now x y end takes = record {
   whole = λ is_open. takes.turns.whole (λ disk. absurd (true≢false (sym is_open ∙ takes.closes.1 disk)));
 }
 
--- what one input leaves
+-- the effects of one input
 pub leads_open : {D : Type 0} (look : D → View) (i : Input) (x y : Sight D) (reply : Reply) (d : Effects) → Leads look x x no_effects
     → TakesOpen look i x y reply d → Leads look x y d
 leads_open look (input.Request now request) x y reply d still takes =
@@ -187,7 +187,7 @@ leads_joined look x y z a b is_open one two =
       whole = on.whole;
     }
 
--- one input more, taken while the executor is open or closed
+-- one more input, taken while the executor is open or closed
 leads_more : {D : Type 0} (o : Bool) (look : D → View) (i : Input) (x y z : Sight D) (reply : Reply) (a b : Effects) → y.is_open ≡ o
     → ((look y.disk).honest → Lawful (look y.disk)) → TakesWhile o look i y z reply b → Leads look x y a
     → Leads look x z (followed_by a b)
@@ -198,7 +198,7 @@ leads_more false look i x y z reply a b closed lawful takes leads =
     subst (λ (w : Sight _). Leads look x w (followed_by a b)) (sym takes.1)
     (subst (λ (d : Effects). Leads look x y (followed_by a d)) (sym takes.2) (subst (λ (d : Effects). Leads look x y d) (sym (followed_by_none a)) leads))
 
--- one input more, in a session
+-- one more input, in a session
 pub sits_more : {D : Type 0} (look : D → View) (x y z : Sight D) (is : List Input) (rs : List Reply) (i : Input) (r : Reply) (b : Effects)
     → ((look y.disk).honest → Lawful (look y.disk)) → Sits look is x y rs → Takes look i y z r b
     → Sits look (is ++ i ∷ []) x z (rs ++ r ∷ [])
